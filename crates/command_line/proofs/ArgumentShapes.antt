@@ -188,8 +188,7 @@ cut_is args = go (cut_quiet args) refl where
     ]
   ])
   go None e = after_net (cut_net args) refl
-  go (Some rest) e = subst (λ ws. IsCut ws (quiet_and_net rest)) (sym (quiet_cut args rest e))
-      (quiet_and_net_is rest)
+  go (Some rest) e = rw (quiet_cut args rest e) (quiet_and_net_is rest)
 
 -- ---- names
 

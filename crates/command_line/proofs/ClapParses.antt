@@ -199,8 +199,7 @@ parts_of args line e = go (end_together front back) refl e where
         front = front;
         back = back;
         front_cut = cut_is args;
-        back_cut = subst (λ k. IsCut (drop k front.args) back) (sym size)
-            (cut_is (drop count front.args));
+        back_cut = rw size (cut_is (drop count front.args));
         names = joined_by count front.args ∙ ap (λ k. names ++ drop k front.args) (sym size);
         good = names_good front.args;
         ends = no_args back.args q.1;
@@ -225,11 +224,10 @@ module _ (name : List ℕ) (o : Options) (args : List (List ℕ))
       → IsFew (n ∷ ns) → IsWithin o net quiet
       → WalksTo name o args (record { names = n ∷ ns; net = net; quiet = quiet })
   walks parts few allowed =
-      let by_net : IsWithin o (option_or parts.front.net parts.back.net) quiet =
-      subst (λ x. IsWithin o x quiet) parts.net allowed in
       let given : IsWithin o (option_or parts.front.net parts.back.net)
       (parts.front.quiet || parts.back.quiet) =
-      subst (IsWithin o (option_or parts.front.net parts.back.net)) parts.quiet by_net in
+      subst (IsWithin o (option_or parts.front.net parts.back.net)) parts.quiet
+      (subst (λ x. IsWithin o x quiet) parts.net allowed) in
       let fore =
       within_front o parts.front.net parts.back.net parts.front.quiet parts.back.quiet given in
       let aft =
@@ -240,17 +238,15 @@ module _ (name : List ℕ) (o : Options) (args : List (List ℕ))
       given_in parts.back_cut.first parts.back_cut.form parts.back.net parts.back.quiet in
       let may_front =
       within o parts.front_cut.first parts.front_cut.form parts.front.net parts.front.quiet fore in
-      let may_back =
-      within o parts.back_cut.first parts.back_cut.form parts.back.net parts.back.quiet aft in
       let one = options_walk name o front apart [] parts.front_cut.good may_front tt in
       let rows = rows_at one.at one.left in
-      let two = options_walk name o back (named n ns) rows parts.back_cut.good may_back few in
+      let two = options_walk name o back (named n ns) rows parts.back_cut.good
+      (within o parts.back_cut.first parts.back_cut.form parts.back.net parts.back.quiet aft) few in
       let good = both (is_file_name n) _ parts.good in
       let first = name_first name o one.at one.left n good.0 one.stands (one.apart tt) in
       let more = names_walk name o n [] ns rows good.1 in
       let all_names = goes_far name o _ _ _ (n ∷ []) ns first more in
       let behind = goes_far name o _ _ _ (n ∷ ns) (spelled back) all_names two.goes in
-      let whole = goes_far name o _ _ _ (spelled front) (n ∷ ns ++ spelled back) one.goes behind in
       let rest : drop (length (n ∷ ns)) parts.front.args ≡ spelled back =
       parts.back_cut.args ∙ ap (λ ws. spelled back ++ ws) parts.ends ∙ append-nil (spelled back) in
       let is : args ≡ spelled front ++ (n ∷ ns ++ spelled back) = parts.front_cut.args
@@ -263,7 +259,7 @@ module _ (name : List ℕ) (o : Options) (args : List (List ℕ))
         at = two.at;
         left = two.left;
         goes = subst (λ ws. Goes name o (walk_at apart []) ws (walk_at two.at two.left)) (sym is)
-            whole;
+            (goes_far name o _ _ _ (spelled front) (n ∷ ns ++ spelled back) one.goes behind);
         stands = two.stands;
         found = rw (used_rows, parts.net, parts.quiet) (found n ns o parts.front_cut.first
             parts.back_cut.first parts.front.net parts.front.quiet parts.back.net parts.back.quiet

@@ -150,10 +150,9 @@ all_pass (v ∷ vs) = all_pass vs
 names_pass : (n : List ℕ) (ns : List (List ℕ)) (rows : List Row) → IsFew (n ∷ ns)
     → use_passes true names_rule (n ∷ ns) rows ≡ true
 names_pass n ns rows few =
-    let some : nat_le 1 (length (n ∷ ns)) ≡ true = le-leb 1 (length (n ∷ ns)) (omega arith) in
     let most : nat_le (length (n ∷ ns)) usize_max ≡ true =
     le-leb (length (n ∷ ns)) usize_max (omega arith) in
-    rw (some, most) (all_pass ns)
+    rw ((le-leb 1 (length (n ∷ ns)) (omega arith)), most) (all_pass ns)
 
 -- a second use would replace the first, so what was used is not asked
 again_passes : (id : List ℕ) (rows : List Row) → (not (has_row id rows) || true) ≡ true
@@ -293,12 +292,11 @@ module _ (name : List ℕ) where
   names_walk o n ns (m ∷ ms) rows good =
       let p = both (is_file_name m) _ good in
       let arg = plain_arg m p.0 in
-      let more = names_walk o n (ns ++ m ∷ []) ms rows p.1 in
       goes_on o (walk_at (named n ns) rows) (walk_at (named n (ns ++ m ∷ [])) rows) _ m ms
       (rw (arg.dashes, arg.long, arg.short) refl)
       (rw (arg.dashes, arg.long, arg.short) refl)
-      (subst (λ xs. Goes name o (walk_at (named n (ns ++ m ∷ [])) rows) ms
-      (walk_at (named n xs) rows)) (append_assoc ns (m ∷ []) ms) more)
+      (subst (λ xs. Goes name o (walk_at (named n (ns ++ m ∷ [])) rows) ms (walk_at (named n xs)
+      rows)) (append_assoc ns (m ∷ []) ms) (names_walk o n (ns ++ m ∷ []) ms rows p.1))
 
   may_ask : (flag : Bool) (a : At) (rows : List Row) → MayStand (net_and flag) a
       → turn_passes (shape name (net_and flag)) [] (walk_at a rows) (codes "--net") ≡ true
@@ -316,26 +314,14 @@ module _ (name : List ℕ) where
   may_join : (flag : Bool) (net : List ℕ) (a : At) (rows : List Row) → MayStand (net_and flag) a
       → turn_passes (shape name (net_and flag)) [] (walk_at a rows) (codes "--net=" ++ net) ≡ true
   may_join flag net apart rows few = rw (again_passes (codes "net") rows) refl
-  may_join flag net (valued v) rows few = rw (
-    again_passes (codes "net") rows,
-    again_passes (codes "net") (rows_at (valued v) rows),
-  ) refl
-  may_join flag net (named n ns) rows few = rw (
-    names_pass n ns rows few,
-    again_passes (codes "net") (rows_at (named n ns) rows),
-  ) refl
+  may_join flag net (valued v) rows few = rw (again_passes (codes "net") rows, again_passes) refl
+  may_join flag net (named n ns) rows few = rw (names_pass n ns rows few, again_passes) refl
 
   may_flag : (a : At) (rows : List Row) → MayStand (net_and true) a
       → turn_passes (shape name (net_and true)) [] (walk_at a rows) (codes "--quiet") ≡ true
   may_flag apart rows few = rw (again_passes (codes "quiet") rows) refl
-  may_flag (valued v) rows few = rw (
-    again_passes (codes "net") rows,
-    again_passes (codes "quiet") (rows_at (valued v) rows),
-  ) refl
-  may_flag (named n ns) rows few = rw (
-    names_pass n ns rows few,
-    again_passes (codes "quiet") (rows_at (named n ns) rows),
-  ) refl
+  may_flag (valued v) rows few = rw (again_passes (codes "net") rows, again_passes) refl
+  may_flag (named n ns) rows few = rw (names_pass n ns rows few, again_passes) refl
 
   given_walks : (o : Options) (g : Given) (a : At) (rows : List Row) → is_good g ≡ true
       → may_give o g ≡ true → MayStand o a

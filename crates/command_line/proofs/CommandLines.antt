@@ -34,8 +34,7 @@ unflagged false o e = (refl, e)
 print_names : (count : ℕ) (line : StatedLine) → 0 < count → count < 3
     → is_some (print_of count line) ≡ true → HaveNames line.names
 print_names count line some few e =
-    let is : length line.names ≡ count =
-    eqb-true _ _ (both (length line.names == count) _ (passes_from_is_some _ _ e)).0 in
+    let is = eqb-true _ _ (both (length line.names == count) _ (passes_from_is_some _ _ e)).0 in
     (omega (arith, is, some), omega (arith, is, few))
 
 load_names : (line : StatedLine) → is_some (load_of line) ≡ true → HaveNames line.names
@@ -53,10 +52,8 @@ audit_names line e = go (is_some line.net || line.quiet) line.names e where
       → HaveNames names
   go true names e = absurd (true≢false (sym e))
   go false [] e = absurd (true≢false (sym e))
-  go false (s ∷ ps) e =
-      let may = both (nat_le 1 (length ps)) _ (passes_from_is_some _ _ e) in
-      let most : length ps ≤ 64 = leb-true (length ps) 64 may.1 in
-      (omega arith, omega (arith, most))
+  go false (s ∷ ps) e = let may = both (nat_le 1 (length ps)) _ (passes_from_is_some _ _ e) in
+      (omega arith, omega (arith, leb-true (length ps) 64 may.1))
 
 -- each line of a command has names
 line_names : (k : CommandKind) (line : StatedLine) → is_some (command_by (kind_name k) line) ≡ true

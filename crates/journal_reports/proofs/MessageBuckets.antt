@@ -80,10 +80,9 @@ none_more messages i next message within is none not has =
 -- or does
 pub some_at : (messages : List Message) (i : ℕ) (next message : Message) → i < length messages
     → next ≡ get_or messages i next → SaysAsMuch next message → HasSaying messages message
-some_at messages i next message within is says = subst (λ ms. HasSaying ms message)
-    (take-append-drop (i + 1) messages) (has_left (take (i + 1) messages) (drop (i + 1) messages)
-    message (subst (λ ms. HasSaying ms message)
-    (sym (take_more messages i next within ∙ ap (λ x. take i messages ++ x ∷ []) (sym is)))
+some_at messages i next message within is says = rw (take-append-drop (i + 1) messages) at
+    (has_left (take (i + 1) messages) (drop (i + 1) messages) message
+    (rw (take_more messages i next within ∙ ap (λ x. take i messages ++ x ∷ []) (sym is))
     ((has_more (take i messages) next message).1 (inr says))))
 
 has_through : (messages : List Message) (next message : Message) → HasSaying messages next
@@ -98,8 +97,7 @@ has_through (kept ∷ messages) next message has says = elim has [
 
 in_got : (buckets : List Bucket) (c : ℕ) (d : Bucket) → c < length buckets
     → messages_at buckets c ≡ (get_or buckets c d).messages.items
-in_got buckets c d there =
-    ap (λ o. option_map_or bucket_messages o []) (slice_get-get_or buckets c d there)
+in_got buckets c d there = cc (slice_get-get_or buckets c d there)
 
 -- the bucket alone tells
 pub kept_in_bucket : (buckets : List Bucket) (c : ℕ) (bucket : Bucket) (message : Message)
@@ -114,14 +112,12 @@ kept_in_bucket buckets c bucket message at there is =
 
 pub kept_nowhere : (buckets : List Bucket) (c : ℕ) (message : Message)
     → c ≡ bucket_of message.body → length buckets ≤ c → IsKeptInBucket buckets message → ⊥
-kept_nowhere buckets c message at past kept = subst (λ ms. HasSaying ms message)
-    (ap (messages_at buckets) (sym at)
-    ∙ ap (λ o. option_map_or bucket_messages o []) (slice_get_past buckets c past)) kept
+kept_nowhere buckets c message at past kept = rw (ap (messages_at buckets) (sym at)
+    ∙ ap (λ o. option_map_or bucket_messages o []) (slice_get_past buckets c past)) at kept
 
 pub kept_through : (buckets : List Bucket) (next message : Message) → IsKeptInBucket buckets next
     → SaysAsMuch next message → IsKeptInBucket buckets message
-kept_through buckets next message kept says =
-    subst (λ c. HasSaying (messages_at buckets c) message) (says_bucket next message says)
+kept_through buckets next message kept says = rw (says_bucket next message says) at
     (has_through (messages_at buckets (bucket_of next.body)) next message kept says)
 
 -- one more is put into its bucket
@@ -143,15 +139,13 @@ kept_more before after place old bucket next message there at was is now count =
     both = ap (λ (buckets : List Bucket). length buckets) is ∙ length-set before place bucket
 
     after_is : messages_at after own ≡ (get_or (set before place bucket) own old).messages.items
-    after_is = in_got after own old (omega (arith, within, both))
-        ∙ ap (λ (buckets : List Bucket). (get_or buckets own old).messages.items) is
+    after_is = cc (in_got after own old (omega (arith, within, both)), is)
 
     by_test : (b : Bool) → (place == bucket_of message.body) ≡ b
         → IsKeptInBucket after message ↔ (IsKeptInBucket before message ⊎ SaysAsMuch next message)
     by_test true e =
         let same : own ≡ place = sym (eqb-true place own e) in
-        let here : messages_at after own ≡ old.messages.items ++ next ∷ [] =
-        after_is ∙ ap (λ n. (get_or (set before place bucket) n old).messages.items) same
+        let here = after_is ∙ ap (λ n. (get_or (set before place bucket) n old).messages.items) same
         ∙ ap bucket_messages (get_or-set_same before place bucket old there) ∙ now in
         let mine : old.messages.items ≡ messages_at before own =
         ap bucket_messages was ∙ ap (λ n. (get_or before n old).messages.items) (sym same)
@@ -202,6 +196,5 @@ none_kept buckets message are kept = elim (slice_get_cases buckets (bucket_of me
   | inl some ↦ subst (λ ms. HasSaying ms message)
       (ap (λ o. option_map_or bucket_messages o []) some.2 ∙ ap bucket_messages (sym some.3)
       ∙ are.each (bucket_of message.body) some.0 (bucket_below message.body)) kept
-  | inr past ↦ subst (λ ms. HasSaying ms message)
-      (ap (λ o. option_map_or bucket_messages o []) past.1) kept
+  | inr past ↦ rw (ap (λ o. option_map_or bucket_messages o []) past.1) at kept
 ]

@@ -24,10 +24,9 @@ rows_found journal [] first are = refl
 rows_found journal (row ∷ rows) first are =
     let here : row.status ≡ status_in journal first =
     (subst (λ s. IsTraffic journal [] s row) (omega arith) (are 0 row (omega arith))).status in
-    let rest : list_all (λ row. not (is_missed row.status)) rows
-    ≡ list_all (is_found journal) (range_with_len (first + 1) (length rows)) = rows_found journal
-    rows (first + 1) (λ s d within. subst (λ n. IsTraffic journal [] n (get_or rows s d))
-    (omega arith) (are (suc s) d (omega (arith, within)))) in
+    let rest = rows_found journal rows
+    (first + 1) (λ s d within. subst (λ n. IsTraffic journal [] n (get_or rows s d)) (omega arith)
+    (are (suc s) d (omega (arith, within)))) in
     rw (here, rest) refl
 
 not_missed : (up waited : Bool) → not (not up && waited) ≡ true → IsTrue (up || not waited)
@@ -129,9 +128,8 @@ module _ (items : List Item) (place : ℕ) (next : Item) (marks : List Bool) (ro
   module _ (setting : Setting) (count : length setting.net.switches ≡ length rows) where
     pub received_before : (from : ℕ) → from ≡ place + 1 → IsTrue answer
         → AreReceived setting items (drop from items) → AreReceived setting items (drop place items)
-    received_before from at met received = subst (AreReceived setting items) (sym first)
-        (received_first setting items (drop (place + 1) items) next marks rows now answer count read
-        met (subst (λ k. AreReceived setting items (drop k items)) at received))
+    received_before from at met received = rw first (received_first setting items
+        (drop (place + 1) items) next marks rows now answer count read met (rw at at received))
 
     -- a message that matters wasn't received
     pub waiting_answer : ConcernsOne rows next → IsFalse answer → IsQuiet setting items → ⊥
@@ -146,18 +144,15 @@ none_left items place few = at_drop_all (λ (js : List Item). js) items place fe
 
 pub marks_at_end : (items : List Item) (place n : ℕ) (marks : List Bool) → length items ≤ place
     → marks ≡ [] → has_mark marks n ≡ was_delivered (drop place items) n
-marks_at_end items place n marks few none = ap (λ now. has_mark now n) none ∙ none_delivered n
-    ∙ ap (λ js. was_delivered js n) (sym (none_left items place few))
+marks_at_end items place n marks few none = cc (none, none_delivered n, none_left items place few)
 
 pub rows_at_end : (items : List Item) (place : ℕ) (rows : List Traffic) → length items ≤ place
     → AreTraffic items [] rows → AreTraffic items (drop place items) rows
-rows_at_end items place rows few are =
-    subst (λ js. AreTraffic items js rows) (sym (none_left items place few)) are
+rows_at_end items place rows few are = rw (none_left items place few) are
 
 pub received_at_end : (setting : Setting) (items : List Item) (place : ℕ) → length items ≤ place
     → AreReceived setting items (drop place items)
-received_at_end setting items place few =
-    subst (AreReceived setting items) (sym (none_left items place few)) tt
+received_at_end setting items place few = rw (none_left items place few) tt
 
 -- ---- the answer
 

@@ -30,15 +30,13 @@ one_delivered next n = by_test (is_delivery n next) refl where
 
 delivered_first : (next : Item) (after : List Item) (n : ℕ)
     → was_delivered (next ∷ after) n ≡ (is_delivery n next || was_delivered after n)
-delivered_first next after n =
-    delivered_append (next ∷ []) after n ∙ ap (λ b. b || was_delivered after n) (one_delivered next n)
+delivered_first next after n = cc (delivered_append (next ∷ []) after n, one_delivered next n)
 
 pub mark_first : (marks now : List Bool) (next : Item) (after : List Item) (n : ℕ)
     → has_mark marks n ≡ was_delivered after n
     → has_mark now n ≡ (is_delivery n next || has_mark marks n)
     → has_mark now n ≡ was_delivered (next ∷ after) n
-mark_first marks now next after n was is =
-    is ∙ ap (λ b. is_delivery n next || b) was ∙ sym (delivered_first next after n)
+mark_first marks now next after n was is = cc (is, was, delivered_first next after n)
 
 -- what an item sends it doesn't deliver
 sent_mark : (marks : List Bool) (number : ℕ) (message : Message) (after : List Item)
@@ -64,9 +62,7 @@ in_row : (journal after : List Item) (s : ℕ) (row : Traffic) (message : Messag
     → IsTraffic journal after s row
     → matters_to row.status row.is_in_boot message ≡ matters journal s message after
 in_row journal after s row message is =
-    ap (λ status. matters_to status row.is_in_boot message) is.status
-    ∙ ap (λ b. matters_to (status_in journal s) b message) is.in_boot
-    ∙ in_status journal after s message
+    cc (is.status, is.in_boot, in_status journal after s message)
 
 -- it is to it, or of it
 matters_named : (status : SwitchStatus) (in_boot : Bool) (message : Message) → matters_to status
@@ -77,8 +73,7 @@ matters_named status in_boot message matter = by_receiver message.to message.bod
       && not (is_old_answer status.current body)) ≡ true
       → is_named status.switch (option_map (λ (of : ℕ × ℕ). of.0) o) ≡ true
   by_speaker body None matter =
-      let clash : false ≡ true = (and_parts status.is_up false (and_parts _ _ matter).0).1 in
-      absurd cc
+      absurd (cc ((and_parts status.is_up false (and_parts _ _ matter).0).1))
   by_speaker body (Some (t, own)) matter =
       (and_parts _ _ (and_parts _ _ (and_parts _ _ matter).0).1).0
 
@@ -183,8 +178,7 @@ traffic_stays : (journal after : List Item) (s : ℕ) (next : Item) (row : Traff
     → IsTraffic journal (next ∷ after) s row
 traffic_stays journal after s next row other is = record {
   status = is.status;
-  in_boot = is.in_boot
-      ∙ ap (λ b. not (b || list_any (begins_boot s) after)) (sym (no_boot_of s next other));
+  in_boot = cc (is.in_boot, no_boot_of s next other);
   count = is.count;
   kept = by_item next other;
 } where
@@ -289,9 +283,8 @@ not_received setting journal after next marks rows now answer count read concern
 
     met : (next : Item) → ((n : ℕ) → has_mark marks n ≡ was_delivered (next ∷ after) n)
         → AreReceived setting journal (next ∷ after) → IsMet marks row next
-    met (item.Sent number message) right received = λ matter.
-        elim (received.0 s (omega (arith, concerns.there, count))
-        (sym (in_row journal after s row message is) ∙ matter)) [
+    met (item.Sent number message) right received = λ matter. elim (received.0 s
+        (omega (arith, concerns.there)) (sym (in_row journal after s row message is) ∙ matter)) [
           | inl delivered ↦ inl (sent_mark marks number message after right ∙ delivered)
           | inr replaced ↦ inr
               ((is.kept message (sym (in_row journal after s row message is) ∙ matter)).1 replaced)
@@ -319,10 +312,8 @@ after_sent marks number message row now delivered (Ok answer) is status in_boot 
       status = status;
       in_boot = in_boot ∙ and_not row.is_in_boot;
       count = count;
-      kept = λ many other. subst (λ d. IsKeptInBucket now.buckets.items other
-          ↔ (IsKeptInBucket row.buckets.items other ⊎ IsAdded row d message other)) is (kept many other);
-      met = subst (λ d. IsTrue answer ↔ (IsTrue (matters_to row.status row.is_in_boot message)
-          → IsTrue d ⊎ IsKeptInBucket row.buckets.items message)) is received;
+      kept = λ many other. rw is at (kept many other);
+      met = rw is at received;
     }
 after_sent marks number message row now delivered (Err e) is status in_boot count kept received = tt
 

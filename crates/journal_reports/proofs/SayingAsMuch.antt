@@ -180,8 +180,7 @@ pub says_of : (later earlier : Message) → IsFalse (is_cache_rule earlier.body)
     → Replaces later earlier → SaysAsMuch later earlier
 says_of later earlier plain replaces =
     covers_says later earlier replaces.receiver (elim replaces.says [
-      | inl same ↦ subst (λ body. Covers body earlier.body) (sym same)
-          (body_itself earlier.body plain)
+      | inl same ↦ rw same (body_itself earlier.body plain)
       | inr more ↦ (later_more later.body earlier.body more).covers
     ])
 
@@ -200,18 +199,15 @@ later_through (Advertise one) (Advertise two) (Advertise three) first second =
     let its = and_parts _ _ second in
     let origin : (one.origin == three.origin) ≡ true = eq-eqb one.origin three.origin
     (eqb-true one.origin two.origin mine.0 ∙ eqb-true two.origin three.origin its.0) in
-    let newest : is_newer one three ≡ true = newer_through one two three mine.1 its.1 in
-    rw (origin, newest) refl
+    rw (origin, newer_through one two three mine.1 its.1) refl
 later_through one two three first second = absurd cc
 
 pub says_through : (one two three : Message) → SaysAsMuch one two → SaysAsMuch two three
     → SaysAsMuch one three
 says_through one two three first second = elim (means_of one two first) [
-  | inl same ↦ subst (λ m. SaysAsMuch m three)
-      (sym (same_message one two (receiver_of one two first) same)) second
+  | inl same ↦ rw (same_message one two (receiver_of one two first) same) second
   | inr later ↦ elim (means_of two three second) [
-    | inl same ↦ subst (SaysAsMuch one)
-        (same_message two three (receiver_of two three second) same) first
+    | inl same ↦ rw (same_message two three (receiver_of two three second) same) at first
     | inr more ↦ covers_says one three
         (receiver_of one two first ∙ receiver_of two three second) (later_more one.body
         three.body (later_through one.body two.body three.body later more)).covers
@@ -234,8 +230,7 @@ pub matters_too : (status : SwitchStatus) (in_boot : Bool) (later earlier : Mess
     → matters_to status in_boot later ≡ true
 matters_too status in_boot later earlier says matter = by_receiver later.to later.body earlier.body
     (alike status.current later.body earlier.body (means_of later earlier says))
-    (subst (λ to. matters_to status in_boot (record { to = to; body = earlier.body }) ≡ true)
-    (sym (receiver_of later earlier says)) matter)
+    (rw (receiver_of later earlier says) matter)
   where
     by_receiver : (to : Place) (later earlier : Body) → AreAlike status.current later earlier
         → matters_to status in_boot (record { to = to; body = earlier }) ≡ true

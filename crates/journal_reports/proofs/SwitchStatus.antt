@@ -1,5 +1,5 @@
 -- What one more item makes of a switch's status.
-use Rattle.std.proofs.Common.{[], ◌++◌, ◌+◌, ◌<◌, ◌∙◌, ◌∷◌, ◌≡◌, List, ap, append-nil, false, get_or, length, refl, sym, take, true, ℕ}
+use Rattle.std.proofs.Common.{[], ◌++◌, ◌+◌, ◌<◌, ◌∙◌, ◌∷◌, ◌≡◌, List, ap, append-nil, false, get_or, length, refl, take, true, ℕ}
 use Rattle.std.proofs.lemmas.List.{take_more}
 use Rattle.update_machine.specs.Exports.{Item, boot_of, current_mark, is_up}
 use Rattle.journal.specs.declared.item.Item.TheVariants as item
@@ -10,12 +10,7 @@ use Rattle.journal_reports.specs.Exports.{status_in, status_item, status_with}
 
 status_more : (before : List Item) (item : Item) (s : ℕ)
     → status_in (before ++ item ∷ []) s ≡ status_with item (status_in before s)
-status_more before item s = rw (
-  up_more before item s,
-  boot_more before item s,
-  waited_more before item s,
-  current_more before item,
-) refl
+status_more before item s = rw (up_more, boot_more, waited_more, current_more) refl
 
 status_told : (told : List Item) (item : Item) (s : ℕ)
     → status_in (told ++ status_item item) s ≡ status_with item (status_in told s)
@@ -36,15 +31,13 @@ status_at_first s = refl
 
 item_more : (items : List Item) (i : ℕ) (next : Item) → i < length items
     → next ≡ get_or items i next → take (i + 1) items ≡ take i items ++ next ∷ []
-item_more items i next within is =
-    take_more items i next within ∙ ap (λ x. take i items ++ x ∷ []) (sym is)
+item_more items i next within is = cc (take_more items i next within, is)
 
 pub status_of_item : (items : List Item) (i s : ℕ) (next : Item) (status after : SwitchStatus)
     → i < length items → next ≡ get_or items i next → status ≡ status_in (take i items) s
     → after ≡ status_with next status → after ≡ status_in (take (i + 1) items) s
 status_of_item items i s next status after within is was now =
-    now ∙ ap (status_with next) was ∙ sym (status_more (take i items) next s)
-    ∙ ap (λ js. status_in js s) (sym (item_more items i next within is))
+    cc (now, was, status_more (take i items) next s, item_more items i next within is)
 
 pub told_of_item : (items : List Item) (i s : ℕ) (next : Item) (told after : List Item)
     → i < length items → next ≡ get_or items i next → status_in told s ≡ status_in (take i items) s

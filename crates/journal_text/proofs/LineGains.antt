@@ -1,6 +1,6 @@
 -- What a sink gained by the lines of a journal.
 use Rattle.base.proofs.Exports.{flat_map-append, take-append-le, take_more, ⊤}
-use Rattle.std.proofs.Common.{[], ◌++◌, ◌+◌, ◌<◌, ◌==◌, ◌∙◌, ◌∷◌, ◌≡◌, ◌≢◌, ◌≤◌, Bool, Err, IsErrOf, IsTrue, List, None, Option, Result, Some, ap, append-nil, append_assoc, arith, drop, false, get_or, length, length-append, refl, subst, sym, take, take-append-drop, take_all, true, ℕ}
+use Rattle.std.proofs.Common.{[], ◌++◌, ◌+◌, ◌<◌, ◌==◌, ◌∙◌, ◌∷◌, ◌≡◌, ◌≢◌, ◌≤◌, Bool, Err, IsErrOf, IsTrue, List, None, Option, Result, Some, ap, append-nil, append_assoc, arith, drop, false, get_or, length, length-append, refl, subst, sym, take, take-append-drop, take_all, ℕ}
 use Rattle.journal.specs.declared.item.Item.{Item}
 use Rattle.journal_text.specs.Lines.{item_line, journal_text}
 use Rattle.lines.specs.Pushes.{line_with}
@@ -28,12 +28,10 @@ pub part_upto : (net : Net) (items : List Item) (i : ℕ) → (before now : Opti
 part_upto net items i before now part =
     let front = journal_text net (take i items) in
     let rest = journal_text net (drop i items) in
-    let all : front ++ rest ≡ journal_text net items =
-    sym (flat_map-append (line_of net) (take i items) (drop i items))
-    ∙ ap (journal_text net) (take-append-drop i items) in
     let n = part.0 in
     let shorter = part.1 in
-    rw (← all) (
+    rw (← (sym (flat_map-append (line_of net) (take i items) (drop i items))
+    ∙ ap (journal_text net) (take-append-drop i items))) (
       n,
       omega (arith, shorter, length-append front rest),
       part.2 ∙ ap (with_gained before) (sym (take-append-le n front rest (omega (arith, shorter)))),
@@ -75,8 +73,7 @@ pub held_nothing : (text : List ℕ) (before now later : Option (List ℕ))
     → IsHeld text before later all []
 held_nothing text before now later waiting line all piece is same gathered = record {
   front = text;
-  gathered = subst (λ (t : List ℕ). IsGathered t before later all)
-      (ap (λ l. is.front ++ l) same ∙ sym is.whole) gathered;
+  gathered = rw (ap (λ l. is.front ++ l) same ∙ sym is.whole) at gathered;
   whole = sym (append-nil text);
 }
 
@@ -124,6 +121,5 @@ no_items net (item ∷ items) none = absurd (some (item_line net item) none) whe
 pub some_items : (net : Net) {items journal : List Item} {none : Bool} → items ≡ journal
     → none ≡ (length items == 0) → none ≡ false → journal_text net journal ≡ [] → ⊥
 some_items net {items} same is not_none nothing =
-    let empty : (length items == 0) ≡ true = ap (λ (list : List Item). length list == 0)
-    (no_items net items (ap (journal_text net) same ∙ nothing)) in
-    cc (sym empty ∙ sym is ∙ not_none)
+    cc (sym (ap (λ (list : List Item). length list == 0)
+    (no_items net items (ap (journal_text net) same ∙ nothing))) ∙ sym is ∙ not_none)

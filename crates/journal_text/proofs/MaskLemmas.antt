@@ -24,8 +24,7 @@ picks_first p q a (suc n) s from below is gone least others = elim (cases_eq a s
       rw (here, is, gone, sym here, rest) refl
   | inr apart ↦ let before : p a ≡ false = least a (omega (arith, from, apart)) in
       rw (others a apart, before)
-      (picks_first p q (a + 1) n s (omega (arith, from, apart)) (omega (arith, below)) is gone least
-      others)
+      (picks_first p q (a + 1) n s (omega arith) (omega arith) is gone least others)
 ]
 
 -- the least switch of a mask, and then those of the rest

@@ -19,9 +19,8 @@ small_bytes (byte ∷ bytes) are (suc i) = small_bytes bytes
 small_label : (name : List ℕ) → is_label name ≡ true → (i : ℕ) → get_or name i 0 < 128
 small_label [] is i = omega arith
 small_label (first ∷ more) is i =
-    let parts = and_parts (is_ascii_alphabetic first && are_name_bytes more) (leb (length more) 15)
-    is in
-    let bytes = and_parts (is_ascii_alphabetic first) (are_name_bytes more) parts.0 in
+    let bytes = and_parts (is_ascii_alphabetic first) (are_name_bytes more)
+    (and_parts (is_ascii_alphabetic first && are_name_bytes more) (leb (length more) 15) is).0 in
     by i bytes.0 bytes.1
   where
     by : (i : ℕ) → is_ascii_alphabetic first ≡ true → are_name_bytes more ≡ true

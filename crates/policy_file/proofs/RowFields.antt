@@ -62,9 +62,7 @@ is_heading-other fields from other = by (is_heading policy_heading (drop from fi
   by : (is : Bool) → is_heading policy_heading (drop from fields) ≡ is
       → is_heading policy_heading (drop from fields) ≡ false
   by false e = e
-  by true e =
-      let seven : length (drop from fields) ≡ 7 =
-      pointwise_long bytes_eq (drop from fields) policy_heading e in
+  by true e = let seven = pointwise_long bytes_eq (drop from fields) policy_heading e in
       absurd (other (omega (arith, length-drop from fields, seven)))
 
 pub row_of-seven : (fields : List (List ℕ)) (from : ℕ) → length fields ≡ from + 7

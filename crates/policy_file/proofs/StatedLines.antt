@@ -1,5 +1,5 @@
 -- The lines of a text are its records, and state what was printed.
-use Rattle.std.proofs.Common.{[], ◌++◌, ◌+◌, ◌<◌, ◌^◌, ◌∙◌, ◌∷◌, ◌≡◌, ◌≤◌, All, List, None, Ok, Some, add-one, ap, append-nil, arith, cond, decimal, false, get_or, length, length-append, map, refl, subst, suc, sym, take, take_all, true, zero, ℕ}
+use Rattle.std.proofs.Common.{[], ◌++◌, ◌+◌, ◌<◌, ◌^◌, ◌∙◌, ◌∷◌, ◌≡◌, ◌≤◌, All, List, None, Ok, Some, add-one, ap, append-nil, arith, cond, decimal, false, get_or, length, length-append, map, refl, suc, sym, take, take_all, true, zero, ℕ}
 use Rattle.base.proofs.Exports.{AllByRecursion, flat_map-append, join_with_byte, length-map, recursion_from_All, take_more}
 use Rattle.csv.specs.Machine.{next_record}
 use Rattle.csv.specs.Reading.{default_config, records, records_from, records_next, strip_bom}
@@ -97,9 +97,7 @@ module _ {X : Type 0} (fields : X → List (List ℕ)) where
   states_back : (format : RowFormat X) (rows : List X) → StateRows format rows
       → StateEach format (map fields rows) rows
   states_back format [] back = refl
-  states_back format (row ∷ rows) back =
-      ap (λ outcome. outcome ∷ map format.read (map fields rows)) back.0
-      ∙ ap (λ outcomes. Ok row ∷ outcomes) (states_back format rows back.1)
+  states_back format (row ∷ rows) back = cc (back.0, states_back format rows back.1)
 
   -- the records that rows were printed as state them
   pub rows_back : (format : RowFormat X) (rows : List X) → NoneRepeats format rows (length rows)
@@ -108,8 +106,7 @@ module _ {X : Type 0} (fields : X → List (List ℕ)) where
   rows_back format rows fresh few back heads =
       let long : length (map fields rows) ≡ length rows = length-map rows fields in
       let read : IsReadUpTo format (map fields rows) rows None = record {
-        stated = subst (λ xs. StateEach format xs rows)
-            (sym (take_all (length rows) (map fields rows) (omega arith)))
+        stated = rw (take_all (length rows) (map fields rows) (omega arith))
             (states_back format rows back);
         few = few;
         within = omega arith;

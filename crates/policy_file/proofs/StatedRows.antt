@@ -1,6 +1,6 @@
 -- What records state, from the rows that were read of the first of them.
 use Rattle.std.proofs.Common.{[], ◌++◌, ◌+◌, ◌<◌, ◌∙◌, ◌∷◌, ◌≡◌, ◌≤◌, Bool, Err, List, None, Ok, Option, Result, Some, ap, arith, cond, drop, eq-eqb, eqb, false, filter_map, get_or, get_or-take, inl, inr, length, length-take, map, ne_eqb, option_map, refl, subst, suc, sym, take, take-take, take_all, true, zero, ℕ}
-use Rattle.base.proofs.Exports.{cases_lt, cons_option, drop_all, drop_more, get_or-map, get_or_default, length-map, list_any_none, map-append, option_map_or, option_or, result_ok, take-map, take_more}
+use Rattle.base.proofs.Exports.{cases_lt, drop_all, drop_more, get_or-map, get_or_default, length-map, list_any_none, map-append, option_map_or, option_or, result_ok, take-map, take_more}
 use Rattle.csv_records.specs.Texts.{TakesRecord, is_heading}
 use Rattle.policy_rules.specs.Exports.{AreDistinctEdits, HaveDistinctPriorities}
 use Rattle.policy_rules.specs.declared.policy.Row.{Row}
@@ -42,8 +42,7 @@ module _ {X : Type 0} (format : RowFormat X) where
       → StateEach format records rows → format.read fields ≡ Ok row
       → StateEach format (records ++ fields ∷ []) (rows ++ row ∷ [])
   state_push records rows fields row stated is =
-      map-append format.read records (fields ∷ []) ∙ ap (λ xs. xs ++ format.read fields ∷ []) stated
-      ∙ ap (λ r. map fine rows ++ r ∷ []) is ∙ sym (map-append fine rows (row ∷ []))
+      cc (map-append format.read records (fields ∷ []), stated, is, map-append fine rows (row ∷ []))
 
   state_take : (records : Records) (rows : List X) (k : ℕ) → StateEach format records rows
       → StateEach format (take k records) (take k rows)
@@ -64,18 +63,15 @@ module _ {X : Type 0} (format : RowFormat X) where
 
   state_rows : (records : Records) (rows : List X) → StateEach format records rows
       → rows_stated format records ≡ rows
-  state_rows records rows stated = outcomes records ∙ ap (filter_map result_ok) stated
-      ∙ all_fine rows
-    where
-      outcomes : (records : Records) → rows_stated format records ≡ filter_map result_ok
-          (map format.read records)
-      outcomes [] = refl
-      outcomes (fields ∷ records) = ap (cons_option (result_ok (format.read fields)))
-          (outcomes records)
+  state_rows records rows stated = cc (outcomes records, stated, all_fine rows) where
+    outcomes : (records : Records) → rows_stated format records ≡ filter_map result_ok
+        (map format.read records)
+    outcomes [] = refl
+    outcomes (fields ∷ records) = cc (outcomes records)
 
-      all_fine : (rows : List X) → filter_map result_ok (map fine rows) ≡ rows
-      all_fine [] = refl
-      all_fine (row ∷ rows) = ap (λ xs. row ∷ xs) (all_fine rows)
+    all_fine : (rows : List X) → filter_map result_ok (map fine rows) ≡ rows
+    all_fine [] = refl
+    all_fine (row ∷ rows) = ap (λ xs. row ∷ xs) (all_fine rows)
 
   -- ---- why a record is refused
 
@@ -93,8 +89,6 @@ module _ {X : Type 0} (format : RowFormat X) where
       ≡ cond (format.repeats (take k rows) (get_or rows k d)) (Some why.SamePriority) None
   refused_in records rows k d stated within few =
       let n = length rows in
-      let first : get_or records k [] ≡ get_or (take n records) k [] =
-      sym (get_or-take n records k [] within) in
       let row = get_or rows k d in
       let earlier : StateEach format (take k records) (take k rows) =
       subst (λ xs. StateEach format xs (take k rows)) (take-take k n records (omega arith))
@@ -103,7 +97,7 @@ module _ {X : Type 0} (format : RowFormat X) where
       (rows_stated format (take k records)) (format.read (get_or records k []))))
       (ne_eqb k 2000 (λ full. absurd (omega arith)))
       ∙ ap (λ fields. refusal_after format (rows_stated format (take k records))
-      (format.read fields)) first
+      (format.read fields)) (sym (get_or-take n records k [] within))
       ∙ ap (refusal_after format (rows_stated format (take k records)))
       (state_at (take n records) rows k d stated within)
       ∙ ap (λ earlier. cond (format.repeats earlier row) (Some why.SamePriority) None)
@@ -126,8 +120,7 @@ module _ {X : Type 0} (format : RowFormat X) where
       → ((k : ℕ) → k < p → refusal_at format records k ≡ None)
       → rows_of format records ≡ Err (at_row p refusal)
   refused_first records p refusal within is none =
-      ap (λ first. option_map_or Err first (Ok (rows_stated format records)))
-      (first_is (λ place. option_map (at_row place) (refusal_at format records place))
+      cc (first_is (λ place. option_map (at_row place) (refusal_at format records place))
       (length records) p (at_row p refusal) within (ap (option_map (at_row p)) is)
       (λ k h. ap (option_map (at_row k)) (none k h)))
 
@@ -157,15 +150,13 @@ module _ {X : Type 0} (format : RowFormat X) where
   -- the records end with the rows
   pub all_read : (records : Records) (rows : List X) → IsReadUpTo format records rows None
       → NoneRepeats rows (length rows) → rows_of format records ≡ Ok rows
-  all_read records rows read none =
-      let end : length records ≡ length rows = read.ends in
-      let stated : StateEach format records rows = subst (λ xs. StateEach format xs rows)
-      (take_all (length rows) records (omega arith)) read.stated in
+  all_read records rows read none = let end : length records ≡ length rows = read.ends in
       ap (λ first. option_map_or Err first (Ok (rows_stated format records)))
       (none_below (λ place. option_map (at_row place) (refusal_at format records place))
       (length records) (λ k h. ap (option_map (at_row k))
       (clean records rows (length rows) read.stated read.few (omega arith) none k (omega arith))))
-      ∙ ap Ok (state_rows records rows stated)
+      ∙ ap Ok (state_rows records rows (subst (λ xs. StateEach format xs rows)
+      (take_all (length rows) records (omega arith)) read.stated))
 
 -- ---- rows of distinct priorities, and distinct edits
 
@@ -174,13 +165,12 @@ pub fresh_rows : (rows : List Row) (p : ℕ) → HaveDistinctPriorities (take p 
 fresh_rows rows p distinct k d less within =
     list_any_none (λ (x : Row). eqb x.priority (get_or rows k d).priority) (take k rows)
     (λ j e inside. let before : j < k = omega (arith, length-take k rows) in
-    let one : get_or (take k rows) j e ≡ get_or (take p rows) j e = get_or-take k rows j e before
-    ∙ sym (get_or-take p rows j e (omega arith)) in
     let other : get_or rows k d ≡ get_or (take p rows) k e = get_or_default rows k d e within
     ∙ sym (get_or-take p rows k e less) in
     let room : k < length (take p rows) = omega (arith, length-take p rows) in
-    ne_eqb _ _ (λ same. distinct j k e before room
-    (sym (ap (λ (x : Row). x.priority) one) ∙ same ∙ ap (λ (x : Row). x.priority) other)))
+    ne_eqb _ _ (λ same. distinct j k e before room (sym (ap (λ (x : Row). x.priority) (get_or-take k
+    rows j e before ∙ sym (get_or-take p rows j e (omega arith)))) ∙ same ∙ ap (λ (x : Row).
+    x.priority) other)))
 
 pub all_fresh_rows : (rows : List Row) → HaveDistinctPriorities rows
     → NoneRepeats policy_rows rows (length rows)
@@ -247,18 +237,12 @@ module _ {X : Type 0} (format : RowFormat X) where
       (refusal : PolicyRefusal) → IsNext records n fields after → n < 2000
       → format.read fields ≡ Err refusal → refusal_at format records n ≡ Some refusal
   refused_row records n fields after refusal next room is =
-      ap (λ b. cond b (Some why.TooManyRows) (refusal_after format
-      (rows_stated format (take n records)) (format.read (get_or records n []))))
-      (ne_eqb n 2000 (λ full. absurd (omega arith))) ∙ ap (λ fields. refusal_after format
-      (rows_stated format (take n records)) (format.read fields)) next.here
-      ∙ ap (refusal_after format (rows_stated format (take n records))) is
+      cc (ne_eqb n 2000 (λ full. absurd (omega arith)), next.here, is)
 
   -- there are too many
   pub too_many : (records : Records) (n : ℕ) → n ≡ 2000
       → refusal_at format records n ≡ Some why.TooManyRows
-  too_many records n full = ap (λ b. cond b (Some why.TooManyRows) (refusal_after format
-      (rows_stated format (take n records)) (format.read (get_or records n []))))
-      (eq-eqb n 2000 full)
+  too_many records n full = cc (eq-eqb n 2000 full)
 
   -- ---- the heading
 

@@ -125,8 +125,6 @@ total-le n sizes weights rooms backups P settled =
     let most = greatest_traffic n weights P in
     let weight : ℕ → ℕ = λ p. get_or weights p 0 in
     let share : ℕ → ℕ = λ room. cond (not (eqb room 0)) most 0 in
-    let whole : sum_by weight parts ≡ sum weights =
-    sum-places (λ x. x) refl weights (length weights) (omega arith) in
     let had : AllByRecursion
     (λ p. weight p ≤ sum_by (λ s. cond (is_primary P p s) (weight p) 0) switches) parts =
     each_by_count (λ p. weight p ≤ sum_by (λ s. cond (is_primary P p s) (weight p) 0) switches) parts
@@ -140,7 +138,7 @@ total-le n sizes weights rooms backups P settled =
     (λ s there. by_case s (range-within s n there) (get_or rooms s 0) refl)) in
     omega (
       arith,
-      whole,
+      (sum-places (λ x. x) refl weights (length weights) (omega arith)),
       spread,
       same,
       within,
@@ -163,12 +161,10 @@ total-le n sizes weights rooms backups P settled =
     by_case : (s : ℕ) → s < n → (room : ℕ) → get_or rooms s 0 ≡ room
         → traffic weights P s ≤ cond (not (eqb (get_or rooms s 0) 0)) (greatest_traffic n weights P) 0
     by_case s below zero is =
-        let none : cond (not (eqb (get_or rooms s 0) 0)) (greatest_traffic n weights P) 0 ≡ 0 =
-        ap (λ room. cond (not (eqb room 0)) (greatest_traffic n weights P) 0) is in
+        let none = ap (λ room. cond (not (eqb room 0)) (greatest_traffic n weights P) 0) is in
         omega (arith, none, no-traffic n sizes weights rooms backups P settled s is)
     by_case s below (suc room) is =
-        let some : cond (not (eqb (get_or rooms s 0) 0)) (greatest_traffic n weights P) 0
-        ≡ greatest_traffic n weights P = ap (λ b. cond (not b) (greatest_traffic n weights P) 0)
+        let some = ap (λ b. cond (not b) (greatest_traffic n weights P) 0)
         (ne_eqb (get_or rooms s 0) 0 (λ same. absurd (omega (arith, same, is)))) in
         omega (arith, some, traffic-le n weights P s below)
 
@@ -189,15 +185,13 @@ bound-le n sizes weights rooms backups P settled = by_case (eqb (usable_rooms ro
   by_case true is = omega arith
   by_case false is =
       let some = some_of (usable_rooms rooms) is in
-      let highest : greatest weights ≤ greatest_traffic n weights P =
-      most-le (greatest_traffic n weights P) 0 weights (omega arith)
-      (weight-le n sizes weights rooms backups P settled) in
       let even : div_ceil (sum weights) (usable_rooms rooms) ≤ greatest_traffic n weights P =
       share-le (sum weights) (usable_rooms rooms) (greatest_traffic n weights P)
       (div_ceil (sum weights) (usable_rooms rooms)) (div_ceil_times (sum weights)
       (usable_rooms rooms) some).1 (total-le n sizes weights rooms backups P settled) in
       max_le (greatest weights) (div_ceil (sum weights) (usable_rooms rooms))
-      (greatest_traffic n weights P) highest even
+      (greatest_traffic n weights P) (most-le (greatest_traffic n weights P) 0 weights (omega arith)
+      (weight-le n sizes weights rooms backups P settled)) even
 
 -- ---- running sums
 
@@ -249,15 +243,12 @@ pub carried-within : (weights : List ℕ) (P : List (List ℕ)) (s k : ℕ) → 
     → sum_by (carried weights P s) (range_with_len 0 k) + get_or weights k 0 ≤ sum weights
 carried-within weights P s k within =
     let weight : ℕ → ℕ = λ p. get_or weights p 0 in
-    let few : sum_by (carried weights P s) (range_with_len 0 k) ≤ sum_by weight (range_with_len 0 k)
-    = sum_by-le-sum_by (carried weights P s) weight (range_with_len 0 k)
+    let few = sum_by-le-sum_by (carried weights P s) weight (range_with_len 0 k)
     (λ p. part_le (is_primary P p s) (weight p)) in
-    let more : sum_by weight (range_with_len 0 (k + 1)) ≤ sum weights = places-le weights (k + 1)
-    (omega arith) in
     let next : sum_by weight (range_with_len 0 (k + 1))
     ≡ sum_by weight (range_with_len 0 k) + weight k = ap (sum_by weight)
     (range_more 0 k k (zero-add k)) ∙ sum_by_push weight (range_with_len 0 k) k in
-    omega (arith, few, more, next)
+    omega (arith, few, places-le weights (k + 1) (omega arith), next)
   where
     part_le : (b : Bool) (n : ℕ) → cond b n 0 ≤ n
     part_le true n = omega arith

@@ -20,19 +20,17 @@ sum-scaled m test (x ∷ xs) = by_case (test x) refl (sum-scaled m test xs) wher
       ≡ sum_by (λ y. cond (test y) 1 0) xs * m
       → sum_by (λ y. cond (test y) m 0) (x ∷ xs) ≡ sum_by (λ y. cond (test y) 1 0) (x ∷ xs) * m
   by_case true is rest =
-      let large : cond (test x) m 0 ≡ m = ap (λ b. cond b m 0) is in
       let one : cond (test x) 1 0 ≡ 1 = ap (λ b. cond b 1 0) is in
       let count = sum_by-cons (λ y. cond (test y) 1 0) x xs
       ∙ ap (λ n. n + sum_by (λ y. cond (test y) 1 0) xs) one in
       let times = ap (λ n. n * m) count in
-      omega (arith, sum_by-cons (λ y. cond (test y) m 0) x xs, large, times, rest)
+      omega (arith, sum_by-cons (λ y. cond (test y) m 0) x xs, ap (λ b. cond b m 0) is, times, rest)
   by_case false is rest =
-      let large : cond (test x) m 0 ≡ 0 = ap (λ b. cond b m 0) is in
       let one : cond (test x) 1 0 ≡ 0 = ap (λ b. cond b 1 0) is in
       let count = sum_by-cons (λ y. cond (test y) 1 0) x xs
       ∙ ap (λ n. n + sum_by (λ y. cond (test y) 1 0) xs) one in
       let times = ap (λ n. n * m) count in
-      omega (arith, sum_by-cons (λ y. cond (test y) m 0) x xs, large, times, rest)
+      omega (arith, sum_by-cons (λ y. cond (test y) m 0) x xs, ap (λ b. cond b m 0) is, times, rest)
 
 -- ---- over places
 
@@ -40,12 +38,8 @@ sum-scaled m test (x ∷ xs) = by_case (test x) refl (sum-scaled m test xs) wher
 sum-next : (f : ℕ → ℕ) (a n : ℕ)
     → sum_by f (range_with_len (a + 1) n) ≡ sum_by (λ k. f (k + 1)) (range_with_len a n)
 sum-next f a zero = refl
-sum-next f a (suc n) = omega (
-  arith,
-  sum_by-cons f (a + 1) (range_with_len (a + 1 + 1) n),
-  sum_by-cons (λ k. f (k + 1)) a (range_with_len (a + 1) n),
-  sum-next f (a + 1) n,
-)
+sum-next f a (suc n) = omega
+    (arith, sum_by-cons f (a + 1) (range_with_len (a + 1 + 1) n), sum_by-cons, sum-next f (a + 1) n)
 
 -- over the places of a list, or over more, where nothing counts past the end
 pub sum-places : (g : ℕ → ℕ) → g 0 ≡ 0 → (xs : List ℕ) (n : ℕ) → length xs ≤ n
@@ -54,17 +48,13 @@ sum-places g none [] n few = let f : ℕ → ℕ = λ k. g (get_or [] k 0) in
     sum_none f (range_with_len 0 n)
     (each_by_count (λ k. f k ≡ 0) (range_with_len 0 n) (λ k there. none))
 sum-places g none (x ∷ xs) zero few = absurd (omega arith)
-sum-places g none (x ∷ xs) (suc n) few =
-    let f : ℕ → ℕ = λ k. g (get_or (x ∷ xs) k 0) in
-    let later : sum_by f (range_with_len 1 n)
-    ≡ sum_by (λ k. g (get_or xs k 0)) (range_with_len 0 n) = sum-next f 0 n
-    ∙ ap (λ h. sum_by h (range_with_len 0 n))
-    (fun_ext (λ k. ap (λ j. g (get_or (x ∷ xs) j 0)) (add-one k))) in
+sum-places g none (x ∷ xs) (suc n) few = let f : ℕ → ℕ = λ k. g (get_or (x ∷ xs) k 0) in
     omega (
       arith,
       sum_by-cons f 0 (range_with_len 1 n),
       sum_by-cons g x xs,
-      later,
+      (sum-next f 0 n ∙ ap (λ h. sum_by h (range_with_len 0 n))
+          (fun_ext (λ k. ap (λ j. g (get_or (x ∷ xs) j 0)) (add-one k)))),
       sum-places g none xs n (omega arith),
     )
 
@@ -73,29 +63,23 @@ pub places-le : (xs : List ℕ) (n : ℕ) → n ≤ length xs
     → sum_by (λ k. get_or xs k 0) (range_with_len 0 n) ≤ sum xs
 places-le xs zero few = omega arith
 places-le [] (suc n) few = absurd (omega arith)
-places-le (x ∷ xs) (suc n) few =
-    let f : ℕ → ℕ = λ k. get_or (x ∷ xs) k 0 in
-    let later : sum_by f (range_with_len 1 n) ≡ sum_by (λ k. get_or xs k 0) (range_with_len 0 n) =
-    sum-next f 0 n ∙ ap (λ h. sum_by h (range_with_len 0 n))
-    (fun_ext (λ k. ap (λ j. get_or (x ∷ xs) j 0) (add-one k))) in
+places-le (x ∷ xs) (suc n) few = let f : ℕ → ℕ = λ k. get_or (x ∷ xs) k 0 in
     omega (
       arith,
       sum_by-cons f 0 (range_with_len 1 n),
       sum_by-cons (λ y. y) x xs,
-      later,
+      (sum-next f 0 n ∙ ap (λ h. sum_by h (range_with_len 0 n))
+          (fun_ext (λ k. ap (λ j. get_or (x ∷ xs) j 0) (add-one k)))),
       places-le xs n (omega arith),
     )
 
 -- what is added at one place is a part of the sum
 pub term-le : (f : ℕ → ℕ) (n p : ℕ) → p < n → f p ≤ sum_by f (range_with_len 0 n)
-term-le f n p within =
-    let place : get_or (range_with_len 0 n) p 0 ≡ p = get_or-range_with_len 0 n p 0 within
-    ∙ zero-add p in
-    omega (
-      arith,
-      get_or-le-sum_by f (range_with_len 0 n) p 0 (omega (arith, length-range_with_len 0 n, within)),
-      ap f place,
-    )
+term-le f n p within = omega (
+  arith,
+  get_or-le-sum_by f (range_with_len 0 n) p 0 (omega (arith, length-range_with_len 0 n, within)),
+  ap f (get_or-range_with_len 0 n p 0 within ∙ zero-add p),
+)
 
 -- so is what passes there
 pub passing-le : (numbers : List ℕ) (test : ℕ → Bool) (p : ℕ) → p < length numbers
@@ -103,11 +87,10 @@ pub passing-le : (numbers : List ℕ) (test : ℕ → Bool) (p : ℕ) → p < le
     ≤ sum_by (λ o. get_or numbers o 0) (filter test (range_with_len 0 (length numbers)))
 passing-le numbers test p within passes =
     let f : ℕ → ℕ = λ o. cond (test o) (get_or numbers o 0) 0 in
-    let here : f p ≡ get_or numbers p 0 = ap (λ b. cond b (get_or numbers p 0) 0) passes in
     omega (
       arith,
       term-le f (length numbers) p within,
-      here,
+      (ap (λ b. cond b (get_or numbers p 0) 0) passes),
       sum-filter (λ o. get_or numbers o 0) test (range_with_len 0 (length numbers)),
     )
 
@@ -136,18 +119,14 @@ pub shared-le : (weight : ℕ → ℕ) (held : ℕ → ℕ → Bool) (switches p
     → AllByRecursion (λ p. weight p ≤ sum_by (λ s. cond (held p s) (weight p) 0) switches) parts
     → sum_by weight parts ≤ sum_by (λ s. sum_by (λ p. cond (held p s) (weight p) 0) parts) switches
 shared-le weight held switches [] each = omega arith
-shared-le weight held switches (p ∷ ps) each =
-    let split : sum_by (put_by weight held (p ∷ ps)) switches
-    ≡ sum_by (λ s. put_at weight held p s + put_by weight held ps s) switches =
-    ap (λ f. sum_by f switches) (fun_ext (λ s. sum_by-cons (λ q. put_at weight held q s) p ps)) in
-    omega (
-      arith,
-      sum_by-cons weight p ps,
-      each.0,
-      split,
-      put_both weight held p ps switches,
-      shared-le weight held switches ps each.1,
-    )
+shared-le weight held switches (p ∷ ps) each = omega (
+  arith,
+  sum_by-cons weight p ps,
+  each.0,
+  (ap (λ f. sum_by f switches) (fun_ext (λ s. sum_by-cons (λ q. put_at weight held q s) p ps))),
+  put_both weight held p ps switches,
+  shared-le weight held switches ps each.1,
+)
 
 -- ---- the greatest
 

@@ -12,9 +12,7 @@ use Rattle.rebalance.proofs.LoadLemmas.{bound-le}
 hosted-fit : (t : TurnRule) (P : List (List ℕ)) → length t.sizes ≡ length t.keys → AreHosted t P
     → Fits t.sizes t.rooms t.backups P
 hosted-fit t P each hosted =
-    let due = λ (p : ℕ) (within : p < length t.sizes). hosted.hosted p (omega (arith, within, each))
-    in
-    record {
+    let due = λ (p : ℕ) (within : p < length t.sizes). hosted.hosted p (omega arith) in record {
       number = hosted.number ∙ sym each;
       targets = λ p within. (due p within).number;
       different = λ p within. first_distinct _ _ t.rooms (get_or t.sizes p 0) (1 + t.backups)

@@ -62,11 +62,7 @@ asked_more version partition before item = kept_more (asked_in version) partitio
 
 pub asked-room : (version partition : ℕ) (items : List Item)
     → asked_count version partition items ≤ length items
-asked-room version partition items = omega (
-  arith,
-  count_by-le-length (eqb partition) (all_asked version items),
-  length-kept (asked_in version) items,
-)
+asked-room version partition items = omega (arith, count_by-le-length, length-kept)
 
 -- one more item, of which so much is told
 pub asked-step : (version p : ℕ) (items : List Item) (i : ℕ) (item : Item) (told : Option ℕ)
@@ -74,18 +70,15 @@ pub asked-step : (version p : ℕ) (items : List Item) (i : ℕ) (item : Item) (
     → told ≡ asked_in version item → before ≡ asked_count version p (take i items)
     → after ≡ before + count_by (eqb p) (option_to_list told)
     → after ≡ asked_count version p (take (i + 1) items)
-asked-step version p items i item told before after within same tells was is =
-    let goes : asked_count version p (take i items ++ item ∷ [])
-    ≡ asked_count version p (take (i + 1) items) = ap (asked_count version p)
-    (ap (λ x. take i items ++ x ∷ []) same ∙ sym (take_more items i item within)) in
-    omega (
-      arith,
-      was,
-      is,
-      asked_more version p (take i items) item,
-      ap (λ o. count_by (eqb p) (option_to_list o)) tells,
-      goes,
-    )
+asked-step version p items i item told before after within same tells was is = omega (
+  arith,
+  was,
+  is,
+  asked_more version p (take i items) item,
+  ap (λ o. count_by (eqb p) (option_to_list o)) tells,
+  (ap (asked_count version p)
+      (ap (λ x. take i items ++ x ∷ []) same ∙ sym (take_more items i item within))),
+)
 
 -- so many counts are the weights
 pub weights-are : (journal : List Item) (parts : ℕ) (numbers : List ℕ) → length numbers ≡ parts
@@ -107,26 +100,15 @@ is_at x p = cond (eqb p x) 1 0
 none_below : (a n x : ℕ) → x < a → sum_by (is_at x) (range_with_len a n) ≡ 0
 none_below a zero x below = refl
 none_below a (suc n) x below =
-    let head : is_at x a ≡ 0 = ap (λ b. cond b 1 0)
-    (ne_eqb a x (λ same. absurd (omega (arith, same, below)))) in
-    omega (
-      arith,
-      sum_by-cons (is_at x) a (range_with_len (a + 1) n),
-      head,
-      none_below (a + 1) n x (omega (arith, below)),
-    )
+    let head : is_at x a ≡ 0 = ap (λ b. cond b 1 0) (ne_eqb a x (λ same. absurd (omega arith))) in
+    omega (arith, sum_by-cons, none_below (a + 1) n x (omega arith))
 
 -- one of them at most is a given one
 one_place : (a n x : ℕ) → sum_by (is_at x) (range_with_len a n) ≤ 1
 one_place a zero x = omega arith
 one_place a (suc n) x = elim (cases_eq a x) [
   | inl same ↦ let head : is_at x a ≡ 1 = ap (λ b. cond b 1 0) (eq-eqb a x same) in
-      omega (
-        arith,
-        sum_by-cons (is_at x) a (range_with_len (a + 1) n),
-        head,
-        none_below (a + 1) n x (omega (arith, same)),
-      )
+      omega (arith, sum_by-cons, none_below (a + 1) n x (omega arith))
   | inr other ↦ let head : is_at x a ≡ 0 = ap (λ b. cond b 1 0) (ne_eqb a x other) in
       omega (arith, sum_by-cons (is_at x) a (range_with_len (a + 1) n), head, one_place (a + 1) n x)
 ]
@@ -162,13 +144,10 @@ counted_once (x ∷ xs) places once =
 pub weights-few : (journal : List Item) (parts : ℕ)
     → sum (weights_of journal parts) ≤ length journal
 unfolding weight
-weights-few journal parts =
-    let asked = all_asked (current_mark journal) journal in
-    let total : sum (weights_of journal parts) ≡ sum_by (times asked) (range_with_len 0 parts) =
-    sum-map (weight journal) (range_with_len 0 parts) in
+weights-few journal parts = let asked = all_asked (current_mark journal) journal in
     omega (
       arith,
-      total,
+      (sum-map (weight journal) (range_with_len 0 parts)),
       counted_once asked (range_with_len 0 parts) (one_place 0 parts),
       length-kept (asked_in (current_mark journal)) journal,
     )

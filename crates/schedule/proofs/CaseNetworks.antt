@@ -44,10 +44,8 @@ other_ports : (i j port : ℕ) → i ≢ j → IsTrue (has_port port (switch_row
     → IsFalse (has_port port (switch_row j))
 other_ports i j port apart has = ne_eqb _ _ (λ e. one_of (port == i) refl e) where
   one_of : (b : Bool) → (port == i) ≡ b → bit_at (2 ^ j) port ≡ 1 → ⊥
-  one_of true is e =
-      let same : port ≡ i = eqb-true port i is in
-      let none : bit_at (2 ^ j) port ≡ 0 = bit_at-pow_other j port (λ k. apart (sym same ∙ k)) in
-      absurd (omega (arith, e, none))
+  one_of true is e = let same : port ≡ i = eqb-true port i is in
+      absurd (omega (arith, e, bit_at-pow_other j port (λ k. apart (sym same ∙ k))))
   one_of false is e =
       let none : bit_at (2 ^ i) port ≡ 0 =
       bit_at-pow_other i port (λ k. true≢false (sym (eq-eqb port i k) ∙ is)) in
@@ -57,10 +55,8 @@ other_names : (i j : ℕ) → i ≢ j → IsFalse (bytes_eq (switch_row i).name 
 other_names i j apart = go (bytes_eq (switch_row i).name (switch_row j).name) refl where
   go : (b : Bool) → bytes_eq (switch_row i).name (switch_row j).name ≡ b → IsFalse b
   go false e = refl
-  go true e =
-      let same = (bytes_eq-Decides (switch_row i).name (switch_row j).name).0 e in
-      let digit : 48 + i ≡ 48 + j = ap (λ name. slice_index name 1) same in
-      absurd (apart (omega (arith, digit)))
+  go true e = let same = (bytes_eq-Decides (switch_row i).name (switch_row j).name).0 e in
+      absurd (apart (omega (arith, ap (λ name. slice_index name 1) same)))
 
 all_apart : AllPairs AreApart load_net.switches
 all_apart = pairs_by switch_row AreApart (λ i j. not (i == j))

@@ -54,8 +54,7 @@ rows_distinct (suc k) x place d inside = go (nat_lt place k) refl (rows_distinct
       )
       (earlier (ltb-true place k e))
   go false e earlier =
-      let same : place ≡ length (rows_drawn k x).0 =
-      omega (arith, ltb-false place k e, inside, rows_count k x) in
+      let same : place ≡ length (rows_drawn k x).0 = omega (arith, ltb-false, rows_count k x) in
       rw (
         same,
         take-append-le (length (rows_drawn k x).0) (rows_drawn k x).0
@@ -83,12 +82,7 @@ header_sound x = record {
   proto = omega arith;
 } where
   address_fits : (x : ℕ) → address_at x < 2 ^ 32
-  address_fits x = omega (
-    arith,
-    below_limit 4 (state_after 1 x) (omega arith),
-    below_limit 256 (state_after 2 x) (omega arith),
-    below_limit 256 (state_after 3 x) (omega arith),
-  )
+  address_fits x = omega (arith, below_limit)
 
 group_may : (x : ℕ) → All (IsEvent load_net 2) (group_at x)
 group_may x = All-cons (IsEvent load_net 2) (One (packet_drawn x))

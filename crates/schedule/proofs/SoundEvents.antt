@@ -67,9 +67,8 @@ link_sound net one two link is =
     rest in
     let (linked, same) = require_ok (are_linked net.links s x) why.NoLink
     (Ok (record { one = s; two = x })) link last in
-    let first : s ≡ link.one = cc same in
     let second : x ≡ link.two = cc same in
-    subst (λ t. HasLink net link.one t) second (subst (λ t. HasLink net t x) first linked)
+    subst (λ t. HasLink net link.one t) second (subst (λ t. HasLink net t x) (cc same) linked)
 
 header_sound : (src dst sport dport proto : List ℕ) (header : Header)
     → header_read src dst sport dport proto ≡ Ok header → IsHeader header
@@ -211,8 +210,7 @@ module _ (net : Net) (files : ℕ) where
       let (none, same) = first_of (refusals_from net files 1 records) (events_in net files records)
       events is in
       let few = few_rows 1 records none (omega arith) in
-      let most : length (events_in net files records) ≤ 100000 =
-      omega (arith, few, as_many records) in
+      let most : length (events_in net files records) ≤ 100000 = omega (arith, as_many) in
       subst (AreSoundEvents net files) same
       (record {
         steps = All-from_recursion (IsEvent net files) (events_in net files records)

@@ -1,5 +1,5 @@
 -- What is said of a packet before a route is taken, by the switch that counted the call.
-use Rattle.std.proofs.Common.{◌∙◌, ◌≡◌, List, None, Option, Some, ap, false, option_map, refl, subst, sym, true, ℕ}
+use Rattle.std.proofs.Common.{◌∙◌, ◌≡◌, List, None, Option, Some, ap, false, option_map, refl, sym, true, ℕ}
 use Rattle.failover.specs.Exports.{no_links}
 use Rattle.five_tuple.specs.declared.header.Header.{Header}
 use Rattle.switch_core.specs.Exports.{Answer, Answered, Arrival, IsByLookup, Site, SwitchValue, admitted, answer_of, are_isolated, call_counted, cause_of, enter_answer, entered_with, entry_of, incoming_packet, leave_by, looked_up, next_of, packet_with, serves, set_out}
@@ -13,14 +13,12 @@ use Rattle.switch_core.proofs.PacketArrivals.{entry_by}
 pub answer_counted : (s after : SwitchValue) (site : Site) (packet : Packet) (forwarding : Forwarding) →
     after ≡ call_counted s → answer_of after site packet forwarding ≡ answer_of s site packet forwarding
 unfolding next_of leave_by set_out cause_of are_isolated
-answer_counted s after site packet forwarding is =
-    ap (λ w. answer_of w site packet forwarding) is ∙ by_forwarding forwarding
-  where
-    by_forwarding : (forwarding : Forwarding) →
-        answer_of (call_counted s) site packet forwarding ≡ answer_of s site packet forwarding
-    by_forwarding (Out port) = refl
-    by_forwarding (Decided decision word) = refl
-    by_forwarding (Seek leg targets) = refl
+answer_counted s after site packet forwarding is = cc (is, by_forwarding forwarding) where
+  by_forwarding : (forwarding : Forwarding) →
+      answer_of (call_counted s) site packet forwarding ≡ answer_of s site packet forwarding
+  by_forwarding (Out port) = refl
+  by_forwarding (Decided decision word) = refl
+  by_forwarding (Seek leg targets) = refl
 
 module _ (s after : SwitchValue) (site : Site) (number : ℕ) (header : Header)
     (forwarding : Forwarding) where
@@ -32,9 +30,7 @@ module _ (s after : SwitchValue) (site : Site) (number : ℕ) (header : Header)
       ≡ option_map Answered (admitted s site (incoming_packet s number header))
   was_admitted ingress is serving here looked =
       ap Some (answer_counted s after site (incoming_packet s number header) forwarding is
-      ∙ subst (λ i. answer_of s site (packet_with number header i no_links) forwarding
-      ≡ Answered (looked_up s site (packet_with number header i no_links))) here looked)
-      ∙ ap (option_map Answered)
+      ∙ rw here at looked) ∙ ap (option_map Answered)
       (sym (entry_by s site (incoming_packet s number header) true serving))
 
   -- and what is answered then
@@ -69,5 +65,4 @@ by_lookup s site packet (Seek leg targets) answer is = tt
 -- at a switch that doesn't serve
 pub not_admitted : (s : SwitchValue) (site : Site) (packet : Packet) → serves s ≡ false →
     None ≡ option_map Answered (admitted s site packet)
-not_admitted s site packet closed =
-    ap (option_map Answered) (sym (entry_by s site packet false closed))
+not_admitted s site packet closed = cc (entry_by s site packet false closed)

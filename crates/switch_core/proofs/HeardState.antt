@@ -38,12 +38,9 @@ found_above mark version (first ∷ list) = by_tests (first.version == version)
         (cond keep (first ∷ above mark list) (above mark list)) ≡ cond (nat_lt mark version)
         (cond same (Some first) (find (λ tables. tables.version == version) list)) None
     by_tests true true same keep found =
-        let higher : nat_lt mark version ≡ true = ap (nat_lt mark) (sym (eqb-true _ _ same))
-        ∙ keep in
-        rw (same, higher) refl
+        rw (same, ap (nat_lt mark) (sym (eqb-true _ _ same)) ∙ keep) refl
     by_tests true false same keep found =
-        let below : nat_lt mark version ≡ false = ap (nat_lt mark) (sym (eqb-true _ _ same))
-        ∙ keep in
+        let below = ap (nat_lt mark) (sym (eqb-true _ _ same)) ∙ keep in
         rw below (rw below at found)
     by_tests false true same keep found = rw same found
     by_tests false false same keep found = found

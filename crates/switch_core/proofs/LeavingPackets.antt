@@ -94,9 +94,7 @@ pub next_exit : (s : SwitchValue) (site : Site) (packet : Packet) (action : Acti
     ≡ Exit (setting_out packet (ExitLeg port) (owner ∷ []) route))
 unfolding next_of cause_of
 next_exit s site packet action port owner by has other =
-    let is : next_of s site packet action
-    ≡ exit_by (set_out s site.near packet (ExitLeg port) (owner ∷ [])) =
-    ap (next_of s site packet) by ∙ ap (leave_by s site.near packet port) has
+    let is = ap (next_of s site packet) by ∙ ap (leave_by s site.near packet port) has
     ∙ leaves_for s site.near packet port owner other in
     MatchOption-weaker (route_known s site.near packet (owner ∷ []))
     (λ none. is ∙ ap exit_by none) (λ way some. is ∙ ap exit_by some)
@@ -106,5 +104,4 @@ pub next_no_owner : (s : SwitchValue) (site : Site) (packet : Packet) (action : 
     (port : ℕ) → action ≡ OutBy port → port_owner site.ports port ≡ None →
     next_of s site packet action ≡ Stuck NoRoute
 unfolding next_of leave_by
-next_no_owner s site packet action port by none =
-    ap (next_of s site packet) by ∙ ap (leave_by s site.near packet port) none
+next_no_owner s site packet action port by none = cc (by, none)

@@ -1,5 +1,5 @@
 -- What a switch answers to a packet by a lookup, and by a rule of its own.
-use Rattle.std.proofs.Common.{◌==◌, ◌∙◌, ◌≡◌, Bool, Err, IsSomeAnd, IsTrue, List, MatchOption, None, Ok, Option, Result, Some, ap, cond, eq-eqb, eqb-true, false, is_some, ok_or, option_and_then, option_map, refl, slice_get, subst, sym, true, unwrap_or, ℕ}
+use Rattle.std.proofs.Common.{◌==◌, ◌∙◌, ◌≡◌, Bool, Err, IsSomeAnd, IsTrue, List, MatchOption, None, Ok, Option, Result, Some, ap, cond, eq-eqb, eqb-true, false, is_some, ok_or, option_map, refl, slice_get, subst, sym, true, unwrap_or, ℕ}
 use Rattle.base.proofs.Exports.{All-contains, MatchOption-weaker, find-position, find-there, position-Some, slice_get-get_or}
 use Rattle.five_tuple.specs.Exports.{number_of}
 use Rattle.five_tuple.specs.declared.header.Header.{Header}
@@ -76,8 +76,7 @@ hit_of s site packet version tables number place part is hit =
           own = ap (own_part tables) (own_number tables number part is) ∙ is;
           hit = hit;
           at_place = there;
-          first = sym (find-position test part.rules)
-              ∙ ap (option_and_then (slice_get part.rules)) hit.first ∙ there;
+          first = cc (find-position test part.rules, hit.first, there);
         };
         numbered = own_number tables number part is;
         answered = refl;
@@ -153,8 +152,7 @@ lookup_redirect s site packet partition targets ready found =
     let leg = SeekLeg s.stamp partition in
     let by_leg = λ (v : ℕ). seek_by (SeekLeg v partition)
     (set_out s site.near packet (SeekLeg v partition) targets) in
-    let is : looked_up s site packet ≡ by_leg s.stamp =
-    looked_up_by s site packet (Redirect partition targets) found
+    let is = looked_up_by s site packet (Redirect partition targets) found
     ∙ ap by_leg (stamp_version s ready.stamped) in
     MatchOption-weaker (route_known s site.near packet targets)
     (λ none. is ∙ ap (seek_by leg) none)

@@ -1,6 +1,6 @@
 -- A body for each neighbour below a number.
-use Rattle.std.proofs.Common.{[], ◌*◌, ◌++◌, ◌+◌, ◌-◌, ◌<◌, ◌==◌, ◌^◌, ◌∙◌, ◌∷◌, ◌≡◌, ◌≤◌, Bool, List, ap, append-nil, arith, cond, eq-zero-or-pos, false, filter, inl, inr, map, suc, sym, true, w64, zero, ℕ}
-use Rattle.base.proofs.Exports.{bit_at_above, count_leading_zeros, filter_more, has-zero, leading_length, leading_zeros, least_below, map-append, range_with_len, trailing_zeros}
+use Rattle.std.proofs.Common.{[], ◌++◌, ◌+◌, ◌-◌, ◌<◌, ◌==◌, ◌^◌, ◌∙◌, ◌∷◌, ◌≡◌, ◌≤◌, List, ap, append-nil, arith, cond, eq-zero-or-pos, false, filter, inl, inr, map, suc, sym, true, w64, zero, ℕ}
+use Rattle.base.proofs.Exports.{bit_at_above, filter_more, has-zero, leading_length, leading_zeros, least_below, map-append, range_with_len, trailing_zeros}
 use Rattle.base.specs.Exports.{has, least_in, switches}
 use Rattle.ctrl_msg.specs.declared.message.Body.{Body}
 use Rattle.ctrl_msg.specs.declared.message.Message.{Message}
@@ -24,14 +24,11 @@ told_one near body n = ap (map (for_switch body)) (filter_more (has near) n)
 
 pub adverts_near : (near : ℕ) (body : Body) (n : ℕ) → has near n ≡ true →
     told near body (n + 1) ≡ told near body n ++ record { to = Switch n; body = body } ∷ []
-adverts_near near body n is = told_one near body n
-    ∙ ap (λ (b : Bool). told near body n ++ map (for_switch body) (cond b (n ∷ []) [])) is
+adverts_near near body n is = cc (told_one near body n, is)
 
 pub told_far : (near : ℕ) (body : Body) (n : ℕ) → has near n ≡ false →
     told near body (n + 1) ≡ told near body n
-told_far near body n is =
-    told_one near body n ∙ ap (λ (b : Bool). told near body n
-    ++ map (for_switch body) (cond b (n ∷ []) [])) is ∙ append-nil (told near body n)
+told_far near body n is = cc (told_one near body n, is, append-nil (told near body n))
 
 -- none is told where no neighbour is left
 told_same : (near : ℕ) (body : Body) (n k : ℕ) → ((j : ℕ) → n ≤ j → j < n + k → has near j ≡ false)
@@ -53,20 +50,16 @@ none_below near j fits below = elim (eq-zero-or-pos near) [
 pub told_none : (near : ℕ) (body : Body) → near < 2 ^ 64
     → told near body (trailing_zeros w64 near) ≡ []
 unfolding told
-told_none near body fits =
-    let least : ℕ = trailing_zeros w64 near in
-    let here : least ≡ 0 + least = omega arith in
-    ap (told near body) here
+told_none near body fits = let least : ℕ = trailing_zeros w64 near in
+    ap (told near body) (omega arith)
     ∙ told_same near body 0 least (λ j from below. none_below near j fits (omega (arith, below)))
 
 pub told_all : (near : ℕ) (body : Body) (n : ℕ) → near < 2 ^ 64 → 64 - leading_zeros w64 near ≤ n
     → told near body n ≡ flood near body
 unfolding told flood has switches
 told_all near body n fits past =
-    let long : ((m : ℕ) × (count_leading_zeros 64 near + m ≡ 64) × (near < 2 ^ m)
-    × (2 ^ m ≤ 2 * near + 1)) = leading_length 64 near fits in
+    let long = leading_length 64 near fits in
     let same : (i : ℕ) → long.0 ≤ i → told near body i ≡ told near body long.0 = λ i from.
-    let here : i ≡ long.0 + (i - long.0) = omega (arith, from) in
-    ap (told near body) here ∙ told_same near body long.0 (i - long.0)
+    ap (told near body) (omega (arith, from)) ∙ told_same near body long.0 (i - long.0)
     (λ j above below. ap (λ d. d == 1) (bit_at_above near long.0 j long.2 above)) in
     same n (omega (arith, long.1, past)) ∙ sym (same 64 (omega (arith, long.1)))

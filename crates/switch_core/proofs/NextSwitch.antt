@@ -1,5 +1,5 @@
 -- Where a packet on its way goes on, by the next switch of its route.
-use Rattle.std.proofs.Common.{if◌then◌else◌, ◌+◌, ◌<◌, ◌∙◌, ◌≡◌, ◌≢◌, Bool, List, None, Option, Some, ap, false, refl, slice_get, subst, sym, true, ℕ}
+use Rattle.std.proofs.Common.{if◌then◌else◌, ◌+◌, ◌<◌, ◌∙◌, ◌≡◌, ◌≢◌, Bool, List, None, Option, Some, ap, false, refl, slice_get, sym, true, ℕ}
 use Rattle.base.proofs.Exports.{get_or_from_slice_get, slice_get_within}
 use Rattle.base.specs.Exports.{has}
 use Rattle.failover.specs.Exports.{IsRouteList}
@@ -13,8 +13,7 @@ pub next_apart : (route : List ℕ) (place number other : ℕ) → IsRouteList r
     slice_get route place ≡ Some number → slice_get route (place + 1) ≡ Some other →
     (other ≢ number) × (other < 64)
 next_apart route place number other list here next =
-    subst (λ n. (other ≢ n) × (other < 64)) (get_or_from_slice_get route place number 0 here)
-    (next_is_other route place (Some other)
+    rw (get_or_from_slice_get route place number 0 here) at (next_is_other route place (Some other)
     (record { within = slice_get_within route place number here; list = list }) (sym next))
 
 module _ (near : ℕ) where

@@ -38,26 +38,20 @@ down_is near t other = by_next (next t) where
 pub hop_arrives : (s : SwitchValue) (near : ℕ) (t : TunnelValue) → next t ≡ None →
     hop_answer s near t ≡ record { end = Arrive; tunnel = t }
 unfolding hop_answer
-hop_arrives s near t none =
-    ap (λ (after : Option ℕ). hopped_to s near t (link_found_down near after)) none
-    ∙ ap (move_answer t) none
+hop_arrives s near t none = cc none
 
 pub hop_moves : (s : SwitchValue) (near : ℕ) (t : TunnelValue) (other : ℕ) →
     next t ≡ Some other → IsTrue (has near other) →
     hop_answer s near t ≡ record { end = Move other; tunnel = record t { place = t.place + 1 } }
 unfolding hop_answer
-hop_moves s near t other is usable =
-    ap (λ (after : Option ℕ). hopped_to s near t (link_found_down near after)) is
-    ∙ ap (λ (test : Bool). hopped_to s near t (cond test None (Some other))) usable
-    ∙ ap (move_answer t) is
+hop_moves s near t other is usable = cc (is, usable)
 
 -- along the way around a link
 pub hop_around : (s : SwitchValue) (near : ℕ) (t : TunnelValue) (other : ℕ) (way : Option (List ℕ))
     → link_found_down near (next t) ≡ Some other → route_around s near t other ≡ way
     → hop_answer s near t ≡ moved_along s near (marked_down t other) way
 unfolding hop_answer rerouted_here
-hop_around s near t other way found is =
-    ap (hopped_to s near t) found ∙ ap (moved_along s near (marked_down t other)) is
+hop_around s near t other way found is = cc (found, is)
 
 pub hop_stuck : (s : SwitchValue) (near : ℕ) (t : TunnelValue) (other : ℕ) →
     link_found_down near (next t) ≡ Some other → route_around s near t other ≡ None →
@@ -183,9 +177,8 @@ seen adverts at near other is = let rows = map neighbours_named adverts in
       | inl below ↦ ap (λ (row : ℕ). has row other)
           (sym (get_or-set_same rows at near 0 below)) ∙ is
       | inr past ↦ (let len = length-set rows at near in
-          let none = get_or_past (set rows at near) at 0 (omega (arith, len)) in
-          let no_link : false ≡ true =
-          sym (has-zero other) ∙ ap (λ (row : ℕ). has row other) (sym none) ∙ is in
+          let no_link : false ≡ true = sym (has-zero other) ∙ ap (λ (row : ℕ). has row other)
+          (sym (get_or_past (set rows at near) at 0 (omega (arith, len)))) ∙ is in
           absurd (cc))
     ]
 
@@ -199,17 +192,15 @@ way_leads : (adverts : List (Option Advert)) (from near : ℕ) (down targets way
     route_of adverts from targets near down ≡ Some way →
     (target : ℕ) × IsPath (known_links adverts from near down) from target way
 way_leads adverts from near down targets way is = let links = known_links adverts from near down in
-    path_of links from targets way (subst (λ (r : Option (List ℕ)). IsRoute links from targets r)
-    is (known_route_is_route adverts from targets near down))
+    path_of links from targets way (rw is at (known_route_is_route adverts from targets near down))
 
 way_is_usable : (adverts : List (Option Advert)) (from near : ℕ) (down targets way : List ℕ)
     (second : ℕ) → route_of adverts from targets near down ≡ Some way →
     slice_get way 1 ≡ Some second → IsTrue (has near second)
 unfolding is_link
 way_is_usable adverts from near down targets way second is next =
-    let links = known_links adverts from near down in
     let path = way_leads adverts from near down targets way is in
-    let link = first_link links from path.0 way second path.1 next in
+    let link = first_link (known_links adverts from near down) from path.0 way second path.1 next in
     seen adverts from near second
     (second_of_four _ _ _ _
     (sym (has_known adverts from near down from second link.0 link.1) ∙ link.2))
@@ -279,9 +270,8 @@ hop_stays s near t stands = by_found (link_found_down near (next t)) where
   by_way from None is end = absurd (cc)
   by_way from (Some way) is end =
       let leads = way_leads s.database (here t) near (down_with t from) t.targets way is in
-      let begins : slice_get way 0 ≡ Some s.number =
-      path_begins (known_links s.database (here t) near (down_with t from)) (here t) leads.0 way
-      leads.1 ∙ ap Some (get_or_from_slice_get t.route t.place s.number 0 stands) in
+      let begins = path_begins (known_links s.database (here t) near (down_with t from)) (here t)
+      leads.0 way leads.1 ∙ ap Some (get_or_from_slice_get t.route t.place s.number 0 stands) in
       by_next (on_route (marked_down t from) way) begins (slice_get way 1) end
 
   by_found : (found : Option ℕ) → (hopped_to s near t found).end ≡ Arrive →

@@ -37,9 +37,7 @@ use Rattle.switch_core.proofs.OnWay.{down_is, hop_arrives, hop_moves, hop_stuck,
 same_part : (tables : Tables) (header : Header) (own other : OwnRule tables header) →
     own.part.number ≡ other.part.number → own.part ≡ other.part
 same_part tables header own other number =
-    let both : Some own.part ≡ Some other.part =
-    sym own.own ∙ ap (own_part tables) number ∙ other.own in
-    cc
+    let both = sym own.own ∙ ap (own_part tables) number ∙ other.own in cc
 
 -- ---- the answer of a lookup
 
@@ -48,8 +46,7 @@ same_decided : (s : SwitchValue) (site : Site) (packet : Packet) (version partit
     IsDecidedIn s site packet version tables partition answer →
     IsDecidedIn s site packet version tables partition other → answer ≡ other
 same_decided s site packet version partition tables answer other one two =
-    let part : one.own.part ≡ two.own.part =
-    same_part tables packet.header one.own two.own (one.numbered ∙ sym two.numbered) in
+    let part = same_part tables packet.header one.own two.own (one.numbered ∙ sym two.numbered) in
     let places : Some one.own.place ≡ Some two.own.place = sym one.own.hit.first
     ∙ ap (λ (part : Partition). position (is_held (number_of packet.header)) part.rules) part
     ∙ two.own.hit.first in
@@ -137,9 +134,7 @@ one_way_on s site packet action way law = by_action action refl where
       law.no_owner port by none ∙ sym (next_no_owner s site packet action port by none)
   by_owner port by (Some owner) has = by_test (owner == s.number) refl where
     by_test : (test : Bool) → (owner == s.number) ≡ test → way ≡ next_of s site packet action
-    by_test true is =
-        let here : port_owner site.ports port ≡ Some s.number =
-        has ∙ ap Some (eqb-true owner s.number is) in
+    by_test true is = let here = has ∙ ap Some (eqb-true owner s.number is) in
         (law.out port).1 (by, here)
         ∙ sym ((next_out s site packet action port).1 (by, here))
     by_test false is =

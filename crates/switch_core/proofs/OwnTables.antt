@@ -90,8 +90,7 @@ lookup_is_found entries tables header sound is =
     by_part None none = tt
     by_part (Some part) found =
         let there = find-there (is_in header) tables.auth part found in
-        let own : own_part tables part.number ≡ Some part =
-        find_numbered tables.auth part sound.distinct there.0 in
+        let own = find_numbered tables.auth part sound.distinct there.0 in
         subst (λ (o : Option Partition). IsSomeAnd o
         (λ p. IsFirstHit header p (place_of_first header part))) (sym own)
         (own_hit tables part.number part header sound is own there.1)

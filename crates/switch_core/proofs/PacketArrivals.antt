@@ -1,5 +1,5 @@
 -- What a switch answers as a packet enters and as it arrives.
-use Rattle.std.proofs.Common.{◌↔◌, ◌∙◌, ◌≡◌, Bool, IfSome, IsFalse, IsSomeAnd, IsTrue, None, Option, Some, ap, cond, false, is_some, refl, subst, true, unwrap_or, ℕ}
+use Rattle.std.proofs.Common.{◌↔◌, ◌≡◌, Bool, IfSome, IsFalse, IsSomeAnd, IsTrue, None, Option, Some, ap, cond, false, is_some, refl, subst, true, unwrap_or, ℕ}
 use Rattle.base.proofs.Exports.{option_map_or}
 use Rattle.policy_rules.specs.Exports.{is_in}
 use Rattle.policy_rules.specs.declared.packet.Leg.{Leg}
@@ -56,21 +56,17 @@ arrived_by : (s : SwitchValue) (site : Site) (t : TunnelValue) (version partitio
     → received s site t ≡ Answered (option_map_or (decided_in s site (packet_of t) partition) held
     (looked_up s site (packet_of t)))
 unfolding received
-arrived_by s site t version partition held leg is = ap (arrived_on s site (packet_of t)) leg
-    ∙ ap (λ (o : Option Tables). Answered (option_map_or (decided_in s site (packet_of t) partition)
-    o (looked_up s site (packet_of t)))) is
+arrived_by s site t version partition held leg is = cc (leg, is)
 
 -- the first hit of the leg's partition
 hit_on : (s : SwitchValue) (t : TunnelValue) (version partition : ℕ) (tables : Tables) →
     IsArriving s t → t.leg ≡ Seek version partition → held_tables s version ≡ Some tables →
     IsSomeAnd (own_part tables partition) (λ part. IsFirstHit t.header part
     (place_of_first t.header (part_numbered tables partition)))
-hit_on s t version partition tables arriving leg held =
-    let at : IsAtAuthority s t.header (Seek version partition) =
-    subst (λ (leg : Leg). IsAtAuthority s t.header leg) leg arriving.authority in
-    by_part (own_part tables partition) refl
-    (subst (λ (o : Option Tables). IfSome o (λ tables.
-    IsSomeAnd (own_part tables partition) (λ part. IsTrue (is_in t.header part)))) held at)
+hit_on s t version partition tables arriving leg held = by_part (own_part tables partition) refl
+    (subst (λ (o : Option Tables). IfSome o
+    (λ tables. IsSomeAnd (own_part tables partition) (λ part. IsTrue (is_in t.header part)))) held
+    (subst (λ (leg : Leg). IsAtAuthority s t.header leg) leg arriving.authority))
   where
     by_part : (part : Option Partition) → own_part tables partition ≡ part →
         IsSomeAnd part (λ part. IsTrue (is_in t.header part)) →

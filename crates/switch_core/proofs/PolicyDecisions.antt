@@ -120,10 +120,8 @@ by_lookup s site packet answer ready law = by_found (lookup_by_stamp s packet.he
 told_entry : (answer : Answer) (decision : Decision) (way : Next) →
     entered_with answer ≡ entry.Decided decision way →
     (cache : Option Body) × (answer ≡ Decided decision cache way)
-told_entry (Decided own cache goes) decision way is =
-    let same_own : own ≡ decision = cc in
-    let same_way : goes ≡ way = cc in
-    (cache, ap (λ d. Decided d cache goes) same_own ∙ ap (Decided decision cache) same_way)
+told_entry (Decided own cache goes) decision way is = let same_own : own ≡ decision = cc in
+    (cache, ap (λ d. Decided d cache goes) same_own ∙ ap (Decided decision cache) cc)
 told_entry (Seek tunnel) decision way is = absurd cc
 told_entry (Stuck cause leg) decision way is = absurd cc
 
@@ -147,8 +145,7 @@ decided_on_entry s site packet decision way ready is =
     let told = told_entry (looked_up s site packet) decision way (sym (ap entry_of looked) ∙ is) in (
       told.0,
       looked ∙ ap Some told.1,
-      subst (IsSourced s site packet) told.1
-          (by_lookup s site packet _ ready (lookup_is s site packet ready)),
+      rw told.1 at (by_lookup s site packet _ ready (lookup_is s site packet ready)),
     )
 
 pub decided_on_arrival : (s : SwitchValue) (site : Site) (t : TunnelValue) (decision : Decision)
@@ -175,10 +172,7 @@ decided_on_arrival s site t decision cache way arriving is = by_leg t.leg refl w
       by_answer by.0 by.1 (by_lookup s site packet by.0 arriving.ready by.2)
 
   by_leg : (leg : Leg) → t.leg ≡ leg → IsDecision s site packet decision cache way
-  by_leg (ExitLeg port) leg =
-      let out : arrival.Out port ≡ arrival.Decided decision cache way =
-      sym (arrive_out s site t port leg) ∙ is in
-      absurd (cc)
+  by_leg (ExitLeg port) leg = let out = sym (arrive_out s site t port leg) ∙ is in absurd (cc)
   by_leg (SeekLeg version partition) leg =
       by_tables version partition (held_tables s version) leg refl
 
@@ -211,12 +205,10 @@ decides_as_policy s header decision rows plan sound is planned by =
     cc in
     let Decides : Partition → Type 0 = λ part. IsTrue (is_in header part) →
     option_map hit_of_rule (first_rule part.rules header) ≡ Some (scan rows header) in
-    let own : find (λ p. p.number == part.number) auth ≡ Some part =
-    ap (λ (t : Tables). own_part t part.number) (sym tables) ∙ by.own.own in
+    let own = ap (λ (t : Tables). own_part t part.number) (sym tables) ∙ by.own.own in
     let there = (find-there (λ (p : Partition). p.number == part.number) auth part own).0 in
     let decides : Decides part =
     All-contains Decides auth part (of_plan Decides kept plan (sound.decides header is)) there in
-    let first : Some (hit_of_rule by.own.rule) ≡ Some (scan rows header) =
-    ap (option_map hit_of_rule) (sym by.own.first) ∙ decides by.own.hit.region in
+    let first = ap (option_map hit_of_rule) (sym by.own.first) ∙ decides by.own.hit.region in
     let hit : scan rows header ≡ hit_of_rule by.own.rule = cc in
     hit ∙ ap (λ (d : Decision). record { rule = d.rule; action = d.action }) (sym by.decided)

@@ -34,8 +34,7 @@ mask_fixes : (candidates : List Candidate) (index : ℕ) (candidate : Candidate)
     → candidate ≡ get_or candidates index candidate → mask ≡ candidate.region.mask
     → (bit_at mask bit == 1) ≡ is_fixed_of (get_or candidates index candidate).region bit
 unfolding is_fixed_of
-mask_fixes candidates index candidate mask bit is same =
-    ap (λ m. bit_at m bit == 1) same ∙ ap (λ (s : Candidate). is_fixed_of s.region bit) is
+mask_fixes candidates index candidate mask bit is same = cc (same, is)
 
 pub all_more : (candidates : List Candidate) (index : ℕ) (candidate : Candidate) (bits mask bit : ℕ)
     → index < length candidates → candidate ≡ get_or candidates index candidate
@@ -101,7 +100,6 @@ none_free region passes bits free tests frees none = λ bit is_free. elim (cases
   | inr fails ↦ fails
   | inl passing ↦
       let set : bit_at bits bit ≡ 1 = eqb-true _ _ (tests bit is_free.bound ∙ passing) in
-      let zero_bit : bit_at (bit_and bits free) bit ≡ 0 = ap (λ n. bit_at n bit) none
-      ∙ bit_at-zero bit in
+      let zero_bit = ap (λ n. bit_at n bit) none ∙ bit_at-zero bit in
       absurd (omega (arith, zero_bit, both_set bits free bit set ((frees bit).1 is_free)))
 ]

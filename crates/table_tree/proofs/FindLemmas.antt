@@ -142,8 +142,6 @@ in_numbered rows header place part one is numbered =
     let regions : List WordValue = map (λ (row : PartRow). row.region) rows in
     let found = row_found header rows one in
     let row : PartRow = found.0 in
-    let one_region : count_by holding regions ≡ 1 =
-    count_by-map holding (λ (r : PartRow). r.region) rows ∙ one in
     let at_row : slice_get rows place ≡ Some row = sym (ap (option_and_then (slice_get rows)) is)
     ∙ find-position (row_has header) rows ∙ found.1 in
     let at_place : slice_get regions place ≡ Some row.region =
@@ -152,7 +150,8 @@ in_numbered rows header place part one is numbered =
     let has_it : holding row.region ≡ true = (find-there (row_has header) rows row found.1).1 in
     same_from_decides {P = (part.number == place) ≡ true} _ _ (
       λ inside. eq-eqb _ _ (one_place holding regions part.number place part.region row.region
-          one_region numbered inside at_place has_it),
+          (count_by-map holding (λ (r : PartRow). r.region) rows ∙ one) numbered inside at_place
+          has_it),
       λ same. let there : Some part.region ≡ Some row.region =
           sym numbered ∙ ap (slice_get regions) (eqb-true _ _ same) ∙ at_place in
           ap holding (same_Some part.region row.region there) ∙ has_it,
@@ -181,22 +180,18 @@ pub tree_there : (auth : List Partition) (trees : List RuleTree) (own : ℕ) (tr
     → own < length trees → tree ≡ get_or trees own tree → part ≡ get_or auth own part
     → seen_tree tree ≡ part_tree part
 tree_there auth trees own tree part all within inside tree_is part_is =
-    let at_tree : slice_get trees own ≡ Some tree =
-    slice_get-get_or trees own tree inside ∙ ap Some (sym tree_is) in
     let at_part : slice_get auth own ≡ Some part =
     slice_get-get_or auth own part within ∙ ap Some (sym part_is) in
     same_Some (seen_tree tree) (part_tree part)
-    (sym (slice_get-map seen_tree trees own ∙ ap (option_map seen_tree) at_tree)
-    ∙ ap (λ (ts : List RegionTree). slice_get ts own) all
-    ∙ slice_get-map part_tree auth own ∙ ap (option_map part_tree) at_part)
+    (sym (slice_get-map seen_tree trees own
+    ∙ ap (option_map seen_tree) (slice_get-get_or trees own tree inside ∙ ap Some (sym tree_is)))
+    ∙ ap (λ (ts : List RegionTree). slice_get ts own) all ∙ slice_get-map part_tree auth own
+    ∙ ap (option_map part_tree) at_part)
 
 pub trees_reach : (auth : List Partition) (trees : List RuleTree) (own : ℕ)
     → map seen_tree trees ≡ map part_tree auth → own < length auth → own < length trees
-trees_reach auth trees own all within = omega (
-  arith,
-  within,
-  sym (length-map trees seen_tree) ∙ ap length all ∙ length-map auth part_tree,
-)
+trees_reach auth trees own all within =
+    omega (arith, sym (length-map trees seen_tree) ∙ ap length all ∙ length-map auth part_tree)
 
 -- the partition at a place of the list, and its tree, as they are read
 pub record IsThere (tables : Tables) (header : Header) (own : ℕ) (part : Partition)
@@ -215,15 +210,13 @@ is_there tables value header own part tree auth trees same has read all part_is 
     let there = there_at (λ p. IsTrue (is_in header p)) tables.auth own part
     (subst (λ (t : Tables). IsSomeAnd (slice_get t.auth own) (λ p. IsTrue (is_in header p)))
     (sym same) has) in
-    let here : part ≡ get_or tables.auth own part =
-    part_is ∙ ap (λ (ps : List Partition). get_or ps own part) read in
+    let here = part_is ∙ ap (λ (ps : List Partition). get_or ps own part) read in
     let is = tree_there tables.auth trees own tree part all there.0
     (trees_reach tables.auth trees own all there.0) tree_is here in
     let region : tree.region ≡ part.region = ap (λ (t : RegionTree). t.region) is in record {
       at = there.1 ∙ ap Some (sym here);
       shape = ap (λ (t : RegionTree). t.shape) is ∙ ap (rule_tree part.rules) (sym region);
-      region = subst (λ r. IsTrue (holds r (number_of header))) (sym region)
-          (subst (λ (p : Partition). IsTrue (is_in header p)) (sym here) there.2);
+      region = rw region (rw here there.2);
     }
 
 -- the partition of the place has the header
@@ -259,11 +252,10 @@ pub own_decides : (tables : Tables) (header : Header) (place own : ℕ) (first :
 own_decides tables header place own first sound is at there first_is =
     let own_part = own_found tables header place own sound is at there in
     let part : Partition = own_part.0 in
-    let number : part.number ≡ place = eqb-true _ _
-    (find-there (λ (p : Partition). p.number == place) tables.auth part own_part.2).1 in
     ap (λ o. Authority place (unwrap_or o 0))
     (first_is ∙ ap (option_and_then (first_in header)) own_part.1)
-    ∙ ap (λ n. Authority n (unwrap_or (first_in header part) 0)) (sym number)
+    ∙ ap (λ n. Authority n (unwrap_or (first_in header part) 0)) (sym (eqb-true _ _
+    (find-there (λ (p : Partition). p.number == place) tables.auth part own_part.2).1))
     ∙ sym (ap (λ own. option_map_or (authority_of header) own (redirect_of header tables.parts))
     (own_numbered tables header place sound is at ∙ own_part.2))
 
@@ -282,9 +274,7 @@ none_there parts number none = ap (option_and_then (slice_get parts)) none
 pub one_read : (parts auth : List Partition) (number own : ℕ) → parts ≡ auth
     → Some own ≡ position (λ part. part.number == number) parts
     → slice_get auth own ≡ find (λ part. part.number == number) auth
-one_read parts auth number own same there = subst (λ (ps : List Partition). slice_get ps own
-    ≡ find (λ (p : Partition). p.number == number) ps) same
-    (ap (option_and_then (slice_get parts)) there
+one_read parts auth number own same there = rw same at (ap (option_and_then (slice_get parts)) there
     ∙ find-position (λ (p : Partition). p.number == number) parts)
 
 -- where there is none, its targets do
@@ -292,12 +282,10 @@ pub row_decides : (tables : Tables) (header : Header) (place : ℕ) (d : PartRow
     → AreSoundTables tables → IsHeader header → position (row_has header) tables.parts ≡ Some place
     → None ≡ find (λ p. p.number == place) tables.auth
     → Redirect place (get_or tables.parts place d).targets ≡ table_lookup tables header
-row_decides tables header place d sound is at none =
-    let rows = tables.parts in
-    let targets = option_map_or (λ (r : PartRow). r.targets) (find (row_has header) rows) [] in
+row_decides tables header place d sound is at none = let rows = tables.parts in
     sym (ap (λ own. option_map_or (authority_of header) own (redirect_of header rows))
-    (own_numbered tables header place sound is at ∙ sym none)
-    ∙ ap (λ p. Redirect (unwrap_or p 0) targets) at
+    (own_numbered tables header place sound is at ∙ sym none) ∙ ap (λ p. Redirect (unwrap_or p 0)
+    (option_map_or (λ (r : PartRow). r.targets) (find (row_has header) rows) [])) at
     ∙ ap (Redirect place) ((row_at header rows place d at).targets d))
 
 -- ---- as the lookup reads them

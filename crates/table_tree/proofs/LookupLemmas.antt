@@ -1,5 +1,5 @@
 -- Down a tree of bits.
-use Rattle.std.proofs.Common.{◌&&◌, ◌==◌, ◌∙◌, ◌≡◌, Bool, IsFalse, IsTrue, ap, arith, eq-eqb, eqb-true, false, inl, inr, refl, true, ℕ}
+use Rattle.std.proofs.Common.{◌==◌, ◌≡◌, Bool, IsFalse, IsTrue, arith, eq-eqb, eqb-true, false, inl, inr, refl, true, ℕ}
 use Rattle.std.specs.Int.{bit_at, from_bool}
 use Rattle.std.proofs.lemmas.Bool.{cases_Bool}
 use Rattle.std.proofs.lemmas.Bool.Decides.{nat_tests}
@@ -13,9 +13,8 @@ use Rattle.table_tree.specs.declared.bit_tree.BitTree.{BitTree, End, Cut'}
 in_half : (region : WordValue) (bit number : ℕ) (one : Bool) → IsFalse (is_fixed_of region bit)
     → IsTrue (holds region number) → bit_at number bit ≡ from_bool one
     → IsTrue (holds (fix_of region bit one) number)
-in_half region bit number one free held is = fix_holds region bit one free number
-    ∙ ap (λ t. t && (bit_at number bit == from_bool one)) held
-    ∙ eq-eqb (bit_at number bit) (from_bool one) is
+in_half region bit number one free held is =
+    cc (fix_holds region bit one free number, held, eq-eqb (bit_at number bit) (from_bool one) is)
 
 -- what is true of the side that has a header of the region is true of the cut
 pub down : {A : Type 0} (P : A → Type 0) (region : WordValue) (bit number : ℕ)

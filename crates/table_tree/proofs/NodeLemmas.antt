@@ -1,5 +1,5 @@
 -- The regions at a node.
-use Rattle.std.proofs.Common.{[], ◌++◌, ◌+◌, ◌<◌, ◌==◌, ◌^◌, ◌||◌, ◌∙◌, ◌∷◌, ◌≡◌, All, Bool, IsFalse, IsSome, IsTrue, List, None, Option, Some, ap, append_assoc, arith, cond, count_by, drop, eqb-true, false, filter, find, get_or, inl, inr, is_some, length, refl, subst, sym, true, ℕ}
+use Rattle.std.proofs.Common.{[], ◌++◌, ◌+◌, ◌<◌, ◌==◌, ◌^◌, ◌||◌, ◌∙◌, ◌∷◌, ◌≡◌, All, Bool, IsFalse, IsSome, IsTrue, List, None, Option, Some, ap, append_assoc, arith, cond, count_by, drop, eqb-true, false, filter, find, get_or, inl, inr, is_some, length, refl, sym, true, ℕ}
 use Rattle.std.specs.Int.{bit_at}
 use Rattle.std.proofs.lemmas.Bool.{cases_eq, cases_lt, cases_Bool, both_ways, and_parts}
 use Rattle.policy_rules.proofs.CallerLemmas.{count_by-cons, count-filter-le, at_item, find_kept, found_from_count}
@@ -89,13 +89,8 @@ half_node candidates region bit one node free = let half = fix_of region bit one
   words = All-filter (candidate_meets half) (λ (candidate : Candidate). IsWord candidate.region)
       candidates node.words;
   meet = filter_passes (candidate_meets half) candidates;
-  one = λ number small. omega (
-    arith,
-    node.one number small,
-    count-filter-le (has_number number) (candidate_meets half) candidates,
-  );
-  held = λ number small inside. subst (λ found. IsSome found)
-      (sym (side_finds candidates region bit number one inside))
+  one = λ number small. omega (arith, node.one, count-filter-le);
+  held = λ number small inside. rw (side_finds candidates region bit number one inside)
       (node.held number small (half_holds region bit number one free.free inside));
 }
 
@@ -143,9 +138,8 @@ never_stuck holds_laws meet_laws (a ∷ b ∷ rest) region node none =
     let a_word = All-head P a (b ∷ rest) node.words in
     let b_word = All-head P b rest (All-tail P a (b ∷ rest) node.words) in
     let a_meets = All-head Q a (b ∷ rest) node.meet in
-    let b_meets = All-head Q b rest (All-tail Q a (b ∷ rest) node.meet) in
-    let shared = meeting_shares holds_laws a.region b.region a_word b_word
-    (unfixed_meet meet_laws region a.region b.region a_word a_meets b_meets
+    let shared = meeting_shares holds_laws a.region b.region a_word b_word (unfixed_meet meet_laws
+    region a.region b.region a_word a_meets (All-head Q b rest (All-tail Q a (b ∷ rest) node.meet))
     (λ bit free. first_unfixed (is_fixed_of a.region bit) _ (none bit free))) in
     let number = shared.0 in
     absurd (omega (
@@ -185,8 +179,7 @@ cut_is_free candidates region bit (inr least) = least.1.free
 -- fewer bits are free in a half
 pub half_smaller : (region half : WordValue) (bit : ℕ) (one : Bool) → IsFreeBit region bit
     → half ≡ fix_of region bit one → free_count half < free_count region
-half_smaller region half bit one free same =
-    rw same (omega (arith, free_bits_shorter region bit one free.bound free.free))
+half_smaller region half bit one free same = rw same (omega (arith, free_bits_shorter))
 
 -- ---- the loops
 

@@ -149,8 +149,7 @@ first_kept : (rules : List Rule) (region : WordValue) (number : ℕ) → IsTrue 
     → option_map rank_of (find (is_held number) (narrow rules region))
     ≡ option_map rank_of (find (is_held number) rules)
 first_kept rules region number inside =
-    ap (option_map rank_of) (narrow_first rules region number inside)
-    ∙ rank_kept region (find (is_held number) rules)
+    cc (narrow_first rules region number inside, rank_kept region (find (is_held number) rules))
 
 -- ---- down the tree
 
@@ -201,8 +200,7 @@ ranked_agrees : (list : List Rule) (number place : ℕ) (rules : List Rule)
     → All (Agrees list number) (ranked_by_place place rules)
 ranked_agrees list number place [] same = All-nil (Agrees list number)
 ranked_agrees list number place (rule ∷ rules) same =
-    let here : place + 0 ≡ place = omega arith in
-    let at : slice_get list place ≡ Some rule = sym (ap (slice_get list) here) ∙ same 0 in
+    let at : slice_get list place ≡ Some rule = sym (ap (slice_get list) (omega arith)) ∙ same 0 in
     All-cons (Agrees list number) (record rule { rank = place }) (ranked_by_place (place + 1) rules)
     (ap (λ found. option_map_or (λ (r : Rule). holds r.word number) found false) at)
     (ranked_agrees list number (place + 1) rules
@@ -244,5 +242,4 @@ pub first_is : (list : List Rule) (region : WordValue) (tree : BitTree (Vec ℕ 
 first_is list region tree number h end places found built inside same at read is =
     is ∙ ap (find (is_held_at list number)) (read ∙ ap (λ (v : Vec ℕ Global). v.items) at
     ∙ seen_at (λ (v : Vec ℕ Global). v.items) number tree ∙ ap (leaf_at number) built)
-    ∙ tree_first list region number (subst (λ n. IsTrue (holds region n)) (sym same) inside)
-    ∙ ap (λ n. position (is_held n) list) same
+    ∙ tree_first list region number (rw same inside) ∙ ap (λ n. position (is_held n) list) same

@@ -14,10 +14,9 @@ word_before word text plain room front blank =
     All-weaker (λ b. not (b == 32) ≡ true) (λ b. (b == 32) ≡ false) (λ b e. not-true (b == 32) e) word
     (AllPass-from_list_all (λ b. not (b == 32)) word plain) in
     let next : suc n ≡ n + 1 = omega arith in
-    let back : drop n text ≡ 32 ∷ rest = drop-cons text n 0 room
-    ∙ ap (λ b. b ∷ drop (suc n) text) blank ∙ ap (λ k. 32 ∷ drop k text) next in
-    let whole : text ≡ word ++ 32 ∷ rest =
-    sym (take-append-drop n text) ∙ ap (λ x. x ++ drop n text) front ∙ ap (λ x. word ++ x) back in
+    let whole : text ≡ word ++ 32 ∷ rest = sym (take-append-drop n text)
+    ∙ ap (λ x. x ++ drop n text) front ∙ ap (λ x. word ++ x) (drop-cons text n 0 room
+    ∙ ap (λ b. b ∷ drop (suc n) text) blank ∙ ap (λ k. 32 ∷ drop k text) next) in
     ap words_of whole ∙ slice_split_at (λ b. b == 32) word 32 rest lacks refl
 
 -- a text that doesn't begin with the word and a blank

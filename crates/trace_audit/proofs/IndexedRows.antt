@@ -15,9 +15,8 @@ same_start : (p : AddressBlock) (address : ℕ) → IsAddressBlock p
     → prefix_matches p address ≡ true → (block_round address p.len).address ≡ p.address
 same_start p address sound matches =
     let same = eqb-true (address / 2 ^ (32 - p.len)) (p.address / 2 ^ (32 - p.len)) matches in
-    let back : p.address / 2 ^ (32 - p.len) * 2 ^ (32 - p.len) ≡ p.address =
-    omega (arith, shr_split p.address (32 - p.len), sound.cleared) in
-    ap (λ n. n * 2 ^ (32 - p.len)) same ∙ back
+    ap (λ n. n * 2 ^ (32 - p.len)) same
+    ∙ (omega (arith, shr_split p.address (32 - p.len), sound.cleared))
 
 both_blocks : (a b c d e : Bool) → (a && b && c && d && e) ≡ true → (a ≡ true) × (b ≡ true)
 both_blocks true true c d e h = (refl, refl)
@@ -31,8 +30,7 @@ sound_row rows k row policy there = subst IsSoundRow (get_or_from_slice_get rows
 
 pub has_shape : (shapes : List Shape) (rows : List Row) (k : ℕ) (row : Row) → AreShapesOf rows shapes
     → slice_get rows k ≡ Some row → HasShape shapes row
-has_shape shapes rows k row are there =
-    subst (HasShape shapes) (get_or_from_slice_get rows k row row there)
+has_shape shapes rows k row are there = rw (get_or_from_slice_get rows k row row there) at
     (are.there k row (slice_get_within rows k row there))
 
 -- the shape at the place of a row's shape is the row's
@@ -42,8 +40,7 @@ own_shape shapes row shape there =
     let place = shape_place shapes row in
     let within = slice_get_within shapes place shape there in
     let passes = passes_at_first (is_shape (shape_of_row row)) shapes shape within in
-    let is : is_shape (shape_of_row row) shape ≡ true =
-    subst (λ (other : Shape). is_shape (shape_of_row row) other ≡ true)
+    let is = subst (λ (other : Shape). is_shape (shape_of_row row) other ≡ true)
     (get_or_from_slice_get shapes place shape shape there) passes in
     let both = and_parts (shape.src == row.src.len) (shape.dst == row.dst.len) is in
     let src = eqb-true shape.src row.src.len both.0 in
@@ -61,27 +58,24 @@ module _ (shapes : List Shape) (shape : Shape) where
   place_pushed other = position_or_len_push (is_shape other) shapes shape
 
   kept_pushed : (row : Row) → HasShape shapes row → HasShape (shapes ++ shape ∷ []) row
-  kept_pushed row has =
-      let place = shape_place shapes row in
-      let more = length_push shapes shape in
+  kept_pushed row has = let place = shape_place shapes row in
       subst (λ n. n < length (shapes ++ shape ∷ [])) (sym (place_pushed (shape_of_row row)))
-      (cond_both (place == length shapes)
-      (length shapes + cond (is_shape (shape_of_row row) shape) 0 1) place
-      (λ n. n < length (shapes ++ shape ∷ [])) (λ yes. absurd
-      (omega (arith, eqb-true place (length shapes) yes, has))) (λ no. omega (arith, has, more)))
+      (cond_both (place == length shapes) (length shapes
+      + cond (is_shape (shape_of_row row) shape) 0 1) place (λ n. n < length (shapes ++ shape ∷ []))
+      (λ yes. absurd (omega (arith, eqb-true place (length shapes) yes, has)))
+      (λ no. omega (arith, has, length_push shapes shape)))
 
   there_pushed : position_or_len (is_shape shape) (shapes ++ shape ∷ [])
       < length (shapes ++ shape ∷ [])
   there_pushed =
       let place = position_or_len (is_shape shape) shapes in
-      let most = prefix_len-le-length (λ x. not (is_shape shape x)) shapes in
       let more = length_push shapes shape in
       let own : cond {A = ℕ} (is_shape shape shape) 0 1 ≡ 0 =
       rw (eq-eqb shape.src shape.src refl, eq-eqb shape.dst shape.dst refl) refl in
       subst (λ n. n < length (shapes ++ shape ∷ [])) (sym (place_pushed shape))
       (cond_both (place == length shapes) (length shapes + cond (is_shape shape shape) 0 1) place
       (λ n. n < length (shapes ++ shape ∷ [])) (λ yes. omega (arith, own, more))
-      (λ no. omega (arith, most, more)))
+      (λ no. omega (arith, prefix_len-le-length (λ x. not (is_shape shape x)) shapes, more)))
 
   pub notes_pushed : Notes shapes shape (shapes ++ shape ∷ [])
   notes_pushed = record {
@@ -120,15 +114,14 @@ slot_same : (shapes : List Shape) (row : Row) (fields : Fields) (shape : Shape) 
 slot_same shapes row fields shape src dst sound matches own s d =
     let n = length shapes in
     let place = shape_place shapes row in
-    let s : src ≡ (block_round fields.src row.src.len).address =
-    s ∙ ap (λ (x : Shape). (block_round fields.src x.src).address) (sym own) in
     let d : dst ≡ (block_round fields.dst row.dst.len).address =
     d ∙ ap (λ (x : Shape). (block_round fields.dst x.dst).address) (sym own) in
     let both = both_blocks (prefix_matches row.src fields.src) (prefix_matches row.dst fields.dst)
     (range_matches row.sport fields.sport) (range_matches row.dport fields.dport)
     (proto_matches row.proto fields.proto) matches in
     ap (λ a. slot_of n place a row.dst.address)
-    (sym (s ∙ same_start row.src fields.src sound.src both.0))
+    (sym ((s ∙ ap (λ (x : Shape). (block_round fields.src x.src).address) (sym own))
+    ∙ same_start row.src fields.src sound.src both.0))
     ∙ ap (λ a. slot_of n place src a) (sym (d ∙ same_start row.dst fields.dst sound.dst both.1))
 
 -- ---- one more row
@@ -140,8 +133,7 @@ module _ (shapes : List Shape) (rows : List Row) where
   lack_more slot from bound row here other lack = λ k next above below there.
       elim (cases_lt k bound) [
         | inl less ↦ lack k next above less there
-        | inr more ↦ subst (λ (r : Row). slot_of_row shapes r ≢ slot)
-            (one_item rows bound k row next here (omega arith) there) other
+        | inr more ↦ rw (one_item rows bound k row next here (omega arith) there) at other
       ]
 
   last_more : (slot bound : ℕ) (row : Row) (at : Option ℕ) → slice_get rows bound ≡ Some row
@@ -188,16 +180,13 @@ module _ (rows : List Row) (bound : ℕ) (row : Row) (at : Option ℕ) (old new 
 
   last_next : (slot : ℕ) (next : Option ℕ) → slice_get new.last.items slot ≡ Some next
       → IsLastBefore own_shapes rows slot (bound + 1) next
-  last_next slot next there =
-      let there : slice_get (set old.last.items own_slot (Some bound)) slot ≡ Some next =
-      ap (λ xs. slice_get xs slot) (sym last) ∙ there in
+  last_next slot next there = let there = ap (λ xs. slice_get xs slot) (sym last) ∙ there in
       elim (cases_eq slot own_slot) [
         | inl same ↦ let now = get_set_same old.last.items own_slot (Some bound)
             (slice_get_within old.last.items own_slot at was) in
-            let place : Some bound ≡ next = one_item (set old.last.items own_slot (Some bound))
-            own_slot slot (Some bound) next now same there in
             subst (λ n. IsLastBefore own_shapes rows n (bound + 1) next) (sym same)
-            (subst (IsLastBefore own_shapes rows own_slot (bound + 1)) place
+            (subst (IsLastBefore own_shapes rows own_slot (bound + 1)) (one_item (set old.last.items
+            own_slot (Some bound)) own_slot slot (Some bound) next now same there)
             (last_here own_shapes rows bound row here))
         | inr other ↦ let before =
             sym (get_set_other old.last.items own_slot slot (Some bound) other) ∙ there in
@@ -208,9 +197,7 @@ module _ (rows : List Row) (bound : ℕ) (row : Row) (at : Option ℕ) (old new 
   earlier_next : (k : ℕ) (next : Row) (place : Option ℕ) → slice_get rows k ≡ Some next
       → slice_get new.earlier.items k ≡ Some place
       → IsLastBefore own_shapes rows (slot_of_row own_shapes next) k place
-  earlier_next k next place there got =
-      let got : slice_get (old.earlier.items ++ at ∷ []) k ≡ Some place =
-      ap (λ xs. slice_get xs k) (sym earlier) ∙ got in
+  earlier_next k next place there got = let got = ap (λ xs. slice_get xs k) (sym earlier) ∙ got in
       elim (cases_lt k bound) [
         | inl less ↦ is.earlier k next place there
             (sym (get_push_left old.earlier.items at k (omega (arith, is.places, less))) ∙ got)
@@ -221,8 +208,7 @@ module _ (rows : List Row) (bound : ℕ) (row : Row) (at : Option ℕ) (old new 
             let now = get_push_at old.earlier.items at k (e ∙ sym is.places) in
             let item : at ≡ place = same_Some at place (sym now ∙ got) in
             subst (λ n. IsLastBefore own_shapes rows (slot_of_row own_shapes next) n place) (sym e)
-            (subst (λ (r : Row). IsLastBefore own_shapes rows (slot_of_row own_shapes r) bound place)
-            same (subst (IsLastBefore own_shapes rows own_slot bound) item (is.last own_slot at was)))
+            (rw same at (rw item at (is.last own_slot at was)))
       ]
 
   -- the index with the row at its bound
@@ -230,13 +216,9 @@ module _ (rows : List Row) (bound : ℕ) (row : Row) (at : Option ℕ) (old new 
   next_indexed kept = record {
     shapes = subst (AreShapesOf rows) (sym kept) is.shapes;
     slots = ap length last ∙ length-set old.last.items own_slot (Some bound) ∙ is.slots;
-    last = λ slot next there. subst
-        (λ (xs : List Shape). IsLastBefore xs rows slot (bound + 1) next) (sym kept)
-        (last_next slot next there);
+    last = λ slot next there. rw kept (last_next slot next there);
     places = ap length earlier ∙ length_push old.earlier.items at ∙ ap (λ n. n + 1) is.places;
-    earlier = λ k next place there got. subst
-        (λ (xs : List Shape). IsLastBefore xs rows (slot_of_row xs next) k place) (sym kept)
-        (earlier_next k next place there got);
+    earlier = λ k next place there got. rw kept (earlier_next k next place there got);
   }
 
 -- ---- the better of a row and a hit
@@ -300,8 +282,7 @@ walk_begins rows slot fields hit at index is there = record {
   last = is.last slot at there;
   matching = λ m. m;
   kept = λ row reached. reached;
-  reached = λ k row above got same matches. absurd
-      (omega (arith, above, slice_get_within rows k row got));
+  reached = λ k row above got same matches. absurd (omega (arith, above, slice_get_within));
 }
 
 falls : (shapes : List Shape) (rows : List Row) (slot place : ℕ) (next : Option ℕ) → IsLastBefore shapes rows slot place next
@@ -333,8 +314,7 @@ module _ {rows : List Row} {slot : ℕ} {fields : Fields} {first hit : Hit} {at 
 
   -- the one behind it is before it
   pub walk_falls : places_left next < places_left at
-  walk_falls = subst (λ (o : Option ℕ). places_left next < places_left o) (sym now)
-      (falls shapes rows (slot_of_row shapes row) place next before)
+  walk_falls = rw now (falls shapes rows (slot_of_row shapes row) place next before)
 
   pub walk_on : {better : Hit} → better ≡ better_of row fields hit
       → IsWalked shapes rows slot fields first better next
@@ -352,8 +332,7 @@ module _ {rows : List Row} {slot : ℕ} {fields : Fields} {first hit : Hit} {at 
         reached = λ k other above got lies matches. elim (cases_eq k place) [
           | inl at ↦ let one = one_item rows place k row other own_row at got in
               subst (IsNoHigher (better_of row fields hit)) one
-              (better_reached row fields hit
-              (subst (λ (r : Row). row_matches r fields ≡ true) (sym one) matches))
+              (better_reached row fields hit (rw one matches))
           | inr more ↦ elim (cases_lt k w.bound) [
             | inl less ↦ absurd (w.last.4 k other (omega (arith, above, more)) less got lies)
             | inr beyond ↦ better_kept row fields hit other

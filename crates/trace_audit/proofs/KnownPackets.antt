@@ -1,10 +1,10 @@
 -- What a reader's state says of the lines before it, and so of each packet's decision.
 use Rattle.base.proofs.Exports.{All-cons, All-contains, All-nil, All-push, All-tail, All-weaker, Contains-append_left, Contains-append_right, Contains-push, eqb-false, ⊤}
-use Rattle.std.proofs.Common.{[], ◌++◌, ◌+◌, ◌-◌, ◌<◌, ◌==◌, ◌∙◌, ◌∷◌, ◌≡◌, ◌≤◌, All, Bool, Contains, List, None, Option, Some, ap, append-nil, append_assoc, arith, cond, eq-eqb, eqb-true, false, inl, inr, length, option_map, option_to_list, refl, slice_get, subst, sym, true, ℕ}
+use Rattle.std.proofs.Common.{[], ◌++◌, ◌+◌, ◌<◌, ◌==◌, ◌∙◌, ◌∷◌, ◌≡◌, ◌≤◌, All, Bool, Contains, List, None, Option, Some, ap, append-nil, append_assoc, arith, cond, eq-eqb, eqb-true, false, inl, inr, length, option_map, option_to_list, refl, subst, sym, true, ℕ}
 use Rattle.update_machine.specs.Exports.{Action, Dropped, End, Ends, Header, Hit, LeftBy, Lost, Machine, PolicyFile, Row, Stuck, with_packet}
 use Rattle.policy_rules.specs.declared.policy.Action.TheVariants as action
 use Rattle.update_machine.specs.Machine.{Packet}
-use Rattle.trace_audit.specs.Exports.{AreGood, AreJustified, DecidesOther, EntersOther, Follows, HasDecision, HasEntered, IsAuditVerdict, IsBetween, IsDecidedOnce, IsJustified, IsMark, IsWaiting, Open, ReadsAll, RetiresUpTo, Told, TraceLine, TraceState, Whole, all_told, first_state, latest_policy, made_policy, policies_from, policies_told, policies_with, with_told}
+use Rattle.trace_audit.specs.Exports.{AreGood, AreJustified, DecidesOther, EntersOther, Follows, HasDecision, HasEntered, IsAuditVerdict, IsBetween, IsDecidedOnce, IsJustified, IsMark, IsWaiting, Open, ReadsAll, RetiresUpTo, Told, TraceLine, TraceState, Whole, all_told, first_state, latest_policy, made_policy, policies_from, policies_told, policies_with}
 use Rattle.trace_audit.specs.Told as told
 use Rattle.trace_audit.specs.declared.trace.Verdict.{Verdict}
 use Rattle.trace_audit.specs.declared.trace.Verdict.TheVariants.{Yes, No}
@@ -16,8 +16,7 @@ waits_on : (ts : List Told) (t : Told) (header : Header) → IsBetween t → IsW
 waits_on ts t header between w = record {
   before = w.before;
   after = w.after ++ t ∷ [];
-  row = ap (λ x. x ++ t ∷ []) w.row
-      ∙ append_assoc w.before (told.Row (Some header) ∷ w.after) (t ∷ []);
+  row = cc (w.row, append_assoc w.before (told.Row (Some header) ∷ w.after) (t ∷ []));
   last = All-push IsBetween w.after t w.last between;
 }
 
@@ -153,18 +152,14 @@ submits_next : (files : List PolicyFile) (policies : List (List Row)) (file vers
     → made_policy files file (latest_policy policies) ≡ Some policy
     → policies ++ policy ∷ [] ≡ policies_with files policies (told.Submitted file version)
 submits_next files policies file version policy newest there =
-    ap (λ (o : Option (List Row)). policies ++ option_to_list o) (sym there)
-    ∙ ap (λ (b : Bool). cond b
-    (policies ++ option_to_list (made_policy files file (latest_policy policies))) policies)
-    (sym (eq-eqb version (length policies + 1) newest))
+    cc (there, eq-eqb version (length policies + 1) newest)
 
 -- ---- a step that leaves the packets as they are, or puts one
 
 keeps_packets : (files : List PolicyFile) (ts : List Told) (t : Told) (old new : ℕ → Option Packet)
     → new ≡ old → ((i : ℕ) → IsOfOther i t) → ((i : ℕ) → IsPacketIf files ts i (old i))
     → (i : ℕ) → IsPacketIf files (ts ++ t ∷ []) i (new i)
-keeps_packets files ts t old new e other known i =
-    subst (λ (x : ℕ → Option Packet). IsPacketIf files (ts ++ t ∷ []) i (x i)) (sym e)
+keeps_packets files ts t old new e other known i = rw e
     (packet_on files ts t i (old i) (other i) (known i))
 
 puts_packet : (files : List PolicyFile) (ts : List Told) (t : Told) (old new : ℕ → Option Packet)
@@ -172,8 +167,7 @@ puts_packet : (files : List PolicyFile) (ts : List Told) (t : Told) (old new : �
     → ((j : ℕ) → (j ≡ i → ⊥) → IsOfOther j t) → ((j : ℕ) → IsPacketIf files ts j (old j))
     → IsPacketIf files (ts ++ t ∷ []) i (Some p)
     → (j : ℕ) → IsPacketIf files (ts ++ t ∷ []) j (new j)
-puts_packet files ts t old new i p e other known here j =
-    subst (λ (x : ℕ → Option Packet). IsPacketIf files (ts ++ t ∷ []) j (x j)) (sym e)
+puts_packet files ts t old new i p e other known here j = rw e
     (put (IsPacketIf files (ts ++ t ∷ [])) old i p here
     (λ k apart. packet_on files ts t k (old k) (other k apart) (known k)) j)
 
@@ -194,8 +188,7 @@ module _ (files : List PolicyFile) (ts : List Told) (old new : TraceState) (know
   where
     still_waits : (t : Told) → new.pending ≡ old.pending → IsBetween t
         → IsWaitingIf (ts ++ t ∷ []) new.pending
-    still_waits t same between = subst (IsWaitingIf (ts ++ t ∷ [])) (sym same)
-        (waits_on_if ts t old.pending between known.waits)
+    still_waits t same between = rw same (waits_on_if ts t old.pending between known.waits)
 
     -- behind what only puts a packet
     after_put : (t : Told) (i : ℕ) (p : Packet) → new.machine ≡ with_packet old.machine i p
@@ -206,8 +199,7 @@ module _ (files : List PolicyFile) (ts : List Told) (old new : TraceState) (know
     after_put t i p after same below waits other here = record {
       policies = policies_on files ts t old.machine.policies new.machine.policies known.policies
           (ap (λ (m : Machine). m.policies) after ∙ sym same);
-      mark = subst (λ (m : Machine). IsMark (ts ++ t ∷ []) m.mark) (sym after)
-          (mark_on ts t old.machine.mark below known.mark);
+      mark = rw after (mark_on ts t old.machine.mark below known.mark);
       waits = waits;
       packets = puts_packet files ts t old.machine.packets new.machine.packets i p
           (ap (λ (m : Machine). m.packets) after) other known.packets here;
@@ -228,8 +220,7 @@ module _ (files : List PolicyFile) (ts : List Told) (old new : TraceState) (know
         → IsKnown files (ts ++ told.Entered i ∷ []) new
     after_entered i f =
         let t = told.Entered i in
-        let none : IsPacketIf files ts i None =
-        known_at files ts old.machine.packets i None f.2.unknown known.packets in
+        let none = known_at files ts old.machine.packets i None f.2.unknown known.packets in
         after_put t i
         (record { header = f.0; entry_mark = old.machine.mark; decision = None; end = None })
         f.2.after refl tt (subst (IsWaitingIf (ts ++ t ∷ [])) (sym f.3) tt)
@@ -252,8 +243,7 @@ module _ (files : List PolicyFile) (ts : List Told) (old new : TraceState) (know
       policies = policies_on files ts t old.machine.policies new.machine.policies known.policies
           (ap (λ (m : Machine). m.policies) f.0.after
           ∙ submits_next files old.machine.policies file version f.0.policy f.0.newest f.0.there);
-      mark = subst (λ (m : Machine). IsMark (ts ++ t ∷ []) m.mark) (sym f.0.after)
-          (mark_on ts t old.machine.mark tt known.mark);
+      mark = rw f.0.after (mark_on ts t old.machine.mark tt known.mark);
       waits = still_waits t f.2 tt;
       packets = keeps_packets files ts t old.machine.packets new.machine.packets
           (ap (λ (m : Machine). m.packets) f.0.after) (λ i. (tt, tt)) known.packets;
@@ -284,9 +274,7 @@ module _ (files : List PolicyFile) (ts : List Told) (old new : TraceState) (know
     after_decided i version rule action f =
         let t = told.Decided i version rule action in
         let d = f.2 in
-        let k : IsPacketIf files ts i (Some d.packet) =
-        known_at files ts old.machine.packets i (Some d.packet) d.entered known.packets in
-        let none : All (DecidesOther i) ts = subst (IsDecidedIf files ts i) d.undecided k.1 in
+        let k = known_at files ts old.machine.packets i (Some d.packet) d.entered known.packets in
         after_put t i (record d.packet { decision = Some f.0 }) d.after refl tt (still_waits t f.3 tt)
         (λ j apart. (tt, λ same. apart (sym same))) (
           entered_on ts t i d.packet.header d.packet.entry_mark tt k.0,
@@ -297,15 +285,14 @@ module _ (files : List PolicyFile) (ts : List Told) (old new : TraceState) (know
             rule_text = rule;
             action_text = action;
             decision = refl;
-            none_before = none;
+            none_before = (subst (IsDecidedIf files ts i) d.undecided k.1);
             none_after = All-nil (DecidesOther i);
             header = d.packet.header;
             mark = d.packet.entry_mark;
             entered = k.0;
             above_mark = d.not_retired;
             policy = d.policy;
-            submitted = subst (λ (ps : List (List Row)). slice_get ps (version - 1) ≡ Some d.policy)
-                known.policies d.submitted;
+            submitted = rw known.policies at d.submitted;
             hit = f.0;
             first_match = d.first_match;
             printed = f.1;
@@ -318,10 +305,9 @@ module _ (files : List PolicyFile) (ts : List Told) (old new : TraceState) (know
     after_ended i end f =
         let t = told.Ended i end in
         let e = f.0 in
-        let k : IsPacketIf files ts i (Some e.packet) =
-        known_at files ts old.machine.packets i (Some e.packet) e.entered known.packets in
         after_put t i (record e.packet { end = Some end }) e.after refl tt (still_waits t f.1 tt)
-        (λ j apart. (tt, tt)) (packet_on files ts t i (Some e.packet) (tt, tt) k)
+        (λ j apart. (tt, tt)) (packet_on files ts t i (Some e.packet) (tt, tt)
+        (known_at files ts old.machine.packets i (Some e.packet) e.entered known.packets))
 
     after_nothing : Follows files old told.Nothing new → IsKnown files (ts ++ told.Nothing ∷ []) new
     after_nothing f = subst (IsKnown files (ts ++ told.Nothing ∷ [])) (sym f) (record {
@@ -353,9 +339,8 @@ FollowsAll files old (t ∷ ts) new =
 pub reads_told : (files : List PolicyFile) (old : TraceState) (lines : List TraceLine) (new : TraceState)
     → ReadsAll files old lines new → FollowsAll files old (all_told lines) new
 reads_told files old [] new r = r
-reads_told files old (Whole text ∷ lines) new r =
-    subst (λ (o : Option Told). FollowsAll files old (with_told o (all_told lines)) new)
-    (sym r.1.1) (r.0, r.1.2, reads_told files r.0 lines new r.2)
+reads_told files old (Whole text ∷ lines) new r = rw r.1.1
+    (r.0, r.1.2, reads_told files r.0 lines new r.2)
 reads_told files old (Open text ∷ lines) new r = absurd r.1
 
 follows_split : (files : List PolicyFile) (old new : TraceState) (ts more : List Told)
@@ -367,10 +352,8 @@ follows_split files old new (t ∷ ts) more r =
 
 known_all : (files : List PolicyFile) (ts : List Told) (old : TraceState) (more : List Told) (new : TraceState)
     → FollowsAll files old more new → IsKnown files ts old → IsKnown files (ts ++ more) new
-known_all files ts old [] new r known = subst (λ (xs : List Told). IsKnown files xs new)
-    (sym (append-nil ts)) (subst (IsKnown files ts) (sym r) known)
-known_all files ts old (t ∷ more) new r known =
-    subst (λ (xs : List Told). IsKnown files xs new) (append_assoc ts (t ∷ []) more)
+known_all files ts old [] new r known = rw (append-nil ts) (rw r known)
+known_all files ts old (t ∷ more) new r known = rw (append_assoc ts (t ∷ []) more) at
     (known_all files (ts ++ t ∷ []) r.0 more new r.2 (after_told files ts old r.0 known t r.1))
 
 pub known_first : (files : List PolicyFile) → IsKnown files [] (first_state files)
@@ -390,16 +373,14 @@ not_undecided files ts i a d none =
     let t = told.Decided i d.version d.rule_text d.action_text in
     let there : Contains (t ∷ d.after) t = (0, omega arith, refl) in
     All-contains (DecidesOther i) ts t none
-    (subst (λ (xs : List Told). Contains xs t) (sym d.decision)
-    (Contains-append_right d.before (t ∷ d.after) t there)) refl
+    (rw d.decision (Contains-append_right d.before (t ∷ d.after) t there)) refl
 
 decides_other : (files : List PolicyFile) (ts : List Told) (old : TraceState) (t : Told) (new : TraceState)
     (i : ℕ) (a : Action) → IsKnown files ts old → HasDecision files ts i a → Follows files old t new
     → DecidesOther i t
 decides_other files ts old (told.Decided j version rule action) new i a known d f = λ same.
-    let k : IsPacketIf files ts j (Some f.2.packet) =
-    known_at files ts old.machine.packets j (Some f.2.packet) f.2.entered known.packets in
-    let none : All (DecidesOther j) ts = subst (IsDecidedIf files ts j) f.2.undecided k.1 in
+    let none : All (DecidesOther j) ts = subst (IsDecidedIf files ts j) f.2.undecided
+    (known_at files ts old.machine.packets j (Some f.2.packet) f.2.entered known.packets).1 in
     not_undecided files ts i a d (subst (λ (n : ℕ). All (DecidesOther n) ts) same none)
 decides_other files ts old (told.Row header) new i a known d f = tt
 decides_other files ts old (told.Entered packet) new i a known d f = tt
@@ -453,8 +434,7 @@ module _ (files : List PolicyFile) (before : List Told) (state : TraceState)
 good_justified : (files : List PolicyFile) (lines : List TraceLine) → AreGood files lines
     → AreJustified files lines
 good_justified files lines good = λ before after i end order.
-    let all : FollowsAll files (first_state files) (before ++ told.Ended i end ∷ after) good.0 =
-    subst (λ (ts : List Told). FollowsAll files (first_state files) ts good.0) order
+    let all = subst (λ (ts : List Told). FollowsAll files (first_state files) ts good.0) order
     (reads_told files (first_state files) lines good.0 good.1) in
     let w = follows_split files (first_state files) good.0 before (told.Ended i end ∷ after) all in
     ends_justified files before w.0

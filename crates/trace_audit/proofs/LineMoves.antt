@@ -27,9 +27,8 @@ pub not_decided : (old new : Machine) (number version : ℕ) (rule action : List
 not_decided old new number version rule action packet rows hit g there submitted only bad printed d =
     let packets : d.packet ≡ packet = same_some d.packet packet _ d.entered there in
     let policies : d.policy ≡ rows = same_some d.policy rows _ d.submitted submitted in
-    let first = subst (λ x. IsFirstMatch x packet.header g) policies
-    (subst (λ x. IsFirstMatch d.policy x.header g) packets d.first_match) in
-    bad (subst (IsPrinted rule action) (only g first) printed)
+    bad (subst (IsPrinted rule action) (only g (subst (λ x. IsFirstMatch x packet.header g) policies
+    (subst (λ x. IsFirstMatch d.policy x.header g) packets d.first_match))) printed)
 
 -- a packet is put, and nothing else changes
 pub put_after : (a : Auditor) (number : ℕ) (after : ℕ → Option Packet) (put packet : Packet)

@@ -29,8 +29,7 @@ reads_split files old new (line ∷ lines) more r =
 
 policy_in : (policies : List (List Row)) (place : ℕ) (rows : List Row) → All IsPolicy policies
     → slice_get policies place ≡ Some rows → IsPolicy rows
-policy_in policies place rows sound e =
-    subst IsPolicy (get_or_from_slice_get policies place rows rows e)
+policy_in policies place rows sound e = rw (get_or_from_slice_get policies place rows rows e) at
     (sound place rows (slice_get_within policies place rows e))
 
 -- what a file makes of a policy, or of none, is one
@@ -106,14 +105,12 @@ entered old number header = with_packet old number
 
 enters_one : (old : Machine) (number : ℕ) (h k : Header) (a b : Machine) → h ≡ k
     → Enters old number h a → Enters old number k b → a ≡ b
-enters_one old number h k a b e r s = r.after ∙ ap (λ (x : Header). with_packet old number
-    (record { header = x; entry_mark = old.mark; decision = None; end = None })) e ∙ sym s.after
+enters_one old number h k a b e r s = cc (r.after, e, s.after)
 
 submits_one : (old : Machine) (version : ℕ) (named : Option (List Row)) (a b : Machine)
     → Submits old version named a → Submits old version named b → a ≡ b
 submits_one old version named a b r s =
-    r.after ∙ ap (λ (x : List Row). record old { policies = old.policies ++ x ∷ [] })
-    (same_some r.policy s.policy named r.there s.there) ∙ sym s.after
+    cc (r.after, same_some r.policy s.policy named r.there s.there, s.after)
 
 decides_one : (old : Machine) (number version : ℕ) (g h : Hit) (a b : Machine)
     → All IsPolicy old.policies → Decides old number version g a → Decides old number version h b
@@ -134,8 +131,7 @@ decides_one old number version g h a b sound r s =
 ends_one : (old : Machine) (number : ℕ) (end : End) (a b : Machine)
     → Ends old number end a → Ends old number end b → a ≡ b
 ends_one old number end a b r s =
-    r.after ∙ ap (λ (x : Packet). with_packet old number (record x { end = Some end }))
-    (same_some r.packet s.packet _ r.entered s.entered) ∙ sym s.after
+    cc (r.after, same_some r.packet s.packet _ r.entered s.entered, s.after)
 
 follows_one : (files : List PolicyFile) (old : TraceState) (t : Told) (a b : TraceState) → ArePolicies old
     → Follows files old t a → Follows files old t b → a ≡ b

@@ -1,5 +1,5 @@
 -- What files make of policies, by how it was made.
-use Rattle.std.proofs.Common.{◌≡◌, Err, IfOk, List, None, Ok, Option, Result, Some, ap, subst, sym, ℕ}
+use Rattle.std.proofs.Common.{◌≡◌, Err, IfOk, List, None, Ok, Option, Result, Some, ap, sym, ℕ}
 use Rattle.base.proofs.Exports.{result_ok}
 use Rattle.update_machine.specs.Exports.{PolicyFile, Row, made_by}
 use Rattle.trace_audit.specs.Exports.{made_policy, numbered_file}
@@ -10,9 +10,7 @@ pub policy_of : {E : Type 0} (files : List PolicyFile) (file : ℕ) (given : Opt
     → given ≡ numbered_file files file
     → IfOk made (λ policy. policy ≡ result_ok (made_by given newest))
     → IfOk made (λ policy. policy ≡ made_policy files file newest)
-policy_of files file given newest made e is =
-    subst (λ (this : Option PolicyFile). IfOk made (λ policy. policy ≡ result_ok (made_by this newest)))
-    e is
+policy_of files file given newest made e is = rw e at is
 
 -- a file that isn't there makes none
 pub no_policy : (files : List PolicyFile) (file : ℕ) (newest : Option (List Row))

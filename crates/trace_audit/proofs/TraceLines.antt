@@ -15,8 +15,7 @@ some_parts (part ∷ more) h = (part, more, refl)
 -- a text has a first part
 pub first_part : (byte : ℕ) (text : List ℕ)
     → (part : List ℕ) × (more : List (List ℕ)) × (parts_round byte text ≡ part ∷ more)
-first_part byte text = some_parts (parts_round byte text)
-    (omega (arith, length-slice_split (λ b. b == byte) text))
+first_part byte text = some_parts (parts_round byte text) (omega (arith, length-slice_split))
 
 -- a word in which something follows the colon is no row's number
 row_number_by : (digits : List ℕ) (b : ℕ) (is_end : Bool) (parts : List (List ℕ)) (part : List ℕ)

@@ -1,9 +1,9 @@
 -- A good trace is a run: each good line is a move of the machine, or none.
 use Rattle.std.proofs.Common.{[], ◌++◌, ◌∷◌, ◌≡◌, List, None, ap, refl, subst, sym}
 use Rattle.five_tuple.specs.Exports.{header_of}
-use Rattle.update_machine.specs.Exports.{Cached, Dropped, Exit, Item, Leaving, LeftBy, Lost, Machine, NoRoute, PolicyFile, Runs, Setting, Stuck, Submits}
+use Rattle.update_machine.specs.Exports.{Cached, Dropped, Exit, Item, Leaving, LeftBy, Lost, Machine, NoRoute, PolicyFile, Runs, Setting, Stuck}
 use Rattle.journal.specs.declared.item.Item.TheVariants as item
-use Rattle.trace_audit.specs.Exports.{AreGood, AreItems, AreItemsOf, AreRun, Follows, IsAuditVerdict, Told, TraceLine, TraceState, all_told, first_state, latest_policy, made_policy}
+use Rattle.trace_audit.specs.Exports.{AreGood, AreItems, AreItemsOf, AreRun, Follows, IsAuditVerdict, Told, TraceLine, TraceState, all_told, first_state}
 use Rattle.trace_audit.specs.Told as told
 use Rattle.trace_audit.specs.declared.trace.Verdict.{Verdict}
 use Rattle.trace_audit.specs.declared.trace.Verdict.TheVariants.{Yes, No}
@@ -44,12 +44,7 @@ module _ (files : List PolicyFile) where
   follows_run ts old (told.Submitted file version) new known f = (
     item.Submitted file version ∷ [],
     refl,
-    λ setting same. (
-      new.machine,
-      subst (λ (all : List PolicyFile). Submits old.machine version
-          (made_policy all file (latest_policy old.machine.policies)) new.machine) (sym same) f.0,
-      refl,
-    ),
+    λ setting same. (new.machine, rw same f.0, refl),
   )
   follows_run ts old (told.Retired version) new known f =
       (item.Retired version ∷ [], refl, λ setting same. (new.machine, f.0, refl))

@@ -36,8 +36,6 @@ first_bad : (files : List PolicyFile) (state : TraceState) (done more : List Tra
     → ((other : TraceState) → ReadsLine files state line other → ⊥)
     → IsFirstBad files (done ++ line ∷ more) (length done + 1)
 first_bad files state done more line own read bad =
-    let front : take (length done + 1 - 1) (done ++ line ∷ more) ≡ done =
-    take_at done (line ∷ more) (length done + 1 - 1) (omega arith) in
     let whole : (done ++ line ∷ []) ++ more ≡ done ++ line ∷ more =
     append_assoc done (line ∷ []) more in
     let with_it : take (length done + 1) (done ++ line ∷ more) ≡ done ++ line ∷ [] =
@@ -46,12 +44,12 @@ first_bad files state done more line own read bad =
     record {
       some = omega arith;
       there = omega (arith, length-append done (line ∷ more));
-      before = subst (AreGood files) (sym front) (state, read);
+      before = subst (AreGood files)
+          (sym (take_at done (line ∷ more) (length done + 1 - 1) (omega arith))) (state, read);
       bad = λ good. let g = subst (AreGood files) with_it good in
           let w = reads_split files (first_state files) g.0 done (line ∷ []) g.1 in
-          let same = reads_one files (first_state files) done w.0 state own (first_sound files own)
-          w.1 read in
-          bad w.2.0 (subst (λ s. ReadsLine files s line w.2.0) same w.2.1);
+          bad w.2.0 (subst (λ s. ReadsLine files s line w.2.0) (reads_one files (first_state files)
+          done w.0 state own (first_sound files own) w.1 read) w.2.1);
     }
 
 pub bad_here : (files : List PolicyFile) (trace rest : List ℕ) (line : ℕ) (state : TraceState)
@@ -60,11 +58,10 @@ pub bad_here : (files : List PolicyFile) (trace rest : List ℕ) (line : ℕ) (s
     → (number : ℕ) → number ≡ min (line + 1) 4294967295
     → IsAuditVerdict files (lines_of trace) (No number)
 bad_here files trace rest line state this more own so_far e bad number counted =
-    let lines : lines_of trace ≡ so_far.done ++ this ∷ more =
-    so_far.lines ∙ ap (λ xs. so_far.done ++ xs) e in
     let had : line ≡ min (length so_far.done) 4294967295 = so_far.counted in (
       length so_far.done + 1,
-      subst (λ xs. IsFirstBad files xs (length so_far.done + 1)) (sym lines)
+      subst (λ xs. IsFirstBad files xs (length so_far.done + 1))
+          (sym (so_far.lines ∙ ap (λ xs. so_far.done ++ xs) e))
           (first_bad files state so_far.done more this own so_far.read bad),
       omega arith,
     )
@@ -76,8 +73,7 @@ pub good_here : (files : List PolicyFile) (trace rest next : List ℕ) (line : �
 good_here files trace rest next line old new this so_far e good number counted =
     let had : line ≡ min (length so_far.done) 4294967295 = so_far.counted in record {
       done = so_far.done ++ this ∷ [];
-      lines = so_far.lines ∙ ap (λ xs. so_far.done ++ xs) e
-          ∙ sym (append_assoc so_far.done (this ∷ []) (lines_of next));
+      lines = cc (so_far.lines, e, append_assoc so_far.done (this ∷ []) (lines_of next));
       counted = omega (arith, length-append so_far.done (this ∷ []));
       read = reads_join files (first_state files) old new so_far.done (this ∷ []) so_far.read
           (new, good, refl);
@@ -94,6 +90,5 @@ nil_left (byte ∷ rest) e = absurd (omega (arith, eqb-true _ _ e))
 pub all_good : (files : List PolicyFile) (trace : List ℕ) (line : ℕ) (state : TraceState)
     → lines_of [] ≡ [] → IsSoFar files trace [] line state → AreGood files (lines_of trace)
 all_good files trace line state none so_far =
-    let lines : lines_of trace ≡ so_far.done =
-    so_far.lines ∙ ap (λ xs. so_far.done ++ xs) none ∙ append-nil so_far.done in
+    let lines = so_far.lines ∙ ap (λ xs. so_far.done ++ xs) none ∙ append-nil so_far.done in
     subst (AreGood files) (sym lines) (state, so_far.read)

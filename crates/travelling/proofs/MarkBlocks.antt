@@ -42,8 +42,7 @@ module _ (masks blocks : List ℕ) (s from : ℕ) (below : s < 64) (are : AreOfB
       λ i above before. elim (cases_lt i ((from / 64 + 1) * 64)) [
         | inl low ↦ none i above low
         | inr high ↦ elim (cases_lt i (block * 64)) [
-          | inl earlier ↦
-              unmarked i (first.2 (i / 64) (omega (arith, high)) (omega (arith, earlier)))
+          | inl earlier ↦ unmarked i (first.2 (i / 64) (omega arith) (omega arith))
           | inr there ↦ is.2 i there before
         ]
       ],

@@ -8,14 +8,12 @@ pub none_between : (test : ℕ → Bool) (from more : ℕ)
     → ((i : ℕ) → from ≤ i → i < from + more → test i ≡ false)
     → filter test (range_with_len 0 (from + more)) ≡ filter test (range_with_len 0 from)
 none_between test from zero none = ap (λ k. filter test (range_with_len 0 k)) (omega arith)
-none_between test from (suc more) none =
-    let next : ◌≡◌ {A = ℕ} (from + suc more) (from + more + 1) = omega arith in
-    ap (λ k. filter test (range_with_len 0 k)) next
+none_between test from (suc more) none = ap (λ k. filter test (range_with_len 0 k)) (omega arith)
     ∙ filter_more test (from + more)
     ∙ ap (λ b. filter test (range_with_len 0 (from + more)) ++ cond b ((from + more) ∷ []) [])
     (none (from + more) (omega arith) (omega arith))
-    ∙ append-nil (filter test (range_with_len 0 (from + more)))
-    ∙ none_between test from more (λ i above below. none i above (omega (arith, below)))
+    ∙ append-nil (filter test (range_with_len 0 (from + more))) ∙ none_between test from more
+    (λ i above below. none i above (omega (arith, below)))
 
 -- those that pass, first below a number and then from it on
 pub filter_on : (test : ℕ → Bool) (from more : ℕ) → filter test (range_with_len 0 (from + more))
@@ -23,12 +21,11 @@ pub filter_on : (test : ℕ → Bool) (from more : ℕ) → filter test (range_w
 filter_on test from zero = ap (λ k. filter test (range_with_len 0 k)) (omega arith)
     ∙ sym (append-nil (filter test (range_with_len 0 from)))
 filter_on test from (suc more) =
-    let next : ◌≡◌ {A = ℕ} (from + suc more) (from + more + 1) = omega arith in
     let next_more : ◌≡◌ {A = ℕ} (more + 1) (suc more) = omega arith in
     let last : List ℕ = cond (test (from + more)) ((from + more) ∷ []) [] in
     let low : List ℕ = filter test (range_with_len 0 from) in
     let high : List ℕ = filter test (range_with_len from more) in
-    ap (λ k. filter test (range_with_len 0 k)) next
+    ap (λ k. filter test (range_with_len 0 k)) (omega arith)
     ∙ filter_more test (from + more)
     ∙ ap (λ numbers. numbers ++ last) (filter_on test from more)
     ∙ append_assoc low high last

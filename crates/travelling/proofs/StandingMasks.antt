@@ -139,9 +139,7 @@ module _ (masks : List ℕ) (n t : ℕ) (t_below : t < 64)
   unchanged false had = refl
 
   changes_one : (block s : ℕ) → block * 64 + s ≡ p → Changes block s true
-  changes_one block s e = subst (λ q. not (get_or turned q 0 == 0)
-      ≡ flipped_if (not (beq (old == 0) (new == 0)) && true) (not (get_or masks q 0 == 0))) (sym e)
-      (ap (λ mask. not (mask == 0)) (get_or-set_same masks p new 0 there)
+  changes_one block s e = rw e (ap (λ mask. not (mask == 0)) (get_or-set_same masks p new 0 there)
       ∙ changed (old == 0) (new == 0))
 
   changes_none : (block s : ℕ) → block * 64 + s ≢ p → Changes block s false
@@ -181,23 +179,19 @@ module _ (masks : List ℕ) (s next : ℕ) where
   -- a packet of the same block
   in_block : (i : ℕ) → next ≤ i → i < (next / 64 + 1) * 64
       → is_marked masks i s ≡ has rest (i - next)
-  in_block i above below =
-      let high : i / 64 ≡ next / 64 = omega (arith, above, below) in
-      let low : i % 64 ≡ next % 64 + (i - next) = omega (arith, above, below, high) in
+  in_block i above below = let high : i / 64 ≡ next / 64 = omega (arith, above, below) in
       ap (λ q. has (get_or masks (q * 64 + s) 0) (i % 64)) high
-      ∙ ap (has (get_or masks (next / 64 * 64 + s) 0)) low
+      ∙ ap (has (get_or masks (next / 64 * 64 + s) 0)) (omega (arith, above, below, high))
       ∙ sym (has-shr (get_or masks (next / 64 * 64 + s) 0) (next % 64) (i - next))
 
   pub none_in_mask : rest ≡ 0 → (i : ℕ) → next ≤ i → i < (next / 64 + 1) * 64
       → is_marked masks i s ≡ false
-  none_in_mask empty i above below =
-      in_block i above below ∙ ap (λ m. has m (i - next)) empty ∙ has-zero (i - next)
+  none_in_mask empty i above below = cc (in_block i above below, empty, has-zero (i - next))
 
   pub none_past : length masks ≤ next / 64 * 64 + s → (i : ℕ) → next ≤ i
       → is_marked masks i s ≡ false
   none_past past i above =
-      ap (λ m. has m (i % 64)) (get_or_past masks (i / 64 * 64 + s) 0 (omega (arith, past, above)))
-      ∙ has-zero (i % 64)
+      cc (get_or_past masks (i / 64 * 64 + s) 0 (omega (arith, past, above)), has-zero (i % 64))
 
   module _ (some : 0 < rest) (fits : get_or masks (next / 64 * 64 + s) 0 < 2 ^ 64)
       (rest_fits : rest < 2 ^ 64) where

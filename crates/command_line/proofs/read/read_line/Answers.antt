@@ -23,10 +23,9 @@ line_in-requires c =
 
 pub unreachable-requires : goal.unreachable-requires
 unreachable-requires c =
-    let all = map string_bytes c.args.args.now in
     let walked = line_walked c.args.kind _ c.requires in
-    let memory =
-    c.in-Err.ensures.passes (takes_line c.args.kind _ all c.in_ok-command.ensures walked) in
+    let memory = c.in-Err.ensures.passes (takes_line c.args.kind _
+    (map string_bytes c.args.args.now) c.in_ok-command.ensures walked) in
     let is = rw (c.kind.ensures, memory) at c.eq.ensures in true≢false (sym is ∙ c.if-eq.false)
 
 pub returns-in-Ok : goal.returns-in-Ok

@@ -1,4 +1,4 @@
-use Rattle.std.proofs.Common.{[], ◌++◌, ◌+◌, ◌∙◌, ◌∷◌, ◌≡◌, List, ap, get_or, length, length-append}
+use Rattle.std.proofs.Common.{[], ◌++◌, ◌∙◌, ◌∷◌, ◌≡◌, List, ap, get_or, length-append}
 use Rattle.journal_reports.specs.declared.bucket.Bucket.{Bucket}
 use Rattle.journal_reports.proofs.MessageBuckets.{empty_more}
 use Rattle.journal_reports.proofs.bucket.empty_buckets.Goals as goal
@@ -8,8 +8,7 @@ loop-bucket-preserved c =
     let buckets = c.loop-bucket.buckets.items in
     let next : Bucket = record { messages = c.new.result } in
     let is : c.push.new.self.items ≡ buckets ++ next ∷ [] = c.in_ok-push.ensures.items in record {
-      count = ap (λ (buckets : List Bucket). length buckets) is ∙ length-append buckets (next ∷ [])
-          ∙ ap (λ n. n + 1) c.loop-bucket.invariant.count;
+      count = cc (is, length-append buckets (next ∷ []), c.loop-bucket.invariant.count);
       each = λ i d below. ap (λ (buckets : List Bucket). (get_or buckets i d).messages.items) is
           ∙ empty_more buckets next c.loop-bucket.bucket c.loop-bucket.invariant.count
           c.loop-bucket.invariant.each c.new.ensures.items i d below;

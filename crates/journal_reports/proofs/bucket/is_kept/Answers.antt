@@ -1,4 +1,4 @@
-use Rattle.std.proofs.Common.{◌∙◌, ap, arith, length, ltb-true, subst, sym}
+use Rattle.std.proofs.Common.{◌∙◌, ap, arith, ltb-true, subst, sym}
 use Rattle.journal_reports.specs.Exports.{HasSaying}
 use Rattle.journal_reports.specs.declared.bucket.Bucket.{Bucket}
 use Rattle.journal_reports.proofs.MessageBuckets.{kept_in_bucket, kept_nowhere}
@@ -18,10 +18,7 @@ returns-then-bucket-buckets c =
 
 pub returns-else-bucket-buckets : goal.returns-else-bucket-buckets
 returns-else-bucket-buckets c = (
-  λ said. absurd (omega (
-    arith,
-    ltb-true c.bucket_of-bucket.result (length c.args.buckets.now) said,
-  )),
+  λ said. absurd (omega (arith, ltb-true)),
   λ kept. absurd (kept_nowhere c.args.buckets.now c.bucket_of-bucket.result c.args.message.now
       c.bucket_of-bucket.ensures (omega arith) kept),
 )

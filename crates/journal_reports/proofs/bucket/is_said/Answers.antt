@@ -5,9 +5,8 @@ use Rattle.journal_reports.proofs.bucket.is_said.Goals as goal
 
 pub loop-kept-preserved : goal.loop-kept-preserved
 loop-kept-preserved c = none_more c.args.messages.now c.loop-kept.kept-index c.kept-item.result
-    c.args.message.now c.loop-kept-test.true c.kept-item.is c.loop-kept.invariant
-    (λ says. true≢false (sym (c.says_as_much.ensures.1 (subst (λ m. SaysAsMuch m c.args.message.now)
-    (sym c.get.ensures) says)) ∙ c.if-says_as_much.false))
+    c.args.message.now c.loop-kept-test.true c.kept-item.is c.loop-kept.invariant (λ says.
+    true≢false (sym (c.says_as_much.ensures.1 (rw c.get.ensures says)) ∙ c.if-says_as_much.false))
 
 pub returns-then-says_as_much : goal.returns-then-says_as_much
 returns-then-says_as_much c = (

@@ -1,7 +1,7 @@
 use Rattle.std.proofs.Common.{[], ◌-◌, ◌∙◌, ◌≡◌, Bool, List, ap, arith, drop, length, not, subst, sym, true≢false, ℕ}
 use Rattle.std.specs.List.{list_all}
 use Rattle.update_machine.specs.Exports.{IsQuiet, Net, SwitchRow, was_delivered}
-use Rattle.journal_reports.specs.Exports.{AreTraffic, has_mark, is_missed}
+use Rattle.journal_reports.specs.Exports.{has_mark, is_missed}
 use Rattle.journal_reports.specs.declared.traffic.Traffic.{Traffic}
 use Rattle.journal_reports.proofs.QuietJudge.{marks_at_end, marks_before, missed_answer, read_next, received_at_end, received_before, rows_at_end, rows_before, switches_found, waiting_answer}
 use Rattle.journal_reports.proofs.judge.quiet.Goals as goal
@@ -16,8 +16,7 @@ returns-then-not-none_missed c = λ setting net. let rows = c.in_ok-rows.rows.it
     ∙ c.if-not-none_missed.true in (
       λ answer. absurd (true≢false (sym answer)),
       λ quiet. absurd (missed_answer setting c.args.journal.now rows
-          (subst (λ js. AreTraffic js [] rows) c.items-items.ensures c.in_ok-rows.ensures.each)
-          count some quiet),
+          (rw c.items-items.ensures at c.in_ok-rows.ensures.each) count some quiet),
     )
 
 pub loop-place-init : goal.loop-place-init

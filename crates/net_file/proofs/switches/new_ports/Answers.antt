@@ -9,10 +9,9 @@ use Rattle.net_file.proofs.switches.new_ports.Goals.{in-Some+else-has, in_defaul
 
 pub returns-then-has-clause-new : goal.returns-then-has-clause-new
 returns-then-has-clause-new c =
-    let inv = c.loop-value.invariant in
     let left = values_more c.args.values.now c.loop-value.value-index c.value-item.result
     c.loop-value-test.true c.value-item.is in
-    sym (are_new_is c.args.taken c.args.earlier.now _ c.requires ∙ inv.fresh
+    sym (are_new_is c.args.taken c.args.earlier.now _ c.requires ∙ c.loop-value.invariant.fresh
     ∙ ap (are_fresh c.loop-value.seen) (ports_more _ _ _ c.in-Some.port left c.in-Some.ensures.port)
     ∙ fresh_stop c.loop-value.seen c.in-Some.port _ (sym c.has.ensures.bit ∙ c.if-has.true))
 

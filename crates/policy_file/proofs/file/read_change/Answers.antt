@@ -1,4 +1,4 @@
-use Rattle.std.proofs.Common.{◌+◌, ◌∙◌, ◌≡◌, Err, Ok, ap, arith, length, subst, sym}
+use Rattle.std.proofs.Common.{◌+◌, ◌∙◌, Err, Ok, ap, arith, subst, sym}
 use Rattle.policy_file.specs.declared.error.PolicyRefusal.TheVariants as why
 use Rattle.policy_rules.proofs.CallerLemmas.{fresh_edits}
 use Rattle.policy_file.specs.Exports.{IsReadUpTo, change_of, change_rows}
@@ -29,8 +29,7 @@ unfolding change_of
 returns-in-Some-clause-refused c =
     let rows = c.in_ok-rows.field-0.rows.items in
     let from = c.in_ok-rows.ensures.read in
-    let number : length rows ≡ c.len-number.result = omega arith in
     from.under ∙ refused_next change_rows from.records rows c.in-Some.refusal
     (subst (IsReadUpTo change_rows from.records rows) c.in-Some.is from.read)
     (all_fresh_edits rows c.in-Ok.ensures.amendment.distinct)
-    ∙ ap (λ n. Err (record { refusal = c.in-Some.refusal; row = n + 1 })) number
+    ∙ ap (λ n. Err (record { refusal = c.in-Some.refusal; row = n + 1 })) (omega arith)

@@ -1,4 +1,4 @@
-use Rattle.std.proofs.Common.{[], ◌++◌, ◌+◌, ◌<◌, ◌∙◌, ◌∷◌, ◌≡◌, All, Ok, ap, arith, drop, length, length-append, subst, sym, take}
+use Rattle.std.proofs.Common.{[], ◌++◌, ◌+◌, ◌<◌, ◌∙◌, ◌∷◌, ◌≡◌, All, ap, arith, drop, length, length-append, subst, sym, take}
 use Rattle.base.proofs.Exports.{All-push}
 use Rattle.csv.specs.Records.{fields_of}
 use Rattle.policy_file.specs.Exports.{StateEach}
@@ -16,7 +16,6 @@ returns-in-Err-clause-read g c =
     let known = c.loop-records.invariant in
     let n = length c.loop-records.rows.items in
     let fields = fields_of c.read_next.new.fields in
-    let room : n < 2000 = omega arith in
     let next = next_of c.args.records.now n fields c.read_next.new.self c.loop-records.records
     c.in_ok-read_next.field-0 c.if-not-branch.false known.left c.in_ok-read_next.ensures.takes in
     record {
@@ -26,7 +25,7 @@ returns-in-Err-clause-read g c =
       ends = (
         next.within,
         refused_row g.R.FileRow.format c.args.records.now n fields c.read_next.new.self
-            c.in-Err.refusal next room (sym c.in-Err.ensures.row),
+            c.in-Err.refusal next (omega arith) (sym c.in-Err.ensures.row),
       );
     }
 
@@ -44,10 +43,9 @@ loop-records-preserved g c =
     let items : c.push.new.self.items ≡ rows ++ row ∷ [] = c.in_ok-push-in-Ok.ensures.items in
     let len : length c.push.new.self.items ≡ length rows + 1 =
     omega (arith, ap length items, length-append rows (row ∷ [])) in
-    let is : g.R.FileRow.format.read fields ≡ Ok row = sym c.in-Ok.ensures.row in
     let pushed : StateEach format (take (length rows + 1) records) (rows ++ row ∷ []) =
-    subst (λ xs. StateEach format xs (rows ++ row ∷ [])) (sym next.more)
-    (state_push format (take (length rows) records) rows fields row known.stated is) in
+    subst (λ xs. StateEach format xs (rows ++ row ∷ [])) (sym next.more) (state_push format
+    (take (length rows) records) rows fields row known.stated (sym c.in-Ok.ensures.row)) in
     let stated : StateEach format (take (length rows + 1) records) c.push.new.self.items =
     subst (StateEach format (take (length rows + 1) records)) (sym items) pushed in record {
       stated = subst (λ k. StateEach format (take k records) c.push.new.self.items) (sym len) stated;
@@ -69,12 +67,11 @@ pub returns-clause-read : goal.returns-clause-read
 returns-clause-read g c =
     let known = c.loop-records.invariant in
     let n = length c.loop-records.rows.items in
-    let full : n ≡ 2000 = omega arith in
     let next = next_of c.args.records.now n (fields_of c.read_next-2.new.fields)
     c.read_next-2.new.self c.loop-records.records c.in_ok-read_next-2.field-0
     c.if-not-branch-2.false known.left c.in_ok-read_next-2.ensures.takes in record {
       stated = known.stated;
       few = known.few;
       within = known.within;
-      ends = (next.within, too_many g.R.FileRow.format c.args.records.now n full);
+      ends = (next.within, too_many g.R.FileRow.format c.args.records.now n (omega arith));
     }

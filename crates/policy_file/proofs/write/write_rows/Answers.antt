@@ -17,6 +17,4 @@ loop-row-preserved g c =
     (sym (rows_text-more fields rows i row c.loop-row-test.true))
 
 pub returns : goal.returns
-returns g c = c.loop-row.invariant
-    ∙ ap (λ rows. string_bytes c.args.text.now ++ rows_text g.R.CsvRecord.fields rows)
-    (take_all c.loop-row.row-index c.args.rows.now (omega arith))
+returns g c = cc (c.loop-row.invariant, take_all c.loop-row.row-index c.args.rows.now (omega arith))

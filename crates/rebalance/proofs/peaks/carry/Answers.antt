@@ -19,12 +19,11 @@ add_first-requires c = λ s d within. omega (
 pub loop-partition-preserved : goal.loop-partition-preserved
 loop-partition-preserved c = λ s within. let targets = c.args.targets.now in
     let k = c.loop-partition.partition in
-    let there : k < length targets = omega (arith, c.loop-partition-test.true, c.requires.each) in
     let here : s < length c.loop-partition.carried = omega (arith, within, c.add_first.auto.carried)
     in
     carried-step c.args.weights.now targets s k _ _ c.index-targets-partition.result
-    (c.index-targets-partition.is
-    ∙ get_or_default targets k c.index-targets-partition.result [] there)
+    (c.index-targets-partition.is ∙ get_or_default targets k c.index-targets-partition.result []
+    (omega (arith, c.loop-partition-test.true, c.requires.each)))
     (c.loop-partition.invariant s here) (c.add_first.ensures s here)
 
 pub returns : goal.returns

@@ -9,10 +9,9 @@ returns-in_default c = λ sizes rooms backups is none. let refused = rw c.in_def
 
 pub returns : goal.returns
 returns c = λ sizes rooms backups is none. let weights = c.args.weights.now in
-    let spread = rw c.in-Some.is at is in
     let new_peak : c.peak.result ≡ peak weights c.in-Some.new.items =
     c.peak.ensures ∙ ap (peak weights) c.deref.ensures.value in
     let old_peak : c.peak-2.result ≡ peak weights c.args.old.items =
     c.peak-2.ensures ∙ ap (peak weights) c.deref-2.ensures.value in
-    inr (kept_by_peak sizes weights rooms backups c.args.old.items c.in-Some.new.items spread
-    (omega (arith, c.if-peak.false, new_peak, old_peak)))
+    inr (kept_by_peak sizes weights rooms backups c.args.old.items c.in-Some.new.items
+    (rw c.in-Some.is at is) (omega (arith, c.if-peak.false, new_peak, old_peak)))

@@ -1,5 +1,4 @@
 use Rattle.std.proofs.Common.{◌++◌, ◌<◌, ◌∙◌, ◌≡◌, List, ap, arith, drop, get_or, length, length-take, replicate, rules, sum, take, take_all, ℕ}
-use Rattle.rebalance.specs.Loads.{weights_of}
 use Rattle.base.proofs.Exports.{get_or_default, length-replicate}
 use Rattle.placement.proofs.CallerLemmas.{none_yet, overwritten}
 use Rattle.update_machine.specs.Exports.{current_mark}
@@ -34,7 +33,6 @@ pub loop-item-preserved : goal.loop-item-preserved
 loop-item-preserved c =
     let items = c.items-items.result.now in
     let i = c.loop-item.item-index in
-    let item = c.item-item.result in
     let old = c.loop-item.weights.items in
     let new = c.add_one.new.numbers in
     let len : length new ≡ length old = c.add_one.auto.numbers ∙ ap length c.deref_mut.ensures.value
@@ -46,7 +44,7 @@ loop-item-preserved c =
       counts = λ p within.
           let here : p < length c.deref_mut.result.now =
           omega (arith, within, c.loop-item.invariant.number, ap length c.deref_mut.ensures.value) in
-          asked-step c.current_at_end-current.result p items i item c.asked_in.result
+          asked-step c.current_at_end-current.result p items i c.item-item.result c.asked_in.result
           (get_or c.deref_mut.result.now p 0) (get_or new p 0) c.loop-item-test.true c.item-item.is
           c.asked_in.ensures
           (ap (λ numbers. get_or numbers p 0) c.deref_mut.ensures.value
@@ -64,13 +62,10 @@ returns-clause-weights c =
     ∙ ap (λ journal. asked_count (current_mark journal) p journal) c.items-items.ensures)
 
 pub returns-clause-small : goal.returns-clause-small
-returns-clause-small c =
-    let items = c.items-items.result.now in
-    let total : sum c.loop-item.weights.items ≡ sum (weights_of c.args.journal.now c.args.parts) =
-    ap sum (returns-clause-weights c) in
+returns-clause-small c = let items = c.items-items.result.now in
     omega (
       arith,
-      total,
+      (ap sum (returns-clause-weights c)),
       weights-few c.args.journal.now c.args.parts,
       ap length c.items-items.ensures,
       c.loop-item-test.false,

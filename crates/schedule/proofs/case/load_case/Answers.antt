@@ -1,8 +1,5 @@
-use Rattle.std.proofs.Common.{subst, sym}
-use Rattle.schedule.specs.Case.{IsPlayable}
 use Rattle.schedule.proofs.LoadCases.{case_playable}
 use Rattle.schedule.proofs.case.load_case.Goals as goal
 
 pub returns-clause-playable : goal.returns-clause-playable
-returns-clause-playable c =
-    subst IsPlayable (sym c.in_ok-case.ensures.case) (case_playable c.args.n c.requires.1)
+returns-clause-playable c = rw c.in_ok-case.ensures.case (case_playable c.args.n c.requires.1)

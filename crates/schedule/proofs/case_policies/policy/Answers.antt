@@ -4,12 +4,7 @@ use Rattle.schedule.proofs.LoadCases.{no_repeat, rows_count}
 use Rattle.schedule.proofs.case_policies.policy.Goals as goal
 
 pub new-requires : goal.new-requires
-new-requires c = omega (
-  arith,
-  ap length c.in_ok-rows.ensures.0,
-  rows_count c.args.rows c.args.draws.now.state,
-  c.ranges.rows.fits,
-)
+new-requires c = omega (arith, ap length c.in_ok-rows.ensures.0, rows_count, c.ranges.rows.fits)
 
 pub unreachable-requires : goal.unreachable-requires
 unreachable-requires c =

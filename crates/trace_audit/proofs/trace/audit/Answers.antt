@@ -54,9 +54,7 @@ loop-rest-preserved c = let rest = c.loop-rest.rest.now in
     (state_seen c.loop-rest.auditor) (state_seen c.take_line.new.auditor)
     (Whole c.in-Some.text.now) c.loop-rest.invariant
     (lines_next rest c.in-Some.text.now c.in-Some.next.now c.in-Some.ensures)
-    (subst (λ good. IsLineRead c.args.files.now (state_seen c.loop-rest.auditor)
-    (Whole c.in-Some.text.now) (state_seen c.take_line.new.auditor) good) c.if-not-good.false
-    c.in_ok-good-in-Some.ensures) _ c.saturating_add-line.ensures
+    (rw c.if-not-good.false at c.in_ok-good-in-Some.ensures) _ c.saturating_add-line.ensures
 
 pub returns : goal.returns
 returns c =

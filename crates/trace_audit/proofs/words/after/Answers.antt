@@ -21,9 +21,8 @@ pub returns : goal.returns
 returns c =
     let text = c.args.text.now in
     let word = c.args.word.now in
-    let whole : c.loop-place.place ≡ length word = omega arith in
     let front : take (length word) text ≡ word =
-    subst (λ n. take n text ≡ take n word) whole c.loop-place.invariant
+    subst (λ n. take n text ≡ take n word) (omega arith) c.loop-place.invariant
     ∙ take_all (length word) word (omega arith) in
     simp take_rest
     (word_before word text c.requires (omega arith) front c.if-text-word-ne32.false)

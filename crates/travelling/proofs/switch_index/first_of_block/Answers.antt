@@ -13,10 +13,9 @@ overflow_add-result-2 c =
     let s = c.args.switch in
     let fits : mask_at masks block s < 2 ^ 64 =
     (let fit = c.type_inv.masks (block * 64 + s) in omega (arith, fit.fits)) in
-    let within = block_within masks block s c.requires.some in
     let some = some_of (mask_at masks block s) c.requires.some in
     let few = least_lt (mask_at masks block s) some fits in
-    omega (arith, within, few, c.well_formed)
+    omega (arith, block_within masks block s c.requires.some, few, c.well_formed)
 
 pub returns : goal.returns
 unfolding least_in

@@ -1,13 +1,12 @@
-use Rattle.std.proofs.Common.{◌*◌, ◌+◌, ◌/◌, subst}
-use Rattle.travelling.specs.SwitchIndex.{IsNextInBlock, IsNoneMarked}
+use Rattle.std.proofs.Common.{◌*◌, ◌+◌, ◌/◌}
+use Rattle.travelling.specs.SwitchIndex.{IsNoneMarked}
 use Rattle.travelling.proofs.MarkBlocks.{block_has, least_beyond, none_beyond}
 use Rattle.travelling.proofs.switch_index.next_by_blocks.Goals as goal
 use Rattle.travelling.proofs.switch_index.next_by_blocks.Goals.{In_default}
 
 none_here : (c : In_default) → IsNoneMarked c.args.masks.now c.args.switch c.args.from
     ((c.args.from / 64 + 1) * 64)
-none_here c = subst (IsNextInBlock c.args.masks.now c.args.switch c.args.from) c.in_default.is
-    c.next_in_block.ensures
+none_here c = rw c.in_default.is at c.next_in_block.ensures
 
 pub first_of_block-requires-clause-some : goal.first_of_block-requires-clause-some
 first_of_block-requires-clause-some c =

@@ -1,11 +1,8 @@
-use Rattle.std.proofs.Common.{subst}
-use Rattle.journal_reports.specs.Exports.{IsKeptInBucket}
 use Rattle.journal_reports.proofs.ReadItems.{passed_over}
 use Rattle.journal_reports.proofs.traffic.Traffic.take_message.Goals as goal
 
 pub returns-then-is_kept-clause-kept : goal.returns-then-is_kept-clause-kept
 returns-then-is_kept-clause-kept c = λ count other. let row = c.args.self.now in
     passed_over row c.args.is_delivered c.args.message.now other
-    (λ matter. subst (IsKeptInBucket row.buckets.items) c.get-2.ensures
-    (subst (λ buckets. IsKeptInBucket buckets c.get-2.result.now) c.deref.ensures.value
-    (c.is_kept.ensures.0 c.if-is_kept.true)))
+    (λ matter. rw c.get-2.ensures at
+    (rw c.deref.ensures.value at (c.is_kept.ensures.0 c.if-is_kept.true)))

@@ -19,12 +19,10 @@ returns-in-Some-clause-text c =
     ∙ ap (λ advert. line_with line (advert_text net advert)) c.in-Some.ensures.advert
 
 pub returns-in-None-clause-text : goal.returns-in-None-clause-text
-returns-in-None-clause-text c =
-    let net = c.args.net.now in
-    let line = c.args.line.now in
+returns-in-None-clause-text c = let line = c.args.line.now in
     c.push_bytes-in-None.ensures
     ∙ ap (line_with line) (c.bytes.ensures.held ∙ c.write.ensures.own)
-    ∙ held_text line (advert_text net c.args.advert.now)
+    ∙ held_text line (advert_text c.args.net.now c.args.advert.now)
 
 pub returns-in-Some-clause-of_type : goal.returns-in-Some-clause-of_type
 returns-in-Some-clause-of_type c = let kept = c.in-Some.ensures.text c.args.net.now c.requires in

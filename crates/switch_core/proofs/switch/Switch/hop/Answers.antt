@@ -21,5 +21,4 @@ pub returns-in-LinkDown-clause-end : goal.returns-in-LinkDown-clause-end
 returns-in-LinkDown-clause-end c = c.reroute.ensures.end ∙ ap (λ (m : Moved). m.end) (rerouted c)
 
 pub returns-in-LinkDown-clause-tunnel : goal.returns-in-LinkDown-clause-tunnel
-returns-in-LinkDown-clause-tunnel c =
-    c.reroute.ensures.tunnel ∙ ap (λ (m : Moved). m.tunnel) (rerouted c)
+returns-in-LinkDown-clause-tunnel c = cc (c.reroute.ensures.tunnel, rerouted c)

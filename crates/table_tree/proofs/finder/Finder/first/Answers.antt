@@ -1,4 +1,4 @@
-use Rattle.std.proofs.Common.{◌==◌, ◌∙◌, ◌≡◌, IsSomeAnd, IsTrue, ap, find, option_and_then, subst, sym}
+use Rattle.std.proofs.Common.{◌==◌, ◌∙◌, IsSomeAnd, IsTrue, ap, find, option_and_then, subst, sym}
 use Rattle.policy_rules.specs.Exports.{is_in}
 use Rattle.policy_rules.specs.declared.rules.Partition.{Partition}
 use Rattle.switch_table.specs.declared.tables.Tables.{Tables}
@@ -15,20 +15,16 @@ returns-in-None-clause-place c = ap (option_and_then (first_in c.args.header.now
 
 pub first_at-requires : goal.first_at-requires
 first_at-requires c =
-    let same : c.items.result.now ≡ c.args.self.now.tables.auth =
-    c.items.ensures ∙ ap (λ (t : Tables). t.auth) c.deref.ensures
-    ∙ ap (λ (v : FinderValue). v.tables.auth) c.self.view_is in
-    let at = one_read c.items.result.now c.args.self.now.tables.auth c.args.partition
-    c.in-Some.own same c.in-Some.ensures in
+    let at = one_read c.items.result.now c.args.self.now.tables.auth c.args.partition c.in-Some.own
+    (c.items.ensures ∙ ap (λ (t : Tables). t.auth) c.deref.ensures
+    ∙ ap (λ (v : FinderValue). v.tables.auth) c.self.view_is) c.in-Some.ensures in
     subst (λ o. IsSomeAnd o (λ (part : Partition). IsTrue (is_in c.args.header.now part)))
     (sym at) c.requires
 
 pub returns-in-Some-clause-place : goal.returns-in-Some-clause-place
 returns-in-Some-clause-place c =
-    let same : c.items.result.now ≡ c.args.self.now.tables.auth =
-    c.items.ensures ∙ ap (λ (t : Tables). t.auth) c.deref.ensures
-    ∙ ap (λ (v : FinderValue). v.tables.auth) c.self.view_is in
-    let at = one_read c.items.result.now c.args.self.now.tables.auth c.args.partition
-    c.in-Some.own same c.in-Some.ensures in
+    let at = one_read c.items.result.now c.args.self.now.tables.auth c.args.partition c.in-Some.own
+    (c.items.ensures ∙ ap (λ (t : Tables). t.auth) c.deref.ensures
+    ∙ ap (λ (v : FinderValue). v.tables.auth) c.self.view_is) c.in-Some.ensures in
     c.first_at.ensures.place
     ∙ ap (option_and_then (first_in c.args.header.now)) at

@@ -4,7 +4,6 @@ use Rattle.policy_rules.specs.Exports.{is_held}
 use Rattle.switch_table.specs.declared.tables.Tables.{Tables}
 use Rattle.table_tree.specs.declared.trees.Trees.{Trees}
 use Rattle.table_tree.specs.Finding.{FinderValue}
-use Rattle.table_tree.specs.Ruling.{rule_tree}
 use Rattle.table_tree.proofs.FindLemmas.{IsThere, first_in, is_there}
 use Rattle.table_tree.proofs.finder.Finder.first_at.Goals as goal
 use Rattle.table_tree.proofs.finder.Finder.first_at.Goals.{After-items-2}
@@ -19,8 +18,7 @@ there c = is_there c.self.inside.tables.value c.args.self.now.tables c.args.head
     ∙ ap (λ (t : Trees). get_or t.rule_trees.items c.args.own c.index.result.now) c.deref-2.ensures)
 
 pub first-requires-clause-built : goal.first-requires-clause-built
-first-requires-clause-built c = (there c).shape
-    ∙ ap (λ rules. rule_tree rules c.index.result.now.region) (sym c.items-2.ensures)
+first-requires-clause-built c = cc ((there c).shape, c.items-2.ensures)
 
 pub first-requires-clause-header : goal.first-requires-clause-header
 first-requires-clause-header c = (there c).region

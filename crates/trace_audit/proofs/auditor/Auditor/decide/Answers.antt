@@ -1,6 +1,5 @@
-use Rattle.std.proofs.Common.{◌∙◌, arith, refl, rules, subst, sym}
+use Rattle.std.proofs.Common.{◌∙◌, arith, refl, rules, sym}
 use Rattle.base.proofs.Exports.{none_made_of}
-use Rattle.policy_rules.specs.Exports.{IsFirstMatch}
 use Rattle.update_machine.specs.Exports.{Hit}
 use Rattle.policy_rules.proofs.CallerLemmas.{none_from_not_some}
 use Rattle.trace_audit.specs.Exports.{packet_seen}
@@ -8,12 +7,11 @@ use Rattle.trace_audit.proofs.LineMoves.{not_decided, policy_there, put_after}
 use Rattle.trace_audit.proofs.auditor.Auditor.decide.Goals as goal
 
 pub returns-then-not-is_printed : goal.returns-then-not-is_printed
-returns-then-not-is_printed c = λ files other f.
-    not_decided _ other.machine c.args.number c.args.version c.args.rule.now c.args.action.now
-    (packet_seen c.in-Some.packet) c.in-Some-get.policy.now c.first_match-hit.result f.0
-    (sym c.in-Some.ensures) (policy_there _ _ _ _ c.deref.ensures.value (sym c.in-Some-get.ensures.lookup.0)
-    c.in-Some-get.ensures.lookup.1) (λ hit is. c.first_match-hit.ensures.only hit
-    (subst (λ header. IsFirstMatch c.in-Some-get.policy.now header hit) (sym c.header.ensures) is))
+returns-then-not-is_printed c = λ files other f. not_decided _ other.machine c.args.number
+    c.args.version c.args.rule.now c.args.action.now (packet_seen c.in-Some.packet)
+    c.in-Some-get.policy.now c.first_match-hit.result f.0 (sym c.in-Some.ensures) (policy_there _ _
+    _ _ c.deref.ensures.value (sym c.in-Some-get.ensures.lookup.0) c.in-Some-get.ensures.lookup.1)
+    (λ hit is. c.first_match-hit.ensures.only hit (rw c.header.ensures is))
     (λ printed. absurd (search (rules, c.is_printed.ensures.1 printed))) f.1 f.2
 
 pub returns : goal.returns
@@ -30,9 +28,7 @@ returns c = λ files. (
     not_retired = omega arith;
     submitted = policy_there _ _ _ _ c.deref.ensures.value (sym c.in-Some-get.ensures.lookup.0)
         c.in-Some-get.ensures.lookup.1;
-    first_match = subst
-        (λ header. IsFirstMatch c.in-Some-get.policy.now header c.first_match-hit.result)
-        c.header.ensures c.first_match-hit.ensures.is;
+    first_match = rw c.header.ensures at c.first_match-hit.ensures.is;
     after = put_after c.args.self.now c.args.number _ _ _ c.decided.ensures c.in_ok-put.ensures;
   },
   refl,

@@ -1,4 +1,4 @@
-use Rattle.std.proofs.Common.{◌∙◌, ◌≡◌, List, Some, ap, refl, set, slice_get, subst, sym}
+use Rattle.std.proofs.Common.{◌∙◌, List, Some, ap, refl, set, subst, sym}
 use Rattle.base.proofs.Exports.{slice_get_read}
 use Rattle.trace_audit.specs.Exports.{HasShape, slot_of_row}
 use Rattle.trace_audit.specs.declared.index.Shape.{Shape}
@@ -25,7 +25,6 @@ returns c =
     ∙ ap (λ (xs : List Shape). slot_of_row xs row) c.deref.ensures.value in
     next_indexed rows place row at c.args.self.now _
     (slice_get_read rows _ place row refl c.requires.place c.index-rows-place.is) c.requires.index
-    (subst (λ n. slice_get last n ≡ Some at) slot
-    (slice_get_read last 4096 c.slot_of_row-slot.result at (sym c.requires.index.slots)
+    (rw slot at (slice_get_read last 4096 c.slot_of_row-slot.result at (sym c.requires.index.slots)
     c.slot_of_row-slot.ensures.bound c.index-before.ensures))
     (ap (λ n. set last n (Some place)) slot) c.in_ok-push.ensures.items refl

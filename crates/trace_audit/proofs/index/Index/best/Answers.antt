@@ -1,9 +1,9 @@
-use Rattle.std.proofs.Common.{◌∙◌, ◌≡◌, List, ap, arith, get_or, length, slice_get, subst, sym}
+use Rattle.std.proofs.Common.{◌∙◌, ◌≡◌, List, ap, arith, get_or, length, slice_get, sym}
 use Rattle.base.proofs.Exports.{slice_get-get_or}
 use Rattle.five_tuple.specs.Exports.{AddressBlock}
-use Rattle.trace_audit.specs.Exports.{IsBetter, slot_of}
+use Rattle.trace_audit.specs.Exports.{slot_of}
 use Rattle.trace_audit.specs.declared.index.Shape.{Shape}
-use Rattle.trace_audit.proofs.IndexedRows.{IsSought, sought_all, sought_more}
+use Rattle.trace_audit.proofs.IndexedRows.{sought_all, sought_more}
 use Rattle.trace_audit.proofs.index.Index.best.Goals as goal
 
 pub loop-place-preserved : goal.loop-place-preserved
@@ -24,9 +24,8 @@ loop-place-preserved c =
     ∙ slice_get-get_or read place none c.loop-place-test.true)
     (ap (λ (p : AddressBlock). p.address) (c.src.view_is ∙ c.new-src.ensures.block))
     (ap (λ (p : AddressBlock). p.address) (c.dst.view_is ∙ c.new-dst.ensures.block))
-    (subst (λ n. IsBetter shapes rows n fields first better) (c.slot-slot.ensures.slot
-    ∙ ap (λ (xs : List Shape). slot_of (length xs) place src dst) c.deref.ensures.value)
-    c.best_in-best.ensures)
+    (rw (c.slot-slot.ensures.slot ∙ ap (λ (xs : List Shape). slot_of (length xs) place src dst)
+    c.deref.ensures.value) at c.best_in-best.ensures)
     c.loop-place.invariant
 
 pub returns : goal.returns
@@ -39,5 +38,4 @@ returns c =
       ap length c.deref-shape-items.ensures.value,
     ) in
     sought_all c.args.rows.now c.args.fields.now c.args.self.now c.loop-place.best c.requires.index
-    (subst (λ n. IsSought shapes c.args.rows.now c.args.fields.now n c.loop-place.best) all
-    c.loop-place.invariant)
+    (rw all at c.loop-place.invariant)

@@ -1,4 +1,4 @@
-use Rattle.std.proofs.Common.{◌≡◌, None, rules, subst}
+use Rattle.std.proofs.Common.{rules, subst}
 use Rattle.trace_audit.proofs.IndexedRows.{IsWalked, walk_ends, walk_falls, walk_on}
 use Rattle.trace_audit.proofs.index.Index.best_in.Goals as goal
 
@@ -11,9 +11,7 @@ loop-at-preserved c = walk_on c.loop-at.invariant c.requires.index c.in-Some.is
     c.index-rows-place.is c.index-at-in-Some.ensures c.better-best.ensures
 
 pub returns : goal.returns
-returns c =
-    let none : c.loop-at.at ≡ None = search rules in
-    let shapes = c.args.self.now.shapes.items in
+returns c = let shapes = c.args.self.now.shapes.items in
     walk_ends shapes c.args.rows.now c.args.slot c.args.fields.now c.args.hit c.loop-at.best
     (subst (IsWalked shapes c.args.rows.now c.args.slot c.args.fields.now c.args.hit c.loop-at.best)
-    none c.loop-at.invariant)
+    (search rules) c.loop-at.invariant)

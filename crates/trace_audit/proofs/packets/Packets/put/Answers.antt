@@ -1,4 +1,4 @@
-use Rattle.std.proofs.Common.{◌-◌, ◌<◌, ◌∙◌, ◌≡◌, None, Option, ap, arith, eqb-true, length, nat_cmp, ne_eqb, set, sym, ℕ}
+use Rattle.std.proofs.Common.{◌-◌, ◌∙◌, ◌≡◌, None, Option, ap, arith, eqb-true, length, nat_cmp, ne_eqb, set, sym, ℕ}
 use Rattle.base.proofs.Exports.{get, nil_from_length, option_or, unsigned_tied}
 use Rattle.trace_audit.specs.Exports.{packet_seen, run_get}
 use Rattle.trace_audit.specs.declared.packets.TracePacket.{TracePacket}
@@ -21,9 +21,8 @@ returns-then-is_empty c =
     ∙ sym (run_past old.first old.run.items n (omega (arith, none))) in
     seen_put packet_seen (λ n. option_or (run_get old.first old.run.items n) (others n))
     (λ n. option_or (run_get number c.push.new.self.items n) (others n)) number item
-    (ap (λ xs. option_or (run_get number xs number) (others number)) items
-    ∙ ap (λ o. option_or o (others number))
-    (push_here number old.run.items number item (omega arith) (omega (arith, none))))
+    (ap (λ xs. option_or (run_get number xs number) (others number)) items ∙ ap (λ o. option_or o
+    (others number)) (push_here number old.run.items number item (omega arith) (omega arith)))
     (λ n other. ap (λ xs. option_or (run_get number xs n) (others n)) items
     ∙ ap (λ o. option_or o (others n))
     (push_there number old.run.items number item (omega arith) (omega (arith, none)) n other ∙ gone n))
@@ -34,14 +33,12 @@ returns-then-place-len c =
     let number = c.args.number in
     let item = c.args.packet in
     let others : ℕ → Option TracePacket = get nat_cmp old.others in
-    let within : number - old.first < length old.run.items =
-    omega (arith, c.if-place-len.true, c.len.ensures, old.run.ok.0) in
     let above = c.if-number-self.true in
     seen_put packet_seen (λ n. option_or (run_get old.first old.run.items n) (others n))
     (λ n. option_or (run_get old.first (set old.run.items (number - old.first) item) n) (others n))
     number item
-    (ap (λ o. option_or o (others number))
-    (set_here old.first old.run.items number item above within))
+    (ap (λ o. option_or o (others number)) (set_here old.first old.run.items number item above
+    (omega (arith, c.if-place-len.true, c.len.ensures, old.run.ok.0))))
     (λ n other. ap (λ o. option_or o (others n))
     (set_there old.first old.run.items number item above n other))
 

@@ -48,28 +48,19 @@ invariant_of-self-2 c =
     ] in
     let before : (i : ℕ) → i < c.if-self-len.first → flight c.self.inside.slots.items i ≡ None =
     λ i below. elim c.if-self-len.branch [
-      | then-self-len w ↦ c.self.invariant.none i
-          (omega (arith, below, w.first-is, w.min-first.ensures))
+      | then-self-len w ↦ c.self.invariant.none i (omega (arith, w.first-is, w.min-first.ensures))
       | else-self-len w ↦ elim (cases_lt i (length c.self.inside.slots.items)) [
-        | inl there ↦ c.self.invariant.none i
-            (omega (arith, there, w.if-self-len.false, c.len.ensures))
+        | inl there ↦ c.self.invariant.none i (omega (arith, w.if-self-len.false, c.len.ensures))
         | inr past ↦ get_or_past c.self.inside.slots.items i None past
       ]
     ] in
     let all = room_on c.self.inside.slots.items c.make_room.new.slots.items
     c.self.inside.by_switch c.make_bits.new.self c.args.packet c.self.invariant.room
     c.make_room.ensures.few c.make_bits.ensures.grown c.in_ok-make_bits.ensures.room in record {
-      few = omega (
-        arith,
-        long,
-        c.make_room.ensures.few,
-        c.self.invariant.few,
-        c.ranges.packet.fits,
-      );
+      few = omega (arith, c.make_room.ensures.few, c.self.invariant.few, c.ranges.packet.fits);
       none = λ i below. ap (λ (slots : Flights). flight slots i) c.set_slot.ensures.slots
           ∙ get_or-set_other c.make_room.new.slots.items c.args.packet i _ None
-          (λ e. absurd (omega (arith, e, below, low))) ∙ c.make_room.ensures.same i
-          ∙ before i below;
+          (λ e. absurd (omega arith)) ∙ c.make_room.ensures.same i ∙ before i below;
       room = λ i below. omega (arith, all i (omega (arith, below, long)), c.set_slot.ensures.room);
       marked = c.set_slot.ensures.marked;
       below = c.set_slot.ensures.below;

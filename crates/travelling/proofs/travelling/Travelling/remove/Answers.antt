@@ -1,5 +1,4 @@
-use Rattle.std.proofs.Common.{◌<◌, ◌≡◌, ap, arith, is_some, length, true}
-use Rattle.travelling.specs.Travelling.{flight}
+use Rattle.std.proofs.Common.{◌<◌, ap, arith, length}
 use Rattle.travelling.proofs.StandingMasks.{within_some}
 use Rattle.travelling.proofs.travelling.Travelling.remove.Goals as goal
 
@@ -7,7 +6,6 @@ pub set_slot-requires-clause-room : goal.set_slot-requires-clause-room
 set_slot-requires-clause-room c =
     let so = c.has.ensures in
     let held = c.if-not-has.false in
-    let is : is_some (flight c.args.self.now c.args.packet) ≡ true = cc in
     let there : c.args.packet < length c.args.self.now =
-    within_some c.args.self.now c.args.packet is in
+    within_some c.args.self.now c.args.packet cc in
     c.self.invariant.room c.args.packet (omega (arith, there, ap length c.self.view_is))
