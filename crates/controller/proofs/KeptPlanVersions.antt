@@ -15,9 +15,7 @@ test_gt a b gt = grind (arith, nat_tests)
 -- all numbers pass
 all_from : (to a n : ℕ) → to ≤ a → filter (leb to) (range_with_len a n) ≡ range_with_len a n
 all_from to a zero le = refl
-all_from to a (suc n) le = ap (λ b. cond b (a ∷ filter (leb to) (range_with_len (a + 1) n))
-    (filter (leb to) (range_with_len (a + 1) n))) (test_le to a le)
-    ∙ ap (λ l. a ∷ l) (all_from to (a + 1) n (omega arith))
+all_from to a (suc n) le = cc (test_le to a le, all_from to (a + 1) n (omega arith))
 
 -- the numbers from `to` on
 numbers_from : (to a n : ℕ) → a ≤ to → to ≤ a + n → filter (leb to) (range_with_len a n)
@@ -65,8 +63,7 @@ plans_twice to (kept ∷ plans) = by_test (leb to kept.version) refl (plans_twic
       ≡ plans_from to plans → plans_from to
       (cond b (kept ∷ plans_from to plans) (plans_from to plans)) ≡ cond b
       (kept ∷ plans_from to plans) (plans_from to plans)
-  by_test true is same = ap (λ b. cond b (kept ∷ plans_from to (plans_from to plans))
-      (plans_from to (plans_from to plans))) is ∙ ap (λ l. kept ∷ l) same
+  by_test true is same = cc (is, same)
   by_test false is same = same
 
 -- the plans that are kept as the marks settle are those of the versions from the current one to the
@@ -76,13 +73,12 @@ pub settled_versions : (before marks : MarksValue) (answer : Settled) (kept plan
     ≡ live_from_current before → plans ≡ plans_from marks.current kept
     → map (λ kept. kept.version) plans ≡ live_from_current marks
 settled_versions before marks answer kept plans is low versions picked =
-    let high : marks.current ≤ before.current + (before.count + 1 - before.current) =
-    omega (arith, is.current.bound, low) in
     let count : before.current + (before.count + 1 - before.current) - marks.current
     ≡ marks.count + 1 - marks.current = omega (arith, is.count, low) in
     ap (map (λ kept. kept.version)) picked ∙ versions_picked marks.current kept
     ∙ ap (filter (leb marks.current)) versions
-    ∙ numbers_from marks.current before.current _ is.current.rises high
+    ∙ numbers_from marks.current before.current _ is.current.rises
+    (omega (arith, is.current.bound, low))
     ∙ ap (range_with_len marks.current) count
 
 -- with one more version
@@ -91,15 +87,12 @@ pub versions_more : (marks : MarksValue) (plans : List KeptPlan) (next : KeptPla
     → map (λ kept. kept.version) plans ≡ live_from_current marks
     → map (λ kept. kept.version) (plans ++ next ∷ []) ≡ live_from_current (with_version marks)
 versions_more marks plans next low number versions =
-    let last : marks.current + (marks.count + 1 - marks.current) ≡ marks.count + 1 =
-    omega (arith, low) in
-    let count : (marks.count + 1 - marks.current) + 1 ≡ marks.count + 1 + 1 - marks.current =
-    omega (arith, low) in
+    let last : marks.current + (marks.count + 1 - marks.current) ≡ marks.count + 1 = omega arith in
     map-append (λ (kept : KeptPlan). kept.version) plans (next ∷ [])
     ∙ ap (λ l. l ++ next.version ∷ []) versions
     ∙ ap (λ v. live_from_current marks ++ v ∷ []) number
     ∙ sym (range_more marks.current (marks.count + 1 - marks.current) (marks.count + 1) last)
-    ∙ ap (range_with_len marks.current) count
+    ∙ ap (range_with_len marks.current) (omega (arith, low))
 
 abbrev pub AreSoundPlans : List KeptPlan → Type 0
 AreSoundPlans plans = All (λ kept. IsSoundPlan kept.plan) plans
@@ -178,10 +171,8 @@ module _ (old : MarksValue) (kept : List KeptPlan) (next : KeptPlan) (marks : Ma
   pub whole_more : IsSoundPlan next.plan → next.version ≡ old.count + 1 → IsWhole old kept → StaySettled old marks
       → Settles (with_version old) marks answer → IsPushed → plans ≡ plans_from marks.current mid
       → IsWhole marks plans
-  whole_more sound number is stays settled pushed picked =
-      let low : old.current ≤ old.count + 1 = omega (arith, is.marks.bounds.last) in
-      whole old (with_version old) marks answer
-      (kept ++ next ∷ []) plans stays settled low
+  whole_more sound number is stays settled pushed picked = whole old (with_version old) marks answer
+      (kept ++ next ∷ []) plans stays settled (omega (arith, is.marks.bounds.last))
       (versions_more old kept next is.marks.bounds.last number is.versions)
       (All-append (λ kept. IsSoundPlan kept.plan) kept _ is.sound (one_sound next sound))
       (with_next pushed picked)
@@ -203,12 +194,10 @@ pub versions_within : (marks : MarksValue) (plans read : List KeptPlan) → read
     → IsController (record { marks = marks; plans = plans })
     → All (λ kept. (1 ≤ kept.version) × (kept.version ≤ marks.count)) read
 versions_within marks plans read same is = rw same (λ k d within.
-    let number : length plans ≡ marks.count + 1 - marks.current =
-    sym (length-map plans (λ kept. kept.version)) ∙ ap length is.versions
+    let number = sym (length-map plans (λ kept. kept.version)) ∙ ap length is.versions
     ∙ length-range_with_len marks.current (marks.count + 1 - marks.current) in
     let below : k < marks.count + 1 - marks.current = omega (arith, number, within) in
-    let at : (get_or plans k d).version ≡ marks.current + k =
-    sym (get_or-map (λ (kept : KeptPlan). kept.version) plans k d 0 within)
-    ∙ ap (λ l. get_or l k 0) is.versions ∙ get_or-range_with_len marks.current
-    (marks.count + 1 - marks.current) k 0 below in
+    let at = sym (get_or-map (λ (kept : KeptPlan). kept.version) plans k d 0 within)
+    ∙ ap (λ l. get_or l k 0) is.versions
+    ∙ get_or-range_with_len marks.current (marks.count + 1 - marks.current) k 0 below in
     (omega (arith, at, is.marks.bounds.first), omega (arith, at, below)))

@@ -1,5 +1,5 @@
 -- The plan of a version that is kept, and the tables that it gives.
-use Rattle.std.proofs.Common.{[], if◌then◌else◌, ◌+◌, ◌-◌, ◌<◌, ◌==◌, ◌∙◌, ◌∷◌, ◌≡◌, ◌≢◌, ◌≤◌, ◌⊎◌, Bool, List, Some, ap, arith, eq-eqb, eqb-true, false, find, get_or, inl, inr, length, map, option_map, refl, subst, suc, sym, true, zero, ℕ}
+use Rattle.std.proofs.Common.{[], if◌then◌else◌, ◌+◌, ◌-◌, ◌<◌, ◌==◌, ◌∙◌, ◌∷◌, ◌≡◌, ◌≢◌, ◌≤◌, ◌⊎◌, Bool, List, Some, ap, arith, eq-eqb, eqb-true, false, find, get_or, inl, inr, length, map, option_map, refl, suc, sym, true, zero, ℕ}
 use Rattle.base.proofs.Exports.{cases_eq, false≢true, length-map, length-range_with_len, range_with_len}
 use Rattle.controller.specs.Exports.{ControllerValue, IsController, IsSoundPlan, KeptPlan, current_plan, kept_tables}
 use Rattle.switch_table.specs.Exports.{tables_of}
@@ -11,9 +11,8 @@ found_at_place : (plans : List KeptPlan) (first n v : ℕ) (d : KeptPlan)
     → find (λ (kept : KeptPlan). kept.version == v) plans ≡ Some (get_or plans (v - first) d)
 found_at_place plans first zero v d are low high = absurd (omega (arith, low, high))
 found_at_place [] first (suc n) v d are low high = absurd cc
-found_at_place (kept ∷ plans) first (suc n) v d are low high =
-    by_test (kept.version == v) refl (cases_eq first v)
-    (λ above. found_at_place plans (first + 1) n v d rest above (omega (arith, high)))
+found_at_place (kept ∷ plans) first (suc n) v d are low high = by_test (kept.version == v) refl
+    (cases_eq first v) (λ above. found_at_place plans (first + 1) n v d rest above (omega arith))
   where
     its : kept.version ≡ first
     its = cc
@@ -61,8 +60,7 @@ module _ (controller : ControllerValue) (is : IsController controller) (version 
   pub kept_sound : (kept : KeptPlan)
       → kept ≡ get_or controller.plans (version - controller.marks.current) kept
       → IsSoundPlan kept.plan
-  kept_sound kept at =
-      subst (λ (kept : KeptPlan). IsSoundPlan kept.plan) (sym at) (is.sound _ kept kept_there)
+  kept_sound kept at = rw at (is.sound _ kept kept_there)
 
 pub current_there : (controller : ControllerValue) → IsController controller
     → 0 < length controller.plans
@@ -74,9 +72,7 @@ current_there controller is = omega (
 -- the first is that of the current version
 pub current_kept : (controller : ControllerValue) → IsController controller → (kept : KeptPlan)
     → kept ≡ get_or controller.plans 0 kept → current_plan controller ≡ Some kept.plan
-current_kept controller is kept at =
-    let current = controller.marks.current in
-    let place : current - current ≡ 0 = omega arith in
+current_kept controller is kept at = let current = controller.marks.current in
     ap (option_map (λ (kept : KeptPlan). kept.plan))
     (kept_at controller is current (omega arith) is.marks.bounds.last kept
-    ∙ ap Some (ap (λ n. get_or controller.plans n kept) place ∙ sym at))
+    ∙ ap Some (ap (λ n. get_or controller.plans n kept) (omega arith) ∙ sym at))

@@ -38,8 +38,7 @@ and_first false passes mask switches e names = cc
 -- a list with a head, added to what was there
 headed : (head : Act) (old rest mid acts : List Act) → mid ≡ old ++ head ∷ [] → acts ≡ mid ++ rest
     → acts ≡ old ++ head ∷ rest
-headed head old rest mid acts begun made = made ∙ ap (λ l. l ++ rest) begun
-    ∙ append_assoc old (head ∷ []) rest
+headed head old rest mid acts begun made = cc (made, begun, append_assoc old (head ∷ []) rest)
 
 pub rising_told : (old new number mask n : ℕ) (answered : Option ℕ) (says : ℕ → Act)
     (body : ℕ → ℕ → Body) (after : MarksValue) (switches : List SwitchRecord)
@@ -52,10 +51,9 @@ rising_told old new number mask n answered says body after switches base mid act
     begun made =
     let up = rose old new number (sym is ∙ risen) in
     let told : List ℕ = switches_where (λ known. is_member known.phase) switches in
-    let who : switches_named mask n ≡ told = those_named mask n _ switches all
-    (and_first _ (λ known. is_member known.phase) mask switches up.1 names) in
     headed (says number) base _ mid acts begun made
-    ∙ ap (λ l. base ++ says number ∷ posts_to after (λ boot. body boot number) l) who
+    ∙ ap (λ l. base ++ says number ∷ posts_to after (λ boot. body boot number) l) (those_named mask
+    n _ switches all (and_first _ (λ known. is_member known.phase) mask switches up.1 names))
     ∙ ap (λ v. base ++ says v ∷ posts_to after (λ boot. body boot v) told) up.0
     ∙ ap (λ b. base ++ cond b (says new ∷ posts_to after (λ boot. body boot new) told) [])
     (sym up.1)
@@ -64,20 +62,16 @@ pub rising_none : (old new : ℕ) (answered : Option ℕ) (says : ℕ → Act) (
     (after : MarksValue) (switches : List SwitchRecord) (base : List Act)
     → answered ≡ rises_to old new → answered ≡ None
     → base ≡ base ++ rising_acts old new says body after switches
-rising_none old new answered says body after switches base is none = sym (append-nil base)
-    ∙ ap (λ b. base ++ cond b (says new ∷ posts_to after (λ boot. body boot new)
-    (switches_where (λ known. is_member known.phase) switches)) [])
-    (sym (stays old new (sym is ∙ none)))
+rising_none old new answered says body after switches base is none =
+    cc (append-nil base, stays old new (sym is ∙ none))
 
 pub opens_told : (before after : MarksValue) (answer : Settled) (n current : ℕ)
     (old acts : List Act) → n ≡ length after.switches → current ≡ after.current
     → acts ≡ old ++ posts_to after (λ boot. OpenAt boot current) (switches_named answer.opens n)
     → Settles before after answer → acts ≡ old ++ open_acts before after
 opens_told before after answer n current old acts all is_current made is =
-    let who : switches_named answer.opens n
-    ≡ switches_where (opens_at after.current) before.switches = those_named answer.opens n _
-    before.switches (all ∙ same_number before after answer is) is.tells.opens in
-    made ∙ ap (λ l. old ++ posts_to after (λ boot. OpenAt boot current) l) who
+    made ∙ ap (λ l. old ++ posts_to after (λ boot. OpenAt boot current) l) (those_named answer.opens
+    n _ before.switches (all ∙ same_number before after answer is) is.tells.opens)
     ∙ ap (λ v. old ++ posts_to after (λ boot. OpenAt boot v)
     (switches_where (opens_at after.current) before.switches)) is_current
 
@@ -101,10 +95,8 @@ settling_told touched before after old one two three a b c =
 -- more is added where it is asked for
 pub added : (asked : Bool) (acts base settled more : List Act) → asked ≡ true → acts ≡ base ++ more
     → base ≡ settled → acts ≡ settled ++ cond asked more []
-added asked acts base settled more is made same = made ∙ ap (λ l. l ++ more) same
-    ∙ ap (λ b. settled ++ cond b more []) (sym is)
+added asked acts base settled more is made same = cc (made, same, is)
 
 pub not_added : (asked : Bool) (acts base settled more : List Act) → asked ≡ false → acts ≡ base
     → base ≡ settled → acts ≡ settled ++ cond asked more []
-not_added asked acts base settled more is made same = made ∙ same ∙ sym (append-nil settled)
-    ∙ ap (λ b. settled ++ cond b more []) (sym is)
+not_added asked acts base settled more is made same = cc (made, same, append-nil settled, is)

@@ -22,9 +22,7 @@ still_found current version (kept ∷ plans) low = by_tests (leb current kept.ve
         ≡ is_it → found version (plans_from current plans) ≡ found version plans
         → found version (cond stays (kept ∷ plans_from current plans) (plans_from current plans))
         ≡ cond is_it (Some kept) (found version plans)
-    by_tests true is_it stays is rest =
-        ap (λ b. cond b (Some kept) (found version (plans_from current plans))) is
-        ∙ ap (λ o. cond is_it (Some kept) o) rest
+    by_tests true is_it stays is rest = cc (is, rest)
     by_tests false true stays is rest = absurd (grind (arith, nat_tests))
     by_tests false false stays is rest = rest
 

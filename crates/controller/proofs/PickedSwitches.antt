@@ -1,5 +1,5 @@
 -- Lists of the switches that pass a test, or that a mask names.
-use Rattle.std.proofs.Common.{[], ◌<◌, ◌∙◌, ◌∷◌, ◌≡◌, Bool, List, ap, arith, cond, eqb, false, filter, get_or, length, refl, slice_get, suc, true, zero, ℕ}
+use Rattle.std.proofs.Common.{[], ◌<◌, ◌∙◌, ◌∷◌, ◌≡◌, Bool, List, ap, arith, eqb, false, filter, get_or, length, refl, slice_get, suc, true, zero, ℕ}
 use Rattle.base.proofs.Exports.{from_bool, option_map_or, range_with_len}
 use Rattle.version_update.specs.declared.record.SwitchRecord.{SwitchRecord}
 use Rattle.version_update.specs.Exports.{Names}
@@ -9,8 +9,7 @@ use Rattle.controller.specs.Exports.{switches_named, switches_where}
 pub picked_same : (p q : ℕ → Bool) → ((s : ℕ) → p s ≡ q s) → (xs : List ℕ)
     → filter p xs ≡ filter q xs
 picked_same p q same [] = refl
-picked_same p q same (x ∷ xs) = ap (λ b. cond b (x ∷ filter p xs) (filter p xs)) (same x)
-    ∙ ap (λ l. cond (q x) (x ∷ l) l) (picked_same p q same xs)
+picked_same p q same (x ∷ xs) = cc (same x, picked_same p q same xs)
 
 -- those of the switches below n
 abbrev pub those_below : (SwitchRecord → Bool) → List SwitchRecord → ℕ → List ℕ

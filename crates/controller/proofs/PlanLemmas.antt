@@ -1,5 +1,5 @@
 -- The plan of a policy is sound.
-use Rattle.std.proofs.Common.{[], ◌<◌, ◌^◌, ◌∙◌, ◌≡◌, ◌≤◌, All, Err, List, Ok, ap, arith, get_or, length, map, subst, sym, zip, ℕ}
+use Rattle.std.proofs.Common.{[], ◌<◌, ◌^◌, ◌∙◌, ◌≡◌, ◌≤◌, All, Err, List, Ok, ap, arith, get_or, length, map, sym, zip, ℕ}
 use Rattle.base.proofs.Exports.{All-weaker, firsts-zip, get_or-map, get_or-zip, length-map, length-zip}
 use Rattle.base.specs.Exports.{IfRefused}
 use Rattle.base.specs.declared.error.Failure.{Failure}
@@ -38,12 +38,10 @@ some_targets : (rows : List Row) (net : Net) (plan : List Hosted) → IsPlan row
     → All (λ hosted. 0 < length hosted.1) plan
 some_targets rows net plan is = λ k d within. let first = λ (hosted : Hosted). hosted.0 in
     let second = λ (hosted : Hosted). hosted.1 in
-    let sizes : length (sizes_of (map first plan)) ≡ length plan =
-    length-map (map first plan) (λ part. length part.rules) ∙ length-map plan first in
-    let due = is.placement.hosted k (omega (arith, within, sizes)) in
+    let sizes = length-map (map first plan) (λ part. length part.rules) ∙ length-map plan first in
     let there : get_or (map second plan) k [] ≡ (get_or plan k d).1 =
     get_or-map second plan k d [] within in
-    omega (arith, due.number, ap length there)
+    omega (arith, (is.placement.hosted k (omega (arith, within, sizes))).number, ap length there)
 
 -- from each switch the tables of a plan lead each header to the policy's first match
 pub plan_leads : (rows : List Row) (net : Net) (plan : List Hosted) → IsPlan rows net plan
@@ -68,14 +66,9 @@ retargeted_sound rows plan targets len is =
       covers = rw firsts is.covers;
       few = omega (arith, pairs, count, is.few);
       few_rules = λ k d within. let here : k < length parts = omega (arith, within, pairs) in
-          let same = ap (λ (h : Hosted). h.0)
-          (get_or-zip parts targets k d here (omega (arith, here, each)))
-          ∙ get_or-map part_of plan k d d.0 (omega (arith, here, count)) in
-          omega (
-            arith,
-            is.few_rules k d (omega (arith, here, count)),
-            ap (λ (part : Partition). length part.rules) same,
-          );
+          let same = ap (λ (h : Hosted). h.0) (get_or-zip parts targets k d here (omega arith))
+          ∙ get_or-map part_of plan k d d.0 (omega arith) in
+          omega (arith, is.few_rules, ap (λ (part : Partition). length part.rules) same);
     }
 
 pub retargeted_leads : (rows : List Row) (plan : List Hosted) (targets : List (List ℕ))
@@ -85,10 +78,8 @@ pub retargeted_leads : (rows : List Row) (plan : List Hosted) (targets : List (L
 unfolding LeadEveryHeader
 retargeted_leads rows plan targets len is some version switch header sound =
     let parts : List Partition = map part_of plan in
-    let count : length parts ≡ length plan = length-map plan part_of in
-    let each : length targets ≡ length parts = len ∙ sym count in
-    let pairs : length (zip parts targets) ≡ length parts =
-    grind (arith, length-zip parts targets, each) in
+    let each : length targets ≡ length parts = len ∙ sym (length-map plan part_of) in
+    let pairs : length (zip parts targets) ≡ length parts = grind (arith, length-zip, each) in
     tables_lead rows (zip parts targets) version switch header
     (retargeted_sound rows plan targets len is).sound
     (λ k d within. let here : k < length parts = omega (arith, within, pairs) in
@@ -114,8 +105,7 @@ pub tree_refused : (rows : List Row) (net : Net) (list : List Rule) (error : Fai
     → word_total rows ≤ 4096 → list ≡ rules_of rows
     → IfRefused (λ _. 512 < leaf_count (tree_of list net.leaf_rules)) error
     → RefusesPlan rows net (of_tree error)
-tree_refused rows net list (Refused many) few is refused =
-    no_leaves rows net few (subst (λ list. 512 < leaf_count (tree_of list net.leaf_rules)) is refused)
+tree_refused rows net list (Refused many) few is refused = no_leaves rows net few (rw is at refused)
 tree_refused rows net list NoMemory few is refused = tt
 
 -- what the way has found before it places the partitions
@@ -130,19 +120,16 @@ pub record IsReady (rows : List Row) (net : Net) (list : List Rule) (shape : Sha
 
 ready_tree : (rows : List Row) (net : Net) (list : List Rule) (shape : Shape) (sizes rooms : List ℕ)
     → IsReady rows net list shape sizes rooms → shape ≡ tree_of (rules_of rows) net.leaf_rules
-ready_tree rows net list shape sizes rooms is = is.tree ∙ ap (λ list. tree_of list net.leaf_rules)
-    is.rules
+ready_tree rows net list shape sizes rooms is = cc (is.tree, is.rules)
 
 pub placement_refused : (rows : List Row) (net : Net) (list : List Rule) (shape : Shape)
     (sizes rooms : List ℕ) (error : Failure NoRoom) → IsReady rows net list shape sizes rooms
     → IfRefused (RefusesPlacement sizes rooms net.backups) error
     → RefusesPlan rows net (of_placement error)
 placement_refused rows net list shape sizes rooms (Refused lack) is refused =
-    let none : placement_of (sizes_of (parts_of shape)) (rooms_of net) net.backups ≡ Err lack.partition =
-    sym (ap (λ s. placement_of s (rooms_of net) net.backups) is.sizes_are)
-    ∙ sym (ap (λ r. placement_of sizes r net.backups) is.rooms_are) ∙ refused.0 in
     no_room rows net shape lack.partition is.few (ready_tree rows net list shape sizes rooms is)
-    is.leaves none
+    is.leaves (sym (ap (λ s. placement_of s (rooms_of net) net.backups) is.sizes_are)
+    ∙ sym (ap (λ r. placement_of sizes r net.backups) is.rooms_are) ∙ refused.0)
 placement_refused rows net list shape sizes rooms NoMemory is refused = tt
 
 pub planned_at : (rows : List Row) (net : Net) (list : List Rule) (shape : Shape)
@@ -150,8 +137,6 @@ pub planned_at : (rows : List Row) (net : Net) (list : List Rule) (shape : Shape
     → placement_of sizes rooms net.backups ≡ Ok targets
     → plan_of rows net ≡ Ok (zip (parts_of shape) targets)
 planned_at rows net list shape sizes rooms targets is hosted =
-    let there : placement_of (sizes_of (parts_of shape)) (rooms_of net) net.backups ≡ Ok targets =
-    sym (ap (λ s. placement_of s (rooms_of net) net.backups) is.sizes_are)
-    ∙ sym (ap (λ r. placement_of sizes r net.backups) is.rooms_are) ∙ hosted in
     planned rows net shape targets is.few (ready_tree rows net list shape sizes rooms is) is.leaves
-    there
+    (sym (ap (λ s. placement_of s (rooms_of net) net.backups) is.sizes_are)
+    ∙ sym (ap (λ r. placement_of sizes r net.backups) is.rooms_are) ∙ hosted)

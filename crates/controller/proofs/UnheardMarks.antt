@@ -5,7 +5,7 @@ use Rattle.ctrl_msg.specs.declared.message.Body.{Body}
 use Rattle.ctrl_msg.specs.declared.message.Body.TheVariants.{Hello, Installed, Stamped}
 use Rattle.version_update.specs.declared.record.SwitchRecord.{SwitchRecord}
 use Rattle.version_update.specs.Exports.{AreMarksSettled, MarksValue, is_member, opens_at, unknown_switch}
-use Rattle.controller.specs.Exports.{ControllerValue, KeptPlan, collect_acts, current_touched, hear_acts, marks_after, open_acts, plans_from, posts_to, settling_acts, stamp_acts, switches_where}
+use Rattle.controller.specs.Exports.{ControllerValue, KeptPlan, collect_acts, current_touched, hear_acts, marks_after, open_acts, plans_from, posts_to, settling_acts, switches_where}
 use Rattle.controller.specs.declared.sends.Act.TheVariants.{Current, Retired}
 use Rattle.ctrl_msg.specs.declared.message.Body.TheVariants as body
 use Rattle.controller.proofs.PickedSwitches.{picked_same, passes_there}
@@ -37,15 +37,12 @@ those_none passes switches fail = picked_same _ (λ _. false) fails
 pub nothing_sent : (touched : List WordValue) (marks : MarksValue) → AreMarksSettled marks
     → settling_acts touched marks marks ≡ []
 nothing_sent touched marks is =
-    let one : stamp_acts touched marks marks ≡ [] =
-    ap (λ b. cond b (Current marks.current ∷ posts_to marks (λ boot. body.Stamp boot marks.current touched)
-    (switches_where (λ known. is_member known.phase) marks.switches)) []) (not_below marks.current)
-    in
-    let two : open_acts marks marks ≡ [] = ap (posts_to marks
-    (λ boot. body.OpenAt boot marks.current))
+    let one = ap (λ b. cond b (Current marks.current ∷ posts_to marks (λ boot. body.Stamp boot
+    marks.current touched) (switches_where (λ known. is_member known.phase) marks.switches)) [])
+    (not_below marks.current) in
+    let two = ap (posts_to marks (λ boot. body.OpenAt boot marks.current))
     (those_none (opens_at marks.current) marks.switches is.opened) in
-    let three : collect_acts marks marks ≡ [] =
-    ap (λ b. cond b (Retired marks.retired ∷ posts_to marks (λ boot. body.Collect boot
+    let three = ap (λ b. cond b (Retired marks.retired ∷ posts_to marks (λ boot. body.Collect boot
     marks.retired) (switches_where (λ known. is_member known.phase) marks.switches)) [])
     (not_below marks.retired) in
     ap (λ l. l ++ open_acts marks marks ++ collect_acts marks marks) one
@@ -58,10 +55,9 @@ all_kept to from n [] low versions = refl
 all_kept to from zero (kept ∷ plans) low versions = cc
 all_kept to from (suc n) (kept ∷ plans) low versions =
     let first : kept.version ≡ from = cc in
-    let rest : map (λ kept. kept.version) plans ≡ range_with_len (from + 1) n = cc in
     let passes : leb to kept.version ≡ true = grind (arith, nat_tests) in
     ap (λ b. cond b (kept ∷ plans_from to plans) (plans_from to plans)) passes
-    ∙ ap (λ l. kept ∷ l) (all_kept to (from + 1) n plans (omega arith) rest)
+    ∙ ap (λ l. kept ∷ l) (all_kept to (from + 1) n plans (omega arith) cc)
 
 -- a body that isn't for the controller
 pub record IsUnheard (body : Body) (controller : ControllerValue) : Type 0 where

@@ -15,8 +15,7 @@ pub cache_raised : (stamp : ℕ) (cache : CacheValue) → IsCache cache
     → IsCache (after_raise stamp cache)
 cache_raised stamp cache is = let kept = λ (entry : CacheEntry). leb stamp entry.version in record {
   distinct = AllPairs-filter (λ a b. same_key a b ≡ false) kept cache.entries is.distinct;
-  few = omega
-      (arith, length-filter kept cache.entries, count_by-le-length kept cache.entries, is.few);
+  few = omega (arith, length-filter, count_by-le-length, is.few);
 }
 
 remove_past : (entries : List CacheEntry) (place : ℕ) → length entries ≤ place →
@@ -34,8 +33,7 @@ cache_expired place cache is = elim (cases_lt place (length cache.entries)) [
         is.distinct;
     few = omega (arith, length-remove cache.entries place within, is.few);
   }
-  | inr past ↦ subst (λ entries. IsCache (record { entries = entries; capacity = cache.capacity }))
-      (sym (remove_past cache.entries place past)) is
+  | inr past ↦ rw (remove_past cache.entries place past) is
 ]
 
 pub length-rest : (entries : List CacheEntry) (most : ℕ) → length entries ≤ most + 1 →
@@ -81,10 +79,8 @@ pub first_evicted : (stamp : ℕ) (entry : CacheEntry) (cache : CacheValue)
     → cache.capacity < length (cache.entries ++ entry ∷ [])
     → record { entries = drop 1 (cache.entries ++ entry ∷ []); capacity = cache.capacity }
     ≡ after_accept stamp entry cache
-first_evicted stamp entry cache late absent full =
-    let with_it = cache.entries ++ entry ∷ [] in
-    let more = lt-ltb cache.capacity (length with_it) full in
+first_evicted stamp entry cache late absent full = let with_it = cache.entries ++ entry ∷ [] in
     sym (λ i. cond (late i || absent i) cache (record {
-      entries = cond (more i) (drop 1 with_it) with_it;
+      entries = cond ((lt-ltb cache.capacity (length with_it) full) i) (drop 1 with_it) with_it;
       capacity = cache.capacity;
     }))

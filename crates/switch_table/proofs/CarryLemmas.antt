@@ -80,8 +80,7 @@ both_over : (version : ℕ) (a b : CacheEntry) → a.version + 1 ≡ version →
     → same_key a b ≡ false → same_key (under version a) (under version b) ≡ false
 both_over version a b before_a before_b apart =
     false_from_ne_true (same_key (under version a) (under version b)) (λ same.
-    let versions : a.version ≡ b.version = omega (arith, before_a, before_b) in
-    let one = same_key_from a b versions
+    let one = same_key_from a b (omega (arith, before_a, before_b))
     (same_key_parts (under version a) (under version b) same).1 in
     absurd (cc (apart, one)))
 
@@ -124,8 +123,7 @@ carried_distinct version touched entries distinct = AllPairs-filter_map (IsPair 
 pub left_few : (version capacity : ℕ) (touched : List WordValue) (entries : List CacheEntry)
     → length entries ≤ capacity
     → length (filter_map (carried_entry version touched entries) entries) ≤ capacity
-left_few version capacity touched entries few =
-    omega (arith, length-filter_map (carried_entry version touched entries) entries, few)
+left_few version capacity touched entries few = omega (arith, length-filter_map)
 
 pub cache_carried : (version : ℕ) (touched : List WordValue) (cache : CacheValue) → IsCache cache
     → IsCache (after_carry version touched cache)
@@ -163,11 +161,9 @@ untouched_stays version touched cache entry there before apart =
     by_case : (twin : Bool) → list_any (same_key (under version entry)) entries ≡ twin
         → Any IsIt carried
     by_case false alone =
-        let goes : is_carried version touched entries entry ≡ true =
-        over_from (eqb (entry.version + 1) version) (meets_any touched entry.word)
+        let goes = over_from (eqb (entry.version + 1) version) (meets_any touched entry.word)
         (list_any (same_key (under version entry)) entries) (eq-eqb _ _ before) apart alone in
-        let left : carried_entry version touched entries entry ≡ Some (under version entry) =
-        ap (λ b. cond b (Some entry)
+        let left = ap (λ b. cond b (Some entry)
         (cond (is_carried version touched entries entry) (Some (under version entry)) None)) below
         ∙ ap (λ b. cond b (Some (under version entry)) None) goes in
         found (under version entry)
@@ -178,10 +174,8 @@ untouched_stays version touched cache entry there before apart =
         let twin = any.1 in
         let keys = same_key_parts (under version entry) twin any.4 in
         let versions : version ≡ twin.version = keys.0 in
-        let stays : leb version twin.version ≡ true =
-        le-leb version twin.version (omega (arith, versions)) in
-        let left : carried_entry version touched entries twin ≡ Some twin =
-        ap (λ b. cond b (Some twin)
+        let stays : leb version twin.version ≡ true = le-leb version twin.version (omega arith) in
+        let left = ap (λ b. cond b (Some twin)
         (cond (is_carried version touched entries twin) (Some (under version twin)) None)) stays in
         found twin
         (Contains-filter_map (carried_entry version touched entries) entries twin twin
@@ -252,8 +246,7 @@ all_left version entries (entry ∷ rest) = ap (λ b. cons_option (cond (leb ver
 
 pub all_carried : (version : ℕ) (cache : CacheValue)
     → after_carry version all_touched cache ≡ after_raise version cache
-all_carried version cache = ap (λ es. record { entries = es; capacity = cache.capacity })
-    (all_left version cache.entries cache.entries)
+all_carried version cache = cc (all_left version cache.entries cache.entries)
 
 -- ---- what is left, entry by entry
 

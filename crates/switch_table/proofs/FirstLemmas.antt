@@ -27,9 +27,7 @@ key_is shift version header masks entry mask has = by_case (eqb mask.mask entry.
         && eqb (bit_and header entry.word.mask) (bit_and entry.word.value entry.word.mask)) && b)
     by_case true is =
         let masks_are : mask.mask ≡ entry.word.mask = eqb-true mask.mask entry.word.mask is in
-        let value : entry.word.value ≡ bit_and entry.word.value entry.word.mask =
-        sym has.sound.within in
-        (λ i. numbers i && (eqb (bit_and header (masks_are i)) (value i) && true))
+        (λ i. numbers i && (eqb (bit_and header (masks_are i)) ((sym has.sound.within) i) && true))
         ∙ sym (and_joined (eqb entry.version version)
         (eqb (bit_and header entry.word.mask) (bit_and entry.word.value entry.word.mask)) true)
     by_case false is = ap (λ b. eqb (version + shift) (entry.version + shift) && b)

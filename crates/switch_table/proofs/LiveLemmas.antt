@@ -27,13 +27,11 @@ sum_before : (counts : List ℕ) (flags : List Bool) → AreBlocks counts flags 
     (k : ℕ) → k ≤ length counts → sum (take k counts) ≡ count_set (take (64 * k) flags)
 sum_before counts flags are zero within =
     let none : 0 ≡ 64 * 0 = omega arith in ap (λ n. count_set (take n flags)) none
-sum_before counts flags are (suc k) within =
-    let next : suc k ≡ k + 1 = omega arith in
-    let more : 64 * k + 64 ≡ 64 * suc k = omega arith in
+sum_before counts flags are (suc k) within = let next : suc k ≡ k + 1 = omega arith in
     ap (λ n. sum (take n counts)) next ∙ sum_by_more (λ n. n) counts k 0 (omega arith)
     ∙ ap (λ n. n + get_or counts k 0) (sum_before counts flags are k (omega arith))
     ∙ ap (λ n. count_set (take (64 * k) flags) + n) (are.each k (omega arith))
-    ∙ sym (count_both (64 * k) 64 flags) ∙ ap (λ n. count_set (take n flags)) more
+    ∙ sym (count_both (64 * k) 64 flags) ∙ ap (λ n. count_set (take n flags)) (omega arith)
 
 sum_whole : (counts : List ℕ) (flags : List Bool) → AreBlocks counts flags →
     sum counts ≡ count_set flags
@@ -87,7 +85,6 @@ pub pushed : (block : ℕ) (counts : List ℕ) (flags : List Bool) → AreBlocks
 pushed block counts flags are within from before =
     let all = flags ++ true ∷ [] in
     let rest = drop (64 * block) flags in
-    let ends = block_ends block (length counts) within in
     let len = length-drop (64 * block) flags in
     let rest_count : get_or counts block 0 ≡ count_set rest =
     are.each block within ∙ ap count_set (take_all 64 rest (omega (arith, len))) in
@@ -97,8 +94,8 @@ pushed block counts flags are within from before =
     ∙ ap (take 64) (sym (drop-append-le (64 * block) flags (true ∷ []) from))) in (
       omega (arith, rest_count, len, count_by-le-length (λ (flag : Bool). flag) rest),
       changed block (get_or counts block 0 + 1) counts flags all are within
-          (omega (arith, ends, length-append flags (true ∷ []))) here
-          (λ k other. other_pushed block k flags from before other),
+          (omega (arith, block_ends block (length counts) within, length-append flags (true ∷ [])))
+          here (λ k other. other_pushed block k flags from before other),
     )
 
 -- ---- a live place dies
@@ -110,8 +107,7 @@ other_died block at k flags inside other = let place = 64 * block + at in
     elim (cases_lt k block) [
       | inl less ↦ let ends = block_ends k block less in
           let behind = place - 64 * k in
-          let stands : place ≡ 64 * k + behind = omega (arith, ends) in
-          ap (λ n. count_set (take 64 (drop (64 * k) (set flags n false)))) stands
+          ap (λ n. count_set (take 64 (drop (64 * k) (set flags n false)))) (omega (arith, ends))
           ∙ ap (λ xs. count_set (take 64 xs)) (drop-set-add (64 * k) flags behind false)
           ∙ ap count_set (take-set-le 64 (drop (64 * k) flags) behind false (omega (arith, ends)))
       | inr more ↦ let ends = block_ends block k (omega arith) in
@@ -147,11 +143,9 @@ died block at counts flags are inside there live =
     let len = length-drop (64 * block) flags in
     let mine_len = length-take 64 rest in
     let within = inside_counts block at counts flags are there in
-    let is_live : get_or mine at false ≡ true =
-    get_or-take 64 rest at false inside ∙ get_or-drop (64 * block) flags at false ∙ live in
-    let less = count_died mine at (omega (arith, len, mine_len)) is_live in
-    let now : set_in news block ≡ count_set (set mine at false) =
-    ap (λ xs. count_set (take 64 xs)) (drop-set-add (64 * block) flags at false)
+    let less = count_died mine at (omega (arith, len, mine_len))
+    (get_or-take 64 rest at false inside ∙ get_or-drop (64 * block) flags at false ∙ live) in
+    let now = ap (λ xs. count_set (take 64 xs)) (drop-set-add (64 * block) flags at false)
     ∙ ap count_set (take-set-lt 64 rest at false inside) in
     let was = are.each block within in (
       omega (arith, less, was),
@@ -175,8 +169,7 @@ grown counts flags are = let len = length-append counts (0 ∷ []) in record {
         ap (λ n. get_or (counts ++ 0 ∷ []) n 0) last
         ∙ get_or_push counts 0 0 (length counts) refl
         ∙ ap count_set (sym (take_all 64 [] (omega arith)))
-        ∙ ap (λ xs. count_set (take 64 xs)) (sym (drop_all (64 * k) flags
-        (subst (λ n. length flags ≤ 64 * n) (sym last) are.room)))
+        ∙ ap (λ xs. count_set (take 64 xs)) (sym (drop_all (64 * k) flags (rw last are.room)))
   ];
 }
 
@@ -188,15 +181,14 @@ filled places counts room are = record {
   room = subst (λ n. n ≤ 64 * length counts) (sym (length-replicate places true)) room;
   each = λ k less. let left = places - 64 * k in
       let flags = replicate left true in
-      let short : min left 64 ≤ left = omega arith in
       let turned : min left 64 ≡ min 64 (length flags) =
       omega (arith, length-replicate left true) in
       let one_each : count_set (replicate (min left 64) true) ≡ min left 64 =
       sum_by-replicate one_if (min left 64) true ∙ omega arith in
       are k less ∙ sym one_each
-      ∙ ap count_set (sym (take-replicate (min left 64) left true short)
-      ∙ ap (λ n. take n flags) turned ∙ take_min 64 flags
-      ∙ ap (take 64) (sym (drop-replicate (64 * k) places true)));
+      ∙ ap count_set
+      (sym (take-replicate (min left 64) left true (omega arith)) ∙ ap (λ n. take n flags) turned
+      ∙ take_min 64 flags ∙ ap (take 64) (sym (drop-replicate (64 * k) places true)));
 }
 
 -- ---- where so many live places come to an end
@@ -210,21 +202,15 @@ block_holds counts flags before block left are some within sums found =
     let prefix = sum_before counts flags are block within in
     let inside : block < length counts = elim (cases_lt block (length counts)) [
       | inl less ↦ less
-      | inr past ↦ absurd (omega (
-        arith,
-        sum_whole counts flags are,
-        ap sum (take_all block counts past),
-      ))
+      | inr past ↦ absurd (omega (arith, sum_whole, ap sum (take_all block counts past)))
     ] in (omega (arith, prefix), omega (arith, found inside, are.each block inside))
 
 -- ---- counts that wrap
 
 -- what `wrapping_sub(1)` makes of a number above 0
 wrapped_less : (w n : ℕ) → 0 < n → n ≤ w → (n + (w - 1)) % w ≡ n - 1
-wrapped_less w n some fits =
-    let below : n - 1 < w = omega arith in
-    let over : n + (w - 1) ≡ 1 * w + (n - 1) = omega arith in
-    ap (λ m. m % w) over ∙ mod-mul-add 1 w (n - 1) below
+wrapped_less w n some fits = let over : n + (w - 1) ≡ 1 * w + (n - 1) = omega arith in
+    ap (λ m. m % w) over ∙ mod-mul-add 1 w (n - 1) (omega arith)
 
 -- a live place comes behind so many
 pub added : (place count : ℕ) (counts : List ℕ) (flags : List Bool) → place + 1 ≤ 64 * length counts → length flags ≡ place → AreBlocks counts flags →
@@ -233,17 +219,15 @@ pub added : (place count : ℕ) (counts : List ℕ) (flags : List Bool) → plac
 added place count counts flags room len are is =
     let block = place / 64 in
     let whole = div-add-mod' place 64 in
-    let inside = mod_below place 64 (omega arith) in
     let within : block < length counts = elim (cases_lt block (length counts)) [
       | inl less ↦ less
       | inr past ↦ absurd (omega (arith, whole, mul-le-mul_left 64 past))
     ] in
     let put = pushed block counts flags are within (omega (arith, whole))
-    (omega (arith, whole, inside)) in
+    (omega (arith, whole, mod_below place 64 (omega arith))) in
     let read : count ≡ get_or counts block 0 = get_or_read counts block count within is 0 in
-    let wraps : (count + 1) % 4294967296 ≡ count + 1 = mod-eq_of_lt (omega (arith, put.0)) in
     subst (λ n. AreBlocks (set counts block n) (flags ++ true ∷ []))
-    (sym (wraps ∙ ap (λ n. n + 1) read)) put.1
+    (sym ((mod-eq_of_lt (omega (arith, put.0))) ∙ ap (λ n. n + 1) read)) put.1
 
 -- this live place dies
 pub taken : (place count : ℕ) (counts : List ℕ) (flags : List Bool) → place < length flags → get_or flags place false ≡ true → AreBlocks counts flags →
@@ -258,19 +242,16 @@ taken place count counts flags there live are is =
     let read : count ≡ get_or counts block 0 = get_or_read counts block count within is 0 in
     let put = died block at counts flags are (mod_below place 64 (omega arith))
     (omega (arith, whole)) (ap (λ n. get_or flags n false) whole ∙ live) in
-    let wraps : (count + 4294967295) % 4294967296 ≡ count - 1 =
-    wrapped_less 4294967296 count (omega (arith, put.0)) (omega (arith, put.1)) in
     subst (λ n. AreBlocks (set counts block n) (set flags place false))
-    (sym (wraps ∙ ap (λ n. n - 1) read))
-    (subst (λ n. AreBlocks (set counts block (get_or counts block 0 - 1)) (set flags n false))
-    whole put.2)
+    (sym ((wrapped_less 4294967296 count (omega (arith, put.0)) (omega (arith, put.1)))
+    ∙ ap (λ n. n - 1) read))
+    (rw whole at put.2)
 
 -- in all
 pub all_added : (flags : List Bool) (all : ℕ) → all ≡ count_set flags → length flags < 2 ^ 63 →
     (all + 1) % 18446744073709551616 ≡ count_set (flags ++ true ∷ [])
-all_added flags all is short =
-    mod-eq_of_lt (omega (arith, is, count_by-le-length (λ (flag : Bool). flag) flags))
-    ∙ ap (λ n. n + 1) is ∙ sym (sum_by_push one_if flags true)
+all_added flags all is short = mod-eq_of_lt (omega (arith, count_by-le-length)) ∙ ap (λ n. n + 1) is
+    ∙ sym (sum_by_push one_if flags true)
 
 pub all_taken : (flags : List Bool) (all place : ℕ) → all ≡ count_set flags → all < 2 ^ 64 →
     place < length flags → get_or flags place false ≡ true →

@@ -25,12 +25,11 @@ alone_below : (version : ℕ) (entry : CacheEntry) (entries : List CacheEntry)
     → All (IsBelow version) entries → list_any (same_key (under version entry)) entries ≡ false
 alone_below version entry [] below = refl
 alone_below version entry (x ∷ xs) below =
-    let here : IsBelow version x = All-head (IsBelow version) x xs below in
     let apart : same_key (under version entry) x ≡ false =
     false_from_ne_true (same_key (under version entry) x) (λ same.
     let versions : version ≡ x.version = (same_key_parts (under version entry) x same).0 in
     let there : leb version x.version ≡ true = le-leb version x.version (omega (arith, versions)) in
-    absurd (cc (here, there))) in
+    absurd (cc ((All-head (IsBelow version) x xs below), there))) in
     ap (λ b. b || list_any (same_key (under version entry)) xs) apart
     ∙ alone_below version entry xs (All-tail (IsBelow version) x xs below)
 
@@ -47,11 +46,9 @@ before_is : (shift version number : ℕ) → 0 < shift → shift ≤ number
 before_is shift version number some fits = by_case (eqb (number - shift + 1) version) refl where
   by_case : (same : Bool) → eqb (number - shift + 1) version ≡ same
       → eqb number (version + (shift - 1)) ≡ same
-  by_case true is = eq-eqb number (version + (shift - 1))
-      (omega (arith, eqb-true (number - shift + 1) version is, some, fits))
+  by_case true is = eq-eqb number (version + (shift - 1)) (omega (arith, eqb-true))
   by_case false is = false_from_ne_true (eqb number (version + (shift - 1)))
-      (λ same. let equal : number - shift + 1 ≡ version =
-      omega (arith, eqb-true number (version + (shift - 1)) same, some, fits) in
+      (λ same. let equal : number - shift + 1 ≡ version = omega (arith, eqb-true) in
       let there = eq-eqb (number - shift + 1) version equal in absurd (cc (is, there)))
 
 -- an entry that goes over keeps its pair
@@ -69,12 +66,9 @@ left_of : (version : ℕ) (entry : CacheEntry) (goes before apart stays there : 
     → goes ≡ (before && apart) → stays ≡ false → there ≡ false
     → cond goes (Some (under version entry)) None
     ≡ cond stays (Some entry) (cond (before && apart && not there) (Some (under version entry)) None)
-left_of version entry goes true true false false is _ _ =
-    ap (λ b. cond b (Some (under version entry)) None) is
-left_of version entry goes true false false false is _ _ =
-    ap (λ b. cond b (Some (under version entry)) None) is
-left_of version entry goes false apart false false is _ _ =
-    ap (λ b. cond b (Some (under version entry)) None) is
+left_of version entry goes true true false false is _ _ = cc is
+left_of version entry goes true false false false is _ _ = cc is
+left_of version entry goes false apart false false is _ _ = cc is
 left_of version entry goes before apart true there _ stays _ = absurd (cc stays)
 left_of version entry goes before apart false true _ _ there = absurd (cc there)
 
@@ -88,14 +82,11 @@ carried_pairs shift version touched entries [] some are all below = refl
 carried_pairs shift version touched entries (pair ∷ pairs) some are all below =
     let entry = kept_entry shift pair in
     let old = kept_entries shift pairs in
-    let has = All-head (HasVersion shift) pair pairs are in
     let goes : is_carried_key (version + (shift - 1)) touched pair.0
     ≡ (eqb (entry.version + 1) version && not (meets_any touched entry.word)) =
     ap (λ b. b && not (meets_any touched entry.word))
-    (before_is shift version pair.0.number some has.0) in
-    let left : cond (is_carried_key (version + (shift - 1)) touched pair.0) (Some (under version entry)) None
-    ≡ carried_entry version touched entries entry =
-    left_of version entry (is_carried_key (version + (shift - 1)) touched pair.0)
+    (before_is shift version pair.0.number some (All-head (HasVersion shift) pair pairs are).0) in
+    let left = left_of version entry (is_carried_key (version + (shift - 1)) touched pair.0)
     (eqb (entry.version + 1) version) (not (meets_any touched entry.word))
     (leb version entry.version) (list_any (same_key (under version entry)) entries) goes
     (All-head (IsBelow version) entry old below) (alone_below version entry entries all) in

@@ -1,6 +1,6 @@
 -- Cache entries as pairs, whose keys add a shift to versions: what a push, a removal and a filter
 -- make of them, and that no two have one key.
-use Rattle.std.proofs.Common.{[], ◌&&◌, ◌++◌, ◌+◌, ◌-◌, ◌<◌, ◌^◌, ◌||◌, ◌∙◌, ◌∷◌, ◌≡◌, ◌≤◌, All, Bool, List, Option, ap, arith, cond, drop, eq-eqb, eqb, eqb-true, false, filter, get_or, le-leb, leb, leb-true, length, length-append, refl, remove, subst, suc, sym, true, zero, ℕ}
+use Rattle.std.proofs.Common.{[], ◌++◌, ◌+◌, ◌-◌, ◌<◌, ◌^◌, ◌||◌, ◌∙◌, ◌∷◌, ◌≡◌, ◌≤◌, All, Bool, List, Option, ap, arith, cond, drop, eq-eqb, eqb, eqb-true, false, filter, get_or, le-leb, leb, leb-true, length, length-append, refl, remove, subst, suc, sym, true, zero, ℕ}
 use Rattle.base.proofs.Exports.{All-cons, All-filter, All-head, All-nil, All-push, All-remove, All-tail, All-weaker, AllByRecursion, AllPairs-cons, IsDistinct, all_pairs_push, and_from, and_parts, count_by-le-length, false_from_ne_true, false≢true, get_or-append_seam, get_or_default, keys_of, length-filter, list_any, list_any-from_Any, map-append, map-remove}
 use Rattle.ternary.specs.Exports.{WordValue, word_eq}
 use Rattle.switch_table.specs.Exports.{AreMasked, AreUpTo, HasMaskOf, HaveDistinctKeys, HaveOwnKeys, HaveVersions, HoldsEntries, Pair, equal_keys, has_key, kept_entries, kept_entry, key_of, pair_of, same_key}
@@ -14,10 +14,9 @@ unfolding same_key
 same_key_parts a b is =
     let parts = and_parts (eqb a.version b.version) (word_eq a.word b.word) is in
     let words = and_parts (eqb a.word.value b.word.value) (eqb a.word.mask b.word.mask) parts.1 in
-    let values = eqb-true a.word.value b.word.value words.0 in
     let masks = eqb-true a.word.mask b.word.mask words.1 in (
       eqb-true a.version b.version parts.0,
-      λ i. record { value = values i; mask = masks i },
+      λ i. record { value = (eqb-true a.word.value b.word.value words.0) i; mask = masks i },
     )
 
 pub same_key_from : (a b : CacheEntry) → a.version ≡ b.version → a.word ≡ b.word
@@ -88,8 +87,7 @@ key_of_entry shift pair is =
 pub same_key-is : (shift : ℕ) (a b : CacheEntry)
     → same_key a b ≡ equal_keys (key_of shift a) (key_of shift b)
 unfolding same_key equal_keys
-same_key-is shift a b =
-    ap (λ same. same && word_eq a.word b.word) (eqb-shift a.version b.version shift)
+same_key-is shift a b = cc (eqb-shift a.version b.version shift)
 
 -- an entry's key is that of the pair
 same_key_of : (shift : ℕ) (entry : CacheEntry) (pair : Pair) → HasVersion shift pair
@@ -102,9 +100,8 @@ pub has_key_of_entry : (shift : ℕ) (entry : CacheEntry) (pairs : List Pair)
     → has_key (key_of shift entry) pairs ≡ list_any (same_key entry) (kept_entries shift pairs)
 has_key_of_entry shift entry [] are = refl
 has_key_of_entry shift entry (pair ∷ pairs) are =
-    let here = same_key_of shift entry pair (All-head (HasVersion shift) pair pairs are) in
     let rest = has_key_of_entry shift entry pairs (All-tail (HasVersion shift) pair pairs are) in
-    λ i. here i || rest i
+    λ i. (same_key_of shift entry pair (All-head (HasVersion shift) pair pairs are)) i || rest i
 
 apart_from_all : (shift : ℕ) (pair : Pair) (pairs : List Pair) → HasVersion shift pair
     → HaveVersions shift pairs
@@ -166,11 +163,9 @@ leb-shift : (shift version number : ℕ) → shift ≤ number
 leb-shift shift version number fits = by_case (leb version (number - shift)) refl where
   by_case : (less : Bool) → leb version (number - shift) ≡ less
       → leb (version + shift) number ≡ less
-  by_case true is = le-leb (version + shift) number
-      (omega (arith, leb-true version (number - shift) is, fits))
+  by_case true is = le-leb (version + shift) number (omega (arith, leb-true))
   by_case false is = false_from_ne_true (leb (version + shift) number)
-      (λ le. let less : version ≤ number - shift =
-      omega (arith, leb-true (version + shift) number le, fits) in
+      (λ le. let less : version ≤ number - shift = omega (arith, leb-true) in
       false≢true (sym is ∙ le-leb version (number - shift) less))
 
 pub entries_from : (shift version : ℕ) (pairs : List Pair) → HaveVersions shift pairs
@@ -190,9 +185,8 @@ none_before (x ∷ before) entry rest distinct =
     let at = get_or-append_seam (x ∷ before) entry rest entry in
     let apart : same_key x entry ≡ false = subst (λ e. same_key x e ≡ false) at
     (distinct 0 (length (x ∷ before)) entry (omega arith) (omega (arith, len))) in
-    let rest_apart = none_before before entry rest (rest_distinct (x ∷ before ++ entry ∷ rest)
-    distinct) in
-    ap (λ b. b || list_any (same_key entry) before) (apart-sym x entry apart) ∙ rest_apart
+    ap (λ b. b || list_any (same_key entry) before) (apart-sym x entry apart)
+    ∙ (none_before before entry rest (rest_distinct (x ∷ before ++ entry ∷ rest) distinct))
 
 -- ---- what a cache keeps
 

@@ -19,8 +19,7 @@ has_live key slot = equal_keys key slot.0 && is_live slot
 keys_place : (key : CacheKey) (slots : List SlotPair) →
     position_or_len (equal_keys key) (keys_of slots) ≡ position_or_len (has key) slots
 keys_place key [] = refl
-keys_place key (slot ∷ slots) =
-    ap (λ n. cond (not (equal_keys key slot.0)) (1 + n) 0) (keys_place key slots)
+keys_place key (slot ∷ slots) = cc (keys_place key slots)
 
 pub place_live : (key : CacheKey) (slots : List SlotPair) (place : ℕ) (slot : SlotPair) →
     position_or_len (equal_keys key) (keys_of slots) ≡ place → slice_get slots place ≡ Some slot →
@@ -115,9 +114,7 @@ hit_more number header i masks mask slots within is =
     key_more : (key : CacheKey) → is_hit number header (take (i + 1) masks) key
         ≡ (is_hit number header (take i masks) key || equal_keys (key_under number header mask) key)
     key_more key =
-        list_any_more (λ m. equal_keys (key_under number header m) key) masks i mask within
-        ∙ ap (λ m. is_hit number header (take i masks) key
-        || equal_keys (key_under number header m) key) (sym is)
+        cc (list_any_more (λ m. equal_keys (key_under number header m) key) masks i mask within, is)
 
     more : (slot : SlotPair) → hit_live number header (take (i + 1) masks) slot ≡ (hit_live number
         header (take i masks) slot || has_live (key_under number header mask) slot)
@@ -154,6 +151,5 @@ first_live test (x ∷ xs) = by_case (test x.0) (is_live x) refl (first_live tes
 pub hit_at : (test : CacheKey → Bool) (slots : List SlotPair) (place : ℕ) →
     place ≡ position_or_len (λ slot. test slot.0 && is_live slot) slots →
     option_map pair_at (slice_get slots place) ≡ find (λ pair. test pair.0) (live_pairs slots)
-hit_at test slots place is = ap (λ n. option_map pair_at (slice_get slots n)) is
-    ∙ ap (option_map pair_at) (sym (find_at (λ slot. test slot.0 && is_live slot) slots))
-    ∙ first_live test slots
+hit_at test slots place is =
+    cc (is, find_at (λ slot. test slot.0 && is_live slot) slots, first_live test slots)

@@ -1,5 +1,5 @@
 -- Live slots among dead ones: their counts and keys, and what a push, a new key and a sweep leave.
-use Rattle.std.proofs.Common.{[], ◌++◌, ◌+◌, ◌<◌, ◌^◌, ◌||◌, ◌∙◌, ◌∷◌, ◌≡◌, ◌≤◌, All, Bool, IfSome, IsFalse, List, None, Option, Some, ap, arith, cond, eq-eqb, eqb, eqb-true, false, filter, get_or, length, length-append, length-take-le, not, option_map, position, refl, replicate, set, slice_get, subst, suc, swap_remove, sym, take, true, zero, ℕ}
+use Rattle.std.proofs.Common.{[], ◌++◌, ◌+◌, ◌<◌, ◌^◌, ◌||◌, ◌∙◌, ◌∷◌, ◌≡◌, ◌≤◌, Bool, IfSome, List, None, Option, Some, ap, arith, cond, eq-eqb, eqb, eqb-true, false, filter, get_or, length, length-append, length-take-le, not, option_map, position, refl, replicate, set, slice_get, subst, suc, swap_remove, sym, take, true, zero, ℕ}
 use Rattle.base.proofs.Exports.{AllByRecursion, IsDistinct, and_from, and_parts, cons_option, count_by-le-length, filter_map-append, get_or-map, get_or_append_left, get_or_from_slice_get, keys_of, length-filter, length-map, length_push, lookup, map_push, none-some, position_or_len, put_last, same_Some, slice_get-get_or, slice_get-map, slice_get_within, take-append-le, take-map, values_of}
 use Rattle.indexmap.proofs.MapLemmas.{Found-position}
 use Rattle.ternary.specs.Exports.{WordValue, word_eq}
@@ -28,9 +28,8 @@ pub equal_keys_same : (a b : CacheKey) → equal_keys a b ≡ true → a ≡ b
 unfolding equal_keys
 equal_keys_same a b is =
     let parts = and_parts (eqb a.number b.number) (word_eq a.word b.word) is in
-    let numbers = eqb-true a.number b.number parts.0 in
     let words = words_same a.word b.word parts.1 in
-    λ i. record { number = numbers i; word = words i }
+    λ i. record { number = (eqb-true a.number b.number parts.0) i; word = words i }
 
 -- ---- counts and keys of live slots
 
@@ -52,12 +51,7 @@ count_live slots = sym (length-filter (λ flag. flag) (flags_of slots)) ∙ set_
     by_case false rest = rest
 
 pub live_fit : (slots : List SlotPair) → length (live_pairs slots) ≤ length slots
-live_fit slots = omega (
-  arith,
-  count_live slots,
-  count_by-le-length (λ flag. flag) (flags_of slots),
-  length-map slots is_live,
-)
+live_fit slots = omega (arith, count_live slots, count_by-le-length, length-map slots is_live)
 
 abbrev AreApart : CacheKey → List CacheKey → Type 0
 AreApart key keys = AllByRecursion (λ other. equal_keys key other ≡ false) keys
@@ -101,9 +95,7 @@ absent_live key (slot ∷ slots) none =
 apart_absent : (key : CacheKey) (slots : List SlotPair) → AreApart key (keys_of slots) →
     lookup (equal_keys key) slots ≡ None
 apart_absent key [] apart = refl
-apart_absent key (slot ∷ slots) apart =
-    ap (λ b. cond b (Some slot.1) (lookup (equal_keys key) slots)) apart.0
-    ∙ apart_absent key slots apart.1
+apart_absent key (slot ∷ slots) apart = cc (apart.0, apart_absent key slots apart.1)
 
 pub found_live : (key : CacheKey) (slots : List SlotPair) (found : Slot) →
     IsDistinct equal_keys (keys_of slots) → lookup (equal_keys key) slots ≡ Some found →
@@ -114,19 +106,16 @@ found_live key (slot ∷ slots) found distinct is = by_case (equal_keys key slot
     refl refl is (found_live key slots found distinct.1)
   where
     here_is : equal_keys key slot.0 ≡ true → lookup (equal_keys key) slots ≡ None
-    here_is same = apart_absent key slots
-        (subst (λ k. AreApart k (keys_of slots)) (sym (equal_keys_same key slot.0 same)) distinct.0)
+    here_is same = apart_absent key slots (rw (equal_keys_same key slot.0 same) distinct.0)
 
     by_case : (here live : Bool) → equal_keys key slot.0 ≡ here → slot.1.is_live ≡ live
         → cond here (Some slot.1) (lookup (equal_keys key) slots) ≡ Some found
         → (lookup (equal_keys key) slots ≡ Some found → has_key key (live_pairs slots)
         ≡ found.is_live) → has_key key (with_slot live slot (live_pairs slots)) ≡ found.is_live
-    by_case true true same lives here rest = ap (λ b. b || has_key key (live_pairs slots)) same
-        ∙ sym lives ∙ ap (λ (s : Slot). s.is_live) (same_Some slot.1 found here)
+    by_case true true same lives here rest = cc (same, lives, same_Some slot.1 found here)
     by_case true false same lives here rest = absent_live key slots (here_is same) ∙ sym lives
         ∙ ap (λ (s : Slot). s.is_live) (same_Some slot.1 found here)
-    by_case false true apart lives later rest =
-        ap (λ b. b || has_key key (live_pairs slots)) apart ∙ rest later
+    by_case false true apart lives later rest = cc (apart, rest later)
     by_case false false apart lives later rest = rest later
 
 -- the slot at this place is the one that has the key
@@ -184,19 +173,15 @@ pub rekeyed_pairs : (slots : List SlotPair) (place : ℕ) (pair : SlotPair) (key
     slice_get slots place ≡ Some pair → pair.1.is_live ≡ false →
     live_pairs (set slots place (key, pair.1)) ≡ live_pairs slots
 rekeyed_pairs [] place pair key at dead = refl
-rekeyed_pairs (slot ∷ slots) zero pair key at dead =
-    ap (λ b. with_slot b (key, pair.1) (live_pairs slots)) dead ∙ sym
-    (ap (λ b. with_slot b slot (live_pairs slots)) (ap is_live (same_Some slot pair at) ∙ dead))
+rekeyed_pairs (slot ∷ slots) zero pair key at dead = cc (dead, same_Some slot pair at)
 rekeyed_pairs (slot ∷ slots) (suc place) pair key at dead =
     ap (cons_option (live_pair slot)) (rekeyed_pairs slots place pair key at dead)
 
 pub rekeyed_flags : (slots : List SlotPair) (place : ℕ) (pair : SlotPair) (key : CacheKey)
     → slice_get slots place ≡ Some pair → flags_of (set slots place (key, pair.1)) ≡ flags_of slots
 rekeyed_flags [] place pair key at = refl
-rekeyed_flags (slot ∷ slots) zero pair key at =
-    ap (λ b. b ∷ flags_of slots) (sym (ap is_live (same_Some slot pair at)))
-rekeyed_flags (slot ∷ slots) (suc place) pair key at =
-    ap (λ flags. slot.1.is_live ∷ flags) (rekeyed_flags slots place pair key at)
+rekeyed_flags (slot ∷ slots) zero pair key at = cc (same_Some slot pair at)
+rekeyed_flags (slot ∷ slots) (suc place) pair key at = cc (rekeyed_flags slots place pair key at)
 
 -- the dead slot at this place has another key
 pub record IsRekeyed (place : ℕ) (key : CacheKey) (taken : Option SlotPair)
@@ -234,8 +219,7 @@ rekeyed place key slot taken slots more new dead slot_is more_is taken_is new_is
           dead = same_Some (is_live pair) false (sym (slice_get-map is_live slots place
               ∙ ap (option_map is_live) at) ∙ dead);
           taken_is = is;
-          new_is = subst (λ some. IfSome some (λ p. new ≡ swap_remove more place p)) is new_is
-              ∙ ap (λ some. swap_remove some place pair) more_is
+          new_is = rw is at new_is ∙ ap (λ some. swap_remove some place pair) more_is
               ∙ put_last slots (key, slot) place pair within
               ∙ ap (λ s. set slots place (key, s)) same;
         }
@@ -282,8 +266,7 @@ swept_pairs (slot ∷ slots) = by_case slot.1.is_live refl (swept_pairs slots) w
       live_pairs (filter is_live slots) ≡ live_pairs slots →
       live_pairs (cond live (slot ∷ filter is_live slots) (filter is_live slots))
       ≡ with_slot live slot (live_pairs slots)
-  by_case true is rest = ap (λ b. with_slot b slot (live_pairs (filter is_live slots))) is
-      ∙ ap (λ pairs. (slot.0, slot.1.learnt) ∷ pairs) rest
+  by_case true is rest = cc (is, rest)
   by_case false is rest = rest
 
 pub swept_flags : (slots : List SlotPair) →
@@ -326,8 +309,7 @@ pub pushed_slots : (live more : LiveCounts) (first : ℕ) (slots : List SlotPair
 pushed_slots live more first slots key learnt are counts small =
     let slot : SlotPair = (key, record { learnt = learnt; is_live = true }) in record {
       within = omega (arith, are.within, length_push slots slot);
-      dead = subst (All (λ s. IsFalse (is_live s)))
-          (sym (take-append-le first slots (slot ∷ []) are.within)) are.dead;
+      dead = rw (take-append-le first slots (slot ∷ []) are.within) are.dead;
       counted = subst (AreCounts more) (sym (map_push is_live slots slot)) counts;
       named = named_pushed 0 slots slot are.named small;
     }

@@ -28,8 +28,7 @@ pub nth_here : (slots : List Slot) (before left place : ℕ) (d : Slot) → plac
     → (get_or slots place d).is_live ≡ true → count_set (map flag_of (take place slots)) + left
     ≡ before → left ≡ 0 → IsNthSet before place (map flag_of slots)
 nth_here slots before left place d within live counted none = record {
-  is_set = slice_get-map flag_of slots place
-      ∙ ap (option_map flag_of) (slice_get-get_or slots place d within) ∙ ap Some live;
+  is_set = cc (slice_get-map flag_of slots place, slice_get-get_or slots place d within, live);
   earlier = ap count_set (take-map flag_of place slots) ∙ omega (arith, counted, none);
 }
 
@@ -99,13 +98,10 @@ pub starts_block : (block left before : ℕ) (flags : List Bool) →
     (count_set (take (64 * block) flags) + left ≡ before)
     × (left < count_set (take 64 (drop (64 * block) flags))) →
     IsStart (block * 64) left before flags
-starts_block block left before flags at =
-    let start = 64 * block in
-    let same : start ≡ block * 64 = omega arith in
-    subst (λ n. IsStart n left before flags) same (record {
+starts_block block left before flags at = let start = 64 * block in
+    subst (λ n. IsStart n left before flags) (omega arith) (record {
       past = at.0;
-      some = omega
-          (arith, at.1, sum_by-take-le (λ (flag : Bool). cond flag 1 0) (drop start flags) 64);
+      some = omega (arith, at.1, sum_by-take-le);
     })
 
 -- ---- its pair, and those that are left without it
@@ -209,9 +205,7 @@ module _ (test : CacheKey → Bool) where
     by_case : (a b : Bool) → is_live x ≡ a → test x.0 ≡ b → live_pairs kept ≡ rest →
         live_pairs (cond (a && b) (x ∷ kept) kept)
         ≡ filter passes (cons_option (cond a (Some first) None) (live_pairs xs))
-    by_case true true live there same =
-        ap (λ o. cons_option o (live_pairs kept)) (pair_of_live x live)
-        ∙ ap (λ ps. first ∷ ps) same ∙ sym (ap (λ b. cond b (first ∷ rest) rest) there)
+    by_case true true live there same = cc (pair_of_live x live, same, there)
     by_case true false live gone same = same ∙ sym (ap (λ b. cond b (first ∷ rest) rest) gone)
     by_case false b dead _ same = same
 
@@ -261,13 +255,10 @@ pub set_at_killed : (slots : List SlotPair) (at : ℕ) (slot : SlotPair) (value 
     Some value ≡ slice_get (values_of slots) at → slice_get slots at ≡ Some slot →
     set_value_at slots at (record value { is_live = false }) ≡ set slots at (killed slot)
 set_at_killed [] at slot value is there = refl
-set_at_killed (x ∷ xs) zero slot value is there =
-    let same = same_Some x slot there in
-    let held = same_Some value x.1 is in
+set_at_killed (x ∷ xs) zero slot value is there = let held = same_Some value x.1 is in
     (λ i. (x.0, record (held i) { is_live = false }) ∷ xs)
-    ∙ ap (λ s. killed s ∷ xs) same
-set_at_killed (x ∷ xs) (suc at) slot value is there =
-    ap (λ rest. x ∷ rest) (set_at_killed xs at slot value is there)
+    ∙ ap (λ s. killed s ∷ xs) (same_Some x slot there)
+set_at_killed (x ∷ xs) (suc at) slot value is there = cc (set_at_killed xs at slot value is there)
 
 -- the slot there is live
 live_there : (slots : List SlotPair) (before at : ℕ) (slot : SlotPair)
@@ -316,8 +307,7 @@ slots_killed old live first next before at slots new are nth kills takes begins 
     let (slot, there) = nth_slot slots before at nth in killed_at slot there (kills slot there)
   where
     dead : ((before ≡ 0) × (next ≡ at)) ⊎ (next ≡ first) → All IsDead (take next slots)
-    dead (inl is) = subst (λ n. All IsDead (take n slots)) (sym is.1)
-        (dead_before at slots (nth.earlier ∙ is.0))
+    dead (inl is) = rw is.1 (dead_before at slots (nth.earlier ∙ is.0))
     dead (inr is) = subst (λ n. All IsDead (take n slots)) (sym is) are.dead
 
     within : ((before ≡ 0) × (next ≡ at)) ⊎ (next ≡ first) → at < length slots → next ≤ length slots
@@ -329,8 +319,7 @@ slots_killed old live first next before at slots new are nth kills takes begins 
     killed_at slot there made = record {
       within = let fits = within begins (slice_get_within slots at slot there) in
           omega (arith, ap length made, length-set slots at (killed slot), fits);
-      dead = subst (λ ss. All IsDead (take next ss)) (sym made)
-          (dead_killed next slots at slot (dead begins));
+      dead = rw made (dead_killed next slots at slot (dead begins));
       counted = subst (AreCounts live) (sym (flags_killed slots at slot) ∙ ap flags_of (sym made))
           (takes (flags_of slots) are.counted nth.is_set);
       named = subst (AreNamed 0) (sym made) (named_killed slots at slot are.named there);

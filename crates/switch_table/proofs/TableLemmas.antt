@@ -27,9 +27,8 @@ at_header : (rows : List Row) (plan : List Hosted) (header : Header)
     → AreSoundPartitions rows (map part_of plan) → IsHeader header → (hosted : Hosted)
     × IsAt rows plan header hosted
 at_header rows plan header sound is =
-    let one : count_by (λ p. is_in header (part_of p)) plan ≡ 1 =
-    sym (count_by-map (is_in header) part_of plan) ∙ sound.one header is in
-    let some = some_from_count (λ p. is_in header (part_of p)) plan one in
+    let some = some_from_count (λ p. is_in header (part_of p)) plan
+    (sym (count_by-map (is_in header) part_of plan) ∙ sound.one header is) in
     let there = find-there (λ p. is_in header (part_of p)) plan some.0 some.1 in (
       some.0,
       record {
@@ -57,23 +56,18 @@ place_leads : (rows : List Row) (plan : List Hosted) (header : Header) (hosted :
     → ArePartsNumbered (map part_of plan) → IsAt rows plan header hosted
     → FindsFirstMatch rows (map part_of plan) header (authority_of header (part_of hosted))
 place_leads rows plan header hosted numbers at =
-    let here : slice_get (map part_of plan) hosted.0.number ≡ Some (part_of hosted) =
-    slice_get-map part_of plan hosted.0.number
-    ∙ ap (option_map part_of) (numbered_at plan hosted numbers at.there) in
     let leads = find-position (is_held (number_of header)) hosted.0.rules in
     ap (option_map hit_of_rule)
     (ap (option_and_then (λ part. slice_get part.rules
-    (unwrap_or (position (is_held (number_of header)) hosted.0.rules) 0))) here
+    (unwrap_or (position (is_held (number_of header)) hosted.0.rules) 0))) (slice_get-map part_of
+    plan hosted.0.number ∙ ap (option_map part_of) (numbered_at plan hosted numbers at.there))
     ∙ by_case (position (is_held (number_of header)) hosted.0.rules) leads) ∙ at.decides
   where
     by_case : (place : Option ℕ) → option_and_then (slice_get hosted.0.rules) place ≡ first_rule
         hosted.0.rules header → slice_get hosted.0.rules (unwrap_or place 0) ≡ first_rule
         hosted.0.rules header
     by_case (Some place) leads = leads
-    by_case None leads =
-        let none : option_map hit_of_rule None ≡ Some (scan rows header) =
-        ap (option_map hit_of_rule) leads ∙ at.decides in
-        absurd (cc)
+    by_case None leads = let none = ap (option_map hit_of_rule) leads ∙ at.decides in absurd (cc)
 
 -- what the tables of a switch say of the header
 lookup_at : (rows : List Row) (plan : List Hosted) (version switch : ℕ) (header : Header)
@@ -82,12 +76,11 @@ lookup_at : (rows : List Row) (plan : List Hosted) (version switch : ℕ) (heade
     (has_target switch hosted) (authority_of header (part_of hosted))
     (redirect_of header (map row_of plan))
 lookup_at rows plan version switch header hosted sound is at =
-    let one : count_by (λ p. is_in header (part_of p)) plan ≡ 1 =
-    sym (count_by-map (is_in header) part_of plan) ∙ sound.one header is in
     let own : find (is_in header) (map part_of (filter (has_target switch) plan))
     ≡ option_map part_of (cond (has_target switch hosted) (Some hosted) None) =
-    find-map (is_in header) part_of (filter (has_target switch) plan) ∙ ap (option_map part_of)
-    (find-filter (λ p. is_in header (part_of p)) (has_target switch) plan hosted one at.found) in
+    find-map (is_in header) part_of (filter (has_target switch) plan)
+    ∙ ap (option_map part_of) (find-filter (λ p. is_in header (part_of p)) (has_target switch) plan
+    hosted (sym (count_by-map (is_in header) part_of plan) ∙ sound.one header is) at.found) in
     ap (λ part. option_map_or (authority_of header) part (redirect_of header (map row_of plan))) own
     ∙ by_case (has_target switch hosted)
   where
@@ -152,8 +145,7 @@ redirect_there : (rows : List Row) (plan : List Hosted) (header : Header) (hoste
     ArePartsNumbered (map part_of plan) → IsAt rows plan header hosted →
     redirect_of header (map row_of plan) ≡ Redirect hosted.0.number hosted.1
 redirect_there rows plan header hosted numbers at =
-    let place : unwrap_or (position (row_has header) (map row_of plan)) 0 ≡ hosted.0.number =
-    ap (λ k. unwrap_or k 0) (position-map (row_has header) row_of plan)
+    let place = ap (λ k. unwrap_or k 0) (position-map (row_has header) row_of plan)
     ∙ by_case (position (λ p. is_in header (part_of p)) plan) refl
     (find-position (λ p. is_in header (part_of p)) plan ∙ at.found) in
     ap (λ (number : ℕ). Redirect number (option_map_or (λ (row : PartRow). row.targets)

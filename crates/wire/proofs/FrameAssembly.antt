@@ -53,19 +53,17 @@ framed_again from count (f ∷ fs) rising all =
     let others = rising_few (place_in_frame f + 1) count fs rising.2 in
     let below = rising.1.below in
     let here : place_in_frame f ≡ from = omega (arith, rising.0) in
-    let first : f ≡ frame from count (chunk_of f) = rising.1.whole
-    ∙ ap (λ place. frame place count (chunk_of f)) here in
     let next : AreRising (from + 1) count fs = subst (λ place. AreRising (place + 1) count fs) here rising.2 in
     let rest : fs ≡ frames_from (from + 1) count (map chunk_of fs) = framed_again (from + 1) count
     fs next (omega arith) in
-    ap (λ g. g ∷ fs) first ∙ ap (λ gs. frame from count (chunk_of f) ∷ gs) rest
+    ap (λ g. g ∷ fs) (rising.1.whole ∙ ap (λ place. frame place count (chunk_of f)) here)
+    ∙ ap (λ gs. frame from count (chunk_of f) ∷ gs) rest
 
 -- ---- the message of frames
 
 -- the chunks of a message's frames are its chunks
 pub their_chunks : (m : Message) (fs : List (List ℕ)) → AreFrames m fs → map chunk_of fs ≡ chunks m
-their_chunks m fs are = ap (map chunk_of) are.frames_are
-    ∙ chunks_of_frames 0 (length (chunks m)) (chunks m)
+their_chunks m fs are = cc (are.frames_are, chunks_of_frames 0 (length (chunks m)) (chunks m))
 
 -- the chunks of a message's frames are its spelling
 pub spelled_by : (m : Message) (fs : List (List ℕ)) → AreFrames m fs
@@ -80,12 +78,11 @@ spelled_by m fs are = record {
 pub frames_by : (m : Message) (bytes : List ℕ) (fs : List (List ℕ)) → AreRising 0 (length fs) fs → IsSpelling m bytes
     → map chunk_of fs ≡ chunks_behind_head (head_len m.body bytes) bytes → AreFrames m fs
 frames_by m bytes fs rising spelled are_cut =
-    let parts : map chunk_of fs ≡ chunks m = are_cut
-    ∙ ap (λ bytes. chunks_behind_head (head_len m.body bytes) bytes) spelled.spelled in
     let len : length fs ≡ length (map chunk_of fs) = sym (length-map fs chunk_of) in record {
       fits = spelled.fits;
       frames_are = framed_again 0 (length fs) fs rising (omega arith)
-          ∙ ap (λ k. frames_from 0 k (map chunk_of fs)) len ∙ ap frames_of parts;
+          ∙ ap (λ k. frames_from 0 k (map chunk_of fs)) len ∙ ap frames_of (are_cut
+          ∙ ap (λ bytes. chunks_behind_head (head_len m.body bytes) bytes) spelled.spelled);
     }
 
 -- frames of another cut are those of no message
@@ -94,9 +91,8 @@ pub none_by : (m : Message) (bytes : List ℕ) (fs : List (List ℕ)) → bytes 
     → (other : Message) → AreFrames other fs → ⊥
 none_by m bytes fs joined spelled not_cut other are =
     let same : other ≡ m = one_message bytes other m (subst (IsSpelling other) (sym joined) (spelled_by other fs are)) spelled in
-    let are_of : AreFrames m fs = subst (λ n. AreFrames n fs) same are in
-    not_cut (their_chunks m fs are_of ∙ ap (λ bytes. chunks_behind_head (head_len m.body bytes)
-    bytes) (sym spelled.spelled))
+    not_cut (their_chunks m fs (subst (λ n. AreFrames n fs) same are)
+    ∙ ap (λ bytes. chunks_behind_head (head_len m.body bytes) bytes) (sym spelled.spelled))
 
 -- frames whose chunks spell no message are those of none
 pub none_spelled : (fs : List (List ℕ)) (bytes : List ℕ) (error : Failure Malformed)
@@ -104,5 +100,4 @@ pub none_spelled : (fs : List (List ℕ)) (bytes : List ℕ) (error : Failure Ma
     → IfRefused (λ _. AreNone fs (length fs)) error
 none_spelled fs bytes error are =
     IfRefused-weaker (λ _. (m : Message) → IsSpelling m bytes → ⊥) (λ _. AreNone fs (length fs))
-    (λ _ none. (refl, λ m frames. none m (subst (IsSpelling m) (sym are) (spelled_by m fs frames))))
-    error
+    (λ _ none. (refl, λ m frames. none m (rw are (spelled_by m fs frames)))) error

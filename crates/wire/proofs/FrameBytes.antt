@@ -45,9 +45,8 @@ place_of_frame place count chunk lt =
 pub count_of_frame : (place count : ℕ) (chunk : List ℕ) → count < 2 ^ 32
     → count_in_frame (frame place count chunk) ≡ count
 unfolding count_in_frame
-count_of_frame place count chunk lt =
-    ap (λ bytes. from_be_bytes w32 (take 4 bytes)) (behind place count chunk)
-    ∙ ap (from_be_bytes w32) (take_at (n4.spell count) chunk 4 (length_n4 count)) ∙ n4_back count lt
+count_of_frame place count chunk lt = cc
+    (behind place count chunk, take_at (n4.spell count) chunk 4 (length_n4 count), n4_back count lt)
 
 pub chunk_of_frame : (place count : ℕ) (chunk : List ℕ) → chunk_of (frame place count chunk) ≡ chunk
 unfolding frame

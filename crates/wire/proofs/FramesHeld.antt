@@ -32,16 +32,13 @@ a_bound : (m n : ℕ) → n ≤ m → not (leb n m) ≡ false
 a_bound m n le = grind (arith, nat_tests)
 
 pub first_is : (g f : List ℕ) (gs : List (List ℕ)) (place : ℕ) → place_in_frame g ≡ place → held_at (g ∷ gs) place ≡ Some f → g ≡ f
-first_is g f gs place same e =
-    let is : held_at (g ∷ gs) place ≡ Some g = rw (same, same_place place) refl in
-    same_Some g f (sym is ∙ e)
+first_is g f gs place same e = same_Some g f (sym (rw (same, same_place place) refl) ∙ e)
 
 other_than : (g : List ℕ) (gs : List (List ℕ)) (place : ℕ) → place ≤ place_in_frame g → held_at (g ∷ gs) place ≡ None → place < place_in_frame g
 other_than g gs place le none = elim (cases_lt place (place_in_frame g)) [
   | inl lt ↦ lt
   | inr ge ↦ let same : place_in_frame g ≡ place = omega arith in
-      let is : held_at (g ∷ gs) place ≡ Some g = rw (same, same_place place) refl in
-      absurd (none_is_not g (sym none ∙ is))
+      absurd (none_is_not g (sym none ∙ (rw (same, same_place place) refl)))
 ]
 
 -- ---- frames behind a place
@@ -129,13 +126,12 @@ held_stays from count (g ∷ gs) f rising e = elim (cases_lt (place_in_frame g) 
       rw (lt-ltb _ _ lt, not_below (place_in_frame f) (place_in_frame g) (omega arith)) (ap (λ hs. g ∷ hs) rest)
   | inr ge ↦
       let le = held_above (place_in_frame g) count (g ∷ gs) (place_in_frame f) f (omega arith, rising.1, rising.2) e in
-      let is : g ≡ f = first_is g f gs (place_in_frame f) (omega arith) e in
       rw (
         not_below (place_in_frame g) (place_in_frame f) ge,
         not_below (place_in_frame f) (place_in_frame g) le,
         none_lower (place_in_frame g + 1) count gs (place_in_frame f) rising.2 (omega arith),
         all_higher (place_in_frame g + 1) count gs (place_in_frame f) rising.2 (omega arith),
-      ) (ap (λ h. h ∷ gs) (sym is))
+      ) (ap (λ h. h ∷ gs) (sym (first_is g f gs (place_in_frame f) (omega arith) e)))
 ]
 
 -- ---- a frame of a new place
@@ -207,10 +203,8 @@ held_count from count (f ∷ fs) place g rising e = elim (cases_eq (place_in_fra
 
 pub agree_first : (fs : List (List ℕ)) (g : List ℕ) (count : ℕ) (b : Bool) → AreTogether fs → slice_get fs 0 ≡ Some g → b ≡ eqb (count_in_frame g) count → Agree fs count b
 agree_first [] g count b together e is = absurd (none_is_not g e)
-agree_first (f ∷ fs) g count true together e is =
-    let same : f ≡ g = same_Some f g e in
-    let one : count_in_frame f ≡ count = ap count_in_frame same ∙ eqb-true _ _ (sym is) in
-    subst (λ n. AreRising 0 n (f ∷ fs)) one together
+agree_first (f ∷ fs) g count true together e is = let same : f ≡ g = same_Some f g e in
+    subst (λ n. AreRising 0 n (f ∷ fs)) (ap count_in_frame same ∙ eqb-true _ _ (sym is)) together
 agree_first (f ∷ fs) g count false together e is =
     let same : f ≡ g = same_Some f g e in
     let at : held_at (f ∷ fs) (place_in_frame f) ≡ Some f = rw (same_place (place_in_frame f)) refl in
@@ -315,15 +309,12 @@ pub fed_held : (held : List (List ℕ)) (f : List ℕ) (result : Result (Option 
     → AreTogether held → IsFrameCheck held f Held → IsAssembled held (count_in_frame f) result
     → IsFed held f held result
 fed_held held f result together check answer = fed held f held result together check.0
-    (subst (AreRising 0 (count_in_frame f)) (sym check.1) check.0.rising)
-    (subst (λ fs. IsAssembled fs (count_in_frame f) result) (sym check.1) answer)
-    (on_ok result (sym check.1)) (on_err result refl)
+    (rw check.1 check.0.rising) (rw check.1 answer) (on_ok result (sym check.1))
+    (on_err result refl)
 
 pub fed_new : (held : List (List ℕ)) (f : List ℕ) (index : ℕ) (after : List (List ℕ)) (result : Result (Option Message) (Failure Malformed))
     → AreTogether held → IsFrameCheck held f (New index)
     → IsAssembled (insert held index f) (count_in_frame f) result
     → OnOk result (after ≡ insert held index f) → OnErr result (after ≡ held) → IsFed held f after result
 fed_new held f index after result together check answer is unchanged = fed held f after result
-    together check.0 (subst (AreRising 0 (count_in_frame f)) (sym check.2) check.3)
-    (subst (λ fs. IsAssembled fs (count_in_frame f) result) (sym check.2) answer)
-    (subst (λ fs. OnOk result (after ≡ fs)) (sym check.2) is) unchanged
+    together check.0 (rw check.2 check.3) (rw check.2 answer) (rw check.2 is) unchanged

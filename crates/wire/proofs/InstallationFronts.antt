@@ -29,10 +29,8 @@ front_takes bytes f rest are e =
 
 front_again : (bytes : List ℕ) (to : Place) (boot : ℕ) → IsFront to boot bytes → read_front bytes ≡ Some ((to, boot), [])
 front_again bytes to boot is =
-    let read : message_front.read bytes ≡ Some ((to, (1, boot)), []) =
-    ap message_front.read (is.spelled ∙ sym (append-nil (spelled_front to boot)))
-    ∙ front_lawful.again (to, (1, boot)) [] is.fits in
-    rw read refl
+    rw (ap message_front.read (is.spelled ∙ sym (append-nil (spelled_front to boot)))
+    ∙ front_lawful.again (to, (1, boot)) [] is.fits) refl
 
 -- no two installations have one front
 pub one_front : (bytes : List ℕ) (a b : Place) (i j : ℕ) → IsFront a i bytes → IsFront b j bytes → ◌≡◌ {A = Place × ℕ} (a, i) (b, j)

@@ -22,9 +22,7 @@ pub goes_on : {A : Type 0} (f : Format A) (front : List A) (count i : ℕ) (byte
 unfolding read_items
 goes_on f front count i bytes x after total lt h so_far =
     let k : count - i ≡ suc (count - (i + 1)) = omega arith in
-    let one : with_front front (read_items f (count - i) bytes) ≡ with_front (front ++ x ∷ []) (read_items f (count - (i + 1)) after) =
-    rw (k, h) (regroup front x (read_items f (count - (i + 1)) after)) in
-    sym one ∙ so_far
+    sym (rw (k, h) (regroup front x (read_items f (count - (i + 1)) after))) ∙ so_far
 
 pub stops : {A : Type 0} (f : Format A) (front : List A) (count i : ℕ) (bytes : List ℕ) (total : Option (List A × List ℕ)) (error : Failure Malformed)
     → i < count → IfRefused (λ _. f.read bytes ≡ None) error
@@ -38,7 +36,5 @@ stops f front count i bytes total error lt h so_far =
 pub is_done : {A : Type 0} (f : Format A) (front : List A) (count i : ℕ) (bytes : List ℕ) (total : Option (List A × List ℕ))
     → count ≤ i → with_front front (read_items f (count - i) bytes) ≡ total → total ≡ Some (front, bytes)
 unfolding read_items
-is_done f front count i bytes total le so_far =
-    let k : count - i ≡ 0 = omega arith in
-    let one : with_front front (read_items f (count - i) bytes) ≡ Some (front, bytes) = rw k (ap (λ xs. Some (xs, bytes)) (append-nil front)) in
-    sym so_far ∙ one
+is_done f front count i bytes total le so_far = let k : count - i ≡ 0 = omega arith in
+    sym so_far ∙ (rw k (ap (λ xs. Some (xs, bytes)) (append-nil front)))

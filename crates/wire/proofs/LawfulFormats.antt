@@ -25,8 +25,7 @@ n8_lawful = n64-bits
 halves_back : (p : ℕ × ℕ) → (n8 ⊗ n8).fits p ≡ true → ((p.0 * 2 ^ 64 + p.1) / 2 ^ 64, (p.0 * 2 ^ 64 + p.1) % 2 ^ 64) ≡ p
 unfolding n8
 halves_back p fits =
-    let both = and_parts (n8.fits p.0) (n8.fits p.1) fits in
-    let low : p.1 < 2 ^ 64 = ltb-true _ _ both.1 in
+    let low : p.1 < 2 ^ 64 = ltb-true _ _ (and_parts (n8.fits p.0) (n8.fits p.1) fits).1 in
     let quotient : (p.0 * 2 ^ 64 + p.1) / 2 ^ 64 ≡ p.0 = omega arith in
     let rest : (p.0 * 2 ^ 64 + p.1) % 2 ^ 64 ≡ p.1 = omega arith in rw (quotient, rest) refl
 

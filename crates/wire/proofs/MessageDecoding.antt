@@ -24,10 +24,8 @@ whole_takes bytes m rest are e =
 
 pub whole_again : (bytes : List ℕ) (m : Message) → IsSpelling m bytes → whole_message bytes
     ≡ Some (m, [])
-whole_again bytes m h =
-    let read : message.read bytes ≡ Some (m, []) =
-    ap message.read (h.spelled ∙ sym (append-nil (message.spell m))) ∙ message_lawful.again m [] h.fits in
-    rw read refl
+whole_again bytes m h = rw (ap message.read (h.spelled ∙ sym (append-nil (message.spell m)))
+    ∙ message_lawful.again m [] h.fits) refl
 
 -- no two messages have one spelling
 pub one_message : (bytes : List ℕ) (a b : Message) → IsSpelling a bytes → IsSpelling b bytes → a ≡ b

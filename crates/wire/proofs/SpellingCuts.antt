@@ -28,8 +28,4 @@ length-slices (suc count) n bytes = ap suc (length-slices count n (drop n bytes)
 pub few_chunks : (head : ℕ) (bytes : List ℕ) → length bytes < 2 ^ 40
     → length (chunks_behind_head head bytes) < 2 ^ 32
 few_chunks head bytes short = let count = div_ceil (length bytes - head) most_of_chunk in
-    omega (
-      arith,
-      length-slices count most_of_chunk (drop head bytes),
-      div_ceil_times (length bytes - head) most_of_chunk (omega arith),
-    )
+    omega (arith, length-slices, div_ceil_times)

@@ -55,8 +55,7 @@ plan_copied net own plan copy same as_it is =
 -- and so are its ports
 pub owners_begun : (net other : Net) (ports : Ports) → other ≡ net
     → AreOwners net.switches ports → AreOwners other.switches ports
-owners_begun net other ports is owners =
-    subst (λ (n : Net). AreOwners n.switches ports) (sym is) owners
+owners_begun net other ports is owners = rw is owners
 
 pub net_begun : (net other : Net) → other ≡ net → IsNet net → IsNet other
 net_begun net other is sound = subst IsNet (sym is) sound

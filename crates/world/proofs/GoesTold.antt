@@ -1,5 +1,5 @@
 -- What a step owes to the frame that writes one item, and then what is sent and done upon it.
-use Rattle.std.proofs.Common.{[], ◌++◌, ◌+◌, ◌∙◌, ◌∷◌, ◌≡◌, IsErr, List, OnErr, OnOk, Result, ap, append_assoc, length, refl, rules, subst, sym, ℕ}
+use Rattle.std.proofs.Common.{[], ◌++◌, ◌+◌, ◌∷◌, ◌≡◌, IsErr, List, OnErr, OnOk, Result, append_assoc, length, refl, rules, subst, ℕ}
 use Rattle.base.proofs.Exports.{both_ok, on_ok_weaker}
 use Rattle.message_bag.specs.Exports.{Post}
 use Rattle.controller.specs.declared.sends.Act.{Act}
@@ -61,15 +61,10 @@ goes_told {r} {before} {row} {step} {old} {new} first tail begun number posts mo
     goes begins keeps (first ∷ items) tells.piece_is
     (on_ok_weaker r (λ grown. tells.counted) tells.written)
     (step_written r old.log.journal begun new.log.journal items (first ∷ items) first refl
-    tells.pushed
-    (subst (λ k. OnOk r (new.log.journal ≡ begun ++ tail (k + 1))) tells.number_is tells.written))
+    tells.pushed (rw tells.number_is at tells.written))
     (step_part r old.log.journal begun new.log.journal items (first ∷ items) first refl tells.pushed
     (subst (λ k. OnErr r (IsPart begun (tail (k + 1)) new.log.journal)) tells.number_is tells.part))
-    (both_ok r (λ all refines. subst (λ bag. RefineJournal (setting_in old)
-    (before ++ item.Row row step ∷ first ∷ items) (record (state_in new) { posts = bag })) (sym all)
-    (subst (λ (travelling : Flights). RefineJournal (setting_in old) (before ++ item.Row row step
-    ∷ first ∷ items) (record (state_in new) { travelling = travelling; posts = posts ++ more }))
-    (sym tells.travelling) refines)) tells.posted tells.refines)
+    (both_ok r (λ all refines. rw all (rw tells.travelling refines)) tells.posted tells.refines)
 
 -- where the controller's acts are what it writes then
 pub goes_acting : {T E : Type 0} {r : Result T E} {before : List Item} {row : ℕ} {step : Step}
@@ -88,9 +83,8 @@ pub goes_acting : {T E : Type 0} {r : Result T E} {before : List Item} {row : �
     }) → Goes r before row step old new
 goes_acting {r} {old} {new} first acts given begun begins keeps counted is pushed same travelling
     written posted part refines =
-    let noted = as_noted r begun (length old.log.bag) old.log.bag new.log given acts same written
-    posted part in
-    let all = on_ok_weaker r (λ done. refines) noted.written in
+    let all = on_ok_weaker r (λ done. refines) (as_noted r begun (length old.log.bag) old.log.bag
+    new.log given acts same written posted part).written in
     goes_told first (λ k. act_items k acts) begun (length old.log.bag) old.log.bag (act_posts acts)
     begins keeps (search rules)
 
@@ -104,8 +98,7 @@ first_goes {before} {row} {step} first rest begins keeps is failed pushed =
       written = item.Row row step ∷ first ∷ [];
       rest = rest;
       split = is;
-      grown = pushed ∙ ap (λ js. js ++ first ∷ []) begins.rowed
-          ∙ append_assoc before (item.Row row step ∷ []) (first ∷ []);
+      grown = cc (pushed, begins.rowed, append_assoc before (item.Row row step ∷ []) (first ∷ []));
     })
 
 -- the parts refine the journal where only switches, messages and usable links changed

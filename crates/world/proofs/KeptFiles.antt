@@ -58,10 +58,8 @@ pub made_at_place : (net : Net) (files : List PolicyFile) (newest own : List Row
     (place : ℕ) (file : PolicyFile) (compiled : Compiled) → place < length files
     → file ≡ get_or files place file → own ≡ newest → IsMade net (made_from file own) compiled
     → IsMade net (made_at files newest place) compiled
-made_at_place net files newest own place file compiled within at same made =
-    subst (λ (rows : List Row). IsMade net (made_from (file_or_none files place) rows) compiled)
-    same (subst (λ (f : PolicyFile). IsMade net (made_from f own) compiled)
-    (get_or_read files place file within at (Change [])) made)
+made_at_place net files newest own place file compiled within at same made = rw same at
+    (rw (get_or_read files place file within at (Change [])) at made)
 
 -- it is kept of that file
 pub kept_with : (net : Net) (files : List PolicyFile) (newest : List Row)
@@ -76,10 +74,9 @@ kept_with net files newest kept place compiled are within made = record {
     | inl same ↦ let inside : place < length kept = omega (arith, are.many) in
         let here : get_or (set kept place (Some compiled)) place None ≡ Some other =
         subst (λ j. get_or (set kept place (Some compiled)) j None ≡ Some other) same at in
-        let is : compiled ≡ other =
-        cc (get_or-set_same kept place (Some compiled) None inside, here) in
         subst (λ j. IsMade net (made_at files newest j) other) (sym same)
-        (subst (IsMade net (made_at files newest place)) is made)
+        (subst (IsMade net (made_at files newest place))
+        (cc (get_or-set_same kept place (Some compiled) None inside, here)) made)
     | inr apart ↦
         are.each k other (sym (get_or-set_other kept place k (Some compiled) None apart) ∙ at)
   ];
@@ -100,8 +97,7 @@ kept_first net files plan kept sound first made many same = record {
       → IsMade net (made_at files plan.policy place) compiled
   each zero compiled at = let is : Planned plan all_touched ≡ compiled = cc (same 0, at) in
       subst (IsMade net (made_at files plan.policy 0)) is
-      (subst (λ making. IsMade net making (Planned plan all_touched))
-      (sym (first_made files plan.policy plan.policy first)) made)
+      (rw (first_made files plan.policy plan.policy first) made)
   each (suc place) compiled at = absurd (cc (same (suc place), at))
 
 -- ---- what became of changes is forgotten
@@ -137,8 +133,7 @@ whole_kept files many file old new within at own so_far = record {
       | inl less ↦ (so_far.each place compiled kept).1 less
       | inr more ↦ let same : many ≡ place = omega (arith, below, more) in
           subst (λ k. IsSome (own_policy (file_or_none files k))) same
-          (subst (λ (f : PolicyFile). IsSome (own_policy f))
-          (get_or_read files many file within at (Change [])) own)
+          (rw (get_or_read files many file within at (Change [])) at own)
     ],
   );
 }

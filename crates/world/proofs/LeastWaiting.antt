@@ -35,11 +35,9 @@ waits_same journal posts of n = ap (λ o. option_map_or statuses.waits o false)
 least_waits : (journal : List Item) (posts : List bag.Post) → IsBagOf journal posts
     → bag.next_waiting_post posts 1 ≡ next_waiting journal
 unfolding next_waiting next_message
-least_waits journal posts of =
-    let all : List MessageState = bag.statuses_of posts in
-    let many : length all + 1 - 1 ≡ count_of is_sending journal =
-    omega (arith, of.many, length-map posts (λ (post : bag.Post). post.1)) in
-    ap (λ count. find (statuses.is_waiting all) (range_with_len 1 count)) many
+least_waits journal posts of = let all : List MessageState = bag.statuses_of posts in
+    ap (λ count. find (statuses.is_waiting all) (range_with_len 1 count))
+    (omega (arith, of.many, length-map posts (λ (post : bag.Post). post.1)))
     ∙ find_same (statuses.is_waiting all) (is_waiting journal) (waits_same journal posts of)
     (range_with_len 1 (count_of is_sending journal))
 
@@ -57,8 +55,7 @@ next_fails test from i fails above rest = elim (cases_lt from i) [
 -- what a search finds is the least
 by_test : (test : ℕ → Bool) (from : ℕ) (rest : Option ℕ) (b : Bool) → test from ≡ b
     → IsLeastFrom test (from + 1) rest → IsLeastFrom test from (cond b (Some from) rest)
-by_test test from rest true is least =
-    (omega arith, is, λ i above below. absurd (omega (arith, above, below)))
+by_test test from rest true is least = (omega arith, is, λ i above below. absurd (omega arith))
 by_test test from None false is least = λ i above. next_fails test from i is above
     (λ behind. least i behind)
 by_test test from (Some i) false is least = (
@@ -77,8 +74,7 @@ found_is_least test from (suc count) over =
 -- no post behind the last waits
 none_behind : (all : List MessageState) (i : ℕ) → length all < i → statuses.is_waiting all i ≡ false
 none_behind all zero behind = refl
-none_behind all (suc place) behind = ap (λ o. option_map_or statuses.waits o false)
-    (slice_get_past all place (omega (arith, behind)))
+none_behind all (suc place) behind = cc (slice_get_past all place (omega (arith, behind)))
 
 least_from : (journal : List Item) (posts : List bag.Post) → IsBagOf journal posts → (from : ℕ)
     → IsLeastFrom (is_waiting journal) from (bag.next_waiting_post posts from)

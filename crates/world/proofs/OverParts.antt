@@ -1,5 +1,5 @@
 -- The steps of packets over the parts of a world.
-use Rattle.std.proofs.Common.{◌++◌, ◌+◌, ◌<◌, ◌∙◌, ◌∷◌, ◌≡◌, Global, List, None, Option, Result, Some, Vec, ap, arith, get_or, is_some, length, refl, set, slice_get, slice_index, subst, sym, ℕ}
+use Rattle.std.proofs.Common.{◌++◌, ◌+◌, ◌∙◌, ◌∷◌, ◌≡◌, Global, List, None, Option, Result, Some, Vec, ap, arith, get_or, is_some, length, refl, set, slice_get, slice_index, subst, sym, ℕ}
 use Rattle.base.proofs.Exports.{both_ok, get_or_from_slice_get, on_ok_weaker, three_ok}
 use Rattle.update_machine.specs.Exports.{Header, Hop, Item, Packet as PacketStep}
 use Rattle.journal.specs.declared.item.Item.TheVariants as item
@@ -103,17 +103,15 @@ module _ {parts : Parts} {before : List Item} {row i : ℕ}
         let ready = begins.ready in
         let can = can t there.switch its there.own in
         let log_is = there.hopped.log in
-        let known : s < length (setting_in parts).net.switches =
-        omega (arith, can.at, can.standing.stands.there) in
         goes_quiet begins (files_stay refl refl) _ (plane_stays refl refl refl)
         (hop_piece_of ready.refines row i t s (slice_index parts.near s) there.switch parts.ports
         ready.may can) (on_ok_weaker r (λ done. none_in _) log_is.written) log_is.written log_is.part
         (three_ok r (λ answered posted left. subst (λ bag. RefineJournal (setting_in parts)
         (before ++ item.Row row (Hop i) ∷ hop_written (length parts.log.bag + 1) there.switch
-        (slice_index parts.near s) parts.ports t)
-        (with_posts parts (record parts { log = log; switches = switches }) bag)) (sym posted)
-        (rw (same ∙ there.only) (hop_refines ready.refines row i t s (slice_index parts.near s)
-        there.switch parts.ports ready.may can log.travelling there.asked
-        (within_here ready.refines i t s its refl) (switch_is ready.refines s there.switch known
+        (slice_index parts.near s) parts.ports t) (with_posts parts
+        (record parts { log = log; switches = switches }) bag)) (sym posted) (rw (same ∙ there.only)
+        (hop_refines ready.refines row i t s (slice_index parts.near s) there.switch parts.ports
+        ready.may can log.travelling there.asked (within_here ready.refines i t s its refl)
+        (switch_is ready.refines s there.switch (omega (arith, can.at, can.standing.stands.there))
         (own_of parts.switches.items s there.switch there.own)) answered left)))
         there.hopped.counted log_is.posted log_is.travels)

@@ -103,10 +103,9 @@ module _ {T E : Type 0} {r : Result T E} {before : List Item} {row : ℕ} {step 
     counted = counted;
     written = step_written r before old.log.journal new.log.journal items
         (piece (setting_in old) before row step) (item.Row row step) is begins.rowed written;
-    refines = both_ok r (λ grown kept. as_kept old new keeps.net
-        (subst (λ js. RefineJournal (setting_in old) js (state_in new))
-        (sym (grown_more before old.log.journal new.log.journal items (item.Row row step)
-        begins.rowed grown)) kept)) written refines;
+    refines = both_ok r (λ grown kept. as_kept old new keeps.net (rw (grown_more before
+        old.log.journal new.log.journal items (item.Row row step) begins.rowed grown) kept)) written
+        refines;
     part = step_part r before old.log.journal new.log.journal items
         (piece (setting_in old) before row step) (item.Row row step) is begins.rowed part;
   }
@@ -133,11 +132,10 @@ module _ {T E : Type 0} {r : Result T E} {before : List Item} {row : ℕ} {step 
       × RefineJournal (setting_in old) (grown before row step one) (with_posts old new posts)
       → OnOk r (new.log.journal ≡ old.log.journal ++ one ∷ [])
       → OnErr r (new.log.journal ≡ old.log.journal) → Goes r before row step old new
-  goes_one one posts control same counted is pushed unchanged =
-      goes_quiet (one ∷ []) control is.0 (on_ok_weaker r (λ grown. counted) pushed) pushed
-      (on_err_weaker r (λ same. part_none old.log.journal (one ∷ []) new.log.journal same)
-      unchanged) (on_ok_weaker r (λ grown. subst (λ bag. RefineJournal (setting_in old)
-      (before ++ item.Row row step ∷ one ∷ []) (with_posts old new bag)) (sym same) is.1) pushed)
+  goes_one one posts control same counted is pushed unchanged = goes_quiet (one ∷ []) control is.0
+      (on_ok_weaker r (λ grown. counted) pushed) pushed (on_err_weaker r
+      (λ same. part_none old.log.journal (one ∷ []) new.log.journal same) unchanged)
+      (on_ok_weaker r (λ grown. rw same is.1) pushed)
 
 module _ {T E : Type 0} {r : Result T E} {before : List Item} {row : ℕ} {step : Step}
     {old new : Parts} (keeps : KeepNet old new) where
@@ -175,9 +173,8 @@ pub goes_nothing : {T E : Type 0} {r : Result T E} {before : List Item} {row : �
     × RefineJournal (setting_in old) (grown before row step item.Nothing) (state_in old)
     → OnOk r (journal ≡ old.log.journal ++ item.Nothing ∷ []) → OnErr r (journal ≡ old.log.journal)
     → Goes r before row step old (with_journal old journal)
-goes_nothing {old} begins none is pushed unchanged =
-    goes_one begins (files_stay refl refl) item.Nothing old.log.bag (plane_stays refl refl refl)
-    refl (omega (arith, none)) is pushed unchanged
+goes_nothing {old} begins none is pushed unchanged = goes_one begins (files_stay refl refl)
+    item.Nothing old.log.bag (plane_stays refl refl refl) refl (omega arith) is pushed unchanged
 
 -- ---- the row is written, and then the rest
 
@@ -199,7 +196,5 @@ module _ (row : ℕ) (step kind : Step) (old : Parts) (rowed : List Item)
   -- and plays it
   pub played : {T E : Type 0} (r : Result T E) (new : Parts)
       → Plays kind r (with_journal old rowed) new → Goes r old.log.journal row step old new
-  played r new plays =
-      let its : Goes r old.log.journal row kind (with_journal old rowed) new =
-      plays old.log.journal row begins_kind in
+  played r new plays = let its = plays old.log.journal row begins_kind in
       subst (λ (k : Step). Goes r old.log.journal row k old new) (sym kind_is) (search rules)

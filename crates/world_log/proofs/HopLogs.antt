@@ -18,9 +18,7 @@ use Rattle.world_log.proofs.StepWrites.{part_first}
 pub passed_by : (near : ℕ) (answer : Onward) (route : List ℕ) (place : ℕ) (t : TunnelValue)
     → route ≡ t.route → place ≡ t.place → answer ≡ onward_to near (slice_get route (place + 1))
     → answer ≡ onward_to near (next t)
-passed_by near answer route place t route_is place_is is =
-    is ∙ ap (λ way. onward_to near (slice_get way (place + 1))) route_is
-    ∙ ap (λ k. onward_to near (slice_get t.route (k + 1))) place_is
+passed_by near answer route place t route_is place_is is = cc (is, route_is, place_is)
 
 -- ---- all that a hop wrote
 
@@ -40,11 +38,7 @@ module _ (s : SwitchValue) (near : ℕ) (ports : Ports) (t : Flight) where
       ≡ m → LogAfter r (items_by number found m) (posts_by m) packet (flight_by m) old new
       → LogAfter r (hop_written number s near ports t) (hop_posts s near ports t) packet
       (hop_flight s near ports t) old new
-  hop_log r number packet found m old new found_is moved_is log = subst (λ f. LogAfter r
-      (items_by number f (hop_answer s near t.tunnel)) (posts_by (hop_answer s near t.tunnel))
-      packet (flight_by (hop_answer s near t.tunnel)) old new) (sym found_is)
-      (subst (λ m. LogAfter r (items_by number found m) (posts_by m) packet (flight_by m) old new)
-      (sym moved_is) log)
+  hop_log r number packet found m old new found_is moved_is log = rw found_is (rw moved_is log)
 
   -- where no link was found down
   pub free_hop : (onward : Option ℕ) → link_found_down near (next t.tunnel) ≡ None
@@ -89,13 +83,11 @@ pub found_part : (s : SwitchValue) (near : ℕ) (ports : Ports) (t : Flight) (nu
     other : ℕ) (old new : List Item) → link_found_down near (next t.tunnel) ≡ Some other
     → packet ≡ t.tunnel.packet → here ≡ s.number → new ≡ old ++ item.FoundDown packet here other
     ∷ [] → IsPart old (hop_written number s near ports t) new
-found_part s near ports t number packet here other old new found packet_is here_is grown =
-    subst (λ f. IsPart old (items_by s near ports t number f (hop_answer s near t.tunnel)) new)
-    (sym found) (by_end (hop_answer s near t.tunnel).end (hop_answer s near t.tunnel).tunnel.route _)
+found_part s near ports t number packet here other old new found packet_is here_is grown = rw found
+    (by_end (hop_answer s near t.tunnel).end (hop_answer s near t.tunnel).tunnel.route _)
   where
     its : new ≡ old ++ item.FoundDown t.tunnel.packet s.number other ∷ []
-    its = grown ∙ ap (λ k. old ++ item.FoundDown k here other ∷ []) packet_is
-        ∙ ap (λ n. old ++ item.FoundDown t.tunnel.packet n other ∷ []) here_is
+    its = cc (grown, packet_is, here_is)
 
     by_end : (end : HopEnd) (route : List ℕ) (more : List Item)
         → IsPart old (turned_items t.tunnel.packet s.number (Some other) end route ++ more) new
@@ -115,8 +107,7 @@ turned_along packet here other t (Some next) = refl
 -- what holds at the packet's place of its route holds at this place of this route
 pub placed : (P : List ℕ → ℕ → Type 0) (route : List ℕ) (place : ℕ) (t : TunnelValue)
     → route ≡ t.route → place ≡ t.place → P t.route t.place → P route place
-placed P route place t route_is place_is holds =
-    subst (λ way. P way place) (sym route_is) (subst (P t.route) (sym place_is) holds)
+placed P route place t route_is place_is holds = rw route_is (rw place_is holds)
 
 -- what was written of the packet that stands there, by its switch's answer, is what its arrival
 -- writes

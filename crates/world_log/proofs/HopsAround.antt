@@ -8,7 +8,7 @@ use Rattle.switch_core.specs.Exports.{IsAtAuthority, Moved, StandsAt, SwitchValu
 use Rattle.switch_core.specs.declared.tunnel_calls.HopEnd.TheVariants as hop
 use Rattle.switch_core.proofs.OnWay.{hop_around, hop_stays}
 use Rattle.tunnel.specs.Exports.{here, marked_down, next, on_route}
-use Rattle.travelling.specs.Travelling.{Flight, Standing, begun_at, marked_at, standing_at, travels_by}
+use Rattle.travelling.specs.Travelling.{Flight, Standing, begun_at, marked_at, travels_by}
 use Rattle.world_log.specs.Exports.{LogAfter, MeetsDownLink, ended_switch, followed, followed_flight, followed_items, followed_posts, hop_flight, hop_posts, hop_written, hopped_switch}
 use Rattle.world_log.specs.declared.log.Log.{Log}
 use Rattle.world_log.proofs.LogCalls.{log_behind}
@@ -24,8 +24,7 @@ module _ (at : Standing) (version : ℕ) (rule : Option ℕ) (leg : Leg) (target
   stands = get_or_from_slice_get t.tunnel.route t.tunnel.place before.number 0 met.here
 
   links_is : links ≡ down_with t.tunnel other
-  links_is = links_are ∙ ap (λ (a : Standing). with_link a.down a.switch other) met.stands
-      ∙ ap (λ n. with_link t.tunnel.down n other) (sym stands)
+  links_is = cc (links_are, met.stands, stands)
 
   pub around : (found : Option (List ℕ)) → route_of s.database s.number targets near links ≡ found
       → hop_answer before near t.tunnel ≡ moved_along before near (marked_down t.tunnel other) found
@@ -33,14 +32,12 @@ module _ (at : Standing) (version : ℕ) (rule : Option ℕ) (leg : Leg) (target
       (ap (λ n. route_of before.database n t.tunnel.targets near (down_with t.tunnel other)) stands
       ∙ ap (λ these. route_of before.database before.number these near (down_with t.tunnel other))
       (sym met.targets) ∙ ap (route_of before.database before.number targets near) (sym links_is)
-      ∙ subst (λ (w : SwitchValue). route_of w.database w.number targets near links ≡ found)
-      met.asked is)
+      ∙ rw met.asked at is)
 
   pub why : (cause : Cause) → cause ≡ cause_of s near links leg targets
       → cause ≡ cause_of before near (down_with t.tunnel other) t.tunnel.leg t.tunnel.targets
   unfolding cause_of are_isolated
-  why cause is = subst (λ w. cause ≡ cause_of w near links leg targets) met.asked is
-      ∙ ap (λ down. cause_of before near down leg targets) links_is
+  why cause is = rw met.asked at is ∙ ap (λ down. cause_of before near down leg targets) links_is
       ∙ ap (λ l. cause_of before near (down_with t.tunnel other) l targets) met.leg
       ∙ ap (cause_of before near (down_with t.tunnel other) t.tunnel.leg) met.targets
 
@@ -50,15 +47,7 @@ module _ (at : Standing) (version : ℕ) (rule : Option ℕ) (leg : Leg) (target
 
   pub turned_is : (route : List ℕ)
       → travels_by (begun_at (marked_at at other) leg targets route) version rule ≡ turned route
-  turned_is route = ap (λ (a : Standing). travels_by
-      (begun_at (marked_at a other) leg targets route) version rule) met.stands
-      ∙ ap (λ n. travels_by (begun_at (marked_at (standing_at n t) other) leg targets route) version
-      rule) (sym stands) ∙ ap (λ l. travels_by
-      (begun_at (marked_at (standing_at (here t.tunnel) t) other) l targets route) version rule)
-      met.leg ∙ ap (λ these. travels_by (begun_at (marked_at (standing_at (here t.tunnel) t) other)
-      t.tunnel.leg these route) version rule) met.targets
-      ∙ ap (λ n. travels_by (turned route).tunnel n rule) met.version
-      ∙ ap (travels_by (turned route).tunnel t.version) met.rule
+  turned_is route = cc (met.stands, stands, met.leg, met.targets, met.version, met.rule)
 
   -- ---- there is none
 
@@ -66,9 +55,7 @@ module _ (at : Standing) (version : ℕ) (rule : Option ℕ) (leg : Leg) (target
       (why_is : cause ≡ cause_of s near links leg targets) where
     is_stuck : hop_answer before near t.tunnel
         ≡ record { end = hop.Stuck cause; tunnel = marked_down t.tunnel other }
-    is_stuck = around None none
-        ∙ ap (λ c. record { end = hop.Stuck c; tunnel = marked_down t.tunnel other })
-        (sym (why cause why_is))
+    is_stuck = cc (around None none, why cause why_is)
 
     pub stuck_log : {T E : Type 0} (r : Result T E) (ports : Ports) (number : ℕ) (old mid new : Log)
         → mid.journal ≡ old.journal ++ item.FoundDown at.packet at.switch other ∷ []
@@ -132,23 +119,18 @@ module _ (at : Standing) (version : ℕ) (rule : Option ℕ) (leg : Leg) (target
       pub last_here : next begun.tunnel ≡ None → StandsAt s begun.tunnel.route begun.tunnel.place
           × IsAtAuthority s begun.tunnel.header begun.tunnel.leg
       last_here none =
-          let its : next (turned route).tunnel ≡ None =
-          ap (λ (f : Flight). next f.tunnel) (sym (turned_is route)) ∙ none in
           let ends : hop_answer before near t.tunnel
           ≡ record { end = hop.Arrive; tunnel = (turned route).tunnel } =
-          goes ∙ ap (move_answer (turned route).tunnel) its in
-          let arrives : (hop_answer before near t.tunnel).end ≡ hop.Arrive =
-          ap (λ (m : Moved). m.end) ends in
+          goes ∙ ap (move_answer (turned route).tunnel)
+          (ap (λ (f : Flight). next f.tunnel) (sym (turned_is route)) ∙ none) in
+          let arrives = ap (λ (m : Moved). m.end) ends in
           let there = subst (λ (m : Moved). StandsAt before m.tunnel.route m.tunnel.place) ends
           (hop_stays before near t.tunnel met.here arrives) in
           let at = authority_counted before t.tunnel.header t.tunnel.leg (met.authority arrives) in
           subst (λ (f : Flight). StandsAt s f.tunnel.route f.tunnel.place
           × IsAtAuthority s f.tunnel.header f.tunnel.leg) (sym (turned_is route))
-          (subst (λ w. StandsAt w (turned route).tunnel.route (turned route).tunnel.place
-          × IsAtAuthority w t.tunnel.header t.tunnel.leg) (sym met.asked) (there, at))
+          (rw met.asked (there, at))
 
       pub turned_switch : (now : SwitchValue) → now ≡ ended_switch s (followed begun).end
           → now ≡ hopped_switch before near t
-      turned_switch now is = is ∙ ap (λ f. ended_switch s (followed f).end) (turned_is route)
-          ∙ ap (λ w. ended_switch w (followed (turned route)).end) met.asked
-          ∙ ap (λ (m : Moved). ended_switch (call_counted before) m.end) (sym goes)
+      turned_switch now is = cc (is, turned_is route, met.asked, goes)

@@ -56,14 +56,12 @@ module _ (before : Flights) (switch from : ℕ) (journal now : List Item) (after
 
     below_next : numbers_below before switch (packet + 1)
         ≡ numbers_below before switch from ++ packet ∷ []
-    below_next =
-        let more : ℕ = packet - from in
-        let whole : ◌≡◌ {A = ℕ} packet (from + more) = omega (arith, next.0) in
+    below_next = let more : ℕ = packet - from in
         filter_more test packet
         ∙ ap (λ b. filter test (range_with_len 0 packet) ++ cond b (packet ∷ []) []) stood
         ∙ ap (λ numbers. numbers ++ packet ∷ [])
-        (ap (λ k. filter test (range_with_len 0 k)) whole ∙ none_between test from more
-        (λ i above below. between i above (omega (arith, below, next.0))))
+        (ap (λ k. filter test (range_with_len 0 k)) (omega (arith, next.0)) ∙ none_between test from
+        more (λ i above below. between i above (omega (arith, below, next.0))))
 
     -- it is lost too
     pub lost_more : (behind : List Item) (gone : Flights)
@@ -77,14 +75,12 @@ module _ (before : Flights) (switch from : ℕ) (journal now : List Item) (after
           (numbers_below before switch from) (packet ∷ [])) ∙ ap (map item.Lost) (sym below_next));
       lost = λ i below. without i ∙ by_same i (i == packet) refl below;
       later = λ i above. without i ∙ ap (λ b. if b then None else flight after i)
-          (ne_eqb i packet (λ e. absurd (omega (arith, e, above))))
-          ∙ lost.later i (omega (arith, above, next.0));
+          (ne_eqb i packet (λ e. absurd (omega arith))) ∙ lost.later i (omega (arith, next.0));
     } where
       by_place : (i : ℕ) → (i < from) ⊎ (from ≤ i) → i < packet
           → flight after i ≡ (if test i then None else flight before i)
       by_place i (inl low) below = lost.lost i low
-      by_place i (inr high) below = lost.later i high
-          ∙ sym (ap (λ b. if b then None else flight before i) (between i high below))
+      by_place i (inr high) below = cc (lost.later i high, between i high below)
 
       by_same : (i : ℕ) (b : Bool) → (i == packet) ≡ b → i < packet + 1
           → (if b then None else flight after i) ≡ (if test i then None else flight before i)
@@ -103,12 +99,10 @@ module _ (before : Flights) (switch from : ℕ) (journal now : List Item) (after
     -- all of them are lost
     pub lost_written : now ≡ journal ++ map item.Lost (numbers_at before switch)
     unfolding numbers_at
-    lost_written =
-        let more : ℕ = length before - from in
-        let whole : ◌≡◌ {A = ℕ} (length before) (from + more) = omega (arith, lost.within) in
+    lost_written = let more : ℕ = length before - from in
         lost.written
         ∙ ap (λ numbers. journal ++ map item.Lost numbers)
-        (sym (ap (λ k. filter test (range_with_len 0 k)) whole
+        (sym (ap (λ k. filter test (range_with_len 0 k)) (omega (arith, lost.within))
         ∙ none_between test from more (λ i above below. none_more i above)))
 
     pub lost_all : WithoutAt before switch after
@@ -116,5 +110,4 @@ module _ (before : Flights) (switch from : ℕ) (journal now : List Item) (after
       by_place : (i : ℕ) → (i < from) ⊎ (from ≤ i)
           → flight after i ≡ (if test i then None else flight before i)
       by_place i (inl low) = lost.lost i low
-      by_place i (inr high) = lost.later i high
-          ∙ sym (ap (λ b. if b then None else flight before i) (none_more i high))
+      by_place i (inr high) = cc (lost.later i high, none_more i high)

@@ -110,17 +110,14 @@ module _ (journal now : List Item) (bag posts : List Post) (first : List Act)
   pub done_few : (rest acts : List Act) (one : Act) → first ++ one ∷ rest ≡ acts
       → length posts + length (act_post one) ≤ length bag + length (act_posts acts)
   unfolding act_posts
-  done_few rest acts one all =
-      let those : act_posts acts ≡ act_posts first ++ (act_post one ++ act_posts rest) =
-      ap act_posts (sym all) ∙ posts_append first (one ∷ rest) in
-      omega (
-        arith,
-        ap length so.posted,
-        length-append bag (act_posts first),
-        ap length those,
-        length-append (act_posts first) (act_post one ++ act_posts rest),
-        length-append (act_post one) (act_posts rest),
-      )
+  done_few rest acts one all = omega (
+    arith,
+    ap length so.posted,
+    length-append bag (act_posts first),
+    ap length (ap act_posts (sym all) ∙ posts_append first (one ∷ rest)),
+    length-append (act_posts first) (act_post one ++ act_posts rest),
+    length-append (act_post one) (act_posts rest),
+  )
 
 -- memory ran out where a part was written
 pub noting_failed : {T E : Type 0} (r : Result T E) (acts : List Act) (old new : Log) → IsErr r
@@ -188,8 +185,7 @@ pub sent_as_acts : (number : ℕ) (messages : List Message)
     → act_items number (map act.Post messages) ≡ sent_from number messages
 unfolding act_items sent_from
 sent_as_acts number [] = refl
-sent_as_acts number (message ∷ messages) =
-    ap (λ items. item.Sent number message ∷ items) (sent_as_acts (number + 1) messages)
+sent_as_acts number (message ∷ messages) = cc (sent_as_acts (number + 1) messages)
 
 pub posts_as_acts : (messages : List Message)
     → act_posts (map act.Post messages) ≡ map new_post messages
@@ -229,8 +225,7 @@ module _ (journal now : List Item) (bag posts : List Post) (first later : List A
   -- memory runs out among the later ones
   pub later_part : (after : List Item) → IsPart now (act_items (length posts + 1) later) after
       → IsPart journal (act_items (length bag + 1) (first ++ later)) after
-  later_part after part = subst (λ items. IsPart journal items after) (sym both_are)
-      (part_of_rest journal now (act_items (length bag + 1) first)
+  later_part after part = rw both_are (part_of_rest journal now (act_items (length bag + 1) first)
       (act_items (length posts + 1) later) after so.written part)
 
 -- or among the first ones

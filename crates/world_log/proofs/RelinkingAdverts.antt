@@ -32,8 +32,7 @@ held_one switch other n =
 
 pub held_step : (switch : SwitchValue) (other n : ℕ) → held_below switch other (n + 1)
     ≡ held_below switch other n ++ advert_if_held other (held_advert switch.database n)
-held_step switch other n = held_one switch other n
-    ∙ ap (λ more. held_below switch other n ++ more) (by_one (held_advert switch.database n) refl)
+held_step switch other n = cc (held_one switch other n, by_one (held_advert switch.database n) refl)
   where
     by_one : (o : Option Advert) → held_advert switch.database n ≡ o → map (advert_to other)
         (filter_map (held_advert switch.database) (n ∷ [])) ≡ advert_if_held other o
@@ -183,9 +182,8 @@ serve_all mask all n least most so k = elim (cases_lt k n) [
 -- the links that can be used, as bits
 pub usable_bits : (links serving s : ℕ) → links < 2 ^ 64
     → has serving s ≡ true → bit_and links serving ≡ near_where links (has serving s) (has serving)
-usable_bits links serving s fits is =
-    mask_of_is (bit_and links serving) (λ k. has links k && has serving s && has serving k)
-    (omega (arith, and_le_l links serving, fits))
+usable_bits links serving s fits is = mask_of_is (bit_and links serving)
+    (λ k. has links k && has serving s && has serving k) (omega (arith, and_le_l))
     (λ k below. has-and links serving k ∙ sym (and_true (has links k) (has serving k))
     ∙ sym (ap (λ b. has links k && b && has serving k) is))
   where

@@ -1,5 +1,5 @@
 -- What a step writes behind its row, and parts of it.
-use Rattle.std.proofs.Common.{[], ◌++◌, ◌∙◌, ◌∷◌, ◌≡◌, Err, List, Ok, OnErr, OnOk, Result, ap, append-nil, append_assoc, refl, subst, sym}
+use Rattle.std.proofs.Common.{[], ◌++◌, ◌∙◌, ◌∷◌, ◌≡◌, Err, List, Ok, OnErr, OnOk, Result, ap, append-nil, append_assoc, refl, sym}
 use Rattle.base.proofs.Exports.{both_written, on_ok_weaker}
 use Rattle.update_machine.specs.Exports.{Item}
 use Rattle.world_log.specs.Exports.{IsPart}
@@ -52,6 +52,5 @@ pub step_part : {T E : Type 0} (r : Result T E) (journal begun new items all : L
     (first : Item) → all ≡ first ∷ items → begun ≡ journal ++ first ∷ []
     → OnErr r (IsPart begun items new) → OnErr r (IsPart journal all new)
 step_part (Ok x) journal begun new items all first all_is row_is part = tt
-step_part (Err e) journal begun new items all first all_is row_is part =
-    subst (λ more. IsPart journal more new) (sym all_is)
+step_part (Err e) journal begun new items all first all_is row_is part = rw all_is
     (part_of_rest journal begun (first ∷ []) items new row_is part)

@@ -34,11 +34,10 @@ pub none_known : (s : SwitchValue) (near : ℕ) (packet : Packet) (leg : Leg) (t
     (cause : Cause) → links ≡ packet.down → route_of s.database s.number targets near links ≡ None
     → cause ≡ cause_of s near links leg targets → Err cause ≡ set_out s near packet leg targets
 unfolding set_out
-none_known s near packet leg targets links cause same none is =
-    ap Err (subst (λ down. cause ≡ cause_of s near down leg targets) same is)
+none_known s near packet leg targets links cause same none is = ap Err (rw same at is)
     ∙ sym (ap (λ found. ok_or (option_map (λ route. tunnel_begun packet.number packet.header
     packet.ingress leg targets route packet.down) found) (cause_of s near packet.down leg targets))
-    (subst (λ down. route_of s.database s.number targets near down ≡ None) same none))
+    (rw same at none))
 
 module _ {T E : Type 0} (r : Result T E) (at : Standing) (packet : ℕ) (old new : Log) where
   -- to an authority switch
@@ -74,8 +73,7 @@ module _ {T E : Type 0} (r : Result T E) (at : Standing) (packet : ℕ) (old new
   pub by_action : (action : Action) → decision.action ≡ action
       → Goes (record decision { action = action }) (way_by action)
       → Goes decision (way_by decision.action)
-  by_action action is goes =
-      subst (λ a. Goes (record decision { action = a }) (way_by a)) (sym is) goes
+  by_action action is goes = rw is goes
 
   module _ (port : ℕ) where
     by_owner : (owner : Option ℕ) → port_owner site.ports port ≡ owner
@@ -83,8 +81,7 @@ module _ {T E : Type 0} (r : Result T E) (at : Standing) (packet : ℕ) (old new
         (leave_by s site.near (packet_standing at) port owner)
         → Goes (record decision { action = OutBy port }) (way_by (OutBy port))
     unfolding next_of
-    by_owner owner is goes = subst (λ o. Goes (record decision { action = OutBy port })
-        (leave_by s site.near (packet_standing at) port o)) (sym is) goes
+    by_owner owner is goes = rw is goes
 
     pub unowned : decision.action ≡ OutBy port → port_owner site.ports port ≡ None
         → Goes (record decision { action = OutBy port }) (Stuck NoRoute)
@@ -101,9 +98,8 @@ module _ {T E : Type 0} (r : Result T E) (at : Standing) (packet : ℕ) (old new
         → Goes (record decision { action = OutBy port }) (way_of owner here)
         → Goes decision (way_by decision.action)
     unfolding leave_by
-    owned owner here acts is at_home goes = by_action (OutBy port) acts (by_owner (Some owner) is
-        (subst (λ b. Goes (record decision { action = OutBy port }) (way_of owner b)) (sym at_home)
-        goes))
+    owned owner here acts is at_home goes = by_action (OutBy port) acts
+        (by_owner (Some owner) is (rw at_home goes))
 
 -- ---- a cache rule
 

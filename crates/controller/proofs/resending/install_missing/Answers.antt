@@ -1,4 +1,4 @@
-use Rattle.std.proofs.Common.{◌<◌, ◌∙◌, ◌≡◌, Bool, ap, arith, length, sym}
+use Rattle.std.proofs.Common.{◌<◌, ◌∙◌, Bool, ap, arith, length, sym}
 use Rattle.base.proofs.Exports.{item_add, item_skip}
 use Rattle.version_update.specs.Exports.{record_of}
 use Rattle.controller.specs.Exports.{KeptPlan, install_act, is_missing}
@@ -11,8 +11,7 @@ loop-kept-preserved c =
     let lacks : KeptPlan → Bool = λ kept. is_missing known c.args.first kept.version in
     let within : c.loop-kept.kept-index < length c.args.versions.now =
     omega (arith, c.loop-kept-test.true) in
-    let test : lacks c.kept-item.result ≡ c.is_missing.result =
-    sym (c.is_missing.ensures ∙ ap (is_missing known c.args.first) c.version.ensures) in
+    let test = sym (c.is_missing.ensures ∙ ap (is_missing known c.args.first) c.version.ensures) in
     elim c.if-is_missing.branch [
       | then-is_missing+in_ok-install+in_ok-push w ↦ item_add (install_act c.args.s known.boot) lacks
           c.args.versions.now c.loop-kept.kept-index c.kept-item.result _ c.loop-kept.acts.items _

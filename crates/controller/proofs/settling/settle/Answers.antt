@@ -23,8 +23,6 @@ stamps_told c before is =
     elim c.match-settled.branch [
       | in-Some+in_ok-tell_current w ↦ let current : ℕ = w.in-Some.current in
           let words : List WordValue = kept_touched c.let_go.new.versions.items current in
-          let risen : current ≡ after.current =
-          sym (told_current before after current (sym is.tells.current ∙ w.in-Some.is)) in
           ap (λ v. v.items) w.acts-is
           ∙ rising_told before.current after.current current _ _ _ Current (stamp words) after
           before.switches old _ _ is.tells.current is.tells.stamps
@@ -33,7 +31,8 @@ stamps_told c before is =
           ∷ [] ++ posts_to after (λ boot. Stamp boot current (kept_touched plans current))
           (switches_named c.args.settled.now.stamps (length after.switches))) w.deref.ensures.value)
           ∙ ap (λ version. old ++ rising_acts before.current after.current Current
-          (stamp (kept_touched c.let_go.new.versions.items version)) after before.switches) risen
+          (stamp (kept_touched c.let_go.new.versions.items version)) after before.switches)
+          (sym (told_current before after current (sym is.tells.current ∙ w.in-Some.is)))
       | in_default w ↦ ap (λ v. v.items) w.acts-is ∙ rising_none before.current after.current _
           Current (stamp (touched c)) after before.switches _ is.tells.current w.in_default.is
     ]

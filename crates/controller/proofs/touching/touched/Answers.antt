@@ -1,4 +1,4 @@
-use Rattle.std.proofs.Common.{[], ◌++◌, ◌==◌, ◌∙◌, All, List, ap, filter_map, find, flat_map, inl, refl, subst, sym, ℕ}
+use Rattle.std.proofs.Common.{[], ◌==◌, ◌∙◌, All, List, ap, filter_map, find, flat_map, inl, refl, subst, sym, ℕ}
 use Rattle.base.proofs.Exports.{flat_map-append}
 use Rattle.ternary.specs.Exports.{WordValue}
 use Rattle.policy_rules.specs.Exports.{IsSoundRow, additions, removals, removed_rows, words_of_row}
@@ -22,16 +22,13 @@ returns c =
     let listed : List WordValue = c.list_added.new.words.items in
     let words_of : List Row → List ℕ → List WordValue = λ rows gone. flat_map words_of_row
     (filter_map (λ priority. find (λ (row : Row). row.priority == priority) rows) gone) in
-    let first : ListsMore [] some (flat_map words_of_row removed) =
-    subst (λ these. ListsMore these some (words_of rows (removals c.args.change.now)))
+    let first = subst (λ these. ListsMore these some (words_of rows (removals c.args.change.now)))
     c.new-words.ensures.items (subst (λ these. ListsMore c.new-words.result.items some
     (words_of these (removals c.args.change.now))) c.rows.ensures.rows
     (subst (λ gone. ListsMore c.new-words.result.items some (words_of c.rows.result.now gone))
     c.removed.ensures c.in_ok-list_removed.ensures)) in
-    let last : ListsMore some listed (flat_map words_of_row added) =
-    subst (λ these. ListsMore some listed (flat_map words_of_row these)) c.added.ensures.rows
-    c.in_ok-list_added.ensures in
-    let all : ListsMore [] listed (flat_map words_of_row removed ++ flat_map words_of_row added) =
-    lists_then [] some listed _ _ first last in
-    c.touched_by_words.ensures ∙ told_alike listed _ (all [] (inl refl))
+    let last = subst (λ these. ListsMore some listed (flat_map words_of_row these))
+    c.added.ensures.rows c.in_ok-list_added.ensures in
+    c.touched_by_words.ensures ∙ told_alike listed _
+    ((lists_then [] some listed _ _ first last) [] (inl refl))
     ∙ ap few_touched (sym (flat_map-append words_of_row removed added))

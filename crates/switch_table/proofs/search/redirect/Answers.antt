@@ -19,7 +19,6 @@ returns c =
     let at : position (row_has header) rows ≡ Some place =
     ap (λ n. position (λ (row : PartRow). holds row.region n) rows)
     (sym c.number.ensures.number) ∙ sym c.row_place.ensures ∙ c.unwrap-place.ensures in
-    let row = row_at header rows place c.index-rows-place.result at in
     let targets = option_map_or (λ (r : PartRow). r.targets) (find (row_has header) rows) [] in
-    sym (ap (λ p. Redirect (unwrap_or p 0) targets) at
-    ∙ ap (Redirect place) (row.targets c.index-rows-place.result))
+    sym (ap (λ p. Redirect (unwrap_or p 0) targets) at ∙ ap (Redirect place)
+    ((row_at header rows place c.index-rows-place.result at).targets c.index-rows-place.result))

@@ -25,8 +25,7 @@ pub vacate-requires-clause-old : goal.vacate-requires-clause-old
 vacate-requires-clause-old c = λ pair at.
     let place = found (goal.at.vacate-requires-clause-old c).In-Some in
     subst (λ (p : SlotPair). p.0.number < 2 ^ 33) (same_Some place.pair pair (sym place.at ∙ at))
-    (subst (λ (key : CacheKey). key.number < 2 ^ 33)
-    (equal_keys_same c.args.key.now place.pair.0 place.passes) c.requires.fits)
+    (rw (equal_keys_same c.args.key.now place.pair.0 place.passes) at c.requires.fits)
 
 pub returns-clause-slots : goal.returns-clause-slots
 returns-clause-slots c = λ live first are.

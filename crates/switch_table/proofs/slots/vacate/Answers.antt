@@ -1,4 +1,4 @@
-use Rattle.std.proofs.Common.{◌+◌, ◌-◌, ◌<◌, ◌^◌, ◌∙◌, ◌≡◌, IfSome, None, ap, arith, false, inr, slice_get, subst, sym, ℕ}
+use Rattle.std.proofs.Common.{◌+◌, ◌-◌, ◌<◌, ◌^◌, ◌∙◌, ◌≡◌, IfSome, None, ap, arith, inr, slice_get, subst, sym, ℕ}
 use Rattle.base.proofs.Exports.{length-map, same_Some, slice_get_within}
 use Rattle.indexmap.proofs.CallerLemmas.{insert_entry-new}
 use Rattle.indexmap.specs.IndexMap.{Updates, get}
@@ -14,12 +14,8 @@ at_place at place here = omega (arith, here)
 
 -- there is a slot at the place
 within : (c : After-swap_remove_index) → c.args.place < 2 ^ 63
-within c = omega (
-  arith,
-  slice_get_within (flags_of c.args.map.now.entries) c.args.place false c.requires.dead,
-  length-map c.args.map.now.entries is_live,
-  c.requires.few,
-)
+within c =
+    omega (arith, slice_get_within, length-map c.args.map.now.entries is_live, c.requires.few)
 
 -- the key of the place
 new_key : (c : After-swap_remove_index) → CacheKey

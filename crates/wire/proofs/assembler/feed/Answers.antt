@@ -9,19 +9,17 @@ returns-in-Held c =
     let held = c.args.frames.now.items in
     let f = c.args.frame.now in
     let r = c.message_of.result in
-    let check : IsFrameCheck held f Held = subst (λ fs. IsFrameCheck fs f Held)
-    c.deref.ensures.value c.in-Held.ensures in
     let answer : IsAssembled held (count_in_frame f) r =
     subst (λ n. IsAssembled held n r) c.count_of.ensures
     (subst (λ fs. IsAssembled fs c.count_of.result r) c.deref-in-Held.ensures.value c.message_of.ensures) in
-    fed_held held f r c.requires check answer
+    fed_held held f r c.requires
+    (subst (λ fs. IsFrameCheck fs f Held) c.deref.ensures.value c.in-Held.ensures) answer
 
 pub returns-in-New : goal.returns-in-New
 returns-in-New c =
     let held = c.args.frames.now.items in
     let f = c.args.frame.now in
     let index = c.in-New.index in
-    let check : IsFrameCheck held f (New index) = subst (λ fs. IsFrameCheck fs f (New index))
-    c.deref.ensures.value c.in-New.ensures in
-    fed_new held f index c.hold.new.frames.items c.hold.result c.requires check
+    fed_new held f index c.hold.new.frames.items c.hold.result c.requires
+    (subst (λ fs. IsFrameCheck fs f (New index)) c.deref.ensures.value c.in-New.ensures)
     c.hold.ensures.answer c.hold.ensures.ok c.hold.ensures.unchanged

@@ -1,4 +1,4 @@
-use Rattle.std.proofs.Common.{◌<◌, ◌^◌, ◌∙◌, ◌≡◌, ap, length, sym}
+use Rattle.std.proofs.Common.{◌∙◌, ◌≡◌, ap, length, sym}
 use Rattle.base.proofs.Exports.{length-map}
 use Rattle.wire.specs.Exports.{chunks_behind_head}
 use Rattle.wire.proofs.SpellingCuts.{few_chunks}
@@ -7,9 +7,8 @@ use Rattle.wire.proofs.frames.split.Goals as goal
 pub framed-requires : goal.framed-requires
 framed-requires c =
     let bytes = c.deref-2.result.now in
-    let short : length bytes < 2 ^ 40 =
-    rw (c.deref-2.ensures.value, c.in_ok-bytes.ensures.spelled) c.requires.short in
     let len : length c.deref-3.result.now ≡ length (chunks_behind_head c.head_len.result bytes) =
     ap length c.deref-3.ensures.value ∙ sym (length-map c.in_ok-parts.parts.items (λ p. p.now))
     ∙ ap length c.in_ok-parts.ensures in
-    rw len (few_chunks c.head_len.result bytes short)
+    rw len (few_chunks c.head_len.result bytes
+    (rw (c.deref-2.ensures.value, c.in_ok-bytes.ensures.spelled) c.requires.short))

@@ -12,26 +12,22 @@ use Rattle.world.proofs.beginning.switches_of.Goals as goal
 
 pub begin-requires-clause-own : goal.begin-requires-clause-own
 begin-requires-clause-own c =
-    let many : length c.items-count.result.now ≡ length c.args.net.now.switches =
-    ap length c.items-count.ensures in
-    let below : c.loop-number.number < 64 = omega (arith, many, c.requires.net.few_switches) in
+    let below : c.loop-number.number < 64 =
+    omega (arith, ap length c.items-count.ensures, c.requires.net.few_switches) in
     subst (λ base. HasOwnUpTo base c.loop-number.number 1 1) (sym c.begin-base.ensures)
     (own_first c.args.near.now (length c.items-count.result.now) c.loop-number.number below)
 
 pub begin-requires-clause-version : goal.begin-requires-clause-version
-begin-requires-clause-version c =
-    ap (λ (tables : Tables). tables.version) (first_tables c.args.net.now c.args.controller.now
+begin-requires-clause-version c = cc (first_tables c.args.net.now c.args.controller.now
     c.requires.first.0 _ c.loop-number.number c.requires.first.1 c.in_ok-tables.ensures.tables)
 
 pub loop-number-preserved : goal.loop-number-preserved
 loop-number-preserved c = λ plan is. let number = c.loop-number.number in
     let net = c.args.net.now in
     let each : ℕ → SwitchValue = switch_begun net plan.hosted in
-    let many : length c.items-count.result.now ≡ length net.switches =
-    ap length c.items-count.ensures in
     let told : c.begin-base.result ≡ first_adverts (map (links_of net.links)
     (range_with_len 0 (length net.switches))) (length net.switches) =
-    c.begin-base.ensures ∙ ap (first_adverts c.args.near.now) many
+    c.begin-base.ensures ∙ ap (first_adverts c.args.near.now) (ap length c.items-count.ensures)
     ∙ first_near net c.args.near.now c.requires.net c.requires.near in
     let one : c.in_ok-begin.field-0 ≡ each number = c.in_ok-begin.ensures
     ∙ ap (λ (tables : Tables). new_switch number net.cache tables c.begin-base.result)

@@ -1,5 +1,4 @@
-use Rattle.std.proofs.Common.{IfOk, List, Result, subst, sym}
-use Rattle.update_machine.specs.Exports.{Inapplicable, Row}
+use Rattle.std.proofs.Common.{IfOk, List, subst}
 use Rattle.policy_rules.specs.Exports.{applied}
 use Rattle.world.specs.Exports.{IsMade}
 use Rattle.world.proofs.files.amended_or_code.Goals as goal
@@ -11,5 +10,4 @@ returns-in-Ok c =
     let made = applied c.args.policy.now c.args.change.now in
     subst (λ (words : List WordValue). IfOk result (IsMade c.args.net.now (made, words)))
     c.in_ok-touched-in-Ok.ensures
-    (subst (λ (these : Result (List Row) Inapplicable). IfOk result (IsMade c.args.net.now
-    (these, c.in_ok-touched-in-Ok.touched))) (sym c.in-Ok.ensures.applied) c.plan_or_code.ensures)
+    (rw c.in-Ok.ensures.applied c.plan_or_code.ensures)

@@ -1,4 +1,4 @@
-use Rattle.std.proofs.Common.{◌+◌, List, None, Option, ap, arith, set, subst, sym}
+use Rattle.std.proofs.Common.{◌+◌, List, Option, ap, arith, subst, sym}
 use Rattle.world.specs.declared.files.Compiled.{Compiled}
 use Rattle.world.proofs.KeptFiles.{AreForgotten, all_forgotten, change_forgotten, none_forgotten, whole_kept, whole_own}
 use Rattle.world.proofs.files.forget_changes.Goals as goal
@@ -15,19 +15,15 @@ loop-place-preserved c =
     let old = c.args.compiled.now.items in
     let kept = c.loop-place.compiled.items in
     let Forgotten : List (Option Compiled) → Type 0 = AreForgotten files (place + 1) old in
-    let changed : Forgotten (set kept place None) =
-    change_forgotten files place old kept (omega arith) c.loop-place.invariant in
+    let changed = change_forgotten files place old kept (omega arith) c.loop-place.invariant in
     elim c.match-file.branch [
       | in-Whole w ↦ subst Forgotten (sym (ap (λ v. v.items) w.compiled-is))
           (whole_kept files place file old kept c.loop-place-test.true c.index-files-place.is
           (whole_own file _ w.in-Whole.is) c.loop-place.invariant)
       | in-Change+in-None-1 w ↦ subst Forgotten (sym (ap (λ v. v.items) w.compiled-is)) changed
-      | in-Change+in-Some+in-Planned+in-All-1 w ↦
-          subst Forgotten (sym (ap (λ v. v.items) w.compiled-is)) changed
-      | in-Change+in-Some+in-Planned+in-Words-1 w ↦
-          subst Forgotten (sym (ap (λ v. v.items) w.compiled-is)) changed
-      | in-Change+in-Some+in-Refused-1 w ↦
-          subst Forgotten (sym (ap (λ v. v.items) w.compiled-is)) changed
+      | in-Change+in-Some+in-Planned+in-All-1 w ↦ rw (ap (λ v. v.items) w.compiled-is) changed
+      | in-Change+in-Some+in-Planned+in-Words-1 w ↦ rw (ap (λ v. v.items) w.compiled-is) changed
+      | in-Change+in-Some+in-Refused-1 w ↦ rw (ap (λ v. v.items) w.compiled-is) changed
     ]
 
 pub returns : goal.returns

@@ -28,9 +28,7 @@ without_end mask other up is there k below = by_place (other == k) refl where
   by_place : (b : Bool) → (other == k) ≡ b
       → (bit_at (bit_and mask (bit_not w64 (1 * 2 ^ other % 2 ^ 64))) k == 1)
       ≡ (if b then up else (bit_at mask k == 1))
-  by_place true e = ap (λ j. bit_at (bit_and mask (bit_not w64 (1 * 2 ^ other % 2 ^ 64))) j == 1)
-      (sym (eqb-true other k e)) ∙ ap (λ d. d == 1) (bit_at_clear_same w64 mask other there)
-      ∙ sym is
+  by_place true e = cc (eqb-true other k e, bit_at_clear_same w64 mask other there, is)
   by_place false e = ap (λ d. d == 1) (bit_at_clear_other w64 mask other there k below
       (λ same. absurd (let yes : (other == k) ≡ true = eq-eqb other k (sym same) in cc)))
 

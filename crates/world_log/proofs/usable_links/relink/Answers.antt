@@ -24,7 +24,6 @@ loop-s-preserved c =
     let inv = c.loop-s.invariant in
     let one : SwitchValue = c.relink_one.new.switch in
     let own : SwitchValue = c.index_mut.result.now in
-    let count_is : c.len-count.result ≡ length old = omega arith in
     let within : n < length so = omega (arith, c.loop-s-test.true, inv.0) in
     let at : own ≡ get_or old n own = c.index_mut.ensures.value ∙ inv.2 n own (omega arith) in
     let is : one ≡ relinked_as (get_or had n 0) (get_or now n 0) own =
@@ -42,7 +41,7 @@ loop-s-preserved c =
       λ s d past. get_or-set_other so n s one d (omega (arith, past))
           ∙ inv.2 s d (omega (arith, past)),
       c.in_ok-relink_one.ensures.told ∙ ap (λ count. c.loop-s.messages.items
-          ++ adverts_on_change count (get_or had n 0) (get_or now n 0) own) count_is
+          ++ adverts_on_change count (get_or had n 0) (get_or now n 0) own) (omega arith)
           ∙ ap (λ js. js ++ adverts_on_change (length old) (get_or had n 0) (get_or now n 0) own)
           inv.3 ∙ ap (λ w. all_below (length old) had now old n
           ++ adverts_on_change (length old) (get_or had n 0) (get_or now n 0) w) at
@@ -50,9 +49,7 @@ loop-s-preserved c =
     )
 
 pub returns-clause-told : goal.returns-clause-told
-returns-clause-told c =
-    let old = c.args.switches.now.items in
-    let all : c.loop-s.s ≡ length old = omega arith in
+returns-clause-told c = let old = c.args.switches.now.items in
     c.loop-s.invariant.3
-    ∙ ap (all_below (length old) c.args.had.now c.args.now.now old) all
+    ∙ ap (all_below (length old) c.args.had.now c.args.now.now old) (omega arith)
     ∙ all_of_them c.args.had.now c.args.now.now old

@@ -8,11 +8,9 @@ pub returns-clause-told : goal.returns-clause-told
 returns-clause-told c =
     let old = c.args.switch.now in
     let near = c.args.near in
-    let up : old.is_up ≡ true = sym c.if-not-is_up.ensures in
     let changed : links_change c.args.had near old ≡ true =
-    ap (λ b. b && not (c.args.had == near)) up
+    ap (λ b. b && not (c.args.had == near)) (sym c.if-not-is_up.ensures)
     ∙ ap not (ne_eqb c.args.had near c.if-had-near.false) in
-    let all : c.loop-other.other ≡ c.args.count = omega arith in
     c.loop-other.invariant
     ∙ ap (λ w. c.args.messages.now.items
     ++ told_below w c.near_changed-own.result c.args.had near c.loop-other.other)
@@ -21,6 +19,6 @@ returns-clause-told c =
     ++ told_below (near_changed old near) own c.args.had near c.loop-other.other)
     c.near_changed-own.ensures.advert
     ∙ ap (λ n. c.args.messages.now.items
-    ++ told_below (near_changed old near) (next_advert old near) c.args.had near n) all
+    ++ told_below (near_changed old near) (next_advert old near) c.args.had near n) (omega arith)
     ∙ ap (λ more. c.args.messages.now.items ++ more)
     (told_all old c.args.count c.args.had near changed)

@@ -1,6 +1,6 @@
-use Rattle.std.proofs.Common.{◌+◌, ◌∙◌, Bool, ap, arith, bit_or, subst, sym}
+use Rattle.std.proofs.Common.{◌∙◌, Bool, ap, arith}
 use Rattle.base.specs.Exports.{only_if}
-use Rattle.world_log.proofs.RelinkingAdverts.{ServeBelow, serve_all, serve_none, serve_one}
+use Rattle.world_log.proofs.RelinkingAdverts.{serve_all, serve_none, serve_one}
 use Rattle.world_log.proofs.usable_links.serving.Goals as goal
 
 pub loop-s-init : goal.loop-s-init
@@ -12,7 +12,6 @@ returns c = λ k below. serve_all c.loop-s.mask c.args.switches.now c.loop-s.s (
 
 pub loop-s-preserved : goal.loop-s-preserved
 loop-s-preserved c =
-    subst (λ bit. ServeBelow (bit_or c.loop-s.mask bit) (c.loop-s.s + 1) c.args.switches.now)
-    (sym (c.only_if-mask.ensures ∙ ap (λ (b : Bool). only_if b c.loop-s.s) c.serves.ensures))
+    rw (c.only_if-mask.ensures ∙ ap (λ (b : Bool). only_if b c.loop-s.s) c.serves.ensures)
     (serve_one c.loop-s.mask c.loop-s.s c.args.switches.now c.index-switches-s.result
     c.loop-s-test.true c.index-switches-s.is c.loop-s.invariant)

@@ -21,8 +21,7 @@ index-requires c =
 -- the plan is the one at the version's place, which is one of those that are kept
 kept_is : (c : After-tables) → c.index.result.now ≡ get_or c.self.inside.versions.items
     (c.args.version - c.self.inside.marks.current) c.index.result.now
-kept_is c = c.index.ensures ∙ ap (λ current. get_or c.self.inside.versions.items
-    (c.args.version - current) c.index.result.now) c.current.ensures.current
+kept_is c = cc (c.index.ensures, c.current.ensures.current)
 
 first : (c : After-tables) → c.self.inside.marks.current ≤ c.args.version
 first c = subst (λ (w : ControllerValue). w.marks.current ≤ c.args.version) (sym c.self.view_is)
@@ -36,11 +35,10 @@ pub returns-clause-tables : goal.returns-clause-tables
 returns-clause-tables c =
     let own : ControllerValue =
     record { marks = c.self.inside.marks; plans = c.self.inside.versions.items } in
-    let are = kept_tables_are own c.self.invariant c.args.version (first c) (last c)
-    c.index.result.now c.args.s (kept_is c) in
-    IfOk-weaker c.tables.result _ _ (λ tables is.
-    ap (λ w. kept_tables w c.args.version c.args.s) (sym c.self.view_is) ∙ are
-    ∙ ap Some (sym is)) c.tables.ensures
+    IfOk-weaker c.tables.result _ _
+    (λ tables is. ap (λ w. kept_tables w c.args.version c.args.s) (sym c.self.view_is)
+    ∙ (kept_tables_are own c.self.invariant c.args.version (first c) (last c) c.index.result.now
+    c.args.s (kept_is c)) ∙ ap Some (sym is)) c.tables.ensures
 
 pub returns-clause-sound : goal.returns-clause-sound
 returns-clause-sound c =

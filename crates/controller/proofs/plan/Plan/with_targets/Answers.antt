@@ -1,6 +1,5 @@
-use Rattle.std.proofs.Common.{◌∙◌, ap, map, subst, sym, zip}
+use Rattle.std.proofs.Common.{◌∙◌, ap, map, zip}
 use Rattle.switch_table.specs.Exports.{part_of}
-use Rattle.controller.specs.Exports.{LeadEveryHeader}
 use Rattle.controller.proofs.PlanLemmas.{retargeted_leads, retargeted_sound}
 use Rattle.controller.proofs.plan.Plan.with_targets.Goals as goal
 
@@ -21,6 +20,5 @@ returns-clause-hosted c = c.in_ok-plan.ensures.hosted ∙ ap (λ parts. zip part
     ∙ ap (zip (map part_of c.args.self.hosted)) c.deref.ensures.value
 
 pub returns-clause-leads : goal.returns-clause-leads
-returns-clause-leads c = λ some. subst (LeadEveryHeader c.args.self.policy)
-    (sym (returns-clause-hosted c)) (retargeted_leads c.args.self.policy c.args.self.hosted
-    c.args.targets.items c.requires c.hosted.ensures.sound some)
+returns-clause-leads c = λ some. rw (returns-clause-hosted c) (retargeted_leads c.args.self.policy
+    c.args.self.hosted c.args.targets.items c.requires c.hosted.ensures.sound some)

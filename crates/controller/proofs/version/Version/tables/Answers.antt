@@ -1,4 +1,4 @@
-use Rattle.std.proofs.Common.{◌<◌, ◌∙◌, ap, arith, get_or, length}
+use Rattle.std.proofs.Common.{◌∙◌, ap, arith, get_or, length}
 use Rattle.base.proofs.Exports.{read_map}
 use Rattle.switch_table.specs.Exports.{tables_of}
 use Rattle.controller.specs.Exports.{KeptPlan}
@@ -8,10 +8,8 @@ pub returns-in-Some : goal.returns-in-Some
 returns-in-Some c =
     let lookup = c.in-Some.ensures.lookup in
     let inside = c.self.inside in
-    let within : c.args.s < length inside.made.items =
-    omega (arith, lookup.3.0, ap length c.deref.ensures.value) in
     c.in_ok-tables.ensures.cases
     ∙ read_map (tables_of inside.plan.hosted inside.version) inside.made.items c.args.s _
-    c.self.invariant within (lookup.1 ∙ ap (λ l. get_or l c.args.s c.in-Some.tables.now)
-    c.deref.ensures.value)
+    c.self.invariant (omega (arith, lookup.3.0, ap length c.deref.ensures.value))
+    (lookup.1 ∙ ap (λ l. get_or l c.args.s c.in-Some.tables.now) c.deref.ensures.value)
     ∙ ap (λ (kept : KeptPlan). tables_of kept.plan.hosted kept.version c.args.s) c.self.view_is

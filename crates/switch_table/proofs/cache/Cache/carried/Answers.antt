@@ -7,8 +7,7 @@ use Rattle.switch_table.proofs.cache.Cache.carried.Goals.{After-carried_entry}
 -- the entries that came, this one and those to come
 all : (c : After-carried_entry)
     → c.loop-entry.yielded ++ c.in-Some.entry ∷ c.next.new.self ≡ c.args.self.now.entries
-all c = ap (λ xs. c.loop-entry.yielded ++ xs) (sym c.in-Some.ensures.steps)
-    ∙ c.loop-entry.invariant.1
+all c = cc (c.in-Some.ensures.steps, c.loop-entry.invariant.1)
 
 -- they stay so where this one has come
 onward : (c : After-carried_entry)

@@ -23,12 +23,11 @@ gone_over : (c : After-keep_carried) → let entries = kept_entries c.self.insid
 gone_over c =
     let shift = c.self.inside.shift in
     let version = c.args.version in
-    let touched = c.args.touched.now in
     let entries = kept_entries shift c.self.inside.slots in
     let below : All (IsBelow version) entries = below_newest version c.self.inside.newest entries
     (omega (arith, c.if-self-version.true)) c.self.invariant.up_to in
     ap (kept_entries (shift - 1)) (kept c)
-    ∙ carried_pairs shift version touched entries c.self.inside.slots
+    ∙ carried_pairs shift version c.args.touched.now entries c.self.inside.slots
     (some c) c.self.invariant.versions below below
 
 pub invariant_of-self : goal.invariant_of-self

@@ -1,7 +1,7 @@
 use Rattle.std.proofs.Common.{◌&&◌, ◌+◌, ◌∙◌, ◌≡◌, IfSome, None, Option, Some, ap, eqb, find, option_map, rules, subst, sym}
 use Rattle.base.proofs.Exports.{YieldsList-from_first, find_from_yields_List, found_is, option_map_id}
 use Rattle.ternary.specs.Exports.{holds}
-use Rattle.switch_table.specs.Exports.{AreMasked, CacheValue, Pair, first_entry, is_hit, kept_entries, kept_entry}
+use Rattle.switch_table.specs.Exports.{CacheValue, Pair, first_entry, is_hit, kept_entry}
 use Rattle.switch_table.specs.declared.cache.CacheEntry.{CacheEntry}
 use Rattle.switch_table.proofs.FirstLemmas.{first_by_hits}
 use Rattle.switch_table.proofs.PairLemmas.{HasVersion}
@@ -20,8 +20,7 @@ entry_is c pair is =
     ap (option_map (kept_entry shift)) (is ∙ ap (λ version. find
     (λ (p : Pair). is_hit (version + shift) c.args.number masks p.0) pairs) c.from.ensures)
     ∙ first_by_hits shift c.args.version c.args.number masks pairs c.self.invariant.versions
-    (subst (λ known. AreMasked known (kept_entries shift pairs)) c.in-Some.ensures
-    c.self.invariant.masked)
+    (rw c.in-Some.ensures at c.self.invariant.masked)
     ∙ ap (λ (cache : CacheValue). first_entry c.args.version c.args.number cache.entries)
     c.self.view_is
 

@@ -1,5 +1,5 @@
-use Rattle.std.proofs.Common.{◌+◌, ◌∙◌, ◌≡◌, ap, filter, leb, subst, sym}
-use Rattle.switch_table.specs.Exports.{HoldsEntries, Pair, after_raise, kept_entries}
+use Rattle.std.proofs.Common.{◌+◌, ◌∙◌, ◌≡◌, ap, filter, leb}
+use Rattle.switch_table.specs.Exports.{Pair, after_raise, kept_entries}
 use Rattle.switch_table.proofs.PairLemmas.{entries_from, holds_from}
 use Rattle.switch_table.proofs.cache.Cache.raise.Goals as goal
 use Rattle.switch_table.proofs.cache.Cache.raise.Goals.{After-keep_from}
@@ -10,9 +10,8 @@ kept c = c.keep_from.ensures ∙ ap (λ stamp. filter (λ (pair : Pair). leb
     (stamp + c.self.inside.shift) pair.0.number) c.self.inside.slots) c.from.ensures
 
 pub invariant_of-self : goal.invariant_of-self
-invariant_of-self c = subst (λ masks. HoldsEntries masks c.self.inside.shift c.self.inside.newest
-    c.self.inside.capacity c.keep_from.new.self) (sym c.wait_for.ensures) (holds_from _ _ _ _
-    c.args.stamp _ _ c.self.invariant (kept (goal.at.invariant_of-self c).After-keep_from))
+invariant_of-self c = rw c.wait_for.ensures (holds_from _ _ _ _ c.args.stamp _ _ c.self.invariant
+    (kept (goal.at.invariant_of-self c).After-keep_from))
 
 pub returns : goal.returns
 returns c =

@@ -8,8 +8,7 @@ IsVersioned shift pair = (shift ≤ pair.0.number) × (pair.0.number < shift + 2
 
 pub of-requires : goal.of-requires
 of-requires c = All-head (IsVersioned c.self.inside.shift) (c.in_ok-key.key, c.in_ok-key.learnt)
-    c.next.new.self
-    (subst (HaveVersions c.self.inside.shift) c.in_ok-key.ensures.steps c.self.invariant)
+    c.next.new.self (rw c.in_ok-key.ensures.steps at c.self.invariant)
 
 pub invariant_of-self-2 : goal.invariant_of-self-2
 invariant_of-self-2 c = All-tail (IsVersioned c.self.inside.shift)

@@ -17,9 +17,8 @@ pub returns : goal.returns
 returns c =
     let masks = c.args.masks.now in
     let slots = c.self.inside.map.entries in
-    let all = take_all c.loop-mask.mask-index masks (omega (arith, c.loop-mask-test.false)) in
     c.pair_at.ensures
     ∙ hit_at (is_hit c.args.number c.args.header masks) slots c.loop-mask.least
-    (c.loop-mask.invariant
-    ∙ ap (λ ms. position_or_len (hit_live c.args.number c.args.header ms) slots) all)
+    (c.loop-mask.invariant ∙ ap (λ ms. position_or_len (hit_live c.args.number c.args.header ms)
+    slots) (take_all c.loop-mask.mask-index masks (omega (arith, c.loop-mask-test.false))))
     ∙ ap (find (λ (pair : Pair). is_hit c.args.number c.args.header masks pair.0)) c.self.view_is

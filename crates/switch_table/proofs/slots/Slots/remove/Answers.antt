@@ -30,8 +30,7 @@ left c =
 rest : (c : After-all) → live_pairs c.if-place-eq0.self-inside.map.entries
     ≡ remove c.args.self.now c.args.place
 rest c =
-    let old = c.self.inside in
-    let made = nth_killed old.map.entries c.kill.new.map.entries c.args.place
+    let made = nth_killed c.self.inside.map.entries c.kill.new.map.entries c.args.place
     c.place_of_live-at.result c.place_of_live-at.ensures c.kill.ensures
     ∙ ap (λ pairs. remove pairs c.args.place) c.self.view_is in
     elim c.if-place-eq0.branch [

@@ -9,7 +9,6 @@ pub returns-in-Some-clause-compiled : goal.returns-in-Some-clause-compiled
 returns-in-Some-clause-compiled c =
     let kept = c.self.inside.compiled.items in
     let place = c.args.place in
-    let made = made_at c.self.inside.files.items c.self.inside.newest.policy place in
     let as_many : length c.self.inside.files.items ≡ length c.args.self.now.files =
     ap (λ (f : FilesValue). length f.files) c.self.view_is in
     let at : get_or kept place None ≡ Some c.in-Some.compiled =
@@ -17,15 +16,12 @@ returns-in-Some-clause-compiled c =
     (omega (arith, c.requires, c.self.invariant.many, as_many)) ∙ sym c.index.ensures ∙ c.in-Some.is in
     subst (λ (f : FilesValue). IsMade f.net (made_at f.files f.newest place)
     c.in_ok-clone.field-0) c.self.view_is
-    (subst (IsMade c.self.inside.net made) (sym c.in_ok-clone.ensures.cases)
-    (c.self.invariant.each place c.in-Some.compiled at))
+    (subst (IsMade c.self.inside.net (made_at c.self.inside.files.items c.self.inside.newest.policy
+    place)) (sym c.in_ok-clone.ensures.cases) (c.self.invariant.each place c.in-Some.compiled at))
 
 -- the place is that of a file
 within : (c : In_ok-compiled) → c.args.place < length c.self.inside.files.items
-within c =
-    let as_many : length c.self.inside.files.items ≡ length c.args.self.now.files =
-    ap (λ (f : FilesValue). length f.files) c.self.view_is in
-    omega (arith, c.requires, as_many)
+within c = omega (arith, c.requires, ap (λ (f : FilesValue). length f.files) c.self.view_is)
 
 -- and what was compiled was made of that
 made : (c : In_ok-compiled) → IsMade c.self.inside.net (made_at c.self.inside.files.items

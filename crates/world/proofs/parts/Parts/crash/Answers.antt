@@ -48,7 +48,6 @@ returns-in_err-push c = λ before row begins. nothing_goes begins (net_stays ref
 pub returns-in_err-lose_at : goal.returns-in_err-lose_at
 returns-in_err-lose_at c = λ before row begins. let self = c.args.self.now in
     let s = c.args.switch in
-    let own = c.index_mut.result.now in
     let changed = c.crash.new.self in
     let within = switch_in s c.requires begins.ready.may in
     let others = set self.switches.items s changed in
@@ -58,7 +57,7 @@ returns-in_err-lose_at c = λ before row begins. let self = c.args.self.now in
     let r = c.from_residual-in_err-lose_at.result in
     let failed = c.from_residual-in_err-lose_at.ensures.0 in
     goes begins (follows begins refl refl refl) (item.Down s ∷ losses ++ sends)
-    (crash_piece begins.ready.refines row s own changed begins.ready.may within
+    (crash_piece begins.ready.refines row s c.index_mut.result.now changed begins.ready.may within
     c.index_mut.ensures.value c.crash.ensures
     (was_up (goal.at.returns-in_err-lose_at c).After-index_mut))
     (on_ok_failed _ r failed) (on_ok_failed _ r failed)
@@ -122,11 +121,10 @@ returns c = λ before row begins. let self = c.args.self.now in
     (subst (λ bag. IsPart behind.journal (sent_from (length bag + 1) messages) new.log.journal)
     c.lose_at.ensures.unsent part)) c.change_links.ensures.part))
     (three_ok r (λ near_is are posts_are. let posts = self.log.bag ++ map new_post messages in
-    let bag_is : new.log.bag ≡ posts =
-    posts_are ∙ ap (λ bag. bag ++ map new_post messages) c.lose_at.ensures.unsent in
     subst (λ bag. RefineJournal (setting_in self)
-    (before ++ (item.Row row (Crash s) ∷ item.Down s ∷ losses ++ sends))
-    (record (state_in new) { posts = bag })) (sym bag_is)
+    (before ++ (item.Row row (Crash s) ∷ item.Down s ∷ losses ++ sends)) (record (state_in new)
+    { posts = bag }))
+    (sym (posts_are ∙ ap (λ bag. bag ++ map new_post messages) c.lose_at.ensures.unsent))
     (relinked_refines rest near_is (crash_refines ready.refines row s own changed ready.may within
     c.index_mut.ensures.value c.crash.ensures is_up new.switches.items new.log.travelling are
     (subst (WithoutAt self.log.travelling s) (sym rest.travelling) c.in_ok-lose_at.ensures.lost))))

@@ -1,4 +1,4 @@
-use Rattle.std.proofs.Common.{◌++◌, ◌+◌, ◌<◌, ◌∙◌, ◌∷◌, ◌≡◌, List, OnErr, OnOk, ap, arith, get_or, is_some, length, length-set, map, refl, set, subst, sym}
+use Rattle.std.proofs.Common.{◌+◌, ◌<◌, ◌∙◌, ◌∷◌, List, ap, arith, get_or, is_some, length, length-set, map, refl, set, subst, sym}
 use Rattle.message_bag.specs.Exports.{delivered_status, new_post, with_delivered, with_status}
 use Rattle.base.proofs.Exports.{both_ok, on_ok_weaker}
 use Rattle.message_bag.proofs.NumberedPosts.{length_changed}
@@ -6,7 +6,7 @@ use Rattle.controller.specs.Exports.{ControllerValue, hear_acts, newest_policy}
 use Rattle.update_machine.specs.Exports.{Message, sent_from}
 use Rattle.journal.specs.declared.item.Item.TheVariants as item
 use Rattle.switch_core.specs.Exports.{IsSoundBody, replies}
-use Rattle.world_log.specs.Exports.{IsPart, MayNote, MaySend, act_items, act_posts, all_adverts_sent, near_all}
+use Rattle.world_log.specs.Exports.{MayNote, MaySend, act_items, act_posts, all_adverts_sent, near_all}
 use Rattle.refinement.proofs.BagDeliveries.{found_there}
 use Rattle.world.proofs.GoesTold.{first_goes, goes_told, relinked_refines}
 use Rattle.refinement.proofs.HeardBy.{control_may, control_piece, control_refines, first_piece, names_known, shut_may, shut_piece, shut_refines, undelivered}
@@ -71,9 +71,7 @@ returns-in-Controller c = λ before row begins. let self = c.args.self.now in
       travelling = c.deliver_to_controller.ensures.travelling;
       written = c.deliver_to_controller.ensures.written;
       part = c.deliver_to_controller.ensures.part;
-      posted = subst (λ bag. OnOk c.deliver_to_controller.result
-          (c.deliver_to_controller.new.log.bag ≡ bag ++ act_posts acts)) c.deliver.ensures
-          c.deliver_to_controller.ensures.posted;
+      posted = rw c.deliver.ensures at c.deliver_to_controller.ensures.posted;
       refines = on_ok_weaker c.deliver_to_controller.result
           (λ done. control_refines ready.refines row n message new ready.may there
           c.in-Controller.is c.deliver_to_controller.ensures.after)
@@ -92,10 +90,8 @@ pub bounds-self-switch : goal.bounds-self-switch
 bounds-self-switch c = (hears (goal.at.bounds-self-switch c).In-Switch).1
 
 pub index_mut-requires : goal.index_mut-requires
-index_mut-requires c =
-    let self = c.args.self.now in
-    let ready = hears (goal.at.index_mut-requires c).In-Switch in
-    omega (arith, ready.0, self.switches.ok.0)
+index_mut-requires c = let ready = hears (goal.at.index_mut-requires c).In-Switch in
+    omega (arith, ready.0, c.args.self.now.switches.ok.0)
 
 pub hear-requires : goal.hear-requires
 hear-requires c = (hears (goal.at.hear-requires c).In-Switch).2
@@ -116,11 +112,9 @@ send_all-requires c =
     let there = found_there _ _ _ _ c.in-Some.is c.in_ok-get.ensures.message in
     let within = hears (goal.at.send_all-requires c).In-Switch in
     subst (MaySend c.deliver.new.self) (sym (c.into_items.ensures ∙ c.in_ok-heard.ensures.replies))
-    (subst (λ bag. MaySend bag (replies c.index_mut.result.now
-    (get_or self.near c.in-Switch.switch 0) c.in-Some.message.body)) (sym c.deliver.ensures)
-    (shut_may ready.refines c.requires.row c.args.number c.in-Switch.switch c.in-Some.message
-    c.index_mut.result.now c.hear.new.self (get_or self.near c.in-Switch.switch 0) ready.may there
-    c.in-Switch.is within.0 c.index_mut.ensures.value
+    (rw c.deliver.ensures (shut_may ready.refines c.requires.row c.args.number c.in-Switch.switch
+    c.in-Some.message c.index_mut.result.now c.hear.new.self (get_or self.near c.in-Switch.switch 0)
+    ready.may there c.in-Switch.is within.0 c.index_mut.ensures.value
     (usable_here ready.refines c.in-Switch.switch within.1) c.in_ok-heard.ensures.after
     (sym c.in_ok-heard.ensures.opened ∙ c.in-None-opened.is) ready.room))
 
@@ -137,8 +131,7 @@ returns-in-None-opened c = λ before row begins. let self = c.args.self.now in
     let usable = usable_here ready.refines s within.1 in
     let shut = sym c.in_ok-heard.ensures.opened ∙ c.in-None-opened.is in
     let messages : List Message = replies own near message.body in
-    let are : c.into_items.result.items ≡ messages =
-    c.into_items.ensures ∙ c.in_ok-heard.ensures.replies in
+    let are = c.into_items.ensures ∙ c.in_ok-heard.ensures.replies in
     goes_told (item.Delivered n)
     (λ k. sent_from k messages) c.push-2.new.self (length c.deliver.new.self)
     (with_delivered self.log.bag n) (map new_post messages) begins
@@ -150,17 +143,9 @@ returns-in-None-opened c = λ before row begins. let self = c.args.self.now in
       number_is = ap length c.deliver.ensures
           ∙ length_changed (with_status delivered_status) self.log.bag n;
       travelling = c.send_all.ensures.travelling;
-      written = subst (λ all. OnOk c.send_all.result (c.send_all.new.self.journal
-          ≡ c.push-2.new.self ++ sent_from (length c.deliver.new.self + 1) all)) are
-          c.send_all.ensures.written;
-      part = subst (λ all. OnErr c.send_all.result (IsPart c.push-2.new.self
-          (sent_from (length c.deliver.new.self + 1) all) c.send_all.new.self.journal)) are
-          c.send_all.ensures.part;
-      posted = subst (λ all. OnOk c.send_all.result
-          (c.send_all.new.self.bag ≡ with_delivered self.log.bag n ++ map new_post all)) are
-          (subst (λ bag. OnOk c.send_all.result
-          (c.send_all.new.self.bag ≡ bag ++ map new_post c.into_items.result.items))
-          c.deliver.ensures c.send_all.ensures.posted);
+      written = rw are at c.send_all.ensures.written;
+      part = rw are at c.send_all.ensures.part;
+      posted = rw are at (rw c.deliver.ensures at c.send_all.ensures.posted);
       refines = on_ok_weaker c.send_all.result (λ done. shut_refines ready.refines row n s message
           own c.hear.new.self near ready.may there c.in-Switch.is within.0 c.index_mut.ensures.value
           usable c.in_ok-heard.ensures.after shut) c.send_all.ensures.written;
@@ -195,14 +180,12 @@ change_links-requires-clause-next c =
     (sym c.in_ok-heard.ensures.opened ∙ c.in-Some-opened.is) ready.room
 
 pub change_links-requires-clause-may : goal.change_links-requires-clause-may
-change_links-requires-clause-may c =
-    let ready = c.requires.begins.ready in
-    let within = hears (goal.at.change_links-requires-clause-may c).In-Switch in
+change_links-requires-clause-may c = let ready = c.requires.begins.ready in
     rw c.deliver.ensures (opening_may ready.refines c.requires.row c.args.number c.in-Switch.switch
     c.in-Some-opened.version c.in-Some.message c.index_mut.result.now c.hear.new.self ready.may
-    (found_there _ _ _ _ c.in-Some.is c.in_ok-get.ensures.message) c.in-Switch.is within.0
-    c.index_mut.ensures.value c.in_ok-heard.ensures.after
-    (sym c.in_ok-heard.ensures.opened ∙ c.in-Some-opened.is) ready.room)
+    (found_there _ _ _ _ c.in-Some.is c.in_ok-get.ensures.message) c.in-Switch.is
+    (hears (goal.at.change_links-requires-clause-may c).In-Switch).0 c.index_mut.ensures.value
+    c.in_ok-heard.ensures.after (sym c.in_ok-heard.ensures.opened ∙ c.in-Some-opened.is) ready.room)
 
 pub returns : goal.returns
 returns c = λ before row begins. let self = c.args.self.now in
@@ -237,9 +220,7 @@ returns c = λ before row begins. let self = c.args.self.now in
       part = step_part c.change_links.result c.push-2.new.self behind new.log.journal sends
           (item.Opened s stamp ∷ sends) (item.Opened s stamp) refl
           c.in_ok-push-in-Some-opened.ensures.pushed c.change_links.ensures.part;
-      posted = subst (λ bag. OnOk c.change_links.result
-          (new.log.bag ≡ bag ++ map new_post messages)) c.deliver.ensures
-          c.change_links.ensures.posted;
+      posted = rw c.deliver.ensures at c.change_links.ensures.posted;
       refines = both_ok c.change_links.result (λ near_is are.
           relinked_refines rest near_is
           (opening_refines ready.refines row n s stamp message own c.hear.new.self ready.may there

@@ -1,13 +1,10 @@
-use Rattle.std.proofs.Common.{[], ◌++◌, ◌∙◌, ◌∷◌, ap, refl, subst, sym}
+use Rattle.std.proofs.Common.{[], ◌∙◌, ◌∷◌, ap, refl, sym}
 use Rattle.base.proofs.Exports.{on_err_weaker, on_ok_weaker}
 use Rattle.journal.specs.declared.item.Item.TheVariants as item
-use Rattle.update_machine.specs.Exports.{Lose}
-use Rattle.world.specs.Exports.{setting_in}
-use Rattle.world.proofs.StepFrame.{goes_nothing, goes_quiet, files_stay, none_in, plane_stays, with_posts}
+use Rattle.world.proofs.StepFrame.{goes_nothing, goes_quiet, files_stay, none_in, plane_stays}
 use Rattle.world_log.proofs.StepWrites.{part_none}
 use Rattle.world_log.specs.declared.log.Log.{Log}
 use Rattle.refinement.proofs.LostPacket.{lost, lost_piece, not_lost}
-use Rattle.refinement.specs.Exports.{RefineJournal}
 use Rattle.world.proofs.parts.Parts.lose.Goals as goal
 
 pub returns-then-not-has : goal.returns-then-not-has
@@ -26,7 +23,5 @@ returns c = λ before row begins. let self = c.args.self.now in
     c.lose.ensures.written (on_err_weaker c.lose.result
     (λ same. part_none self.log.journal (item.Lost c.args.packet ∷ []) new.journal
     (ap (λ (log : Log). log.journal) same)) c.lose.ensures.unchanged)
-    (on_ok_weaker c.lose.result (λ without. subst (λ bag. RefineJournal (setting_in self) (before
-    ++ item.Row row (Lose c.args.packet) ∷ item.Lost c.args.packet ∷ []) (with_posts self all bag))
-    (sym c.lose.ensures.unsent) (lost begins.ready.refines row c.args.packet new.travelling
-    begins.ready.may travelling without)) c.lose.ensures.lost)
+    (on_ok_weaker c.lose.result (λ without. rw c.lose.ensures.unsent (lost begins.ready.refines row
+    c.args.packet new.travelling begins.ready.may travelling without)) c.lose.ensures.lost)

@@ -6,10 +6,8 @@ use Rattle.world.proofs.OverSwitches.{place_in}
 use Rattle.world.proofs.parts.Parts.packet.Goals as goal
 
 pub overflow_add-self : goal.overflow_add-self
-overflow_add-self c =
-    let self = c.args.self.now in
-    let fits = come_fits c.requires.begins.ready.refines c.requires.begins.ready.few in
-    omega (arith, fits)
+overflow_add-self c = let self = c.args.self.now in
+    omega (arith, come_fits c.requires.begins.ready.refines c.requires.begins.ready.few)
 
 pub index_mut-requires : goal.index_mut-requires
 index_mut-requires c = place_in c.args.switch c.requires c.requires.begins.ready.may.0

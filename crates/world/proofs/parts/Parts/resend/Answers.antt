@@ -1,4 +1,4 @@
-use Rattle.std.proofs.Common.{◌++◌, ◌+◌, ◌==◌, ◌∙◌, ◌∷◌, ◌≡◌, Bool, List, ap, arith, false, get_or, length, map, refl, subst, sym, true}
+use Rattle.std.proofs.Common.{◌++◌, ◌+◌, ◌==◌, ◌∙◌, ◌∷◌, ◌≡◌, Bool, List, arith, false, get_or, length, map, refl, subst, sym, true}
 use Rattle.base.proofs.Exports.{on_ok_weaker}
 use Rattle.controller.specs.Exports.{resend_acts}
 use Rattle.controller.specs.declared.sends.Act.{Act}
@@ -15,10 +15,8 @@ use Rattle.world.proofs.parts.Parts.resend.Goals.{After-are_none}
 -- ---- its switch
 
 pub bounds-self-here : goal.bounds-self-here
-bounds-self-here c =
-    let self = c.args.self.now in
-    let there = switch_in c.args.switch c.requires c.requires.begins.ready.may in
-    omega (arith, there, few_in c.requires)
+bounds-self-here c = let self = c.args.self.now in
+    omega (arith, switch_in c.args.switch c.requires c.requires.begins.ready.may, few_in c.requires)
 
 pub index-requires : goal.index-requires
 index-requires c = place_in c.args.switch c.requires c.requires.begins.ready.may
@@ -54,20 +52,17 @@ none_said : (c : After-are_none) (b : Bool) → c.are_none.result ≡ b
     → (length (map Post (adverts_again c.args.switch (length c.args.self.now.switches.items)
     (get_or c.args.self.now.near c.args.switch 0) c.index.result.now)
     ++ resend_acts c.args.self.now.controller c.args.switch) == 0) ≡ b
-none_said c b is = sym (ap (λ (acts : List Act). length acts == 0)
-    (ap (λ messages. map Post messages ++ c.as_slice-2.result.now) c.as_slice.ensures.value ∙ ap
-    (λ acts. map Post c.in_ok-messages.messages.items ++ acts) c.as_slice-2.ensures.value ∙ said c))
-    ∙ sym c.are_none.ensures ∙ is
+none_said c b is =
+    cc (c.as_slice.ensures.value, c.as_slice-2.ensures.value, said c, c.are_none.ensures, is)
 
 -- ---- nothing is sent
 
 pub returns-then-are_none : goal.returns-then-are_none
 returns-then-are_none c = λ before row begins. let self = c.args.self.now in
-    let s = c.args.switch in
     let none = none_said (goal.at.returns-then-are_none c).After-are_none in
     goes_nothing begins refl
-    (silent begins.ready.refines row s c.index.result.now begins.ready.may c.index.ensures
-    (none true c.if-are_none.true)) c.push.ensures.pushed c.push.ensures.unchanged
+    (silent begins.ready.refines row c.args.switch c.index.result.now begins.ready.may
+    c.index.ensures (none true c.if-are_none.true)) c.push.ensures.pushed c.push.ensures.unchanged
 
 -- ---- what the switch and the controller have to say is sent
 
@@ -76,11 +71,10 @@ overflow_cast-count c = omega (arith, few_in c.requires, c.args.self.now.switche
 
 pub send_and_note-requires : goal.send_and_note-requires
 send_and_note-requires c =
-    let self = c.args.self.now in
     let ready = c.requires.begins.ready in
     let own = c.index.result.now in
     let before = (goal.at.send_and_note-requires c).After-are_none in
-    subst (MayNote self.log.bag) (sym (said before))
+    subst (MayNote c.args.self.now.log.bag) (sym (said before))
     (again_may ready.refines c.requires.row c.args.switch own ready.may c.index.ensures
     (none_said before false c.if-are_none.false) ready.room)
 

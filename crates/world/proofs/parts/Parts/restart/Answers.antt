@@ -1,6 +1,6 @@
 use Rattle.std.proofs.Common.{[], ◌++◌, ◌+◌, ◌<◌, ◌∙◌, ◌∷◌, ◌≡◌, OnOk, ap, arith, false, length, refl, subst, sym}
 use Rattle.base.proofs.Exports.{get_or_default, on_err_weaker, on_ok_weaker}
-use Rattle.message_bag.specs.Exports.{HasShortSpelling, new_post}
+use Rattle.message_bag.specs.Exports.{new_post}
 use Rattle.update_machine.specs.Exports.{Hello}
 use Rattle.ctrl_msg.specs.Exports.{to_controller}
 use Rattle.journal.specs.declared.item.Item.TheVariants as item
@@ -31,23 +31,21 @@ returns-then-is_up c = λ before row begins. goes_nothing begins refl
 
 is_down : (c : After-index_mut) → c.index_mut.result.now.is_up ≡ false
 is_down c =
-    let self = c.args.self.now in
     let own = c.index_mut.result.now in
-    let same : own ≡ c.index.result.now = c.index_mut.ensures.value
-    ∙ get_or_default self.switches.items c.args.switch own c.index.result.now
-    (switch_in c.args.switch c.requires c.requires.begins.ready.may)
+    let same : own ≡ c.index.result.now =
+    c.index_mut.ensures.value ∙ get_or_default c.args.self.now.switches.items c.args.switch own
+    c.index.result.now (switch_in c.args.switch c.requires c.requires.begins.ready.may)
     ∙ sym c.index.ensures in
     ap (λ (w : SwitchValue). w.is_up) same ∙ sym c.is_up.ensures ∙ c.if-is_up.false
 
 pub restart-boot-requires : goal.restart-boot-requires
 restart-boot-requires c =
     let self = c.args.self.now in
-    let s = c.args.switch in
     let ready = c.requires.begins.ready in
     let own = c.index_mut.result.now in
     let down = is_down (goal.at.restart-boot-requires c).After-index_mut in
-    let can = boot_next ready.refines c.requires.row s own ready.may c.index_mut.ensures.value down
-    ready.room in
+    let can = boot_next ready.refines c.requires.row c.args.switch own ready.may
+    c.index_mut.ensures.value down ready.room in
     record { down = can.down; boot = can.boot }
 
 pub returns-in_err-push : goal.returns-in_err-push
@@ -60,8 +58,7 @@ send-requires c =
     let ready = c.requires.begins.ready in
     let there = switch_in c.args.switch c.requires ready.may in
     let below : c.args.switch < 64 = omega (arith, there, few_in c.requires) in record {
-      spelling = subst HasShortSpelling (sym c.hello.ensures)
-          (hello_spelled c.args.switch c.restart-boot.result below);
+      spelling = rw c.hello.ensures (hello_spelled c.args.switch c.restart-boot.result below);
       few = omega (arith, ready.room);
     }
 
@@ -75,27 +72,23 @@ returns c = λ before row begins. let self = c.args.self.now in
     let hello = to_controller (Hello s boot) in
     let begun = c.push-2.new.self in
     let told : c.restart-boot.result ≡ boot = c.restart-boot.ensures.boot in
-    let said : c.hello.result ≡ hello =
-    c.hello.ensures ∙ ap (λ b. to_controller (Hello s b)) told in
-    let written : OnOk c.send.result (c.send.new.self.journal
-    ≡ begun ++ item.Sent (length self.log.bag + 1) hello ∷ []) =
-    subst (λ message. OnOk c.send.result (c.send.new.self.journal
-    ≡ begun ++ item.Sent (length self.log.bag + 1) message ∷ [])) said c.send.ensures.written in
+    let said = c.hello.ensures ∙ ap (λ b. to_controller (Hello s b)) told in
+    let written = subst (λ message. OnOk c.send.result
+    (c.send.new.self.journal ≡ begun ++ item.Sent (length self.log.bag + 1) message ∷ [])) said
+    c.send.ensures.written in
     goes_told (item.Booted s boot)
     (λ k. item.Sent k hello ∷ []) begun (length self.log.bag) self.log.bag (new_post hello ∷ [])
     begins (follows begins refl refl refl) (record {
       piece_is = boot_piece ready.refines row s own ready.may c.index_mut.ensures.value down;
       counted = none_in _;
-      pushed = subst (λ b. begun ≡ self.log.journal ++ item.Booted s b ∷ []) told
-          c.in_ok-push.ensures.pushed;
+      pushed = rw told at c.in_ok-push.ensures.pushed;
       number_is = refl;
       travelling = c.send.ensures.travelling;
       written = written;
       part = on_err_weaker c.send.result (λ same. part_none begun
           (item.Sent (length self.log.bag + 1) hello ∷ []) c.send.new.self.journal same)
           c.send.ensures.unwritten;
-      posted = subst (λ message. OnOk c.send.result (c.send.new.self.bag
-          ≡ self.log.bag ++ new_post message ∷ [])) said c.send.ensures.posted;
+      posted = rw said at c.send.ensures.posted;
       refines = on_ok_weaker c.send.result
           (λ done. boot_refines ready.refines row s own ready.may c.index_mut.ensures.value
           c.restart-boot.new.self down c.restart-boot.ensures.after) written;

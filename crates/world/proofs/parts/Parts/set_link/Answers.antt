@@ -1,4 +1,4 @@
-use Rattle.std.proofs.Common.{[], ◌++◌, ◌+◌, ◌<◌, ◌∙◌, ◌∷◌, ◌≡◌, Bool, List, ap, arith, false, length, map, max, min, refl, sym, true, ℕ}
+use Rattle.std.proofs.Common.{[], ◌+◌, ◌<◌, ◌∙◌, ◌≡◌, Bool, List, ap, arith, false, length, map, max, min, refl, sym, true, ℕ}
 use Rattle.base.proofs.Exports.{beq, both_ok}
 use Rattle.message_bag.specs.Exports.{new_post}
 use Rattle.update_machine.specs.Exports.{Item, Message, sent_from}
@@ -90,9 +90,7 @@ returns c = λ before row begins. let self = c.args.self.now in
       piece_is = set_piece ready.refines row one two up ready.may links other c.set_ends.ensures.set
           c.set_ends.ensures.fits;
       counted = omega (arith, rest.packets, none_come one two up);
-      pushed = c.in_ok-push.ensures.pushed
-          ∙ ap (λ low. self.log.journal ++ item.LinkIs low c.max.result up ∷ []) c.min.ensures
-          ∙ ap (λ high. self.log.journal ++ item.LinkIs (min one two) high up ∷ []) c.max.ensures;
+      pushed = cc (c.in_ok-push.ensures.pushed, c.min.ensures, c.max.ensures);
       number_is = refl;
       travelling = rest.travelling;
       written = c.change_links.ensures.written;

@@ -114,12 +114,11 @@ returns-in_err-push-in-Ok c = λ before row begins.
 
 pub note_acts-requires : goal.note_acts-requires
 note_acts-requires c =
-    let self = c.args.self.now in
     let file = c.args.file in
     let ready = c.requires.begins.ready in
     let of_next = planned (goal.at.note_acts-requires c).In-Planned c.requires.before c.requires.row
     c.requires.begins in
-    subst (MayNote self.log.bag) (sym (c.into_items.ensures ∙ c.in-Ok.ensures.sends))
+    subst (MayNote c.args.self.now.log.bag) (sym (c.into_items.ensures ∙ c.in-Ok.ensures.sends))
     (submitted_may ready.refines c.requires.row file ready.may c.in-Planned.plan
     c.in-Planned.touched c.submit.new.self of_next (λ e. ok_is_not_err _ _ (c.in-Ok.ensures.live.1 e))
     (λ e. ok_is_not_err _ _ (c.in-Ok.ensures.versions.1 (

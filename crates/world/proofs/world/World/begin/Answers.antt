@@ -10,13 +10,11 @@ use Rattle.world.proofs.world.World.begin.Goals.{In_ok-plan}
 
 -- the policy of the first file has this plan
 first_is : (c : In_ok-plan) → first_policy c.args.files.items ≡ Some c.in_ok-plan.plan.policy
-first_is c = ap first_policy (sym c.deref.ensures.value)
-    ∙ c.first_policy.ensures ∙ ap Some (sym c.in_ok-plan.ensures.policy)
+first_is c = cc (c.deref.ensures.value, c.first_policy.ensures, c.in_ok-plan.ensures.policy)
 
 planned : (c : In_ok-plan)
     → plan_of c.in_ok-plan.plan.policy c.args.net.now ≡ Ok c.in_ok-plan.plan.hosted
-planned c =
-    ap (λ rows. plan_of rows c.args.net.now) c.in_ok-plan.ensures.policy ∙ c.in_ok-plan.ensures.plan
+planned c = cc (c.in_ok-plan.ensures.policy, c.in_ok-plan.ensures.plan)
 
 pub new-requires-clause-first : goal.new-requires-clause-first
 new-requires-clause-first c = first_is (goal.at.new-requires-clause-first c).In_ok-plan

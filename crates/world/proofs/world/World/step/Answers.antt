@@ -1,5 +1,5 @@
 use Rattle.std.proofs.Common.{◌∙◌, ◌≡◌, ◌≤◌, List, ap, arith, length, subst, sym}
-use Rattle.update_machine.specs.Exports.{HasRoom, IsFull, Item, Net, PolicyFile, next_packet, setting_of}
+use Rattle.update_machine.specs.Exports.{HasRoom, IsFull, Item, next_packet}
 use Rattle.steps.specs.Exports.{IsStep}
 use Rattle.world.specs.Exports.{KeepNet, WorldValue, setting_at, setting_in, world_value}
 use Rattle.world.proofs.JournalRoom.{has_room, is_full, not_full}
@@ -11,8 +11,7 @@ use Rattle.world.proofs.world.World.step.Goals.{After-play}
 
 -- the network and the files stay
 setting_kept : (old new : Parts) → KeepNet old new → setting_in new ≡ setting_in old
-setting_kept old new keeps = ap (λ (net : Net). setting_of net new.files.files) keeps.same_net
-    ∙ ap (λ (files : List PolicyFile). setting_of old.files.net files) keeps.same_files
+setting_kept old new keeps = cc (keeps.same_net, keeps.same_files)
 
 pub returns-in_err-play-clause-setting : goal.returns-in_err-play-clause-setting
 returns-in_err-play-clause-setting c =
@@ -59,15 +58,13 @@ may c = subst (λ (w : WorldValue). IsStep w.net (length w.files) c.args.step.no
     (sym c.self.view_is) (c.requires.may (room c))
 
 pub returns-in_err-play-clause-refused : goal.returns-in_err-play-clause-refused
-returns-in_err-play-clause-refused c = λ able full.
-    absurd (omega (arith, room (goal.at.returns-in_err-play-clause-refused c).After-play, full))
+returns-in_err-play-clause-refused c = λ able full. absurd (omega (arith, room))
 
 pub returns-clause-room : goal.returns-clause-room
 returns-clause-room c = room (goal.at.returns-clause-room c).After-play
 
 pub returns-clause-refused : goal.returns-clause-refused
-returns-clause-refused c = λ able full.
-    absurd (omega (arith, room (goal.at.returns-clause-refused c).After-play, full))
+returns-clause-refused c = λ able full. absurd (omega (arith, room))
 
 pub returns-then-sent-ge-FULL_AT-clause-so_far : goal.returns-then-sent-ge-FULL_AT-clause-so_far
 returns-then-sent-ge-FULL_AT-clause-so_far c = λ able. subst

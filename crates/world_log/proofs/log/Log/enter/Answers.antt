@@ -24,9 +24,7 @@ module _ {T E : Type 0} (r : Result T E) (number packet : ℕ) (at : Standing) (
       said) (arrived_posts at said) packet (arrived_flight 0 None said) old new → Is answer
   entered said None is log = absurd cc
   entered said (Some what) is log = let same : said ≡ Answered what = cc in
-      subst (λ said. LogAfter r (item.Entered at.packet at.switch at.header
-      ∷ arrived_items number at 0 None said) (arrived_posts at said) packet
-      (arrived_flight 0 None said) old new) same log
+      rw same at log
 
 pub returns-in-None-clause-log : goal.returns-in-None-clause-log
 returns-in-None-clause-log c =

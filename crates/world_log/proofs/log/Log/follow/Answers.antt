@@ -1,10 +1,10 @@
 -- A packet moves to the second switch of its route, or has arrived.
-use Rattle.std.proofs.Common.{[], ◌+◌, ◌<◌, ◌∙◌, ◌∷◌, ◌≡◌, None, Option, Result, Some, ap, length, refl, slice_get, subst, sym, ℕ}
+use Rattle.std.proofs.Common.{[], ◌+◌, ◌∙◌, ◌≡◌, None, Option, Result, Some, ap, length, refl, slice_get, subst, sym, ℕ}
 use Rattle.base.proofs.Exports.{on_ok_weaker, slice_get_within}
 use Rattle.journal.specs.declared.item.Item.TheVariants as item
 use Rattle.update_machine.specs.Exports.{Ports}
 use Rattle.switch_core.specs.Exports.{IsAtAuthority, StandsAt, SwitchValue, around, move_answer}
-use Rattle.travelling.specs.Travelling.{Flight, Standing, WithOne, placed_at, standing_at, standing_kept}
+use Rattle.travelling.specs.Travelling.{Flight, Standing, placed_at, standing_at, standing_kept}
 use Rattle.tunnel.specs.Exports.{next}
 use Rattle.world_log.specs.Exports.{LogAfter, ended_flight, ended_items, ended_posts, ended_switch, followed, followed_flight, followed_items, followed_posts}
 use Rattle.world_log.specs.declared.log.Log.{Log}
@@ -34,8 +34,7 @@ asked s t onward is = ap (λ o. ended_switch s (move_answer t.tunnel o).end) (sy
 -- ---- it moves on
 
 pub move_to-requires : goal.move_to-requires
-move_to-requires c = subst (λ place. place < length c.args.kept.tunnel.route)
-    (ap (λ place. place + 1) (sym c.place-place.ensures.place))
+move_to-requires c = rw (ap (λ place. place + 1) (sym c.place-place.ensures.place)) at
     (slice_get_within c.args.kept.tunnel.route (c.args.kept.tunnel.place + 1) c.in-Some.next
     (sym c.next.ensures ∙ c.in-Some.is))
 
@@ -52,12 +51,9 @@ returns-in_ok-put-in-Some-clause-log c =
     by_next c.push.result (length self.bag + 1) c.args.switch.now c.args.site.near
     c.args.site.ports.now t t.tunnel.packet self now (Some c.in-Some.next)
     (sym c.next.ensures ∙ c.in-Some.is)
-    (subst (λ packet. LogAfter c.push.result (item.Hopped packet c.in-Some.next ∷ []) [] packet
-    (Some (placed_at (t.tunnel.place + 1) t)) self now) c.packet-packet.ensures
-    (log_one c.push.result (item.Hopped c.packet-packet.result c.in-Some.next)
-    c.packet-packet.result (Some (placed_at (t.tunnel.place + 1) t)) self now c.push.ensures.pushed
-    c.push.ensures.unchanged refl (subst (λ (k : Flight). WithOne self.travelling
-    c.packet-packet.result (Some k) c.put.new.self) moved c.in_ok-put-in-Some.ensures)))
+    (rw c.packet-packet.ensures at (log_one c.push.result (item.Hopped c.packet-packet.result
+    c.in-Some.next) c.packet-packet.result (Some (placed_at (t.tunnel.place + 1) t)) self now
+    c.push.ensures.pushed c.push.ensures.unchanged refl (rw moved at c.in_ok-put-in-Some.ensures)))
 
 pub returns-in_ok-put-in-Some-clause-asked : goal.returns-in_ok-put-in-Some-clause-asked
 returns-in_ok-put-in-Some-clause-asked c = on_ok_weaker c.push.result (λ _. asked c.args.switch.now
@@ -79,12 +75,11 @@ receive-forwarding-requires-clause-last c = let t = c.args.kept.tunnel in
 
 pub receive-forwarding-requires-clause-authority : goal.receive-forwarding-requires-clause-authority
 receive-forwarding-requires-clause-authority c =
-    let t = c.args.kept.tunnel in
     let s = c.args.switch.now in
     let at = c.in_ok-at-in-None.at in
     subst (λ h. IsAtAuthority s h c.leg-leg.result)
     (sym (ap (λ (a : Standing). a.header) c.in_ok-at-in-None.ensures.at))
-    (subst (IsAtAuthority s t.header) (sym c.leg-leg.ensures)
+    (subst (IsAtAuthority s c.args.kept.tunnel.header) (sym c.leg-leg.ensures)
     (c.requires.last (sym c.next.ensures ∙ c.in-None.is)).1)
 
 pub returns-in_err-at-in-None-clause-log : goal.returns-in_err-at-in-None-clause-log
@@ -101,8 +96,7 @@ returns-in_ok-at-in-None-clause-log c =
     let n = length self.bag + 1 in
     let at = c.in_ok-at-in-None.at in
     let says = c.in_ok-at-in-None.ensures in
-    let stands : standing_kept at ≡ standing_at s.number t =
-    says.at ∙ ap (λ n. standing_at n t) c.number.ensures.number in
+    let stands = says.at ∙ ap (λ n. standing_at n t) c.number.ensures.number in
     by_next c.settle.result n s near ports t t.tunnel.packet self c.settle.new.self None
     (sym c.next.ensures ∙ c.in-None.is)
     (arrival_log c.settle.result n s near ports t (standing_kept at) at.version at.rule

@@ -66,11 +66,9 @@ returns-in-Err-Refused c = λ before t met. let at = standing_kept c.args.at in
     let near = c.args.site.near in
     let links : List ℕ = unwrap_or (option_copied c.links.result) no_links in
     let marked = c.in_ok-mark_down.ensures.marked in
-    let links_are : links ≡ (marked_at at c.args.other).down =
-    c.links.ensures ∙ ap (λ (a : Standing). a.down) marked in
+    let links_are = c.links.ensures ∙ ap (λ (a : Standing). a.down) marked in
     let cause = c.in-Err-Refused.cause in
-    let both : (route_of s.database s.number c.args.targets near links ≡ None)
-    × (cause ≡ cause_of s near links c.args.leg c.args.targets) =
+    let both =
     subst (IfRefused (λ cause. (route_of s.database s.number c.args.targets near links ≡ None)
     × (cause ≡ cause_of s near links c.args.leg c.args.targets))) c.in-Err-Refused.field-0-is
     c.in-Err-Refused.ensures.refused in
@@ -106,7 +104,6 @@ follow-requires-clause-last c =
     let at = standing_kept c.args.at in
     let s = c.args.switch.now in
     let near = c.args.site.near in
-    let before = c.requires.met.0 in
     let t = c.requires.met.1.0 in
     let met = c.requires.met.1.1 in
     let links : List ℕ = unwrap_or (option_copied c.links.result) no_links in
@@ -120,8 +117,8 @@ follow-requires-clause-last c =
     let Q : SwitchValue → Flight → Type 0 = λ w k. next k.tunnel ≡ None
     → StandsAt w k.tunnel.route k.tunnel.place × IsAtAuthority w k.tunnel.header k.tunnel.leg in
     subst (λ w. Q w c.begin-kept.result) (sym c.shared_route.ensures.same)
-    (subst (Q s) (sym its) (last_here at c.args.at.version c.args.at.rule c.args.leg
-    c.args.targets c.args.other before s near t met links links_are route some))
+    (subst (Q s) (sym its) (last_here at c.args.at.version c.args.at.rule c.args.leg c.args.targets
+    c.args.other c.requires.met.0 s near t met links links_are route some))
 
 pub returns-in_ok-push-in-Ok : goal.returns-in_ok-push-in-Ok
 returns-in_ok-push-in-Ok c = λ before t met. let at = standing_kept c.args.at in
@@ -134,17 +131,15 @@ returns-in_ok-push-in-Ok c = λ before t met. let at = standing_kept c.args.at i
     let links_are : links ≡ (marked_at at c.args.other).down =
     c.links.ensures ∙ ap (λ (a : Standing). a.down) c.in_ok-mark_down.ensures.marked in
     let route : List ℕ = c.in-Ok.route in
-    let some : ◌≡◌ {A = Option (List ℕ)}
-    (route_of s.database s.number c.args.targets near links) (Some route) = c.in-Ok.ensures.route in
+    let some = c.in-Ok.ensures.route in
     let its = kept_is (goal.at.returns-in_ok-push-in-Ok c).In_ok-mark_down c.args.leg
     c.args.targets route c.begin-kept.result c.begin-kept.ensures in
     let found : Item = item.FoundDown at.packet at.switch c.args.other in
     let mid : Log = record self { journal = c.push-in-Ok.new.self } in
-    let grown : mid.journal ≡ self.journal ++ found ∷ item.Rerouted at.packet route ∷ [] =
-    both_written self.journal c.push.new.self c.push-in-Ok.new.self (found ∷ [])
-    (item.Rerouted at.packet route ∷ []) c.in_ok-push.ensures.pushed
-    (c.in_ok-push-in-Ok.ensures.pushed ∙ ap (λ way. c.push.new.self ++ item.Rerouted at.packet way ∷ [])
-    c.in_ok-clone-in-Ok.ensures.cases) in
+    let grown = both_written self.journal c.push.new.self c.push-in-Ok.new.self
+    (found ∷ []) (item.Rerouted at.packet route ∷ []) c.in_ok-push.ensures.pushed
+    (c.in_ok-push-in-Ok.ensures.pushed ∙ ap (λ way. c.push.new.self ++ item.Rerouted at.packet way
+    ∷ []) c.in_ok-clone-in-Ok.ensures.cases) in
     let P : SwitchValue → Flight → Type 0 = λ w k. LogAfter c.follow.result
     (followed_items n w near ports k) (followed_posts w near ports k) k.tunnel.packet
     (followed_flight w near ports k) mid c.follow.new.self in

@@ -1,5 +1,5 @@
 -- A packet goes on as it is kept.
-use Rattle.std.proofs.Common.{◌+◌, ◌<◌, ◌∙◌, ◌≡◌, ◌≢◌, IsErr, IsSomeAnd, None, Option, Result, Some, ap, get_or, length, option_copied, refl, set, slice_get, slice_index, subst, sym, ℕ}
+use Rattle.std.proofs.Common.{◌+◌, ◌<◌, ◌∙◌, ◌≡◌, IsErr, IsSomeAnd, None, Option, Result, Some, ap, get_or, length, option_copied, refl, set, slice_get, slice_index, subst, sym, ℕ}
 use Rattle.base.proofs.Exports.{on_ok_failed, slice_get-get_or, slice_get_within}
 use Rattle.switch_core.specs.Exports.{IsAtAuthority, Moved, StandsAt, SwitchValue, around, call_counted, onward_to}
 use Rattle.switch_core.specs.declared.packet.Onward.{Onward}
@@ -108,14 +108,13 @@ pub returns-in-Next : goal.returns-in-Next
 returns-in-Next c =
     let before = (goal.at.returns-in-Next c).After-place-place in
     let k = kept before in
-    let s = asked before in
     let near = links before in
     let on = goes near (next k.tunnel) c.in-Next.next
     (sym (passed before c.pass.result c.pass.ensures.onward) ∙ c.in-Next.is) in
-    hops before c.move_on.result c.pass.new.self c.move_on.new.self (move_hop c.move_on.result s
-    near c.args.ports.now k c.args.packet (c.place-place.result + 1) c.in-Next.next
-    (flight c.args.self.now.travelling c.args.packet) c.args.self.now c.move_on.new.self
-    c.pass.new.self (its before) (may before).known
+    hops before c.move_on.result c.pass.new.self c.move_on.new.self
+    (move_hop c.move_on.result (asked before) near c.args.ports.now k c.args.packet
+    (c.place-place.result + 1) c.in-Next.next (flight c.args.self.now.travelling c.args.packet)
+    c.args.self.now c.move_on.new.self c.pass.new.self (its before) (may before).known
     (ap (λ place. place + 1) c.place-place.ensures.place) on.1 on.0 c.move_on.ensures
     c.pass.ensures.after)
 
@@ -129,8 +128,6 @@ receive-forwarding-requires c =
     let at = c.in_ok-at-in-AtEnd.at in
     let passed = passed before c.pass.result c.pass.ensures.onward in
     let on = ends (links before) (next k.tunnel) (sym passed ∙ c.in-AtEnd.is) in
-    let ended = ap (λ (m : Moved). m.end) (free_hop s (links before) c.args.ports.now k None on.1
-    on.0) in
     rw c.pass.ensures.after (record {
       serving = (may before).serving;
       stamped = (may before).stamped;
@@ -139,7 +136,8 @@ receive-forwarding-requires c =
       authority = subst (λ h. IsAtAuthority (call_counted s) h c.leg-leg.result)
           (sym (ap (λ (a : Standing). a.header) c.in_ok-at-in-AtEnd.ensures.at))
           (subst (IsAtAuthority (call_counted s) k.tunnel.header) (sym c.leg-leg.ensures)
-          (authority_counted s k.tunnel.header k.tunnel.leg ((may before).authority ended)));
+          (authority_counted s k.tunnel.header k.tunnel.leg ((may before).authority (ap
+          (λ (m : Moved). m.end) (free_hop s (links before) c.args.ports.now k None on.1 on.0)))));
     })
 
 pub settle-requires-clause-ingress : goal.settle-requires-clause-ingress
@@ -163,8 +161,7 @@ returns-in_ok-at-in-AtEnd c =
     let on = ends near (next k.tunnel) (sym passed ∙ c.in-AtEnd.is) in
     let at = c.in_ok-at-in-AtEnd.at in
     let says = c.in_ok-at-in-AtEnd.ensures in
-    let here : c.number.result ≡ (call_counted s).number =
-    c.number.ensures.number ∙ ap (λ (w : SwitchValue). w.number) c.pass.ensures.after in
+    let here = c.number.ensures.number ∙ ap (λ (w : SwitchValue). w.number) c.pass.ensures.after in
     hops before c.settle.result c.settle.new.switch c.settle.new.self (passed_hop s near ports k
     c.settle.result c.args.packet None self c.settle.new.self c.settle.new.switch on.1 on.0
     (arrival_log c.settle.result (length self.bag + 1) (call_counted s) near ports k
@@ -219,8 +216,7 @@ go_around-requires c =
         ),
       );
       here = subst (λ n. n < 64) (sym number) c.number-in-LinkDown.ensures.switch.number;
-      different = subst (λ n. c.in-LinkDown.other ≢ n)
-          (sym (number ∙ ap (λ (w : SwitchValue). w.number) c.pass.ensures.after)) other.0;
+      different = rw (number ∙ ap (λ (w : SwitchValue). w.number) c.pass.ensures.after) other.0;
       other = other.1;
       few = c.requires.few;
     }
@@ -236,7 +232,5 @@ returns-in_ok-at-in-LinkDown c =
     let is = met before at.In_ok-at-in-LinkDown (may before)
     (passed before c.pass.result c.pass.ensures.onward) c.pass.ensures.after in
     hops before c.go_around.result c.go_around.new.switch c.go_around.new.self
-    (subst (λ packet. HasHopped c.go_around.result packet (asked before) (links before)
-    c.args.ports.now c.args.self.now c.go_around.new.switch c.go_around.new.self (kept before))
-    (ap (λ (a : Standing). a.packet) is.stands ∙ (may before).known)
+    (rw (ap (λ (a : Standing). a.packet) is.stands ∙ (may before).known) at
     (c.go_around.ensures (asked before) (kept before) is))

@@ -1,6 +1,6 @@
 -- What was written of a packet that was decided is the way that its decision says.
-use Rattle.std.proofs.Common.{[], ◌∙◌, ◌∷◌, ◌≡◌, List, None, Result, eq-eqb, false, ne_eqb, subst, sym, true, ℕ}
-use Rattle.update_machine.specs.Exports.{Cause, Drop, Exit as ExitLeg, Item, Out as OutBy}
+use Rattle.std.proofs.Common.{[], ◌∙◌, ◌∷◌, List, Result, eq-eqb, false, ne_eqb, subst, sym, true, ℕ}
+use Rattle.update_machine.specs.Exports.{Cause, Drop, Exit as ExitLeg, Out as OutBy}
 use Rattle.switch_core.specs.Exports.{next_of, set_out, site_of}
 use Rattle.switch_core.specs.declared.deciding.Decision.{Decision}
 use Rattle.travelling.specs.Travelling.{standing_kept}
@@ -26,9 +26,7 @@ returns-then-owner-number-clause-log c = owned c.end-then-owner-number.result
     c.args.switch.now (site_of c.args.site) c.args.decision c.in-Out.port c.in-Some.owner true
     c.in-Out.is (sym c.owner.ensures ∙ c.in-Some.is) (eq-eqb c.in-Some.owner
     c.args.switch.now.number (c.if-owner-number.true ∙ c.number.ensures.number))
-    (subst (λ (i : Item). LogAfter c.end-then-owner-number.result (i ∷ []) [] c.args.at.packet None
-    c.args.self.now c.end-then-owner-number.new.self) c.leaves.ensures
-    c.end-then-owner-number.ensures)
+    (rw c.leaves.ensures at c.end-then-owner-number.ensures)
 
 pub returns-else-owner-number-clause-log : goal.returns-else-owner-number-clause-log
 returns-else-owner-number-clause-log c =
@@ -38,8 +36,6 @@ returns-else-owner-number-clause-log c =
     let leg = ExitLeg c.in-Out.port in
     let decision : Decision = record c.args.decision { action = OutBy c.in-Out.port } in
     let to : List ℕ = c.in-Some.owner ∷ [] in
-    let targets : c.unwrap-targets.result ≡ to =
-    rw c.unwrap-targets.ensures at c.new.ensures.list in
     let Q : Result TunnelValue Cause → Type 0 = λ found.
     LogAfter c.set_out.result (set_item at leg found ∷ []) [] c.args.at.packet
     (set_flight decision.version decision.rule found) c.args.self.now c.set_out.new.self in
@@ -49,5 +45,6 @@ returns-else-owner-number-clause-log c =
     (ne_eqb c.in-Some.owner s.number
     (λ same. c.if-owner-number.false (same ∙ sym c.number.ensures.number)))
     (exits c.set_out.result at c.args.at.packet c.args.self.now c.set_out.new.self decision
-    (set_out s site.near (packet_standing at) leg to) (subst (λ these. Q
-    (set_out s site.near (packet_standing at) leg these)) targets c.set_out.ensures.log))
+    (set_out s site.near (packet_standing at) leg to)
+    (subst (λ these. Q (set_out s site.near (packet_standing at) leg these))
+    (rw c.unwrap-targets.ensures at c.new.ensures.list) c.set_out.ensures.log))

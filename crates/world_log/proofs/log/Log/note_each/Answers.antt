@@ -1,6 +1,6 @@
-use Rattle.std.proofs.Common.{◌+◌, ◌∙◌, arith, length, map, refl, subst, sym}
+use Rattle.std.proofs.Common.{◌∙◌, arith, map, refl, subst}
 use Rattle.base.proofs.Exports.{holds_next}
-use Rattle.world_log.specs.Exports.{IsPart, IsSpelled, act_items}
+use Rattle.world_log.specs.Exports.{IsSpelled}
 use Rattle.world_log.proofs.MessageLogs.{AreDone, acts_of, come_all, come_more, come_next, done_begun, done_few, done_part, noted_more, noting_failed}
 use Rattle.world_log.proofs.log.Log.note_each.Goals as goal
 
@@ -32,8 +32,7 @@ pub returns-in_err-note : goal.returns-in_err-note
 returns-in_err-note g c = let acts = map g.T.Noted.act c.args.all.items in
     noting_failed c.from_residual.result acts c.args.self.now c.note.new.log
     c.from_residual.ensures.0
-    (subst (λ journal. IsPart c.args.self.now.journal
-    (act_items (length c.args.self.now.bag + 1) acts) journal) (sym c.in_err-note.ensures.unwritten)
+    (rw c.in_err-note.ensures.unwritten
     (done_part _ _ _ _ (map g.T.Noted.act c.loop-one.yielded) c.loop-one.invariant.0 _ acts
     (acts_of g.T.Noted.act c.loop-one.yielded _ c.args.all.items c.loop-one.invariant.1.parts)))
     (c.in_err-note.ensures.travelling ∙ c.loop-one.invariant.2)

@@ -1,7 +1,6 @@
-use Rattle.std.proofs.Common.{◌++◌, ◌+◌, ◌≡◌, OnErr, OnOk, ap, arith, length, subst}
+use Rattle.std.proofs.Common.{◌+◌, ap, arith, length}
 use Rattle.base.proofs.Exports.{length-map}
 use Rattle.message_bag.specs.Exports.{new_post}
-use Rattle.world_log.specs.Exports.{IsPart}
 use Rattle.world_log.proofs.MessageLogs.{posts_as_acts, sent_as_acts, spelled_as_acts}
 use Rattle.world_log.proofs.log.Log.send_all.Goals as goal
 
@@ -18,17 +17,12 @@ note_each-requires c = let messages = c.args.messages.items in record {
 }
 
 pub returns-clause-written : goal.returns-clause-written
-returns-clause-written c = subst (λ items. OnOk c.note_each.result
-    (c.note_each.new.self.journal ≡ c.args.self.now.journal ++ items))
-    (sent_as_acts (length c.args.self.now.bag + 1) c.args.messages.items)
-    c.note_each.ensures.written
+returns-clause-written c = rw (sent_as_acts (length c.args.self.now.bag + 1) c.args.messages.items)
+    at c.note_each.ensures.written
 
 pub returns-clause-posted : goal.returns-clause-posted
-returns-clause-posted c = subst (λ posts. OnOk c.note_each.result
-    (c.note_each.new.self.bag ≡ c.args.self.now.bag ++ posts)) (posts_as_acts c.args.messages.items)
-    c.note_each.ensures.posted
+returns-clause-posted c = rw (posts_as_acts c.args.messages.items) at c.note_each.ensures.posted
 
 pub returns-clause-part : goal.returns-clause-part
-returns-clause-part c = subst (λ items. OnErr c.note_each.result
-    (IsPart c.args.self.now.journal items c.note_each.new.self.journal))
-    (sent_as_acts (length c.args.self.now.bag + 1) c.args.messages.items) c.note_each.ensures.part
+returns-clause-part c = rw (sent_as_acts (length c.args.self.now.bag + 1) c.args.messages.items) at
+    c.note_each.ensures.part

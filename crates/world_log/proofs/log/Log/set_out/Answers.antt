@@ -1,11 +1,11 @@
 -- A packet sets out by the route that its switch finds, or is stuck.
-use Rattle.std.proofs.Common.{[], ◌∙◌, ◌∷◌, ◌≡◌, List, None, Option, Result, Some, ap, option_copied, refl, subst, unwrap_or, ℕ}
+use Rattle.std.proofs.Common.{[], ◌∙◌, ◌∷◌, ◌≡◌, List, None, Result, Some, ap, option_copied, refl, subst, unwrap_or, ℕ}
 use Rattle.base.specs.Exports.{IfRefused}
 use Rattle.failover.specs.Exports.{no_links, route_of}
-use Rattle.update_machine.specs.Exports.{Cause, Item, takes_route}
+use Rattle.update_machine.specs.Exports.{Cause, takes_route}
 use Rattle.switch_core.specs.Exports.{cause_of}
 use Rattle.world_log.specs.declared.log.Log.{Log}
-use Rattle.travelling.specs.Travelling.{Flight, WithOne, begun_at, standing_kept, travels_by}
+use Rattle.travelling.specs.Travelling.{Flight, begun_at, standing_kept, travels_by}
 use Rattle.tunnel.specs.Exports.{TunnelValue}
 use Rattle.world_log.specs.Exports.{LogAfter, packet_standing, set_flight, set_item}
 use Rattle.world_log.proofs.WrittenGoing.{none_known, route_known}
@@ -18,11 +18,10 @@ returns-in-Err-Refused-clause-log c =
     let s = c.args.switch.now in
     let links : List ℕ = unwrap_or (option_copied c.links.result) no_links in
     let cause = c.in-Err-Refused.cause in
-    let both : (route_of s.database s.number c.args.targets c.args.near links ≡ None)
-    × (cause ≡ cause_of s c.args.near links c.args.leg c.args.targets) =
-    subst (IfRefused (λ cause. (route_of s.database s.number c.args.targets c.args.near links
-    ≡ None) × (cause ≡ cause_of s c.args.near links c.args.leg c.args.targets)))
-    c.in-Err-Refused.field-0-is c.in-Err-Refused.ensures.refused in
+    let both = subst
+    (IfRefused (λ cause. (route_of s.database s.number c.args.targets c.args.near links ≡ None)
+    × (cause ≡ cause_of s c.args.near links c.args.leg c.args.targets))) c.in-Err-Refused.field-0-is
+    c.in-Err-Refused.ensures.refused in
     let Q : Result TunnelValue Cause → Type 0 = λ found.
     LogAfter c.stuck.result (set_item at c.args.leg found ∷ []) [] c.args.at.packet
     (set_flight c.args.at.version c.args.at.rule found) c.args.self.now c.stuck.new.self in
@@ -35,9 +34,6 @@ returns-in_ok-put-in-Ok-clause-log c =
     let s = c.args.switch.now in
     let links : List ℕ = unwrap_or (option_copied c.links.result) no_links in
     let route : List ℕ = c.in-Ok.route in
-    let some : ◌≡◌ {A = Option (List ℕ)}
-    (route_of s.database s.number c.args.targets c.args.near links) (Some route) =
-    c.in-Ok.ensures.route in
     let kept : Flight = travels_by (begun_at at c.args.leg c.args.targets route) c.args.at.version
     c.args.at.rule in
     let now : Log = record c.args.self.now { journal = c.push.new.self; travelling = c.put.new.self } in
@@ -47,9 +43,7 @@ returns-in_ok-put-in-Ok-clause-log c =
     LogAfter c.push.result (set_item at c.args.leg found ∷ []) [] c.args.at.packet
     (set_flight c.args.at.version c.args.at.rule found) c.args.self.now now in
     subst Q (route_known s c.args.near (packet_standing at) c.args.leg c.args.targets links route
-    c.links.ensures some)
-    (subst (λ (i : Item). LogAfter c.push.result (i ∷ []) [] c.args.at.packet (Some kept)
-    c.args.self.now now) item_is (log_one c.push.result c.takes_route-item.result c.args.at.packet
-    (Some kept) c.args.self.now now c.push.ensures.pushed c.push.ensures.unchanged refl
-    (subst (λ (k : Flight). WithOne c.args.self.now.travelling c.args.at.packet (Some k)
-    c.put.new.self) c.begin-kept.ensures c.in_ok-put-in-Ok.ensures)))
+    c.links.ensures c.in-Ok.ensures.route)
+    (rw item_is at (log_one c.push.result c.takes_route-item.result c.args.at.packet (Some kept)
+    c.args.self.now now c.push.ensures.pushed c.push.ensures.unchanged refl
+    (rw c.begin-kept.ensures at c.in_ok-put-in-Ok.ensures)))

@@ -1,5 +1,5 @@
 -- What was written of a packet is its switch's answer.
-use Rattle.std.proofs.Common.{[], ◌+◌, ◌∙◌, ◌∷◌, List, None, length, map, subst, sym}
+use Rattle.std.proofs.Common.{[], ◌+◌, ◌∙◌, ◌∷◌, List, length, map, subst, sym}
 use Rattle.base.proofs.Exports.{both_written}
 use Rattle.update_machine.specs.Exports.{Item, sent_from}
 use Rattle.journal.specs.declared.item.Item.TheVariants as item
@@ -23,8 +23,7 @@ returns-in-Out-clause-log c =
     (arrived_posts at what) c.args.at.packet
     (arrived_flight c.args.at.version c.args.at.rule what) c.args.self.now c.end.new.self in
     subst P (sym c.in-Out.is)
-    (subst (λ (i : Item). LogAfter c.end.result (i ∷ []) [] c.args.at.packet None
-    c.args.self.now c.end.new.self) c.leaves.ensures c.end.ensures)
+    (rw c.leaves.ensures at c.end.ensures)
 
 pub returns-in_err-push-in-Decided-clause-log : goal.returns-in_err-push-in-Decided-clause-log
 returns-in_err-push-in-Decided-clause-log c =

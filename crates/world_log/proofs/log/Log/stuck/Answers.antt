@@ -10,13 +10,8 @@ returns-in_err-down c = log_unwritten c.from_residual.ensures.0 refl
 
 pub returns : goal.returns
 returns c =
-    let kept : LogAfter c.end.result
-    (item.Stuck c.args.at.packet c.args.at.switch c.args.cause c.args.leg c.in_ok-down.down ∷ []) []
-    c.args.at.packet None c.args.self.now c.end.new.self =
-    subst (λ (travelling : Flights). LogAfter c.end.result
+    let kept = subst (λ (travelling : Flights). LogAfter c.end.result
     (item.Stuck c.args.at.packet c.args.at.switch c.args.cause c.args.leg c.in_ok-down.down ∷ []) []
     c.args.at.packet None (record c.args.self.now { travelling = travelling }) c.end.new.self)
     c.in_ok-down.ensures.same c.end.ensures in
-    subst (λ down. LogAfter c.end.result
-    (item.Stuck c.args.at.packet c.args.at.switch c.args.cause c.args.leg down ∷ []) []
-    c.args.at.packet None c.args.self.now c.end.new.self) c.in_ok-down.ensures.links kept
+    rw c.in_ok-down.ensures.links at kept
