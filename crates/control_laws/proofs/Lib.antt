@@ -21,7 +21,7 @@ pub mod ResentBySwitches
 pub mod ControllerCommands
 pub mod CrashedSwitches
 pub mod StepCases
-mod CauseRows
+mod SubmissionRows
 pub mod ToldToController
 pub mod SwitchKeeps
 pub mod AcknowledgementKinds

@@ -6,7 +6,7 @@ use Rattle.update_machine.specs.Exports.{Collect, HasPlan, HaveCauses, Install, 
 use Rattle.journal.specs.declared.item.Item.TheVariants as item
 use Rattle.update_machine.proofs.Exports.{first_planned, none_of_7, open_net, plan_q, second_plan, second_planned, tables_of, versions}
 use Rattle.control_laws.specs.Exports.{AreTablesOf, BringsTables, HasItemCause, HoldsStamp, ServingHold, TablesArePlanned, VersionsArePlanned}
-use Rattle.control_laws.proofs.CauseRows.{second_file}
+use Rattle.control_laws.proofs.SubmissionRows.{second_file}
 use Rattle.control_laws.proofs.PlannedTables.{tables_planned}
 use Rattle.control_laws.proofs.ServingSwitches.{serving_hold}
 

@@ -1,6 +1,6 @@
-pub mod PlanLemmas
+pub mod CompiledPlans
 mod PickedSwitches
-mod MaskTelling
+mod SettledSends
 mod KeptPlanVersions
 mod TouchedWords
 mod UnheardMarks

@@ -15,7 +15,7 @@ use Rattle.convergence_laws.specs.Exports.{IsAsNew}
 use Rattle.convergence_laws.proofs.AnsweredMessages.{delivery_is, sent_items}
 use Rattle.convergence_laws.proofs.ChangedLinksTold.{ends_there, link_news, pay_links, sends_near, sends_still}
 use Rattle.convergence_laws.proofs.InstalledTables.{delivery_told}
-use Rattle.convergence_laws.proofs.GivenAdverts.{HasNews, HaveNews, IsDelivered, IsGiven, IsHad, IsStill, as_new_itself, as_new_through, delivered_news, given_grows, news_on, sends_tell, stills_news}
+use Rattle.convergence_laws.proofs.SpreadAdverts.{HasNews, HaveNews, IsDelivered, IsGiven, IsHad, IsStill, as_new_itself, as_new_through, delivered_news, given_grows, news_on, sends_tell, stills_news}
 use Rattle.convergence_laws.proofs.ListElements.{IsIn, in_either, in_filter, in_map, in_range, in_right}
 use Rattle.convergence_laws.proofs.MessageCourses.{IsInOrder, caused_traced, delivered_grows, next_grows, pieces_in_order}
 use Rattle.convergence_laws.proofs.AdvertNews.{Spread, Still, control_is_still, control_still, crash_spread, link_spread, owed_as, restart_spread, row_near, still_spread, work_is_still, work_still}

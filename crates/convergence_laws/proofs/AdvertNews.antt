@@ -8,7 +8,7 @@ use Rattle.journal.specs.declared.item.Item.TheVariants as item
 use Rattle.update_machine.proofs.Exports.{last_given_append, links_keep, near_same, near_stays}
 use Rattle.control_laws.proofs.Exports.{Control, IsControl, IsKnown, IsWork, Work, boot_more, have_weaker, heard_more, losts_have, losts_keep, restart_cases, row_first, serving_more, up_more}
 use Rattle.convergence_laws.proofs.ChangedLinksTold.{IsOwed, link_news, pay_links, sends_still}
-use Rattle.convergence_laws.proofs.GivenAdverts.{HaveNews, IsHad, IsStill, given_grows, stills_news}
+use Rattle.convergence_laws.proofs.SpreadAdverts.{HaveNews, IsHad, IsStill, given_grows, stills_news}
 use Rattle.convergence_laws.proofs.MessageCourses.{next_grows}
 
 abbrev pub Still : List Item → List Item → Type 0

@@ -13,7 +13,7 @@ use Rattle.control_laws.specs.Exports.{OwnAreNewest}
 use Rattle.convergence_laws.specs.Exports.{HoldsAsNew, IsAsNew, NeighboursAgree}
 use Rattle.convergence_laws.proofs.ChangedLinksTold.{AreEnds, ends_there, newest_held, own_held, serving_turns}
 use Rattle.convergence_laws.proofs.AdvertFloods.{known_given}
-use Rattle.convergence_laws.proofs.GivenAdverts.{HasNews, IsGiven, IsHad, IsToldTo, as_new_itself, as_new_through}
+use Rattle.convergence_laws.proofs.SpreadAdverts.{HasNews, IsGiven, IsHad, IsToldTo, as_new_itself, as_new_through}
 use Rattle.convergence_laws.proofs.UsableNeighbours.{near_both}
 use Rattle.convergence_laws.proofs.AdvertNews.{Spread}
 

@@ -4,7 +4,7 @@ pub use Rattle.control_laws.proofs.ReachedCauses.{NamesOwn}
 pub use Rattle.control_laws.specs.Always.{HoldsAtEnds}
 pub use Rattle.control_laws.proofs.TrafficItems.{IsWork, hop_work, packet_works, rule_cases}
 pub use Rattle.convergence_laws.proofs.ChangedLinksTold.{near_back}
-pub use Rattle.convergence_laws.proofs.KnownLinks.{reach_more}
+pub use Rattle.convergence_laws.proofs.ConvergedKnownLinks.{reach_more}
 pub use Rattle.convergence_laws.proofs.PlainItems.{moves}
-pub use Rattle.convergence_laws.proofs.StuckPackets.{StaysSo, stays_itself, stays_on}
-pub use Rattle.convergence_laws.proofs.PacketWalks.{Walks}
+pub use Rattle.convergence_laws.proofs.ConvergedStuckPackets.{StaysSo, stays_itself, stays_on}
+pub use Rattle.convergence_laws.proofs.ConvergedPacketSteps.{Walks}

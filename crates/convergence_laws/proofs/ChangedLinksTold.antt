@@ -11,7 +11,7 @@ use Rattle.steps.specs.Exports.{HasSwitch}
 use Rattle.update_machine.proofs.Exports.{known_link_laws, near_stays}
 use Rattle.control_laws.proofs.Exports.{AdvertGoesOn, HasBothCauses, IsKnown, boot_more, ends_serve, heard_more, is_delivered, known_kept, near_linked, own_on, same_near, sends_any, serving_more, turns, up_more}
 use Rattle.convergence_laws.specs.Exports.{IsAsNew}
-use Rattle.convergence_laws.proofs.GivenAdverts.{HasNews, HaveNews, IsHad, IsOther, IsStill, as_new_itself, given_grows, news_on, sends_tell, stills_news}
+use Rattle.convergence_laws.proofs.SpreadAdverts.{HasNews, HaveNews, IsHad, IsOther, IsStill, as_new_itself, given_grows, news_on, sends_tell, stills_news}
 use Rattle.convergence_laws.proofs.UsableNeighbours.{near_both}
 use Rattle.convergence_laws.proofs.ListElements.{IsIn, all_in, in_either, in_filter, in_filter_map, in_flat_map, in_left, in_map, in_range, in_right}
 

@@ -7,7 +7,7 @@ use Rattle.control_laws.specs.Exports.{HoldsBehindItems}
 use Rattle.control_laws.proofs.Exports.{behind_items}
 use Rattle.convergence_laws.specs.Exports.{IsFinished}
 use Rattle.convergence_laws.proofs.ListElements.{IsIn, each_in, in_range}
-use Rattle.convergence_laws.proofs.ReceivedMessages.{delivered_append, in_sendings}
+use Rattle.convergence_laws.proofs.ConvergedReceipts.{delivered_append, in_sendings}
 use Rattle.convergence_laws.proofs.MessageCourses.{AreTraced, IsInOrder, IsTraced, caused_traced, pieces_in_order, traced_at_first, traced_kept}
 
 -- what isn't found passes nowhere

@@ -5,21 +5,21 @@ pub mod AnsweredMessages
 pub mod InstalledTables
 pub mod StampOrders
 pub mod DownSwitches
-pub mod ReceivedMessages
+pub mod ConvergedReceipts
 pub mod CaughtUp
 pub mod UpdatesEnd
 pub mod FinishedNetwork
 pub mod FlushedSchedules
 pub mod UsableNeighbours
-pub mod GivenAdverts
+pub mod SpreadAdverts
 pub mod ChangedLinksTold
 pub mod AdvertNews
 pub mod AdvertFloods
 pub mod AgreeingNeighbours
 pub mod ConvergedLinks
-pub mod KnownLinks
-pub mod PacketWalks
-pub mod StuckPackets
+pub mod ConvergedKnownLinks
+pub mod ConvergedPacketSteps
+pub mod ConvergedStuckPackets
 pub mod NewsLaws
 mod ConvergenceTrials
 pub mod CallerLemmas

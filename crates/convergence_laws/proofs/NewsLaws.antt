@@ -11,13 +11,13 @@ use Rattle.control_laws.proofs.Exports.{at_ends, behind_both, own_newest, steps_
 use Rattle.convergence_laws.specs.Exports.{GetStuckApart, HasConverged, IsAsNew, NeighboursAgree, NewsSpreads}
 use Rattle.convergence_laws.proofs.AgreeingNeighbours.{AreSpread, IsGivenNew, TellsOwn, caused_tells, spread_agree, spread_cases}
 use Rattle.convergence_laws.proofs.ConvergedLinks.{AreAgreed}
-use Rattle.convergence_laws.proofs.StuckPackets.{stuck_reaches_none}
+use Rattle.convergence_laws.proofs.ConvergedStuckPackets.{stuck_reaches_none}
 use Rattle.convergence_laws.proofs.AdvertFloods.{spread_at_ends}
-use Rattle.convergence_laws.proofs.GivenAdverts.{IsToldTo, as_new_itself}
-use Rattle.convergence_laws.proofs.KnownLinks.{agreed_converged}
+use Rattle.convergence_laws.proofs.SpreadAdverts.{IsToldTo, as_new_itself}
+use Rattle.convergence_laws.proofs.ConvergedKnownLinks.{agreed_converged}
 use Rattle.convergence_laws.proofs.ListElements.{IsIn, in_filter_map}
 use Rattle.convergence_laws.proofs.AdvertNews.{Spread}
-use Rattle.convergence_laws.proofs.ReceivedMessages.{IsGot, got, heard_in_boot}
+use Rattle.convergence_laws.proofs.ConvergedReceipts.{IsGot, got, heard_in_boot}
 use Rattle.convergence_laws.proofs.MessageCourses.{IsInOrder, caused_traced, pieces_in_order}
 
 -- ---- news

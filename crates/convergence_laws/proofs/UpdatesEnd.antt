@@ -12,7 +12,7 @@ use Rattle.convergence_laws.proofs.AnsweredMessages.{HaveSpoken, piece_spoken, s
 use Rattle.convergence_laws.proofs.DownSwitches.{caused_recorded}
 use Rattle.convergence_laws.proofs.InstalledTables.{AllInstalled, installs_at_first, piece_installs}
 use Rattle.convergence_laws.proofs.ListElements.{IsIn, in_filter_map, in_right}
-use Rattle.convergence_laws.proofs.ReceivedMessages.{WasHeard, heard_of, told_of}
+use Rattle.convergence_laws.proofs.ConvergedReceipts.{WasHeard, heard_of, told_of}
 use Rattle.convergence_laws.proofs.MessageCourses.{IsInOrder, IsSent, pieces_in_order}
 use Rattle.convergence_laws.proofs.StampOrders.{HaveStamps, IsStampSent, piece_stamps, stamps_at_first}
 use Rattle.ternary.specs.Exports.{WordValue}

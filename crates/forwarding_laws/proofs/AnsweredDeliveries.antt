@@ -8,7 +8,7 @@ use Rattle.update_machine.proofs.Exports.{AreOf}
 use Rattle.control_laws.proofs.Exports.{behind_piece, fact_on, serving_more}
 use Rattle.convergence_laws.proofs.Exports.{IsInOrder, IsPlain, Plain, answer_of, caused_traced, deliverable_sent, delivered_more, delivery_is, delivery_plain, is_plain, next_grows, opens, step_plain}
 use Rattle.forwarding_laws.proofs.CalmItems.{Calmly, IsCalmStep, Stays, calm_causes, calm_piece, calm_steps, calm_through, stays}
-use Rattle.forwarding_laws.proofs.SentSince.{IsSince, sends_since, since_calm}
+use Rattle.forwarding_laws.proofs.RecoverySendings.{IsSince, sends_since, since_calm}
 
 -- ---- plain items deliver nothing
 

@@ -14,7 +14,7 @@ use Rattle.packet_laws.specs.Exports.{AllKept, IsBlockedOn, TakesLeg, stage_of, 
 use Rattle.packet_laws.proofs.Exports.{IsHere, IsWayItem, Knows, Past, decision_out, exiting_of, here_known, kept_before, known_before, knows, leg_in, port_named, reached, version_planned}
 use Rattle.convergence_laws.proofs.Exports.{in_at}
 use Rattle.forwarding_laws.specs.Exports.{AreCutOff, DropsNothing, IsConnected, IsStuckCutOff, NoneIsStuck, NothingFails}
-use Rattle.forwarding_laws.proofs.StandingItems.{stands_in}
+use Rattle.forwarding_laws.proofs.ForwardingItemCauses.{stands_in}
 
 -- there are some, and all are switches of the network
 pub record AreSwitches (net : Net) (targets : List ℕ) : Type 0 where

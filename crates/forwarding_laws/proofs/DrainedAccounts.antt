@@ -9,7 +9,7 @@ use Rattle.control_laws.proofs.Exports.{Both, have_both}
 use Rattle.packet_laws.specs.Exports.{IsDroppedHere, PacketCause}
 use Rattle.convergence_laws.proofs.Exports.{IsIn, contains_in, in_at, in_flat_map, in_right, last_ends, none_found}
 use Rattle.forwarding_laws.specs.Exports.{AllAccounted, AllAccountedOrCutOff, DropsNothing, EndsOrIsCutOff, EndsRightly, HasItem, IsConnected, IsDroppedRightly, IsStuckCutOff, NoneIsStuck, NothingFails}
-use Rattle.forwarding_laws.proofs.StandingItems.{stands_in}
+use Rattle.forwarding_laws.proofs.ForwardingItemCauses.{stands_in}
 
 -- ---- what items tell last
 

@@ -2,9 +2,9 @@ mod PassingSteps
 mod UsableWalks
 mod FollowedPacket
 mod ForwardedPacket
-mod QuietJournals
+mod ForwardingWhenQuiet
 pub mod CalmItems
-pub mod SentSince
+pub mod RecoverySendings
 pub mod RecoveryRows
 pub mod AnsweredDeliveries
 pub mod ResentMessages
@@ -14,7 +14,7 @@ pub mod RecoveredNetworks
 pub mod CacheStamps
 pub mod SecondRounds
 pub mod TwoRounds
-pub mod StandingItems
+pub mod ForwardingItemCauses
 pub mod UnfailingItems
 pub mod WholeClaims
 pub mod ConnectedTargets

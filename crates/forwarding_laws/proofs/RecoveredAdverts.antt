@@ -13,7 +13,7 @@ use Rattle.convergence_laws.proofs.Exports.{AreSpread, HasNews, IsGivenNew, IsHa
 use Rattle.update_machine.proofs.Exports.{have_append}
 use Rattle.forwarding_laws.proofs.ResentMessages.{advert_resent, resent}
 use Rattle.forwarding_laws.proofs.RecoveryRows.{AreEach, IsAmong}
-use Rattle.forwarding_laws.proofs.SentSince.{IsFlushed, since_delivered}
+use Rattle.forwarding_laws.proofs.RecoverySendings.{IsFlushed, since_delivered}
 
 -- ---- resends change neither links nor what switches heard
 

@@ -12,7 +12,7 @@ use Rattle.forwarding_laws.proofs.CalmItems.{Calmly, Stays, acked_grows, calm_ca
 use Rattle.forwarding_laws.proofs.RecoveryRows.{IsConfirmed, all_confirmed_on}
 use Rattle.forwarding_laws.proofs.AnsweredDeliveries.{IsAnsweredSince, IsDeliveredIn, delivered_answered}
 use Rattle.forwarding_laws.proofs.ResentMessages.{hello_resent, opening_resent, resent, stamp_resent, table_resent}
-use Rattle.forwarding_laws.proofs.SentSince.{IsEarlier, IsFlushed, IsSince, since_delivered, since_or_earlier, since_told}
+use Rattle.forwarding_laws.proofs.RecoverySendings.{IsEarlier, IsFlushed, IsSince, since_delivered, since_or_earlier, since_told}
 
 -- ---- the moment at which a switch is asked to send again
 

@@ -17,7 +17,7 @@ use Rattle.forwarding_laws.proofs.RecoveredControl.{IsAsked, IsRecovered, recove
 use Rattle.forwarding_laws.proofs.AnsweredDeliveries.{IsDeliveredIn, find_delivery}
 use Rattle.forwarding_laws.proofs.ResentMessages.{piece_resends}
 use Rattle.forwarding_laws.proofs.RecoveryRows.{EndsCalmly, IsTakenIn, among_taken, each_calm, ends_calmly}
-use Rattle.forwarding_laws.proofs.SentSince.{IsFlushed, since_calm}
+use Rattle.forwarding_laws.proofs.RecoverySendings.{IsFlushed, since_calm}
 
 -- ---- deliveries are calm
 

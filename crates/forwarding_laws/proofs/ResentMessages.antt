@@ -5,7 +5,7 @@ use Rattle.update_machine.specs.Exports.{Advert, Item, Message, Resend, Setting,
 use Rattle.journal.specs.declared.item.Item.TheVariants as item
 use Rattle.control_laws.proofs.Exports.{behind_piece, later_versions}
 use Rattle.convergence_laws.proofs.Exports.{IsIn, in_filter, in_flat_map, in_left, in_map, in_range, in_right}
-use Rattle.forwarding_laws.proofs.SentSince.{IsSince, sends_since}
+use Rattle.forwarding_laws.proofs.RecoverySendings.{IsSince, sends_since}
 
 -- ---- by the switch
 

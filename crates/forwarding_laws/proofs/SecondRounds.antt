@@ -13,7 +13,7 @@ use Rattle.forwarding_laws.proofs.CacheStamps.{caches_above}
 use Rattle.forwarding_laws.proofs.CalmItems.{Stays, calm_causes, stays}
 use Rattle.forwarding_laws.proofs.RecoveredControl.{IsAsked, IsRecovered}
 use Rattle.forwarding_laws.proofs.ResentMessages.{collect_resent}
-use Rattle.forwarding_laws.proofs.SentSince.{IsSince, since_delivered}
+use Rattle.forwarding_laws.proofs.RecoverySendings.{IsSince, since_delivered}
 
 -- what holds of each switch of the network holds of one
 of_network : (P : ℕ → Type 0) (setting : Setting) (s : ℕ) → s < length setting.net.switches

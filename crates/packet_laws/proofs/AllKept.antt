@@ -15,8 +15,8 @@ use Rattle.packet_laws.proofs.CacheRules.{cache_rule_right}
 use Rattle.packet_laws.proofs.CachedEntries.{cache_holds}
 use Rattle.packet_laws.proofs.GrowingFacts.{Grows, grows, kept_on, right_on}
 use Rattle.packet_laws.proofs.PacketsHere.{IsHere, here_of, rules_of}
-use Rattle.packet_laws.proofs.KeptFacts.{Knows, decided_after, entered_after, exiting_after, found_after, gone, hopped_after, rerouted_after, seeking_after}
-use Rattle.packet_laws.proofs.HeaderLookups.{deciding}
+use Rattle.packet_laws.proofs.KeptPacketFacts.{Knows, decided_after, entered_after, exiting_after, found_after, gone, hopped_after, rerouted_after, seeking_after}
+use Rattle.packet_laws.proofs.PacketHeaderLookups.{deciding}
 use Rattle.packet_laws.proofs.PacketBlocks.{stage_more, stage_stays}
 use Rattle.packet_laws.proofs.RestingPackets.{IsAsked, IsWayItem, Past, numbered, switches_of_all, ways_of_all, with_past}
 use Rattle.packet_laws.proofs.ServedPackets.{packet_more}

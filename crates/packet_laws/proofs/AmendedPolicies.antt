@@ -13,7 +13,7 @@ use Rattle.packet_laws.proofs.AllKept.{Before, kept_before, known_before, knows}
 use Rattle.packet_laws.proofs.GrowingFacts.{Grows, grows}
 use Rattle.packet_laws.proofs.VersionMatches.{first_match_by_scan}
 use Rattle.packet_laws.proofs.PacketsHere.{IsHere, here_of}
-use Rattle.packet_laws.proofs.KeptFacts.{Knows, decided_now}
+use Rattle.packet_laws.proofs.KeptPacketFacts.{Knows, decided_now}
 use Rattle.packet_laws.proofs.RestingPackets.{IsWayItem, Past, switches_of_all}
 
 -- ---- decisions are first matches

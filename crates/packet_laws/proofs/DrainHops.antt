@@ -10,7 +10,7 @@ use Rattle.packet_laws.proofs.SparedPackets.{IsNoRow}
 use Rattle.packet_laws.proofs.PacketPieceCauses.{piece_ways}
 use Rattle.packet_laws.proofs.RestingPackets.{no_rows}
 use Rattle.packet_laws.proofs.ReadySteps.{IsReady, hop_causes, piece_ready}
-use Rattle.packet_laws.proofs.ItemCounts.{count_more}
+use Rattle.packet_laws.proofs.PacketItemCounts.{count_more}
 use Rattle.packet_laws.proofs.WaitingMessages.{least}
 use Rattle.packet_laws.proofs.RouteHops.{hops_few, hops_more}
 

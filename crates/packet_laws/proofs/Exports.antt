@@ -1,9 +1,9 @@
 -- The lemmas of this crate that others use, passed on from the files that prove them.
 pub use Rattle.packet_laws.proofs.AllKept.{Before, all_kept, kept_before, known_before, knows}
 pub use Rattle.packet_laws.proofs.AmendedPolicies.{IsRightly, all_right}
-pub use Rattle.packet_laws.proofs.HeaderLookups.{FindsRule, FindsTargets, IsStamped, authority_found, current_planned, deciding, redirect_found, rule_there, stamped}
-pub use Rattle.packet_laws.proofs.KeptFacts.{Knows, here_known, port_named}
-pub use Rattle.packet_laws.proofs.KnownRoutes.{IsWay, route_way}
+pub use Rattle.packet_laws.proofs.PacketHeaderLookups.{FindsRule, FindsTargets, IsStamped, authority_found, current_planned, deciding, redirect_found, rule_there, stamped}
+pub use Rattle.packet_laws.proofs.KeptPacketFacts.{Knows, here_known, port_named}
+pub use Rattle.packet_laws.proofs.PacketKnownRoutes.{IsWay, route_way}
 pub use Rattle.packet_laws.proofs.PacketBlocks.{standing_more, travels_more}
 pub use Rattle.packet_laws.proofs.PacketEnds.{decision_out, last_here, one_target, stands_known}
 pub use Rattle.packet_laws.proofs.PacketFacts.{facts_grow, other_number}

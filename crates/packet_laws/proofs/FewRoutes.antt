@@ -11,12 +11,12 @@ use Rattle.packet_laws.specs.Exports.{AllKept, Blocked, FindsLinkDown, FurtherCa
 use Rattle.packet_laws.proofs.PacketFacts.{facts_grow}
 use Rattle.packet_laws.proofs.AllKept.{Before, kept_before, known_before, knows}
 use Rattle.packet_laws.proofs.PacketsHere.{IsHere, decision_in, here_of, leg_in, next_in, seeking_of}
-use Rattle.packet_laws.proofs.KeptFacts.{Knows, seeking_after}
+use Rattle.packet_laws.proofs.KeptPacketFacts.{Knows, seeking_after}
 use Rattle.packet_laws.proofs.RestingPackets.{IsWayItem, Past, switches_of_all}
 use Rattle.packet_laws.proofs.StronglyCaused.{strongly_caused}
 use Rattle.packet_laws.proofs.PacketBlocks.{stage_next}
 use Rattle.packet_laws.proofs.UnfoundLinks.{FindsOne, few_unfound, finds_one, unfound}
-use Rattle.packet_laws.proofs.ItemCounts.{count_more, one_more}
+use Rattle.packet_laws.proofs.PacketItemCounts.{count_more, one_more}
 
 -- ---- what is kept of a packet's routes
 

@@ -10,7 +10,7 @@ use Rattle.control_laws.proofs.Exports.{own}
 use Rattle.packet_laws.specs.Exports.{AllKept, AreResting, IsAt, IsOnWay, PacketFacts, stage_of, what_is_known}
 use Rattle.packet_laws.proofs.AllKept.{all_kept}
 use Rattle.packet_laws.proofs.PacketsHere.{IsHere, here_of, leg_in, seeking_of}
-use Rattle.packet_laws.proofs.HeaderLookups.{FindsRule, authority_found, current_planned, rule_there}
+use Rattle.packet_laws.proofs.PacketHeaderLookups.{FindsRule, authority_found, current_planned, rule_there}
 use Rattle.packet_laws.proofs.PlanLookups.{in_plan}
 use Rattle.packet_laws.proofs.RestingPackets.{IsWayItem, switches_of_all}
 use Rattle.packet_laws.proofs.AskedHops.{NamesFirst}

@@ -10,18 +10,18 @@ pub mod DonePackets
 pub mod SparedPackets
 pub mod ServedPackets
 pub mod CrashServed
-pub mod HeaderLookups
+pub mod PacketHeaderLookups
 pub mod RestingPackets
 pub mod StepsOfPlays
 pub mod ReachedJournals
 pub mod CachedEntries
 pub mod CarriedRules
-pub mod KnownRoutes
+pub mod PacketKnownRoutes
 pub mod GrowingFacts
 pub mod PacketsHere
-pub mod KeptFacts
+pub mod KeptPacketFacts
 pub mod AllKept
-pub mod TravellingPackets
+pub mod PacketsBetweenSteps
 pub mod UntouchedRules
 pub mod OpenWays
 pub mod PacketEnds
@@ -36,7 +36,7 @@ mod RunRows
 mod StepRows
 pub mod StronglyCaused
 mod UnfoundLinks
-mod ItemCounts
+mod PacketItemCounts
 mod FewRoutes
 mod WaitingMessages
 mod FlushEnds
@@ -52,6 +52,6 @@ mod PacketRows
 mod PlayPackets
 mod EntryTrials
 mod StepEnds
-mod AlwaysReached
-mod OnTheWay
+mod PacketsAlwaysReached
+mod PacketHistories
 pub mod Exports

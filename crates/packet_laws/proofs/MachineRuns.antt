@@ -14,7 +14,7 @@ use Rattle.packet_laws.proofs.PacketFacts.{other_number, facts_named, facts_othe
 use Rattle.packet_laws.proofs.AllKept.{Before, kept_before, known_before, knows}
 use Rattle.packet_laws.proofs.PacketsHere.{IsHere, decision_in, here_of, travels_in}
 use Rattle.packet_laws.proofs.PacketEnds.{leaves_rightly}
-use Rattle.packet_laws.proofs.KeptFacts.{Knows, decided_now, stage_when, undecided_of}
+use Rattle.packet_laws.proofs.KeptPacketFacts.{Knows, decided_now, stage_when, undecided_of}
 use Rattle.packet_laws.proofs.RestingPackets.{IsWayItem, Past, switches_of_all}
 
 -- ---- what the machine knows of a packet, by its facts

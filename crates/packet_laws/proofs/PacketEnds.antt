@@ -14,7 +14,7 @@ use Rattle.control_laws.specs.Exports.{HasItemCause}
 use Rattle.control_laws.proofs.Exports.{IsKnown, linked_by_mask, own_end}
 use Rattle.packet_laws.specs.Exports.{FindsNoRoute, FollowsLinks, IsAt, IsAtPort, IsBlockedOn, IsLostHere, IsOnLeg, IsOnWay, IsPartitionOf, LeavesHere, MeetsDown, PacketCause, PacketFacts, SeeksRightly, TakesLeg, entry_mark, stage_of, what_is_known}
 use Rattle.packet_laws.proofs.PacketsHere.{IsHere, decision_in, exiting_of, header_in_facts, leg_in, next_in, stands_in, seeking_of}
-use Rattle.packet_laws.proofs.KeptFacts.{Knows, here_known, port_named, redirected_to, stage_looked, undecided_of}
+use Rattle.packet_laws.proofs.KeptPacketFacts.{Knows, here_known, port_named, redirected_to, stage_looked, undecided_of}
 use Rattle.packet_laws.proofs.OpenWays.{Sees, none_leads, open_joined}
 
 pub decision_out : (journal : List Item) (i : ℕ) (decision : Option Decision)

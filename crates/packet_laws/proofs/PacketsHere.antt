@@ -7,7 +7,7 @@ use Rattle.policy_rules.specs.Exports.{is_held}
 use Rattle.switch_table.specs.Exports.{Hosted}
 use Rattle.control_laws.specs.Exports.{HasItemCause}
 use Rattle.packet_laws.specs.Exports.{AuthorityFinds, HasKeptFacts, IsAt, IsOnLeg, IsOnWay, IsSought, IsUnderWay, PacketFacts, Stage, what_is_known}
-use Rattle.packet_laws.proofs.HeaderLookups.{FindsRule, IsStamped, authority_found, current_planned, deciding, rule_there, stamped}
+use Rattle.packet_laws.proofs.PacketHeaderLookups.{FindsRule, IsStamped, authority_found, current_planned, deciding, rule_there, stamped}
 use Rattle.packet_laws.proofs.PlanLookups.{Finds, IsPlanned, in_plan}
 
 -- ---- facts

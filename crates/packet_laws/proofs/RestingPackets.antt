@@ -12,7 +12,7 @@ use Rattle.control_laws.proofs.Exports.{Both, HasLinkCause, IsTraffic, NamesOwn,
 use Rattle.packet_laws.specs.Exports.{AreResting, AreServed, IsMoving, PacketCause, stage_of}
 use Rattle.packet_laws.proofs.CrashServed.{crash_served}
 use Rattle.packet_laws.proofs.DonePackets.{hop_done, packet_done}
-use Rattle.packet_laws.proofs.HeaderLookups.{FindsRule, authority_found, rule_there, stamped}
+use Rattle.packet_laws.proofs.PacketHeaderLookups.{FindsRule, authority_found, rule_there, stamped}
 use Rattle.packet_laws.proofs.OtherBlocks.{AreAside, IsAside}
 use Rattle.packet_laws.proofs.SparedPackets.{IsInStep, IsNoRow, Spares, SparesAll, aside_spares, crash_spares, hop_spares, in_step, lose_spares, packet_spares, spare, spared}
 use Rattle.packet_laws.proofs.PacketPieceCauses.{piece_ways, row_rests, step_aside}

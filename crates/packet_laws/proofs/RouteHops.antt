@@ -9,11 +9,11 @@ use Rattle.packet_laws.specs.Exports.{AllKept, AreResting, HasKeptFacts, IsOnLeg
 use Rattle.packet_laws.proofs.PacketFacts.{facts_grow}
 use Rattle.packet_laws.proofs.AllKept.{Before, kept_before, known_before, knows}
 use Rattle.packet_laws.proofs.PacketsHere.{travels_in}
-use Rattle.packet_laws.proofs.KeptFacts.{exiting_after, rerouted_after, seeking_after}
+use Rattle.packet_laws.proofs.KeptPacketFacts.{exiting_after, rerouted_after, seeking_after}
 use Rattle.packet_laws.proofs.RestingPackets.{IsWayItem, Past}
 use Rattle.packet_laws.proofs.FewRoutes.{taken_few}
 use Rattle.packet_laws.proofs.PacketBlocks.{stage_next}
-use Rattle.packet_laws.proofs.ItemCounts.{count_more, one_more}
+use Rattle.packet_laws.proofs.PacketItemCounts.{count_more, one_more}
 use Rattle.packet_laws.proofs.AskedHops.{changes_asked, is_asked, asked_more}
 
 -- a step begins where all packets rest, and none was asked to hop

@@ -10,10 +10,10 @@ use Rattle.packet_laws.specs.Exports.{AllKept, FindsLinkDown, FindsNoRoute, Furt
 use Rattle.packet_laws.proofs.AllKept.{Before, kept_before, known_before, knows}
 use Rattle.packet_laws.proofs.PacketEnds.{decision_out, leaves_rightly, mark_in, meets_link, seeks_rightly, stands_known, stuck_rightly}
 use Rattle.packet_laws.proofs.PacketsHere.{IsHere, here_of, leg_in, seeking_of}
-use Rattle.packet_laws.proofs.KeptFacts.{IsDecidedNow, Knows, decided_now, stage_when, undecided_of}
+use Rattle.packet_laws.proofs.KeptPacketFacts.{IsDecidedNow, Knows, decided_now, stage_when, undecided_of}
 use Rattle.packet_laws.proofs.PacketBlocks.{WhenDecided}
 use Rattle.packet_laws.proofs.RestingPackets.{IsWayItem, Past}
-use Rattle.packet_laws.proofs.KnownRoutes.{route_way}
+use Rattle.packet_laws.proofs.PacketKnownRoutes.{route_way}
 
 finds_link : (setting : Setting) (before : List Item) (i one two : ℕ)
     → Knows setting before i (stage_of before i) → MeetsDown setting before i one two

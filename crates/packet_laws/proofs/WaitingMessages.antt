@@ -5,7 +5,7 @@ use Rattle.update_machine.specs.Exports.{Deliver, HaveCauses, Item, Setting, Tak
 use Rattle.journal.specs.declared.item.Item.TheVariants as item
 use Rattle.update_machine.proofs.Exports.{message_keeps, next_rises, piece_next}
 use Rattle.control_laws.proofs.Exports.{AreKept, fact_on}
-use Rattle.packet_laws.proofs.ItemCounts.{count_more}
+use Rattle.packet_laws.proofs.PacketItemCounts.{count_more}
 
 -- ---- the least number
 

@@ -1,2 +1,2 @@
 -- What proofs above cite.
-pub use Rattle.partition.proofs.PlanLemmas.{no_leaves, no_room, no_words, parts_small, plan_holds, planned}
+pub use Rattle.partition.proofs.PartitionPlans.{no_leaves, no_room, no_words, parts_small, plan_holds, planned}

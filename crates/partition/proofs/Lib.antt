@@ -1,4 +1,4 @@
 pub mod PartLemmas
 pub mod EndLemmas
-pub mod PlanLemmas
+pub mod PartitionPlans
 pub mod CallerLemmas

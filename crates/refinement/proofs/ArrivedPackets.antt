@@ -18,12 +18,12 @@ use Rattle.world_log.specs.Exports.{arrived_flight, arrived_items}
 use Rattle.travelling.specs.Travelling.{Flight, Standing}
 use Rattle.refinement.proofs.AuthorityDecisions.{header_is}
 use Rattle.refinement.proofs.OnwardPackets.{AreOfFacts, IsComing, answer_goes, looked_goes, ruled_goes}
-use Rattle.refinement.proofs.JournalLaws.{Known}
+use Rattle.refinement.proofs.RefinedReach.{Known}
 use Rattle.refinement.proofs.TakenLegs.{at_switch}
 use Rattle.refinement.proofs.LookupRefines.{IsAsked, IsOurs, looked_law, ruled_law}
 use Rattle.refinement.proofs.OwnPacketAnswers.{IsSeen}
-use Rattle.refinement.proofs.OwnPartitions.{own_numbered}
-use Rattle.refinement.proofs.FactsAlong.{Targets, flight_by, facts_along}
+use Rattle.refinement.proofs.RefinedPartitions.{own_numbered}
+use Rattle.refinement.proofs.RefinedPacketFacts.{Targets, flight_by, facts_along}
 
 -- ---- where a route ends
 

@@ -4,11 +4,11 @@ use Rattle.update_machine.specs.Exports.{Item, Ports, Setting, near}
 use Rattle.net_file.specs.Exports.{AreOwners}
 use Rattle.switch_core.specs.Exports.{CanLookUp, SwitchValue}
 use Rattle.tunnel.specs.Exports.{here}
-use Rattle.refinement.proofs.CanAsk.{CanAsk, can_be_asked, looks_up_as, sees_as, stands_at}
-use Rattle.refinement.proofs.JournalLaws.{Known, reached_known}
-use Rattle.refinement.proofs.OnWay.{IsStanding, standing_by}
+use Rattle.refinement.proofs.RefinedAsking.{CanAsk, can_be_asked, looks_up_as, sees_as, stands_at}
+use Rattle.refinement.proofs.RefinedReach.{Known, reached_known}
+use Rattle.refinement.proofs.RefinedFlights.{IsStanding, standing_by}
 use Rattle.refinement.proofs.SeenWithinStep.{Sees}
-use Rattle.refinement.proofs.FactsAlong.{flight_now}
+use Rattle.refinement.proofs.RefinedPacketFacts.{flight_now}
 use Rattle.travelling.specs.Travelling.{Flight, flight}
 use Rattle.refinement.specs.Exports.{NetworkState, RefineJournal}
 use Rattle.refinement.proofs.NetworkSwitches.{switch_is}

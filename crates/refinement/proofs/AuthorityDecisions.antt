@@ -16,7 +16,7 @@ use Rattle.refinement.proofs.DecidedEnds.{IsDecided, end_law}
 use Rattle.refinement.proofs.TakenLegs.{at_switch}
 use Rattle.refinement.proofs.OtherPackets.{sends_unnamed, unnamed}
 use Rattle.refinement.proofs.SeenWithinStep.{Sees, sees_one}
-use Rattle.refinement.proofs.FactsAlong.{facts_all}
+use Rattle.refinement.proofs.RefinedPacketFacts.{facts_all}
 
 -- a packet with this header that entered at this switch and found these links down
 pub record IsPacket (journal : List Item) (packet : Packet) : Type 0 where

@@ -19,7 +19,7 @@ use Rattle.refinement.specs.Exports.{AreWritten, IsControllerOf, plan_to_keep, w
 use Rattle.refinement.proofs.ControllerHears.{marks_over, marks_told}
 use Rattle.refinement.proofs.KeptController.{marks_begun}
 use Rattle.refinement.proofs.ControllerPlans.{controller_on, plans_on, plans_stay, settles_with}
-use Rattle.refinement.proofs.SettledMarks.{AreCaused, settled_boot, settling_caused}
+use Rattle.refinement.proofs.RefinedSettling.{AreCaused, settled_boot, settling_caused}
 use Rattle.refinement.proofs.WrittenActs.{posted, written_in_two}
 use Rattle.ternary.specs.Exports.{WordValue}
 use Rattle.switch_table.specs.Exports.{all_touched}

@@ -15,7 +15,7 @@ use Rattle.version_update.proofs.AcknowledgedVersions.{installed_acked}
 use Rattle.controller.specs.Exports.{NamesThere, marks_after}
 use Rattle.refinement.specs.Exports.{AreMarksOf, IsKnown}
 use Rattle.refinement.proofs.KeptController.{StaysKnown, known_on, quiet_stays, stay_on, switch_on}
-use Rattle.refinement.proofs.PastAcknowledgements.{acks_past}
+use Rattle.refinement.proofs.RefinedAcknowledgements.{acks_past}
 
 abbrev delivered : ℕ → Item
 delivered n = item.Delivered n

@@ -10,7 +10,7 @@ use Rattle.controller.specs.Sends as acts
 use Rattle.controller.proofs.NewestPolicy.{still_found}
 use Rattle.refinement.specs.Exports.{AreMarksOf, IsControllerOf, plan_to_keep, written_items}
 use Rattle.refinement.proofs.KeptController.{marks_on}
-use Rattle.refinement.proofs.SettledMarks.{AreCaused, settles_so}
+use Rattle.refinement.proofs.RefinedSettling.{AreCaused, settles_so}
 use Rattle.refinement.proofs.NewestKeptPolicy.{find_kept, is_of}
 use Rattle.switch_table.specs.Exports.{all_touched}
 

@@ -15,7 +15,7 @@ use Rattle.controller.specs.Sends as acts
 use Rattle.controller.specs.declared.sends.Act.{Act}
 use Rattle.controller.specs.declared.sends.Act.TheVariants.{Post}
 use Rattle.refinement.specs.Exports.{AreMarksOf, IsControllerOf, IsKnown, plan_to_keep}
-use Rattle.refinement.proofs.SettledMarks.{AreCaused}
+use Rattle.refinement.proofs.RefinedSettling.{AreCaused}
 use Rattle.refinement.proofs.NewestKeptPolicy.{find_kept, is_of}
 use Rattle.switch_table.specs.Exports.{all_touched}
 use Rattle.ternary.specs.Exports.{WordValue}

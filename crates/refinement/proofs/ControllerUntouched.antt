@@ -12,7 +12,7 @@ use Rattle.refinement.specs.Exports.{AreWritten, IsControllerOf, acts_of_resend,
 use Rattle.refinement.proofs.ControllerCalls.{behind_row, row_on}
 use Rattle.refinement.proofs.ControllerPlans.{controller_on}
 use Rattle.refinement.proofs.ControllerResends.{resends}
-use Rattle.refinement.proofs.SettledMarks.{AreCaused}
+use Rattle.refinement.proofs.RefinedSettling.{AreCaused}
 use Rattle.refinement.proofs.WrittenActs.{posted}
 
 -- ---- what leaves the controller

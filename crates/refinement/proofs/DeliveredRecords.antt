@@ -11,10 +11,10 @@ use Rattle.update_machine.proofs.Exports.{last_given_append, links_keep, policie
 use Rattle.control_laws.proofs.Exports.{each_weaker, heard_more, message_more, near_linked}
 use Rattle.control_laws.specs.Exports.{BodiesNameThere, NamesOnlyThere}
 use Rattle.refinement.specs.Exports.{HearingRefines, IsSentTo, relinked_switch, switch_of, within_delivery}
-use Rattle.refinement.proofs.HeardMessages.{by_obeying, controller_shut, controller_silent, heard_is, is_meant, open_kept, opens_as, said_is}
+use Rattle.refinement.proofs.RefinedHearing.{by_obeying, controller_shut, controller_silent, heard_is, is_meant, open_kept, opens_as, said_is}
 use Rattle.refinement.proofs.SwitchFactItems.{facts_opened}
 use Rattle.refinement.proofs.SwitchLinkChanges.{kept_is, one_if, relinks, seq_more, unchanged}
-use Rattle.refinement.proofs.HeldTables.{AreVersioned, IsVersioned}
+use Rattle.refinement.proofs.RefinedTables.{AreVersioned, IsVersioned}
 use Rattle.refinement.proofs.SwitchFacts.{SwitchFacts, advert_of, boot_shown, by_facts, number_shown, seq_shown, stamp_shown, switch_is, facts_of}
 use Rattle.refinement.proofs.SwitchHears.{SaysTouched}
 

@@ -15,11 +15,11 @@ use Rattle.version_update.specs.Exports.{after_over, at_switch}
 use Rattle.world_log.specs.Exports.{MayNote, act_items, act_posts}
 use Rattle.refinement.proofs.ActItems.{written_is}
 use Rattle.refinement.proofs.BagDeliveries.{nothing_happens}
-use Rattle.refinement.proofs.JournalLaws.{reached_known}
+use Rattle.refinement.proofs.RefinedReach.{reached_known}
 use Rattle.refinement.proofs.OneItem.{WroteOne}
 use Rattle.refinement.proofs.PostedFrames.{bag_on}
 use Rattle.refinement.proofs.NetworkSwitches.{switch_is, switch_known}
-use Rattle.refinement.proofs.ToldSteps.{refines_told}
+use Rattle.refinement.proofs.RefinedActs.{refines_told}
 use Rattle.refinement.proofs.StepRefines.{links_stay, switches_stay, up_stay}
 use Rattle.refinement.proofs.SendableMessages.{may_note}
 

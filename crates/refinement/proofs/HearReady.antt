@@ -9,7 +9,7 @@ use Rattle.switch_core.specs.Exports.{IsSoundBody}
 use Rattle.refinement.specs.Exports.{NetworkState, RefineJournal, TablesAreKnown}
 use Rattle.refinement.proofs.AskedRequirements.{requirements_hold}
 use Rattle.refinement.proofs.BagDeliveries.{sent_as}
-use Rattle.refinement.proofs.JournalLaws.{Known, reached_known}
+use Rattle.refinement.proofs.RefinedReach.{Known, reached_known}
 
 pub sends_few : (setting : Setting) (journal : List Item) → Known setting journal
     → StepsSendFew setting journal

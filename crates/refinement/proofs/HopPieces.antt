@@ -13,15 +13,15 @@ use Rattle.packet_laws.specs.Exports.{PacketFacts, what_is_known}
 use Rattle.packet_laws.proofs.Exports.{facts_grow}
 use Rattle.world_log.specs.Exports.{arrival_items, ended_items, ended_switch, hop_flight, hop_written, hopped_flight, turned_items}
 use Rattle.travelling.specs.Travelling.{Flight, standing_at}
-use Rattle.world_log.proofs.HoppedPacket.{hopped_same}
-use Rattle.refinement.proofs.CanAsk.{CanAsk}
-use Rattle.refinement.proofs.JournalLaws.{Known, flight_stays}
+use Rattle.world_log.proofs.LogPacketMoves.{hopped_same}
+use Rattle.refinement.proofs.RefinedAsking.{CanAsk}
+use Rattle.refinement.proofs.RefinedReach.{Known, flight_stays}
 use Rattle.refinement.proofs.AnswerItems.{arrived_later, hop_sends, later_packets}
 use Rattle.refinement.proofs.MovedPacket.{hop_goes, hop_law, hop_stays, stays_by}
-use Rattle.refinement.proofs.OnWay.{IsStanding, on_leg}
+use Rattle.refinement.proofs.RefinedFlights.{IsStanding, on_leg}
 use Rattle.refinement.proofs.OtherPackets.{NoneName, arrived_other, none_more}
 use Rattle.refinement.proofs.PostedFrames.{are_apart}
-use Rattle.refinement.proofs.FactsAlong.{flight_along}
+use Rattle.refinement.proofs.RefinedPacketFacts.{flight_along}
 
 -- ---- what it writes
 

@@ -9,10 +9,10 @@ use Rattle.refinement.specs.Exports.{NetworkState, RefineJournal, flight_in, swi
 use Rattle.steps.specs.Exports.{IsStep}
 use Rattle.world_log.specs.Exports.{ended_switch, hop_flight, hop_posts, hop_written, hopped_switch}
 use Rattle.travelling.specs.Travelling.{Flight, Flights, WithOne, flight}
-use Rattle.refinement.proofs.CanAsk.{CanAsk}
+use Rattle.refinement.proofs.RefinedAsking.{CanAsk}
 use Rattle.refinement.proofs.HopPieces.{hop_called, hop_later, hop_others, hop_own, hop_packets, hop_piece, left_piece}
 use Rattle.refinement.proofs.AskingSwitch.{known_of}
-use Rattle.refinement.proofs.JournalLaws.{Known}
+use Rattle.refinement.proofs.RefinedReach.{Known}
 use Rattle.refinement.proofs.AnswerItems.{hop_sends}
 use Rattle.refinement.proofs.BagDeliveries.{nothing_happens}
 use Rattle.refinement.proofs.OneItem.{WroteOne}

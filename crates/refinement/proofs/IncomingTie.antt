@@ -11,14 +11,14 @@ use Rattle.steps.specs.Exports.{IsStep}
 use Rattle.packet_laws.specs.Exports.{IsUnknown, what_is_known}
 use Rattle.world_log.specs.Exports.{coming_in, entered_flight, entered_items, entered_posts, entry}
 use Rattle.travelling.specs.Travelling.{Flights, WithOne, flight, Standing}
-use Rattle.refinement.proofs.ComePieces.{come_along, come_called, entered_once}
+use Rattle.refinement.proofs.RefinedEntries.{come_along, come_called, entered_once}
 use Rattle.refinement.proofs.AskingSwitch.{known_of, seen}
 use Rattle.refinement.proofs.IncomingWrites.{ComesTo, come_goes, come_law, looking}
-use Rattle.refinement.proofs.JournalLaws.{Known}
+use Rattle.refinement.proofs.RefinedReach.{Known}
 use Rattle.refinement.proofs.AnswerItems.{entered_sends}
 use Rattle.refinement.proofs.PostedFrames.{SendFrom, are_apart, posts_in}
 use Rattle.refinement.proofs.StepRefines.{Steps, numbered, one_changes, packets_are, switches_are, refines_more}
-use Rattle.refinement.proofs.FactsAlong.{same_targets}
+use Rattle.refinement.proofs.RefinedPacketFacts.{same_targets}
 
 -- ---- the step
 

@@ -14,7 +14,7 @@ use Rattle.packet_laws.proofs.Exports.{facts_grow}
 use Rattle.world_log.specs.Exports.{answer_items, coming_in, entered_items, entry}
 use Rattle.refinement.proofs.AuthorityDecisions.{IsPacket}
 use Rattle.refinement.proofs.OnwardPackets.{GoesIn, looked_goes}
-use Rattle.refinement.proofs.JournalLaws.{Known}
+use Rattle.refinement.proofs.RefinedReach.{Known}
 use Rattle.refinement.proofs.LookupRefines.{IsAsked, looked_law}
 use Rattle.refinement.proofs.SeenWithinStep.{Sees, sees_one}
 

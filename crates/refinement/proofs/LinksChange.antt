@@ -10,7 +10,7 @@ use Rattle.controller.specs.declared.sends.Act.TheVariants.{Post as PostAct}
 use Rattle.update_machine.specs.Exports.{HasRoom, HaveCauses, Item, Message, Setting, Step, count_of, has_changed, is_packet, link_changes, messages_of, near, own_advert, piece, sent_from, switches_of}
 use Rattle.journal.specs.declared.item.Item.TheVariants as item
 use Rattle.refinement.specs.Exports.{AreUp, AreUsable, HasNextSeq, IsBagOf, LeavesSwitch, NetworkState, RefineJournal, flight_in, relinked_switch, switch_of, up_links}
-use Rattle.refinement.proofs.JournalLaws.{reached_known, reached_more, flight_stays}
+use Rattle.refinement.proofs.RefinedReach.{reached_known, reached_more, flight_stays}
 use Rattle.refinement.proofs.OtherPackets.{NoneName, none_more}
 use Rattle.refinement.proofs.PostedFrames.{bag_sends}
 use Rattle.base.specs.Exports.{has}
@@ -25,7 +25,7 @@ use Rattle.world_log.specs.Exports.{AreRelinked, MaySend, act_items, act_posts, 
 use Rattle.world_log.proofs.MessageLogs.{posts_as_acts, sent_as_acts}
 use Rattle.refinement.proofs.ActItems.{acts_bring_none, acts_posted, acts_send, acts_unnamed}
 use Rattle.refinement.proofs.RelinkedItems.{CanRelink, near_now, switches_now, told_now, up_ends}
-use Rattle.refinement.proofs.ToldSteps.{acts_leave, links_left}
+use Rattle.refinement.proofs.RefinedActs.{acts_leave, links_left}
 use Rattle.refinement.proofs.StepRefines.{controller_stays, refines_taken}
 use Rattle.refinement.proofs.SendableMessages.{may_note, may_send}
 

@@ -18,7 +18,7 @@ use Rattle.travelling.specs.Travelling.{Standing}
 use Rattle.refinement.proofs.AuthorityDecisions.{IsPacket, authority_law, decided_facts, found_of, header_is}
 use Rattle.refinement.proofs.DecidedEnds.{end_law}
 use Rattle.refinement.proofs.TakenLegs.{at_switch, leg_law}
-use Rattle.refinement.proofs.OwnPartitions.{own_numbered}
+use Rattle.refinement.proofs.RefinedPartitions.{own_numbered}
 use Rattle.refinement.proofs.SeenWithinStep.{Sees, sees_one}
 
 -- the switch serves, is as the journal says, and is asked what becomes of this packet

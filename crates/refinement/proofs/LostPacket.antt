@@ -8,11 +8,11 @@ use Rattle.packet_laws.specs.Exports.{what_is_known}
 use Rattle.packet_laws.proofs.Exports.{facts_grow}
 use Rattle.refinement.specs.Exports.{NetworkState, RefineJournal, flight_in}
 use Rattle.travelling.specs.Travelling.{Flights, WithOne, flight}
-use Rattle.refinement.proofs.JournalLaws.{Known, reached_known, flight_stays}
+use Rattle.refinement.proofs.RefinedReach.{Known, reached_known, flight_stays}
 use Rattle.refinement.proofs.BagDeliveries.{nothing_happens}
 use Rattle.refinement.proofs.OneItem.{WroteOne}
 use Rattle.refinement.proofs.StepRefines.{switches_stay, refines_silent}
-use Rattle.refinement.proofs.FactsAlong.{flight_along}
+use Rattle.refinement.proofs.RefinedPacketFacts.{flight_along}
 
 -- a row tells nothing of a packet
 pub travels_on : (journal : List Item) (row i : ℕ) (step : Step)

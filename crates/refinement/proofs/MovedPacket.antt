@@ -21,13 +21,13 @@ use Rattle.world_log.specs.Exports.{arrival, arrival_items, arrived_items, ended
 use Rattle.travelling.specs.Travelling.{Flight, standing_at, Standing}
 use Rattle.refinement.proofs.ArrivedPackets.{IsAtEnd, arrival_goes, arrive_comes, arrive_law, at_end_on, end_of_route, ours_of}
 use Rattle.refinement.proofs.OnwardPackets.{AreOfFacts}
-use Rattle.refinement.proofs.JournalLaws.{before_of}
+use Rattle.refinement.proofs.RefinedReach.{before_of}
 use Rattle.refinement.proofs.AnswerItems.{arrived_still}
 use Rattle.refinement.proofs.TakenLegs.{at_switch, cause_law}
 use Rattle.refinement.proofs.LookupRefines.{IsAsked}
-use Rattle.refinement.proofs.OnWay.{Stands, got, on_leg, on_route_of, tunnel_on}
+use Rattle.refinement.proofs.RefinedFlights.{Stands, got, on_leg, on_route_of, tunnel_on}
 use Rattle.refinement.proofs.SeenWithinStep.{Sees, sees_counted, sees_one}
-use Rattle.refinement.proofs.FactsAlong.{Targets, by_targets, same_targets, flight_by, facts_along}
+use Rattle.refinement.proofs.RefinedPacketFacts.{Targets, by_targets, same_targets, flight_by, facts_along}
 
 leg_in_facts : (journal : List Item) (i : ℕ) → leg_of journal i ≡ (what_is_known journal i).leg
 unfolding what_is_known

@@ -7,7 +7,7 @@ use Rattle.update_machine.proofs.Exports.{begins_planned}
 use Rattle.control_laws.specs.Exports.{MarksAreBounded}
 use Rattle.control_laws.proofs.Exports.{bounded, versions_planned}
 use Rattle.refinement.specs.Exports.{IsControllerOf, plan_to_keep}
-use Rattle.refinement.proofs.SettledMarks.{AreCaused}
+use Rattle.refinement.proofs.RefinedSettling.{AreCaused}
 
 abbrev pub is_of : ℕ → KeptPlan → Bool
 is_of version kept = kept.version == version

@@ -7,7 +7,7 @@ use Rattle.journal.specs.declared.item.Item.TheVariants as item
 use Rattle.switch_core.specs.Exports.{SwitchValue}
 use Rattle.refinement.specs.Exports.{IsBagOf, NetworkState, RefineJournal, switch_of}
 use Rattle.steps.specs.Exports.{IsStep}
-use Rattle.refinement.proofs.JournalLaws.{reached_known, flight_stays}
+use Rattle.refinement.proofs.RefinedReach.{reached_known, flight_stays}
 use Rattle.refinement.proofs.OtherPackets.{NoneName}
 use Rattle.refinement.proofs.StepRefines.{links_stay, refines_taken, up_stay}
 

@@ -21,7 +21,7 @@ use Rattle.refinement.proofs.TakenLegs.{at_switch}
 use Rattle.refinement.proofs.LookupRefines.{IsAsked, targets_are, its_stamp}
 use Rattle.refinement.proofs.OtherPackets.{sends_unnamed}
 use Rattle.refinement.proofs.OwnPacketAnswers.{GoesOnward, IsSeen, decided_goes}
-use Rattle.refinement.proofs.FactsAlong.{Targets, flight_by, facts_along}
+use Rattle.refinement.proofs.RefinedPacketFacts.{Targets, flight_by, facts_along}
 
 -- ---- once it is decided
 

@@ -10,7 +10,7 @@ use Rattle.switch_core.specs.declared.tunnel_calls.Next.TheVariants as next
 use Rattle.packet_laws.specs.Exports.{PacketFacts, facts_after, is_of_packet}
 use Rattle.world_log.specs.Exports.{answer_items, arrived_items, cache_message, end_item, entered_items, message_list}
 use Rattle.travelling.specs.Travelling.{Flight, Standing}
-use Rattle.refinement.proofs.FactsAlong.{facts_along}
+use Rattle.refinement.proofs.RefinedPacketFacts.{facts_along}
 
 -- none of the items names the packet
 abbrev pub NoneName : ℕ → List Item → Type 0

@@ -12,7 +12,7 @@ use Rattle.packet_laws.specs.Exports.{PacketFacts}
 use Rattle.world_log.specs.Exports.{decided_flight, decided_items, end_item}
 use Rattle.travelling.specs.Travelling.{Standing}
 use Rattle.refinement.proofs.OtherPackets.{NoneName, unnamed_first}
-use Rattle.refinement.proofs.FactsAlong.{Targets, flight_by, facts_along}
+use Rattle.refinement.proofs.RefinedPacketFacts.{Targets, flight_by, facts_along}
 
 -- the packet's facts as its switch decides it
 pub record IsSeen (at : Standing) (ingress : ℕ) (facts : PacketFacts) : Type 0 where

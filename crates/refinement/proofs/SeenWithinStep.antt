@@ -9,7 +9,7 @@ use Rattle.refinement.proofs.SwitchKnowledge.{knowledge_refines}
 use Rattle.refinement.proofs.SwitchFacts.{stamp_shown, number_shown}
 use Rattle.refinement.proofs.AskedRequirements.{open_shown}
 use Rattle.update_machine.proofs.Exports.{known_keeps, lookup_stays, near_stays, policies_keep, switch_keeps}
-use Rattle.refinement.proofs.JournalLaws.{Known}
+use Rattle.refinement.proofs.RefinedReach.{Known}
 
 -- the switch and the mask of its usable links are as the journal says of this one
 pub record Sees (setting : Setting) (journal : List Item) (s : ℕ) (w : SwitchValue) (mask : ℕ)

@@ -14,9 +14,9 @@ use Rattle.steps.specs.Exports.{IsStep}
 use Rattle.update_machine.proofs.Exports.{last_given_append}
 use Rattle.world_log.specs.Exports.{IsSpelled, MayNote, MaySend, act_items}
 use Rattle.world_log.proofs.MessageLogs.{messages_spelled, posts_as_acts}
-use Rattle.refinement.proofs.JournalLaws.{reached_known, reached_more}
+use Rattle.refinement.proofs.RefinedReach.{reached_known, reached_more}
 use Rattle.refinement.proofs.HearReady.{sends_few}
-use Rattle.refinement.proofs.ToldSteps.{acts_fit}
+use Rattle.refinement.proofs.RefinedActs.{acts_fit}
 
 -- ---- each message that acts send is one of the journal
 

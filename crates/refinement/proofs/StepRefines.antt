@@ -11,7 +11,7 @@ use Rattle.refinement.proofs.SwitchLinkChanges.{kept_is}
 use Rattle.steps.specs.Exports.{IsStep}
 use Rattle.update_machine.proofs.Exports.{count_of_append, links_keep, near_stays}
 use Rattle.travelling.specs.Travelling.{Flights, flight}
-use Rattle.refinement.proofs.JournalLaws.{reached_known, reached_more}
+use Rattle.refinement.proofs.RefinedReach.{reached_known, reached_more}
 use Rattle.refinement.proofs.PostedFrames.{SendFrom, are_apart, bag_sends, posts_in}
 
 -- where one switch became what it is now, and another one stays if it isn't that one

@@ -9,7 +9,7 @@ use Rattle.switch_table.proofs.TableLemmas.{tables_are_sound}
 use Rattle.update_machine.proofs.Exports.{begins_planned, first_plan_stays, version_is_planned}
 use Rattle.control_laws.specs.Exports.{BringsTables}
 use Rattle.refinement.specs.Exports.{KnowledgeRefines, TablesAreKnown, switch_of, tables_in, with_tables}
-use Rattle.refinement.proofs.HeldTables.{with_each}
+use Rattle.refinement.proofs.RefinedTables.{with_each}
 use Rattle.refinement.proofs.SwitchFacts.{all_by, came_by, first_tables, stamp_shown, switch_is}
 
 -- ---- which versions it has

@@ -6,8 +6,8 @@ use Rattle.journal.specs.declared.item.Item.TheVariants as item
 use Rattle.refinement.specs.Exports.{NoRows}
 use Rattle.packet_laws.specs.Exports.{PacketFacts, facts_after}
 use Rattle.refinement.proofs.OtherPackets.{NoneName, unnamed}
-use Rattle.refinement.proofs.StandingPackets.{among}
-use Rattle.refinement.proofs.FactsAlong.{Targets, flight_by, facts_along}
+use Rattle.refinement.proofs.RefinedPacketTable.{among}
+use Rattle.refinement.proofs.RefinedPacketFacts.{Targets, flight_by, facts_along}
 
 -- what losses don't concern stays
 pub losts_apart : (concerns : List Item → Item → Bool)

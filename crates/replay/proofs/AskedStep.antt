@@ -6,7 +6,7 @@ use Rattle.packet_laws.specs.Exports.{drain_left}
 use Rattle.world.specs.Exports.{RefinesJournal, WorldValue, comes_in, setting_at}
 use Rattle.replay.specs.Playing.{brought_in, next_step}
 use Rattle.replay.proofs.SmallNumbers.{least_is_packet, least_is_small}
-use Rattle.replay.proofs.WorldRefines.{reached_of, tie_of}
+use Rattle.replay.proofs.ReplayedWorld.{reached_of, tie_of}
 
 -- so many packets an event brought in, which began or has yet to
 abbrev pub brought_so_far : Event → Bool → ℕ

@@ -3,5 +3,5 @@ pub mod EventPlays
 mod BoardKept
 mod SmallNumbers
 mod EventStepping
-mod WorldRefines
+mod ReplayedWorld
 mod PlanInForce

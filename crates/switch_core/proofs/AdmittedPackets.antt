@@ -7,7 +7,7 @@ use Rattle.switch_core.specs.declared.tunnel_calls.Entered.{Entered}
 use Rattle.switch_core.specs.declared.tunnel_calls.Packet.{Packet}
 use Rattle.switch_core.specs.declared.forwarding.Forwarding.{Forwarding}
 use Rattle.switch_core.specs.declared.forwarding.Forwarding.TheVariants.{Out, Decided, Seek}
-use Rattle.switch_core.proofs.PacketArrivals.{entry_by}
+use Rattle.switch_core.proofs.SwitchArrivals.{entry_by}
 
 -- one more call changes no answer
 pub answer_counted : (s after : SwitchValue) (site : Site) (packet : Packet) (forwarding : Forwarding) →

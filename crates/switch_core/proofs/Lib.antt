@@ -1,13 +1,13 @@
 pub mod OwnTables
-pub mod OwnAdverts
+pub mod SwitchOwnAdverts
 pub mod NeighbourBodies
 pub mod SwitchLaws
 pub mod HeardState
 pub mod LookupAnswers
 pub mod LeavingPackets
-pub mod PacketArrivals
+pub mod SwitchArrivals
 pub mod PolicyDecisions
-pub mod OnWay
+pub mod SwitchHops
 pub mod NextSwitch
 pub mod OnlyAnswers
 pub mod AdmittedPackets

@@ -27,9 +27,9 @@ use Rattle.switch_core.specs.declared.tunnel_calls.Next.{Next}
 use Rattle.switch_core.specs.declared.tunnel_calls.Next.TheVariants as goes
 use Rattle.switch_core.specs.declared.tunnel_calls.Packet.{Packet}
 use Rattle.switch_core.proofs.LookupAnswers.{lookup_is}
-use Rattle.switch_core.proofs.PacketArrivals.{arrive_anew, arrive_held, arrive_out, entry_is}
+use Rattle.switch_core.proofs.SwitchArrivals.{arrive_anew, arrive_held, arrive_out, entry_is}
 use Rattle.switch_core.proofs.LeavingPackets.{next_dropped, next_exit, next_no_owner, next_out}
-use Rattle.switch_core.proofs.OnWay.{down_is, hop_arrives, hop_moves, hop_stuck, hop_turns}
+use Rattle.switch_core.proofs.SwitchHops.{down_is, hop_arrives, hop_moves, hop_stuck, hop_turns}
 
 -- ---- alternatives
 

@@ -22,7 +22,7 @@ use Rattle.switch_core.specs.declared.tunnel_calls.Entered.TheVariants as entry
 use Rattle.switch_core.specs.declared.tunnel_calls.Next.{Next}
 use Rattle.switch_core.specs.declared.tunnel_calls.Packet.{Packet}
 use Rattle.switch_core.proofs.LookupAnswers.{lookup_is, stamp_held, stamp_version}
-use Rattle.switch_core.proofs.PacketArrivals.{arrive_anew, arrive_held, arrive_out, entry_by}
+use Rattle.switch_core.proofs.SwitchArrivals.{arrive_anew, arrive_held, arrive_out, entry_by}
 
 -- ---- where decisions come from
 

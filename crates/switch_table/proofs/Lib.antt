@@ -2,7 +2,7 @@ mod OverLemmas
 mod SlotKeyLemmas
 mod SlotPushLemmas
 mod LiveLemmas
-mod FirstLemmas
+mod FirstCacheHits
 mod SlotHitLemmas
 mod SlotRemoveLemmas
 pub mod PairLemmas

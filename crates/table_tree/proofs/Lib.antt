@@ -1,5 +1,5 @@
-pub mod BitLemmas
+pub mod TreeBitMasks
 pub mod LookupLemmas
 pub mod NodeLemmas
-pub mod FindLemmas
-pub mod RuleLemmas
+pub mod FinderLemmas
+pub mod RuleTreeLemmas

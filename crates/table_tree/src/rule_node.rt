@@ -37,7 +37,7 @@ pub fn grow(alloc: Global, node: Node, cuts: u32) -> Result<BitTree<Vec<u32>>, A
 }
 
 // The least cut of the node, if any cuts are left and this one pays.
-#[tactic(auto, using(crate::proofs::RuleLemmas::none_left, crate::proofs::RuleLemmas::few_stay, crate::proofs::RuleLemmas::large_stays, crate::proofs::RuleLemmas::spread_stays, crate::proofs::RuleLemmas::cut_pays))]
+#[tactic(auto, using(crate::proofs::RuleTreeLemmas::none_left, crate::proofs::RuleTreeLemmas::few_stay, crate::proofs::RuleTreeLemmas::large_stays, crate::proofs::RuleTreeLemmas::spread_stays, crate::proofs::RuleTreeLemmas::cut_pays))]
 fn paying_cut(node: &Node, cuts: u32) -> Option<Cost>
     ensures cut { result ≡ paying_cut cuts node.now.rules.items node.now.region }
     ensures free { IfSome result (λ cost. IsFreeBit node.now.region cost.bit) }

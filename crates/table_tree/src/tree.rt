@@ -11,7 +11,7 @@ use std::alloc::{AllocError, Global};
 ///
 /// # Errors
 /// Only out of memory.
-#[tactic(auto, using(crate::proofs::NodeLemmas::half_smaller, crate::proofs::FindLemmas::end_is))]
+#[tactic(auto, using(crate::proofs::NodeLemmas::half_smaller, crate::proofs::FinderLemmas::end_is))]
 pub fn grow(alloc: Global, node: PartNode) -> Result<BitTree<u32>, AllocError>
     ensures { IfOk result (λ tree. IsGrownShape node.candidates.items node.region
         (candidate_shape_of tree)) }

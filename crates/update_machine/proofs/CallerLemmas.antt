@@ -18,7 +18,7 @@ pub use Rattle.update_machine.proofs.AnswerExistence.{Nears, after_append, loop_
 pub use Rattle.update_machine.proofs.NumberBlocks.{next_rises, next_sent}
 pub use Rattle.update_machine.proofs.NumberPieces.{piece_next}
 pub use Rattle.update_machine.proofs.EnclosedWalks.{ends_within}
-pub use Rattle.update_machine.proofs.KnownLinks.{has_known_link, heard_by_origin, known_link_laws, known_places, unreached}
+pub use Rattle.update_machine.proofs.JournalKnownLinks.{has_known_link, heard_by_origin, known_link_laws, known_places, unreached}
 pub use Rattle.update_machine.proofs.WholeAnswers.{answers_so_far, begins_itself}
 pub use Rattle.update_machine.proofs.EventSteps.{AreOf, HasNexts, IsEventOf, all_first, event_steps_are, first_steps_are, firsts_are}
 pub use Rattle.update_machine.proofs.OnePlay.{rooms_append}

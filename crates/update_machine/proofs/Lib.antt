@@ -40,7 +40,7 @@ mod SilentMessages
 mod SilentPackets
 mod SilentController
 mod EmptyJournal
-mod KnownLinks
+mod JournalKnownLinks
 mod FirstSteps
 mod WholeAnswers
 mod EventSteps

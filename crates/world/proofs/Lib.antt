@@ -2,10 +2,10 @@ pub mod OverParts
 pub mod OverSwitches
 pub mod KeptFiles
 pub mod BegunWorld
-pub mod StepFrame
-pub mod GoesTold
+pub mod WorldStepClauses
+pub mod WorldActingSteps
 pub mod JournalRoom
-pub mod LeastHops
-pub mod LeastWaiting
+pub mod WorldLeastPacket
+pub mod WorldLeastMessage
 pub mod SoFar
 pub mod ViewedParts

@@ -1,9 +1,9 @@
 pub mod StepWrites
 pub mod LogCalls
-pub mod WrittenGoing
+pub mod LogForwarding
 pub mod MessageLogs
-pub mod HoppedPacket
-pub mod LosingAt
+pub mod LogPacketMoves
+pub mod LogLosses
 pub mod HopLogs
 pub mod RelinkingAdverts
-pub mod HopsAround
+pub mod LogDetours

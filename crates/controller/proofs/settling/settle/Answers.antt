@@ -5,7 +5,7 @@ use Rattle.version_update.specs.Exports.{MarksValue, Settles}
 use Rattle.ternary.specs.Exports.{WordValue}
 use Rattle.controller.specs.Exports.{kept_touched, posts_to, rising_acts, stamp_acts, switches_named}
 use Rattle.controller.specs.declared.sends.Act.TheVariants.{Current, Retired}
-use Rattle.controller.proofs.MaskTelling.{opens_told, rising_none, rising_told, same_number, settling_told, told_current}
+use Rattle.controller.proofs.SettledSends.{opens_told, rising_none, rising_told, same_number, settling_told, told_current}
 use Rattle.controller.proofs.settling.settle.Goals as goal
 use Rattle.controller.proofs.settling.settle.Goals.{After-send_to_each, in-Some+in_ok-tell_current, in_default}
 

@@ -1,4 +1,4 @@
-use Rattle.packet_laws.proofs.OnTheWay.{held_on_the_way}
+use Rattle.packet_laws.proofs.PacketHistories.{held_on_the_way}
 use Rattle.packet_laws.proofs.packet_cause_laws.plays_held_on_the_way.Goals as goal
 
 pub returns : goal.returns

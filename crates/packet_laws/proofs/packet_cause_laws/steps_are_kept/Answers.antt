@@ -1,4 +1,4 @@
-use Rattle.packet_laws.proofs.OnTheWay.{kept_behind}
+use Rattle.packet_laws.proofs.PacketHistories.{kept_behind}
 use Rattle.packet_laws.proofs.packet_cause_laws.steps_are_kept.Goals as goal
 
 pub returns : goal.returns

@@ -1,4 +1,4 @@
-use Rattle.partition.proofs.PlanLemmas.{plan_holds}
+use Rattle.partition.proofs.PartitionPlans.{plan_holds}
 use Rattle.partition.proofs.plan.plan_laws.Goals as goal
 
 pub returns : goal.returns

@@ -1,5 +1,5 @@
 use Rattle.refinement.proofs.NewestKeptPolicy.{newest_in}
-use Rattle.refinement.proofs.SubmittedPlans.{submits, too_many_live, too_many_versions}
+use Rattle.refinement.proofs.RefinedSubmissions.{submits, too_many_live, too_many_versions}
 use Rattle.refinement.proofs.world_laws.controllers_submit.Goals as goal
 
 pub returns : goal.returns

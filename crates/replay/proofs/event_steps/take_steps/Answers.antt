@@ -9,7 +9,7 @@ use Rattle.replay.specs.Playing.{StopsWithin}
 use Rattle.replay.proofs.AskedStep.{Asked, asked, brought_all, none_yet}
 use Rattle.replay.proofs.BoardKept.{keep_up_next, keep_up_none, rest_is}
 use Rattle.replay.proofs.EventStepping.{begins_next, begins_whole, happens_whole, stops_next, took_next, took_none}
-use Rattle.replay.proofs.WorldRefines.{few_packets, tie_of}
+use Rattle.replay.proofs.ReplayedWorld.{few_packets, tie_of}
 use Rattle.replay.proofs.event_steps.take_steps.Goals as goal
 use Rattle.replay.proofs.event_steps.take_steps.Goals.{After-refines}
 use Rattle.replay.proofs.event_steps.take_steps.Given.{Over}

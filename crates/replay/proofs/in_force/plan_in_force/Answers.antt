@@ -3,7 +3,7 @@ use Rattle.control_laws.specs.Exports.{MarksAreBounded, VersionsArePlanned}
 use Rattle.controller.specs.Exports.{current_plan}
 use Rattle.world.specs.Exports.{setting_at}
 use Rattle.replay.proofs.PlanInForce.{kept_in_force}
-use Rattle.replay.proofs.WorldRefines.{tie_of}
+use Rattle.replay.proofs.ReplayedWorld.{tie_of}
 use Rattle.replay.proofs.in_force.plan_in_force.Goals as goal
 
 pub returns : goal.returns

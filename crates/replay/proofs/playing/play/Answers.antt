@@ -9,7 +9,7 @@ use Rattle.replay.proofs.AskedStep.{brought_few}
 use Rattle.replay.proofs.EventPlays.{PlaysOn, plays_from_start, plays_no_more, plays_on_by, stops_by}
 use Rattle.replay.specs.InForce.{IsPlanInForce}
 use Rattle.replay.proofs.BoardKept.{kept_up}
-use Rattle.replay.proofs.WorldRefines.{tie_of}
+use Rattle.replay.proofs.ReplayedWorld.{tie_of}
 use Rattle.replay.proofs.playing.play.Goals as goal
 use Rattle.replay.proofs.playing.play.Given.{Over}
 

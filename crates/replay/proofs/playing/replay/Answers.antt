@@ -1,7 +1,7 @@
 use Rattle.std.proofs.Common.{subst}
 use Rattle.update_machine.specs.Exports.{IsSetting}
 use Rattle.world.proofs.BegunWorld.{first_plans}
-use Rattle.replay.proofs.WorldRefines.{tie_of}
+use Rattle.replay.proofs.ReplayedWorld.{tie_of}
 use Rattle.replay.proofs.playing.replay.Goals as goal
 
 pub returns-clause-planned : goal.returns-clause-planned

@@ -1,4 +1,4 @@
-use Rattle.switch_core.proofs.PacketArrivals.{entry_is}
+use Rattle.switch_core.proofs.SwitchArrivals.{entry_is}
 use Rattle.switch_core.proofs.OnlyAnswers.{one_entry}
 use Rattle.switch_core.proofs.laws.enter_laws.Goals as goal
 

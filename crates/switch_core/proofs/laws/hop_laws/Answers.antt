@@ -1,4 +1,4 @@
-use Rattle.switch_core.proofs.OnWay.{down_is, hop_arrives, hop_ends, hop_moves, hop_same, hop_stands, hop_stays, hop_stuck, hop_turns, hop_usable}
+use Rattle.switch_core.proofs.SwitchHops.{down_is, hop_arrives, hop_ends, hop_moves, hop_same, hop_stands, hop_stays, hop_stuck, hop_turns, hop_usable}
 use Rattle.switch_core.proofs.OnlyAnswers.{one_hop}
 use Rattle.switch_core.proofs.laws.hop_laws.Goals as goal
 

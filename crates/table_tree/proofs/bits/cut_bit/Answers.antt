@@ -2,7 +2,7 @@ use Rattle.std.proofs.Common.{inl, inr}
 use Rattle.std.proofs.lemmas.Option.{IfSome_then, MatchOption-at_none, MatchOption-at_some}
 use Rattle.policy_rules.proofs.CallerLemmas.{IfNone-weaker}
 use Rattle.table_tree.specs.Regions.{all_fix, some_fix}
-use Rattle.table_tree.proofs.BitLemmas.{least_free, none_free}
+use Rattle.table_tree.proofs.TreeBitMasks.{least_free, none_free}
 use Rattle.table_tree.proofs.NodeLemmas.{cut_is_free}
 use Rattle.table_tree.proofs.bits.cut_bit.Goals as goal
 

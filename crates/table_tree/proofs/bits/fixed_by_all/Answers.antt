@@ -1,6 +1,6 @@
 use Rattle.std.proofs.Common.{◌∙◌, ap, arith, take_all}
 use Rattle.table_tree.specs.Regions.{all_fix}
-use Rattle.table_tree.proofs.BitLemmas.{all_more, all_none}
+use Rattle.table_tree.proofs.TreeBitMasks.{all_more, all_none}
 use Rattle.table_tree.proofs.bits.fixed_by_all.Goals as goal
 
 pub loop-candidate-init : goal.loop-candidate-init

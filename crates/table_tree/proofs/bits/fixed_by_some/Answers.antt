@@ -1,6 +1,6 @@
 use Rattle.std.proofs.Common.{◌∙◌, ap, arith, take_all}
 use Rattle.table_tree.specs.Regions.{some_fix}
-use Rattle.table_tree.proofs.BitLemmas.{some_more, some_none}
+use Rattle.table_tree.proofs.TreeBitMasks.{some_more, some_none}
 use Rattle.table_tree.proofs.bits.fixed_by_some.Goals as goal
 
 pub loop-candidate-init : goal.loop-candidate-init

@@ -1,5 +1,5 @@
 use Rattle.std.proofs.Common.{◌++◌, ◌≡◌, drop, map}
-use Rattle.table_tree.proofs.RuleLemmas.{rank_of}
+use Rattle.table_tree.proofs.RuleTreeLemmas.{rank_of}
 use Rattle.table_tree.proofs.rule_node.places_of.Given as goal
 
 abbrev pub invariant-loop-rule : goal.invariant-loop-rule

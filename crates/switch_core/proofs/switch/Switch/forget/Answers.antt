@@ -1,5 +1,5 @@
 use Rattle.std.proofs.Common.{arith}
-use Rattle.switch_core.proofs.OwnAdverts.{own_none}
+use Rattle.switch_core.proofs.SwitchOwnAdverts.{own_none}
 use Rattle.switch_core.proofs.switch.Switch.forget.Goals as goal
 
 pub invariant_of-self : goal.invariant_of-self

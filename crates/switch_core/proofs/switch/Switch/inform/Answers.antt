@@ -1,6 +1,6 @@
 use Rattle.std.proofs.Common.{◌∙◌, ◌≡◌, sym, true}
 use Rattle.switch_core.specs.Exports.{is_news_here}
-use Rattle.switch_core.proofs.OwnAdverts.{news_is_of_another, own_others}
+use Rattle.switch_core.proofs.SwitchOwnAdverts.{news_is_of_another, own_others}
 use Rattle.switch_core.proofs.switch.Switch.inform.Goals as goal
 
 pub invariant_of-self : goal.invariant_of-self

@@ -3,7 +3,7 @@ use Rattle.base.proofs.Exports.{YieldsList-from_first, find_from_yields_List, fo
 use Rattle.ternary.specs.Exports.{holds}
 use Rattle.switch_table.specs.Exports.{CacheValue, Pair, first_entry, is_hit, kept_entry}
 use Rattle.switch_table.specs.declared.cache.CacheEntry.{CacheEntry}
-use Rattle.switch_table.proofs.FirstLemmas.{first_by_hits}
+use Rattle.switch_table.proofs.FirstCacheHits.{first_by_hits}
 use Rattle.switch_table.proofs.PairLemmas.{HasVersion}
 use Rattle.switch_table.proofs.cache.Cache.first_entry.Goals as goal
 use Rattle.switch_table.proofs.cache.Cache.first_entry.Goals.{After-first_hit}

@@ -4,8 +4,8 @@ use Rattle.controller.specs.declared.sends.Act.{Act}
 use Rattle.journal.specs.declared.item.Item.TheVariants as item
 use Rattle.version_update.specs.Exports.{after_over, at_switch}
 use Rattle.world_log.specs.Exports.{MayNote}
-use Rattle.world.proofs.StepFrame.{follows, goes_nothing, net_stays, none_in, nothing_goes}
-use Rattle.world.proofs.GoesTold.{goes_acting}
+use Rattle.world.proofs.WorldStepClauses.{follows, goes_nothing, net_stays, none_in, nothing_goes}
+use Rattle.world.proofs.WorldActingSteps.{goes_acting}
 use Rattle.world.proofs.OverSwitches.{known_in, place_in}
 use Rattle.refinement.proofs.GoneSwitches.{gone_may, gone_piece, gone_refines, still_up}
 use Rattle.world.proofs.parts.Parts.confirm.Goals as goal

@@ -9,9 +9,9 @@ use Rattle.world_log.specs.Exports.{IsPart, all_adverts_sent, near_all}
 use Rattle.world.specs.Exports.{setting_in, state_in}
 use Rattle.refinement.specs.Exports.{RefineJournal}
 use Rattle.travelling.specs.Travelling.{WithoutAt, numbers_at}
-use Rattle.refinement.proofs.CrashWrites.{crash_may, crash_next, crash_piece, crash_refines, same_switch, stays_down}
-use Rattle.world.proofs.StepFrame.{follows, goes, goes_nothing, net_stays, nothing_goes}
-use Rattle.world.proofs.GoesTold.{relinked_refines}
+use Rattle.refinement.proofs.RefinedCrashes.{crash_may, crash_next, crash_piece, crash_refines, same_switch, stays_down}
+use Rattle.world.proofs.WorldStepClauses.{follows, goes, goes_nothing, net_stays, nothing_goes}
+use Rattle.world.proofs.WorldActingSteps.{relinked_refines}
 use Rattle.world.proofs.OverSwitches.{few_in, place_in, switch_in}
 use Rattle.world_log.proofs.StepWrites.{part_of_first, part_of_rest, step_part, step_written}
 use Rattle.world.proofs.parts.Parts.crash.Goals as goal

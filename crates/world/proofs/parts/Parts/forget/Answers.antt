@@ -2,7 +2,7 @@ use Rattle.std.proofs.Common.{◌∙◌, refl, sym}
 use Rattle.journal.specs.declared.item.Item.TheVariants as item
 use Rattle.message_bag.specs.Exports.{with_forgotten}
 use Rattle.refinement.proofs.BagDeliveries.{forgotten_refines, unforgotten}
-use Rattle.world.proofs.StepFrame.{files_stay, goes_nothing, goes_one, none_in, plane_stays}
+use Rattle.world.proofs.WorldStepClauses.{files_stay, goes_nothing, goes_one, none_in, plane_stays}
 use Rattle.world.proofs.parts.Parts.forget.Goals as goal
 
 pub returns-then-not-may_be_delivered : goal.returns-then-not-may_be_delivered

@@ -3,7 +3,7 @@ use Rattle.std.proofs.Common.{◌≡◌, Result}
 use Rattle.update_machine.specs.Exports.{Step}
 use Rattle.world.specs.Exports.{Goes, HasBegun, Plays}
 use Rattle.world.specs.declared.parts.Parts.{Parts}
-use Rattle.world.proofs.StepFrame.{begun, played, with_journal}
+use Rattle.world.proofs.WorldStepClauses.{begun, played, with_journal}
 use Rattle.world.proofs.parts.Parts.play.Goals as goal
 use Rattle.world.proofs.parts.Parts.play.Goals.{In_ok-push}
 

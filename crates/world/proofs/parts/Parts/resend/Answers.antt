@@ -5,10 +5,10 @@ use Rattle.controller.specs.declared.sends.Act.{Act}
 use Rattle.controller.specs.declared.sends.Act.TheVariants.{Post}
 use Rattle.journal.specs.declared.item.Item.TheVariants as item
 use Rattle.world_log.specs.Exports.{MayNote, act_items, adverts_again}
-use Rattle.world.proofs.StepFrame.{files_stay, goes_nothing, goes_quiet, net_stays, none_in, nothing_goes, plane_stays}
-use Rattle.world.proofs.GoesTold.{as_noted}
+use Rattle.world.proofs.WorldStepClauses.{files_stay, goes_nothing, goes_quiet, net_stays, none_in, nothing_goes, plane_stays}
+use Rattle.world.proofs.WorldActingSteps.{as_noted}
 use Rattle.world.proofs.OverSwitches.{few_in, known_in, place_in, switch_in}
-use Rattle.refinement.proofs.SentAgain.{acts_same, again_may, again_piece, again_refines, sent_refines, silent}
+use Rattle.refinement.proofs.RefinedResends.{acts_same, again_may, again_piece, again_refines, sent_refines, silent}
 use Rattle.world.proofs.parts.Parts.resend.Goals as goal
 use Rattle.world.proofs.parts.Parts.resend.Goals.{After-are_none}
 

@@ -6,9 +6,9 @@ use Rattle.ctrl_msg.specs.Exports.{to_controller}
 use Rattle.journal.specs.declared.item.Item.TheVariants as item
 use Rattle.switch_core.specs.Exports.{SwitchValue}
 use Rattle.refinement.proofs.SendableMessages.{hello_spelled}
-use Rattle.refinement.proofs.BootingSwitch.{boot_next, boot_piece, boot_refines, up_already}
-use Rattle.world.proofs.StepFrame.{follows, goes_nothing, net_stays, none_in, nothing_goes}
-use Rattle.world.proofs.GoesTold.{goes_told}
+use Rattle.refinement.proofs.RefinedBoots.{boot_next, boot_piece, boot_refines, up_already}
+use Rattle.world.proofs.WorldStepClauses.{follows, goes_nothing, net_stays, none_in, nothing_goes}
+use Rattle.world.proofs.WorldActingSteps.{goes_told}
 use Rattle.world.proofs.OverSwitches.{few_in, place_in, switch_in}
 use Rattle.world_log.proofs.StepWrites.{part_none}
 use Rattle.world.proofs.parts.Parts.restart.Goals as goal

@@ -8,11 +8,11 @@ use Rattle.refinement.specs.Exports.{link_step}
 use Rattle.world_log.specs.Exports.{all_adverts_sent, near_all}
 use Rattle.world.specs.Exports.{HasBegun, comes_in}
 use Rattle.world.specs.declared.parts.Parts.{Parts}
-use Rattle.world.proofs.StepFrame.{follows, goes_nothing, net_stays, nothing_goes}
-use Rattle.world.proofs.GoesTold.{goes_told, relinked_refines}
+use Rattle.world.proofs.WorldStepClauses.{follows, goes_nothing, net_stays, nothing_goes}
+use Rattle.world.proofs.WorldActingSteps.{goes_told, relinked_refines}
 use Rattle.world.proofs.OverSwitches.{few_in}
 use Rattle.refinement.proofs.LinksChange.{numbers_left}
-use Rattle.refinement.proofs.LinkRows.{ends_below, same_refines, set_may, set_piece, set_refines}
+use Rattle.refinement.proofs.RefinedLinkSteps.{ends_below, same_refines, set_may, set_piece, set_refines}
 use Rattle.world.proofs.parts.Parts.set_link.Goals as goal
 
 -- no packet enters

@@ -10,9 +10,9 @@ use Rattle.world.specs.Exports.{BeginsStep, FilesValue, Goes, IsMade, KeepNet, M
 use Rattle.world.specs.declared.parts.Parts.{Parts}
 use Rattle.world_log.specs.Exports.{MayNote}
 use Rattle.world.proofs.KeptFiles.{file_there}
-use Rattle.world.proofs.StepFrame.{files_stay, goes_one, net_stays, none_in, nothing_goes, plane_stays}
-use Rattle.world.proofs.GoesTold.{goes_acting}
-use Rattle.refinement.proofs.SubmittedPolicy.{live_piece, newest_refines, planned_next, refused_piece, refused_refines, submitted_may, submitted_piece, submitted_refines, unapplied_next, unplanned_next, versions_piece}
+use Rattle.world.proofs.WorldStepClauses.{files_stay, goes_one, net_stays, none_in, nothing_goes, plane_stays}
+use Rattle.world.proofs.WorldActingSteps.{goes_acting}
+use Rattle.refinement.proofs.RefinedUpdates.{live_piece, newest_refines, planned_next, refused_piece, refused_refines, submitted_may, submitted_piece, submitted_refines, unapplied_next, unplanned_next, versions_piece}
 use Rattle.world.proofs.parts.Parts.update.Goals as goal
 use Rattle.world.proofs.parts.Parts.update.Goals.{In-Planned, in-Err-Refused-TooManyLive, in-Err-Refused-TooManyVersions}
 

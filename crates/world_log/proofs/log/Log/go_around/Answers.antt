@@ -11,7 +11,7 @@ use Rattle.travelling.specs.declared.standing.Standing as packet
 use Rattle.tunnel.specs.Exports.{next}
 use Rattle.world_log.specs.Exports.{HasHopped, LogAfter, MeetsDownLink, ended_switch, followed, followed_flight, followed_items, followed_posts}
 use Rattle.world_log.specs.declared.log.Log.{Log}
-use Rattle.world_log.proofs.HopsAround.{last_here, stuck_log, stuck_switch, turned_log, turned_switch}
+use Rattle.world_log.proofs.LogDetours.{last_here, stuck_log, stuck_switch, turned_log, turned_switch}
 use Rattle.world_log.proofs.LogCalls.{log_failed, log_unwritten}
 use Rattle.world_log.proofs.HopLogs.{found_part}
 use Rattle.world_log.proofs.log.Log.go_around.Goals as goal

@@ -8,7 +8,7 @@ use Rattle.travelling.specs.Travelling.{Flight, HasPlace, Standing, standing_at,
 use Rattle.tunnel.specs.Exports.{here, next}
 use Rattle.world_log.specs.Exports.{HasHopped, Hops, MayGoOn, MeetsDownLink}
 use Rattle.world_log.specs.declared.log.Log.{Log}
-use Rattle.world_log.proofs.HoppedPacket.{authority_counted}
+use Rattle.world_log.proofs.LogPacketMoves.{authority_counted}
 use Rattle.world_log.proofs.HopLogs.{arrival_log, free_hop, move_hop, passed_by, passed_hop, placed}
 use Rattle.world_log.proofs.LogCalls.{log_unwritten}
 use Rattle.world_log.proofs.log.Log.hop.Goals as goal

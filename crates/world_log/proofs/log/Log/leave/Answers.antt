@@ -6,7 +6,7 @@ use Rattle.switch_core.specs.declared.deciding.Decision.{Decision}
 use Rattle.travelling.specs.Travelling.{standing_kept}
 use Rattle.tunnel.specs.Exports.{TunnelValue}
 use Rattle.world_log.specs.Exports.{LogAfter, packet_standing, set_flight, set_item}
-use Rattle.world_log.proofs.WrittenGoing.{by_action, exits, owned, unowned}
+use Rattle.world_log.proofs.LogForwarding.{by_action, exits, owned, unowned}
 use Rattle.world_log.proofs.log.Log.leave.Goals as goal
 
 pub returns-in-Drop-clause-log : goal.returns-in-Drop-clause-log

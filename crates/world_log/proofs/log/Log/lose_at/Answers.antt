@@ -1,6 +1,6 @@
 use Rattle.std.proofs.Common.{◌∙◌, arith, refl}
 use Rattle.base.proofs.Exports.{on_err}
-use Rattle.world_log.proofs.LosingAt.{lost_all, lost_more, lost_part, lost_within, lost_written, none_lost}
+use Rattle.world_log.proofs.LogLosses.{lost_all, lost_more, lost_part, lost_within, lost_written, none_lost}
 use Rattle.world_log.proofs.log.Log.lose_at.Goals as goal
 
 pub loop-packet-init : goal.loop-packet-init

@@ -7,7 +7,7 @@ use Rattle.message_bag.specs.Exports.{HasShortSpelling, new_post}
 use Rattle.switch_core.specs.Exports.{cached_by}
 use Rattle.ternary.specs.Exports.{WordValue}
 use Rattle.world_log.specs.Exports.{cache_message, message_list}
-use Rattle.world_log.proofs.WrittenGoing.{rule_spelled}
+use Rattle.world_log.proofs.LogForwarding.{rule_spelled}
 use Rattle.world_log.proofs.log.Log.send_rule.Goals as goal
 
 pub send-requires : goal.send-requires

@@ -8,7 +8,7 @@ use Rattle.world_log.specs.declared.log.Log.{Log}
 use Rattle.travelling.specs.Travelling.{Flight, begun_at, standing_kept, travels_by}
 use Rattle.tunnel.specs.Exports.{TunnelValue}
 use Rattle.world_log.specs.Exports.{LogAfter, packet_standing, set_flight, set_item}
-use Rattle.world_log.proofs.WrittenGoing.{none_known, route_known}
+use Rattle.world_log.proofs.LogForwarding.{none_known, route_known}
 use Rattle.world_log.proofs.LogCalls.{log_one}
 use Rattle.world_log.proofs.log.Log.set_out.Goals as goal
 

@@ -8,7 +8,7 @@ use Rattle.switch_core.specs.Exports.{answer_of, cached_by, set_out, site_of}
 use Rattle.switch_core.specs.declared.forwarding.Forwarding.{Forwarding}
 use Rattle.travelling.specs.Travelling.{standing_kept}
 use Rattle.world_log.specs.Exports.{LogAfter, arrived_flight, arrived_items, arrived_posts, cache_message, message_list, packet_standing}
-use Rattle.world_log.proofs.WrittenGoing.{sought}
+use Rattle.world_log.proofs.LogForwarding.{sought}
 use Rattle.world_log.proofs.LogCalls.{log_ends, log_failed, log_unwritten}
 use Rattle.world_log.proofs.StepWrites.{part_first}
 use Rattle.world_log.proofs.log.Log.settle.Goals as goal

@@ -20,7 +20,7 @@ use Rattle.controller.specs.declared.sends.Act.{Act}
 use Rattle.controller.specs.declared.sends.Act.TheVariants.{Current, Post, Retired}
 use Rattle.refinement.specs.Exports.{AreMarksOf, IsKnown, item_of, written_items}
 use Rattle.refinement.proofs.KeptController.{current_on, known_on, marks_on, retired_on}
-use Rattle.refinement.proofs.PickedRanges.{any_picked, passing_is}
+use Rattle.refinement.proofs.RefinedRanges.{any_picked, passing_is}
 use Rattle.refinement.proofs.WrittenActs.{posted, written_in_three}
 use Rattle.ternary.specs.Exports.{WordValue}
 

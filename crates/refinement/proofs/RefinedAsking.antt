@@ -11,9 +11,9 @@ use Rattle.control_laws.specs.Exports.{EndsAt}
 use Rattle.packet_laws.specs.Exports.{what_is_known}
 use Rattle.travelling.specs.Travelling.{Flight}
 use Rattle.refinement.proofs.ArrivedPackets.{IsAtEnd}
-use Rattle.refinement.proofs.JournalLaws.{Known}
+use Rattle.refinement.proofs.RefinedReach.{Known}
 use Rattle.refinement.proofs.MovedPacket.{Hops, arrives_at_end}
-use Rattle.refinement.proofs.OnWay.{IsStanding, got}
+use Rattle.refinement.proofs.RefinedFlights.{IsStanding, got}
 use Rattle.refinement.proofs.SeenWithinStep.{Sees, sees}
 use Rattle.refinement.proofs.SwitchFacts.{number_shown}
 

@@ -16,10 +16,10 @@ use Rattle.control_laws.specs.Exports.{HasItemCause, LinksAreThere}
 use Rattle.control_laws.proofs.Exports.{HasBothCauses}
 use Rattle.packet_laws.specs.Exports.{AuthorityDecides, Avoids, Blocked, CacheDecides, CameIn, DecidesBy, HasKeptFacts, IsAt, IsDecided, IsLookedUp, IsOnLeg, IsOnWay, IsPartitionOf, IsRedirected, IsRightEntry, IsRightlyDecided, IsSought, IsUnderWay, Judged, LeadsTo, MeetsDown, MovesOver, OnWay, PacketFacts, Stage, TakesDetour, TakesExit, TakesRoute, facts_after, stage_of, what_is_known}
 use Rattle.packet_laws.proofs.PacketsHere.{IsHere, found_in, here_of, leg_in, next_in, decision_in, rules_of, seeking_of}
-use Rattle.packet_laws.proofs.HeaderLookups.{FindsTargets, redirect_found}
+use Rattle.packet_laws.proofs.PacketHeaderLookups.{FindsTargets, redirect_found}
 use Rattle.packet_laws.proofs.PacketBlocks.{WhenDecided}
 use Rattle.packet_laws.proofs.PlanLookups.{scan_named}
-use Rattle.packet_laws.proofs.KnownRoutes.{IsWay, route_way}
+use Rattle.packet_laws.proofs.PacketKnownRoutes.{IsWay, route_way}
 use Rattle.packet_laws.proofs.VersionMatches.{scan_of_version}
 
 -- what is known of the journal before an item, and kept of its packet

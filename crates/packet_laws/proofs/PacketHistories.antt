@@ -5,7 +5,7 @@ use Rattle.control_laws.specs.Exports.{AreEvents, HoldsAtEnds, HoldsReached}
 use Rattle.packet_laws.specs.Exports.{EndsStep, HeldOnTheWay, HoldsBetween, HoldsSoFar, IsKeptBehind, KeepVersionsWhole, PacketsTravel, StrongCause, detour_count, exit_count, hops_on_route, hops_taken, most_hops, most_routes, most_switches, routes_taken, search_count, steps_played}
 use Rattle.packet_laws.proofs.StepEnds.{ends_at}
 use Rattle.packet_laws.proofs.StepsOfPlays.{play_begins}
-use Rattle.packet_laws.proofs.AlwaysReached.{OfReached}
+use Rattle.packet_laws.proofs.PacketsAlwaysReached.{OfReached}
 
 -- the laws of journals that may end within a step
 pub record Laws : Type 0 where

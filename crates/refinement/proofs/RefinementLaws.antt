@@ -8,16 +8,16 @@ use Rattle.refinement.specs.Exports.{BagsRefine, Comes, EntriesRefine, HopsRefin
 use Rattle.tunnel.specs.Exports.{here}
 use Rattle.packet_laws.specs.Exports.{IsUnknown, what_is_known}
 use Rattle.world_log.specs.Exports.{coming_in, entered_flight, entered_items}
-use Rattle.refinement.proofs.CanAsk.{CanAsk, can_be_asked, looks_up_as}
-use Rattle.refinement.proofs.ComePieces.{come_along}
+use Rattle.refinement.proofs.RefinedAsking.{CanAsk, can_be_asked, looks_up_as}
+use Rattle.refinement.proofs.RefinedEntries.{come_along}
 use Rattle.refinement.proofs.IncomingWrites.{ComesTo, come_goes, come_law, looking}
 use Rattle.refinement.proofs.HopPieces.{hop_others, hop_own, hop_piece}
-use Rattle.refinement.proofs.JournalLaws.{Known, reached_known}
+use Rattle.refinement.proofs.RefinedReach.{Known, reached_known}
 use Rattle.refinement.proofs.AnswerItems.{entered_sends}
-use Rattle.refinement.proofs.OnWay.{IsStanding, standing_by}
+use Rattle.refinement.proofs.RefinedFlights.{IsStanding, standing_by}
 use Rattle.refinement.proofs.PostedFrames.{are_apart, bag_begun, bag_delivered, bag_forgotten, bag_on, bag_sent}
 use Rattle.refinement.proofs.SeenWithinStep.{sees}
-use Rattle.refinement.proofs.FactsAlong.{same_targets, flight_now}
+use Rattle.refinement.proofs.RefinedPacketFacts.{same_targets, flight_now}
 
 module _ (setting : Setting) (journal : List Item) (row s : ℕ) (header : Header) (ports : Ports)
     (of : IsOfNet setting journal ports) (there : s < length setting.net.switches)

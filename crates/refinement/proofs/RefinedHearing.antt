@@ -10,7 +10,7 @@ use Rattle.switch_table.specs.Exports.{after_carry, after_raise}
 use Rattle.refinement.specs.Exports.{switch_of}
 use Rattle.refinement.proofs.SwitchHears.{SaysTouched, hears_facts}
 use Rattle.refinement.proofs.SwitchFactItems.{facts_delivered}
-use Rattle.refinement.proofs.HeldTables.{AreVersioned, IsVersioned}
+use Rattle.refinement.proofs.RefinedTables.{AreVersioned, IsVersioned}
 use Rattle.refinement.proofs.SwitchFacts.{SwitchFacts, by_facts, switch_by, switch_is, facts_of}
 
 -- ---- what is obeyed

@@ -23,10 +23,10 @@ use Rattle.world_log.specs.Exports.{MayNote, MaySend, act_items, act_posts}
 use Rattle.world_log.proofs.MessageLogs.{posts_as_acts, sent_as_acts}
 use Rattle.refinement.proofs.ActItems.{written_is}
 use Rattle.refinement.proofs.BagDeliveries.{deliverable_as, nothing_happens, sent_as}
-use Rattle.refinement.proofs.JournalLaws.{reached_known}
+use Rattle.refinement.proofs.RefinedReach.{reached_known}
 use Rattle.refinement.proofs.OneItem.{WroteOne, grown}
 use Rattle.refinement.proofs.PostedFrames.{bag_delivered, bag_on, within_posts}
-use Rattle.refinement.proofs.ToldSteps.{IsTold, refines_told}
+use Rattle.refinement.proofs.RefinedActs.{IsTold, refines_told}
 use Rattle.refinement.proofs.StepRefines.{links_stay, one_changes, up_stay}
 use Rattle.refinement.proofs.SendableMessages.{may_note, may_send}
 

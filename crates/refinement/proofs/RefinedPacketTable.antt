@@ -7,9 +7,9 @@ use Rattle.packet_laws.proofs.Exports.{numbered, ways_of_all}
 use Rattle.refinement.specs.Exports.{NetworkState, RefineJournal, flight_in, flight_of}
 use Rattle.travelling.specs.Travelling.{Flight, Flights, numbers_at, stands_at, flight}
 use Rattle.travelling.proofs.SlotNumbers.{beyond, none_between}
-use Rattle.refinement.proofs.JournalLaws.{Known, reached_known}
-use Rattle.refinement.proofs.OnWay.{IsStanding, got}
-use Rattle.refinement.proofs.PickedRanges.{any_picked}
+use Rattle.refinement.proofs.RefinedReach.{Known, reached_known}
+use Rattle.refinement.proofs.RefinedFlights.{IsStanding, got}
+use Rattle.refinement.proofs.RefinedRanges.{any_picked}
 use Rattle.refinement.proofs.AskingSwitch.{standing_of}
 
 -- ---- numbers that pass a test

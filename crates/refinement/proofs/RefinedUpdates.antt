@@ -3,7 +3,7 @@ use Rattle.std.proofs.Common.{[], if◌then◌else◌, ◌++◌, ◌+◌, ◌-�
 use Rattle.base.proofs.Exports.{nat_tests}
 use Rattle.refinement.specs.Exports.{AreWritten, IsBagOf, IsControllerOf, IsPlanOfNext, NetworkState, RefineJournal}
 use Rattle.refinement.proofs.ControllerUntouched.{items_leave}
-use Rattle.refinement.proofs.SubmittedPlans.{submits, too_many_live, too_many_versions}
+use Rattle.refinement.proofs.RefinedSubmissions.{submits, too_many_live, too_many_versions}
 use Rattle.controller.specs.Exports.{ControllerValue, PlanValue, SubmitsPlan, newest_policy, next_kept, submit_acts}
 use Rattle.controller.specs.declared.sends.Act.{Act}
 use Rattle.update_machine.specs.Exports.{Inapplicable, Item, Net, PoliciesKeep, PolicyFile, Row, Setting, Step, Update, apply_code, items_then, made_by, piece, plan_code, policy_in, setting_of, submitted_items, touched_of, update_code, update_items, version_count}
@@ -14,11 +14,11 @@ use Rattle.steps.specs.Exports.{IsStep}
 use Rattle.update_machine.proofs.Exports.{next_by, policies_keep, unapplied_code, unplanned_code}
 use Rattle.world_log.specs.Exports.{MayNote, act_items, act_posts}
 use Rattle.refinement.proofs.ActItems.{written_is}
-use Rattle.refinement.proofs.JournalLaws.{reached_known}
+use Rattle.refinement.proofs.RefinedReach.{reached_known}
 use Rattle.refinement.proofs.NewestKeptPolicy.{newest_in}
 use Rattle.refinement.proofs.OneItem.{grown}
 use Rattle.refinement.proofs.PostedFrames.{bag_on}
-use Rattle.refinement.proofs.ToldSteps.{refines_told}
+use Rattle.refinement.proofs.RefinedActs.{refines_told}
 use Rattle.refinement.proofs.StepRefines.{links_stay, switches_stay, up_stay}
 use Rattle.refinement.proofs.SendableMessages.{may_note}
 use Rattle.ternary.specs.Exports.{WordValue}

@@ -6,13 +6,13 @@ use Rattle.journal.specs.declared.item.Item.TheVariants as item
 use Rattle.update_machine.specs.Exports.{Cause, Leg, Ports}
 use Rattle.switch_core.specs.Exports.{IsAtAuthority, Moved, StandsAt, SwitchValue, are_isolated, call_counted, cause_of, down_with, hop_answer, move_answer, moved_along}
 use Rattle.switch_core.specs.declared.tunnel_calls.HopEnd.TheVariants as hop
-use Rattle.switch_core.proofs.OnWay.{hop_around, hop_stays}
+use Rattle.switch_core.proofs.SwitchHops.{hop_around, hop_stays}
 use Rattle.tunnel.specs.Exports.{here, marked_down, next, on_route}
 use Rattle.travelling.specs.Travelling.{Flight, Standing, begun_at, marked_at, travels_by}
 use Rattle.world_log.specs.Exports.{LogAfter, MeetsDownLink, ended_switch, followed, followed_flight, followed_items, followed_posts, hop_flight, hop_posts, hop_written, hopped_switch}
 use Rattle.world_log.specs.declared.log.Log.{Log}
 use Rattle.world_log.proofs.LogCalls.{log_behind}
-use Rattle.world_log.proofs.HoppedPacket.{authority_counted}
+use Rattle.world_log.proofs.LogPacketMoves.{authority_counted}
 use Rattle.world_log.proofs.HopLogs.{hop_log, turned_along}
 
 -- the switch finds a route around the link, or none, as it does for the packet

@@ -10,11 +10,11 @@ use Rattle.packet_laws.specs.Exports.{IsUnknown, what_is_known}
 use Rattle.world_log.specs.Exports.{answer_items, entered_flight, entered_items}
 use Rattle.travelling.specs.Travelling.{Flight, Standing}
 use Rattle.refinement.proofs.OnwardPackets.{GoesIn, entered_goes}
-use Rattle.refinement.proofs.JournalLaws.{Known, flight_stays}
+use Rattle.refinement.proofs.RefinedReach.{Known, flight_stays}
 use Rattle.refinement.proofs.AnswerItems.{answer_later, later_packets}
 use Rattle.refinement.proofs.OtherPackets.{entered_other}
 use Rattle.refinement.proofs.PostedFrames.{SendFrom, are_apart}
-use Rattle.refinement.proofs.FactsAlong.{Targets, by_targets, flight_along, facts_along}
+use Rattle.refinement.proofs.RefinedPacketFacts.{Targets, by_targets, flight_along, facts_along}
 
 -- ---- one packet enters, and then none
 

@@ -11,7 +11,7 @@ use Rattle.travelling.specs.Travelling.{Flights}
 use Rattle.world_log.specs.Exports.{IsPart, act_items, act_posts}
 use Rattle.world_log.specs.declared.log.Log.{Log}
 use Rattle.world.specs.declared.parts.Parts.{Parts}
-use Rattle.world.proofs.StepFrame.{Follows, goes, part_goes}
+use Rattle.world.proofs.WorldStepClauses.{Follows, goes, part_goes}
 use Rattle.world_log.proofs.StepWrites.{step_part, step_written}
 
 -- the journal behind the first item, what is written then, under which number the messages are,

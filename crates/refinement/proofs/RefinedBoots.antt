@@ -21,11 +21,11 @@ use Rattle.update_machine.proofs.Exports.{last_given_append, messages_keep, swit
 use Rattle.world_log.specs.Exports.{act_items, act_posts}
 use Rattle.refinement.proofs.BagDeliveries.{nothing_happens}
 use Rattle.refinement.proofs.GoneSwitches.{up_as}
-use Rattle.refinement.proofs.JournalLaws.{reached_known}
+use Rattle.refinement.proofs.RefinedReach.{reached_known}
 use Rattle.refinement.proofs.OneItem.{WroteOne}
 use Rattle.refinement.proofs.PostedFrames.{bag_on}
 use Rattle.refinement.proofs.NetworkSwitches.{switch_is, switch_there}
-use Rattle.refinement.proofs.ToldSteps.{refines_told}
+use Rattle.refinement.proofs.RefinedActs.{refines_told}
 use Rattle.refinement.proofs.StepRefines.{one_changes, same_links}
 use Rattle.refinement.proofs.LinksChange.{caused_first}
 

@@ -20,10 +20,10 @@ use Rattle.refinement.proofs.BagDeliveries.{nothing_happens}
 use Rattle.refinement.proofs.SwitchLosses.{losts_apart, losts_bring_none, losts_no_rows, flight_lost}
 use Rattle.refinement.proofs.OneItem.{WroteOne, grown}
 use Rattle.refinement.proofs.PostedFrames.{bag_on}
-use Rattle.refinement.proofs.StandingPackets.{among, among_numbers, numbers_are}
+use Rattle.refinement.proofs.RefinedPacketTable.{among, among_numbers, numbers_are}
 use Rattle.refinement.proofs.NetworkSwitches.{switch_is}
 use Rattle.refinement.proofs.StepRefines.{same_links}
-use Rattle.refinement.proofs.FactsAlong.{flight_along, flight_now}
+use Rattle.refinement.proofs.RefinedPacketFacts.{flight_along, flight_now}
 use Rattle.refinement.proofs.LinksChange.{relinked_state, one_relinks, one_advert, one_next, LinksChange, change_piece, change_may, change_refines}
 
 -- ---- what it writes

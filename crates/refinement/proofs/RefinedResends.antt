@@ -18,11 +18,11 @@ use Rattle.steps.specs.Exports.{IsStep}
 use Rattle.travelling.specs.Travelling.{Flights}
 use Rattle.refinement.proofs.ActItems.{written_is}
 use Rattle.refinement.proofs.BagDeliveries.{nothing_happens}
-use Rattle.refinement.proofs.JournalLaws.{reached_known}
+use Rattle.refinement.proofs.RefinedReach.{reached_known}
 use Rattle.refinement.proofs.OneItem.{WroteOne}
 use Rattle.refinement.proofs.PostedFrames.{bag_on}
 use Rattle.refinement.proofs.NetworkSwitches.{switch_is, switch_known}
-use Rattle.refinement.proofs.ToldSteps.{refines_told}
+use Rattle.refinement.proofs.RefinedActs.{refines_told}
 use Rattle.refinement.proofs.StepRefines.{links_stay, up_stay}
 use Rattle.refinement.proofs.SendableMessages.{may_note}
 

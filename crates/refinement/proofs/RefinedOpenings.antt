@@ -13,9 +13,9 @@ use Rattle.refinement.proofs.DeliveredRecords.{hearing_refines}
 use Rattle.steps.specs.Exports.{IsStep}
 use Rattle.update_machine.proofs.Exports.{last_given_append}
 use Rattle.world_log.specs.Exports.{AreRelinked, MaySend, all_adverts_sent, near_all}
-use Rattle.refinement.proofs.HeardBy.{IsThere, as_sent, deliver_piece, is_there, row_keeps}
+use Rattle.refinement.proofs.RefinedDeliveries.{IsThere, as_sent, deliver_piece, is_there, row_keeps}
 use Rattle.refinement.proofs.OneItem.{grown}
-use Rattle.refinement.proofs.JournalLaws.{reached_known}
+use Rattle.refinement.proofs.RefinedReach.{reached_known}
 use Rattle.refinement.proofs.PostedFrames.{bag_on}
 use Rattle.refinement.proofs.StepRefines.{same_links}
 use Rattle.refinement.proofs.LinksChange.{relinked_state, one_relinks, one_advert, one_next, LinksChange, change_piece, change_may, unmoved, change_refines}

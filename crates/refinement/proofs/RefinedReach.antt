@@ -10,7 +10,7 @@ use Rattle.refinement.specs.Exports.{TablesAreKnown, flight_in}
 use Rattle.packet_laws.specs.Exports.{AllKept, IsOnLeg, IsOnWay, IsServed, PacketFacts, what_is_known}
 use Rattle.packet_laws.proofs.Exports.{Before, IsSettled, all_kept, reached_settled, switches_of_all, travels_in}
 use Rattle.refinement.proofs.OtherPackets.{NoneName, unnamed}
-use Rattle.refinement.proofs.FactsAlong.{by_targets, flight_by, flight_now, facts_all}
+use Rattle.refinement.proofs.RefinedPacketFacts.{by_targets, flight_by, flight_now, facts_all}
 
 -- ---- the laws
 

@@ -13,9 +13,9 @@ use Rattle.control_laws.proofs.Exports.{AreKept, KnowsNoRoute, boot_more, fact_o
 use Rattle.convergence_laws.specs.Exports.{AreUnusable, GetStuckApart, Reaches}
 use Rattle.convergence_laws.proofs.ChangedLinksTold.{near_back}
 use Rattle.convergence_laws.proofs.ConvergedLinks.{AreAgreed}
-use Rattle.convergence_laws.proofs.KnownLinks.{agreed_converged}
+use Rattle.convergence_laws.proofs.ConvergedKnownLinks.{agreed_converged}
 use Rattle.convergence_laws.proofs.PlainItems.{HasOthers, IsAside, others_have}
-use Rattle.convergence_laws.proofs.PacketWalks.{Walk, Walks, hop_walk, packet_walk}
+use Rattle.convergence_laws.proofs.ConvergedPacketSteps.{Walk, Walks, hop_walk, packet_walk}
 
 -- ---- steps of other kinds make no packet stuck
 

@@ -16,7 +16,7 @@ use Rattle.refinement.specs.Exports.{AreMarksOf, AreWritten, IsControllerOf, IsP
 use Rattle.refinement.proofs.ControllerCalls.{are_written, behind_row, row_on}
 use Rattle.refinement.proofs.KeptController.{count_on}
 use Rattle.refinement.proofs.ControllerPlans.{controller_on, plans_on, plans_pushed, settles_with}
-use Rattle.refinement.proofs.SettledMarks.{AreCaused, leave_on, told_posted}
+use Rattle.refinement.proofs.RefinedSettling.{AreCaused, leave_on, told_posted}
 use Rattle.refinement.proofs.WrittenActs.{written_in_two}
 use Rattle.ternary.specs.Exports.{WordValue}
 

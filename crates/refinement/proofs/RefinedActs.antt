@@ -12,7 +12,7 @@ use Rattle.steps.specs.Exports.{IsStep}
 use Rattle.update_machine.proofs.Exports.{count_of_append, have_append, near_stays, packets_keep}
 use Rattle.world_log.specs.Exports.{act_items, act_posts}
 use Rattle.refinement.proofs.ActItems.{SparesActs, acts_apart, acts_counted, acts_posted, acts_send, acts_unnamed}
-use Rattle.refinement.proofs.JournalLaws.{reached_known, reached_more, flight_stays}
+use Rattle.refinement.proofs.RefinedReach.{reached_known, reached_more, flight_stays}
 use Rattle.refinement.proofs.OtherPackets.{NoneName, none_more}
 use Rattle.refinement.proofs.PostedFrames.{bag_sends}
 use Rattle.refinement.proofs.StepRefines.{up_stays}
