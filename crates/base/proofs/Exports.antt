@@ -30,7 +30,7 @@ pub use Rattle.std.proofs.lemmas.Iterator.{YieldsList, YieldsList-from_map, Yiel
 pub use Rattle.std.proofs.lemmas.Iterator.Adapters.{option_map_id}
 pub use Rattle.std.proofs.lemmas.Iterator.Consumers.{YieldsList-end, YieldsList-from_first, YieldsList-from_rest, YieldsList-turn, count_from_yields_List}
 pub use Rattle.std.proofs.lemmas.Iterator.Search.{YieldsList-from_take_while, find_from_yields_List}
-pub use Rattle.std.proofs.lemmas.List.{at_drop_all, at_drop_more, drop-append-le, drop-map, drop-replicate, drop-set-add, drop-take, drop_all, drop_more, flat_map_more, get_or-map, get_or-replicate, get_or_append_left, get_or_at, get_or_default, get_or_past, get_or_push, get_or_read, length-map, length-replicate, length-set, length_push, map-append, map-set, map_push, nil_from_length, same_lists, set-get_or, set_comm, set_past, take-append-le, take-map, take-replicate, take-set-le, take_min, take_more, take_more_set, take_rest}
+pub use Rattle.std.proofs.lemmas.List.{at_drop_all, at_drop_more, drop-append-le, drop-map, drop-replicate, drop-set-add, drop-take, drop_all, drop_more, flat_map_more, get_or-map, get_or-replicate, get_or_append_left, get_or_at, get_or_default, get_or_past, get_or_push, get_or_read, length-map, length-replicate, length-set, length_push, map-append, map-set, map_push, nil_from_length, same_lists, set-get_or, set_comm, set_past, set_split, take-append-le, take-map, take-replicate, take-set-le, take_min, take_more, take_more_set, take_rest}
 pub use Rattle.std.proofs.lemmas.List.Concat.{length-flat_map}
 pub use Rattle.std.proofs.lemmas.List.Edits.{fill_by_more, length-remove}
 pub use Rattle.std.proofs.lemmas.List.Elements.{All-append, All-cons, All-contains, All-contains_itself, All-drop, All-filter, All-from_get_or, All-from_recursion, All-get_or, All-head, All-map, All-more, All-nil, All-push, All-replicate, All-same, All-tail, All-take, All-weaker, Contains-append_left, Contains-append_right, Contains-push, filter-append, filter_agree, filter_map-append, filter_passes, recursion_from_All}
@@ -63,7 +63,6 @@ pub use Rattle.std.specs.Fmt.{digit_glyph, digits_onto}
 unfoldable pub use Rattle.std.specs.Fmt.{digits}
 pub use Rattle.std.specs.Int.{Width, bit_at, bit_not, byte_len, div_ceil, from_be_bytes, from_bool, leading_zeros, to_be_bytes, trailing_zeros, w128}
 pub use Rattle.std.specs.Int.Bits.{and_self, and_zero_r, or_lt, xor_add_and, xor_lt}
-pub use Rattle.std.specs.Int.Count.{count_leading_zeros}
 pub use Rattle.std.specs.Iterator.{Yields, YieldsFirst}
 pub use Rattle.std.specs.List.{AllByRecursion, AllPass, AllZip, concat, cons_option, enumerate_from, flat_map, join_with_byte, list_all, list_any, onto_first, position_or_len, prefix_len, range_with_len, starts_with}
 unfoldable pub use Rattle.std.specs.List.{IsDistinct}

@@ -6,7 +6,7 @@ pub use Rattle.control_laws.specs.Authorities.{EndsAt}
 pub use Rattle.control_laws.specs.BootLaws.{BootsAreKnown, HasPastBoot, OpensAtOneVersion, ServingIsKnown}
 pub use Rattle.control_laws.specs.Bounds.{MarksAreBounded}
 pub use Rattle.control_laws.specs.Heard.{AcksHold, ArePlanned, HasTables, InstallsArePlanned}
-pub use Rattle.control_laws.specs.ItemCauses.{HasItemCause, IsFirstOpening, IsForKnown, IsPresentIn, IsRightFrom, IsRightInstall, IsRightInstalled, IsRightMessage, IsRightOpening, IsRightStamp, IsRightTo, OpensRightly, RetiresRightly, SubmitsRightly}
+pub use Rattle.control_laws.specs.ItemCauses.{HasItemCause, IsFirstOpening, IsForKnown, IsPresentIn, IsRightFrom, IsRightInstall, IsRightMessage, IsRightOpening, IsRightStamp, IsRightTo, OpensRightly, RetiresRightly, SubmitsRightly}
 pub use Rattle.control_laws.specs.Named.{BodiesNameThere, IsAddressed, NamesOnlyThere}
 pub use Rattle.control_laws.specs.Planned.{AreTablesOf, BringsTables, TablesArePlanned, VersionsArePlanned}
 pub use Rattle.control_laws.specs.Rises.{RisesRightly}

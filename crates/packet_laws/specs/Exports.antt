@@ -11,7 +11,7 @@ pub use Rattle.packet_laws.specs.Hops.{changes_taken, is_detour, is_exit, is_sea
 unfoldable pub use Rattle.packet_laws.specs.Hops.{detour_count, exit_count, hops_taken, search_count}
 pub use Rattle.packet_laws.specs.KeptFacts.{AllKept, Avoids, BringsRight, HasKeptFacts, IsRightlyDecided}
 pub use Rattle.packet_laws.specs.OnTheWay.{BeginStep, EndsStep, HeldOnTheWay, HoldsSoFar, IsKeptBehind}
-pub use Rattle.packet_laws.specs.OnWay.{EndsAtTarget, FollowsLinks, IsExiting, IsOnLeg, IsOnWay, IsPartitionOf, IsSought, IsUnderWay, IsUnknown, LeadsTo, StartsAt}
+pub use Rattle.packet_laws.specs.OnWay.{EndsAtTarget, FollowsLinks, IsOnLeg, IsOnWay, IsPartitionOf, IsSought, IsUnderWay, IsUnknown, LeadsTo, StartsAt}
 pub use Rattle.packet_laws.specs.PacketCauses.{Arrives, AuthorityDecides, AuthorityFinds, CacheDecides, DecidesBy, FindsNoRoute, IsAt, IsAtPort, IsBlockedOn, IsDecided, IsDroppedHere, IsLookedUp, IsLookedUpBy, IsLostHere, IsLostInCrash, IsOfRow, IsRedirected, LeavesHere, MeetsDown, MovesOver, PacketCause, ReachesAuthority, SendsRightRule, SendsRule, TakesDetour, TakesExit, TakesLeg, TakesRoute, gives_fall, gives_row_test}
 unfoldable pub use Rattle.packet_laws.specs.PacketCauses.{ends_with_row, fallen_switch}
 pub use Rattle.packet_laws.specs.Rest.{AreResting, AreServed, IsMoving, IsServed}

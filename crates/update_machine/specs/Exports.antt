@@ -2,7 +2,7 @@
 -- the files that define them.
 pub use Rattle.update_machine.specs.Adverts.{advert_known, has_change, own_if_sent}
 unfoldable pub use Rattle.update_machine.specs.Adverts.{adverts_known, held_adverts, is_cut_off, own_advert, own_seq, route_from}
-pub use Rattle.update_machine.specs.Answers.{Answers, AnswersSoFar, AreAll, AreAnswered, AreFirstSteps, AreFirstStepsOf, AreSome, AreSteps, AreStepsOf, BeginsAnswer, HasSteps, HaveSteps, IsReached, StepOfRow, after_steps, next_delivery, next_hop}
+pub use Rattle.update_machine.specs.Answers.{Answers, AnswersSoFar, AreAll, AreAnswered, AreFirstSteps, AreFirstStepsOf, AreSome, AreSteps, AreStepsOf, BeginsAnswer, HaveSteps, IsReached, StepOfRow, after_steps, next_delivery, next_hop}
 pub use Rattle.update_machine.specs.Boots.{body_to_switch, changes_heard, gives_boot, gives_up, is_for_boot, is_in_first_boot, is_to_switch}
 unfoldable pub use Rattle.update_machine.specs.Boots.{boot_of, heard, is_up}
 pub use Rattle.update_machine.specs.Caches.{cache_after, carried_from, changes_cache, raised_from}

@@ -1,5 +1,5 @@
 use Rattle.std.proofs.Common.{[], ◌++◌, ◌∙◌, ◌∷◌, List, ap, append_assoc, arith, drop, sym, take, ℕ}
-use Rattle.std.proofs.lemmas.List.{set_split}
+use Rattle.base.proofs.Exports.{set_split}
 use Rattle.wire.proofs.frames.set_receiver.Goals as goal
 
 pub returns-clause-written : goal.returns-clause-written
