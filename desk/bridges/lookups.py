@@ -207,7 +207,7 @@ def name_of(cookie, names):
 def compare(path):
     """Prints what the switch of these tables did with each packet; whether anything differs."""
     held = tables.read_file(path)
-    case = Case(path.parent / "journal.txt", path.parent.name)
+    case = Case(path.parent / "journal.txt", str(path.parent))
     told = list(told_of(held.switch, [item.text for item in case.items()]))
     rules, regions = len(held.rules), len(held.elsewhere())
     with Bridge() as bridge:

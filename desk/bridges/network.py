@@ -123,7 +123,7 @@ def case_in(folder):
     player = Player(str(folder), None)
     rows = player.own_rows()
     own = folder / "journal.txt"
-    return Case(own, folder.name) if own.is_file() else player.case(rows)
+    return Case(own, str(folder)) if own.is_file() else player.case(rows)
 
 
 def tables_of(folder, name, version, rows):

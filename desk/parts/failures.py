@@ -70,7 +70,7 @@ def failure_in(words, net):
     known = {one.rows[0][:1] + (frozenset(one.rows[0][1:]),) for one in single_failures(net)}
     for word, row in zip(words, rows):
         if (row[0], frozenset(row[1:])) not in known:
-            raise Mistake(f"{word!r} fails nothing of this network: give crash,SWITCH or linkdown,S,T")
+            raise Mistake(f"{word!r} fails nothing here: give crash,SWITCH or linkdown,S,T")
     if not rows or len(set(rows)) < len(rows):
         raise Mistake("--rows takes one or more rows, each once: crash,S or linkdown,S,T")
     return Failure(tuple(rows))
