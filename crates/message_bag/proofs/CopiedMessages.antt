@@ -33,7 +33,8 @@ pub found : (kept : List (List (List ℕ))) (firsts : List First) (bag : List (L
     → slice_get firsts (number - 1) ≡ Some first → AreLike kept first m
 found kept firsts bag zero m first all view like at = absurd (none-some (posted_frames (record m { to = like.0 })) like.1)
 found kept firsts bag (suc place) m first all view like at =
-    let here : slice_get firsts place ≡ Some first = ap (slice_get firsts) (omega arith) ∙ at in
+    let same_place : place ≡ suc place - 1 = omega arith in
+    let here : slice_get firsts place ≡ Some first = ap (slice_get firsts) same_place ∙ at in
     known kept first m like.0
     (subst (AreKeptFrames kept) (get_or_from_slice_get firsts place first no_first here)
     (all place no_first (slice_get_within firsts place first here)))

@@ -1,5 +1,5 @@
 -- The frames of a message: of one count, at rising places, and none is empty or too long.
-use Rattle.std.proofs.Common.{[], ◌&&◌, ◌*◌, ◌+◌, ◌-◌, ◌<◌, ◌^◌, ◌∷◌, ◌≡◌, ◌≤◌, All, List, None, ap, arith, drop, length, length-drop, length-take, refl, suc, take, true, zero, ℕ}
+use Rattle.std.proofs.Common.{[], ◌&&◌, ◌*◌, ◌+◌, ◌-◌, ◌<◌, ◌^◌, ◌∙◌, ◌∷◌, ◌≡◌, ◌≤◌, All, List, None, ap, arith, drop, length, length-drop, length-take, refl, subst, suc, sym, take, true, zero, ℕ}
 use Rattle.base.proofs.Exports.{All-from_recursion, AllByRecursion, and_parts, div_ceil, div_ceil_times}
 use Rattle.ctrl_msg.specs.declared.message.Body.{Body}
 use Rattle.ctrl_msg.specs.declared.message.Body.TheVariants.{Install, Stamp}
@@ -23,9 +23,16 @@ rising place count (part ∷ parts) all few =
     let at : place_in_frame (frame place count part) ≡ place = place_of_frame place count part (omega arith) in
     let of : IsOfCount count (frame place count part) = record {
       below = omega arith;
-      whole = cc (at, chunk_of_frame place count part);
+      whole = ap (λ p. frame p count part) (sym at)
+          ∙ ap (frame (place_in_frame (frame place count part)) count)
+          (sym (chunk_of_frame place count part));
       count_is = count_of_frame place count part few;
-    } in (omega arith, of, rw at (rising (place + 1) count parts (omega arith) few))
+    } in (
+      omega arith,
+      of,
+      subst (λ p. AreRising (p + 1) count (frames_from (place + 1) count parts)) (sym at)
+          (rising (place + 1) count parts (omega arith) few),
+    )
 
 -- the frames of a message have rising places
 pub frames_rise : (m : Message) → HasFrames m → AreRising 0 (length (chunks m)) (frames m)
@@ -97,8 +104,11 @@ chunks_are m fits =
     let bytes = message.spell m in
     let rest = length bytes - head_len m.body bytes in (
       head_is m.body bytes (fields_of_message m fits) (length_message m),
-      slices_are (div_ceil rest most_of_chunk) (drop (head_len m.body bytes) bytes)
-          (omega (arith, length-drop, (div_ceil_times rest most_of_chunk (omega arith)).1)),
+      slices_are (div_ceil rest most_of_chunk) (drop (head_len m.body bytes) bytes) (omega (
+        arith,
+        length-drop (head_len m.body bytes) bytes,
+        (div_ceil_times rest most_of_chunk (omega arith)).1,
+      )),
     )
 
 sized : (place count : ℕ) (parts : List (List ℕ)) → AllByRecursion IsChunk parts

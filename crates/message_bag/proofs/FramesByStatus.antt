@@ -45,7 +45,8 @@ pub posts_changed : (change : MessageState → MessageState) (all : List (List (
     → zip all statuses ≡ posts → after ≡ with_changed change statuses number
     → zip all after ≡ with_changed (with_status change) posts number
 posts_changed change all statuses after posts number same are made =
-    cc (made, zip_changed change all statuses number same, are)
+    ap (zip all) made ∙ zip_changed change all statuses number same
+    ∙ ap (λ posts. with_changed (with_status change) posts number) are
 
 pub statuses_of_zip : (all : List (List (List ℕ))) (statuses : List MessageState)
     → length all ≡ length statuses → statuses_of (zip all statuses) ≡ statuses
@@ -53,16 +54,20 @@ statuses_of_zip all statuses same = seconds-zip all statuses (sym same)
 
 pub length_of_zip : (all : List (List (List ℕ))) (statuses : List MessageState)
     → length all ≡ length statuses → length (zip all statuses) ≡ length statuses
-length_of_zip all statuses same = cc (length-zip all statuses, same, itself (length statuses)) where
-  itself : (n : ℕ) → min n n ≡ n
-  itself n = omega arith
+length_of_zip all statuses same = length-zip all statuses
+    ∙ ap (λ n. min n (length statuses)) same ∙ itself (length statuses)
+  where
+    itself : (n : ℕ) → min n n ≡ n
+    itself n = omega arith
 
 -- one more message waits behind them
 pub one_more : (all more : List (List (List ℕ))) (statuses after : List MessageState) (posts : List Post) (m : Message)
     → length all ≡ length statuses → zip all statuses ≡ posts → more ≡ all ++ posted_frames m ∷ []
     → after ≡ statuses ++ waiting_status ∷ [] → zip more after ≡ posts ++ new_post m ∷ []
 one_more all more statuses after posts m same are posted added =
-    cc (posted, added, zip_pushed all statuses (posted_frames m) waiting_status same, are)
+    ap (λ fs. zip fs after) posted ∙ ap (zip (all ++ posted_frames m ∷ [])) added
+    ∙ zip_pushed all statuses (posted_frames m) waiting_status same
+    ∙ ap (λ (all : List Post). all ++ new_post m ∷ []) are
 
 -- ---- the frames of a number
 

@@ -80,7 +80,8 @@ with_part p q from count (g ∷ gs) f rising at same here =
           let is : g ≡ f = first_is g f gs (place_in_frame f) one at in
           let rest : part q gs ≡ part p gs = part_same p q (place_in_frame g + 1) count gs rising.2 (λ n above. same n (λ e. absurd (omega arith))) in
           let now : q (place_in_frame g) ≡ true = ap q one ∙ here in
-          among (p (place_in_frame g)) one ∙ sym (rw (now, rest) (ap (λ h. h ∷ part p gs) is))
+          let part_now : part q (g ∷ gs) ≡ f ∷ part p gs = rw (now, rest) (ap (λ h. h ∷ part p gs) is) in
+          among (p (place_in_frame g)) one ∙ sym part_now
     ]
   where
     before : (b : Bool) → place_in_frame g < place_in_frame f → with_frame (part p gs) f ≡ part q gs

@@ -17,7 +17,8 @@ header chunk = refl
 
 pub alone_is : (m : Message) (kept : List (List (List ℕ))) (bytes : List ℕ) → tables_version m.body ≡ None
     → bytes ≡ (0 ∷ 0 ∷ 0 ∷ 0 ∷ 0 ∷ 0 ∷ 0 ∷ 1 ∷ []) ++ message.spell m → frames_in kept (bytes, None) ≡ frames m
-alone_is m kept bytes alone is = cc (is, header (message.spell m), only_frame m alone)
+alone_is m kept bytes alone is =
+    ap (λ b. b ∷ []) (is ∙ sym (header (message.spell m))) ∙ sym (only_frame m alone)
 
 -- ---- what was kept
 

@@ -84,7 +84,8 @@ posted_either (Err e) bag longer more adverts is same posted = rw same posted
 pub framed_after : {T E : Type 0} (r : Result T E) (m : Message) (bag posts longer : List (List (List ℕ)))
     → OnOk r (form.fits m ≡ true) → OnOk r (longer ≡ bag ++ frames m ∷ []) → bag ≡ posts
     → OnOk r (longer ≡ posts ++ posted_frames m ∷ [])
-framed_after (Ok x) m bag posts longer fits is are = cc (is, framed_is m fits, are)
+framed_after (Ok x) m bag posts longer fits is are =
+    is ∙ ap (λ fs. bag ++ fs ∷ []) (sym (framed_is m fits)) ∙ ap (λ (b : List (List (List ℕ))). b ++ posted_frames m ∷ []) are
 framed_after (Err e) m bag posts longer fits is are = tt
 
 -- one more at a place

@@ -117,12 +117,25 @@ length_n1 n = refl
 
 touched_len : (list : List WordValue) → length list ≤ 16 → length (touched.spell list) ≤ 513
 unfolding touched touched_count
-touched_len list few = omega (arith, length-append, length_n1, words_len)
+touched_len list few = omega (
+  arith,
+  length-append (n1.spell (length list)) (flat_map word.spell list),
+  length_n1 (length list),
+  words_len list,
+  few,
+)
 
 pub stamp_short : (boot version : ℕ) (list : List WordValue) → length list ≤ 16
     → length (spelled_fields (Stamp boot version list)) ≤ 521
 unfolding stamp_form
-stamp_short boot version list few = omega (arith, length-append, length_n4, touched_len)
+stamp_short boot version list few = omega (
+  arith,
+  length-append (n4.spell boot) (n4.spell version ++ touched.spell list),
+  length-append (n4.spell version) (touched.spell list),
+  length_n4 boot,
+  length_n4 version,
+  touched_len list few,
+)
 
 -- of an installation there is the boot
 pub install_long : (boot : ℕ) (t : Tables) → 4 ≤ length (spelled_fields (Install boot t))

@@ -72,7 +72,7 @@ pub record CarryTables (t : Tables) (fs : List (List ℕ)) : Type 0 where
   pub count : length fs ≡ frame_count t
   pub header : take 8 (get_or fs 0 []) ≡ n4.spell 0 ++ n4.spell (frame_count t)
 
--- these are the frames of an installation of these tables under any version
+-- these are the frames of an installation of these tables under some version
 pub record CarryRows (t : Tables) (fs : List (List ℕ)) : Type 0 where
   pub version : ℕ
   pub carry : CarryTables (record t { version = version }) fs

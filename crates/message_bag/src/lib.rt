@@ -3,17 +3,17 @@
 //! A `PostBag` has the frames of each message that was posted, under its number from 1. Until it
 //! is forgotten it may be delivered, in any order and more than once, as by a network that loses,
 //! duplicates and reorders what it carries: then the message is made out of its frames again. What
-//! became of each is kept apart from the frames. Only `post`, `post_shared` and `get` allocate;
-//! when memory runs out nothing changes.
+//! became of each is kept apart from the frames. Only `post_shared` and `get` allocate; when memory
+//! runs out nothing changes.
 //!
 //! A `Bag` keeps only the frames of each message. All first frames are one after the other in one
 //! vector, so that a message of a few bytes takes a few bytes. The other frames, of tables, are
 //! shared by all installations of the same tables, for any boot and any switch. If an advert that
 //! `post_shared` posts is equal to the last one of its switch to its receiver, both share the
-//! message and the frames. If it is equal to the last one of its switch to another receiver, its
-//! frame is a copy of that one's with the byte of the receiver changed, so an advert is encoded
-//! once for all neighbours. Tables that differ only in their versions share all frames except the
-//! one that begins with the version, into which its four bytes are written.
+//! message and the frames. Otherwise, if it is equal to the last one of its switch that was encoded,
+//! its frame is a copy of that one's with the byte of the receiver changed: so an advert that is
+//! flooded is encoded once for all neighbours. Tables that differ only in their versions share all
+//! frames except the one that begins with the version, into which its four bytes are written.
 //! So rows and partitions are encoded, cut, assembled and decoded once, and trees to find a rule
 //! are built once: the messages that are taken share the tables that came out of the frames, and
 //! a comparison with these finds tables that are the same.
@@ -23,7 +23,7 @@
 //!
 //! ```text
 //! let mut bag = PostBag::new(alloc);
-//! let number = bag.post(&message)?;
+//! let (number, message) = bag.post_shared(alloc, message)?;
 //! while let Some(number) = bag.next_waiting(1) {
 //!     bag.deliver(number);
 //! }

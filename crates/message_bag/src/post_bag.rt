@@ -41,31 +41,9 @@ impl PostBag {
         }
     }
 
-    /// Posts a message, and returns its number: one more than there were messages.
-    ///
-    /// # Errors
-    /// Only out of memory, or if the first frames of earlier messages have 2^32 bytes or more;
-    /// then nothing changes.
-    pub fn post(&mut self, message: &Message) -> Result<u32, AllocError>
-        requires spelling { HasShortSpelling message.now }
-        requires few { length self.old < 2 ^ 32 - 1 }
-        ensures number { IfOk result (λ number. number ≡ length self.old + 1) }
-        ensures posted { OnOk result (self.new ≡ self.old ++ new_post message.now ∷ []) }
-        ensures unchanged { OnErr result (self.new ≡ self.old) }
-    {
-        self.deliveries.add()?;
-        match self.frames.post(message) {
-            Ok(number) => Ok(number),
-            Err(error) => {
-                self.deliveries.take_back();
-                Err(error)
-            }
-        }
-    }
-
-    /// Posts a message as `post` does, and returns the shared message, too. If it is an advert that
-    /// is equal to the last one of its switch to its receiver, both share the message and its
-    /// frames.
+    /// Posts a message, and returns its number, one more than there were messages, and the message,
+    /// shared. If it is an advert that is equal to the last one of its switch to its receiver, both
+    /// share the message and its frames.
     ///
     /// # Errors
     /// Only out of memory, or if the first frames of earlier messages have 2^32 bytes or more;

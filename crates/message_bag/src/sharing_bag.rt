@@ -57,25 +57,9 @@ impl SharingBag {
         &self.bag
     }
 
-    /// Posts a message, and returns its number: one more than there were messages.
-    ///
-    /// # Errors
-    /// Only out of memory, or if the first frames of earlier messages have 2^32 bytes or more;
-    /// then nothing changes.
-    #[inline(always)]
-    pub fn post(&mut self, message: &Message) -> Result<u32, AllocError>
-        requires spelling { HasShortSpelling message.now }
-        requires few { length self.old < 2 ^ 32 - 1 }
-        ensures number { IfOk result (λ number. number ≡ length self.old + 1) }
-        ensures posted { OnOk result (self.new ≡ self.old ++ posted_frames message.now ∷ []) }
-        ensures unchanged { OnErr result (self.new ≡ self.old) }
-    {
-        self.bag.post(message)
-    }
-
-    /// Posts a message as `post` does, and returns the shared message, too. If it is an advert that
-    /// is equal to the last one of its switch to its receiver, both share the message and its
-    /// frames.
+    /// Posts a message, and returns its number, one more than there were messages, and the message,
+    /// shared. If it is an advert that is equal to the last one of its switch to its receiver, both
+    /// share the message and its frames.
     ///
     /// # Errors
     /// Only out of memory, or if the first frames of earlier messages have 2^32 bytes or more;
@@ -103,6 +87,18 @@ impl SharingBag {
             Some(last) if last.message.get().to == message.to => post_again(&mut self.bag, last),
             _ => self.post_advert(alloc, place, message),
         }
+    }
+
+    // Posts a message that is no advert to a switch, and returns its number.
+    #[inline(always)]
+    fn post(&mut self, message: &Message) -> Result<u32, AllocError>
+        requires spelling { HasShortSpelling message.now }
+        requires few { length self.old < 2 ^ 32 - 1 }
+        ensures number { IfOk result (λ number. number ≡ length self.old + 1) }
+        ensures posted { OnOk result (self.new ≡ self.old ++ posted_frames message.now ∷ []) }
+        ensures unchanged { OnErr result (self.new ≡ self.old) }
+    {
+        self.bag.post(message)
     }
 
     // Posts an advert, which is the last one of this place from now on.
@@ -146,7 +142,7 @@ fn post_again(bag: &mut Bag, last: &PostedAdvert) -> Result<(u32, Shared<Message
 }
 
 // Posts an advert that isn't its switch's last one to its receiver. It is encoded only if it isn't
-// the last one that its switch sent any receiver.
+// its switch's last one that was encoded.
 fn post_first(
     bag: &mut Bag,
     adverts: &mut Vec<Option<PostedAdvert>>,

@@ -1,4 +1,5 @@
-use Rattle.std.proofs.Common.{arith}
+use Rattle.std.proofs.Common.{arith, subst, sym}
+use Rattle.wire.specs.Exports.{IsSpelling}
 use Rattle.message_bag.proofs.ComingOut.{alone_are, long_alone, rest_is, spelled_alone}
 use Rattle.message_bag.proofs.reading.message_of_frame.Goals as goal
 
@@ -9,8 +10,9 @@ pub slice_bounds-decode-start : goal.slice_bounds-decode-start
 slice_bounds-decode-start c = omega (arith, long_alone c.args.frame.now c.requires)
 
 pub unreachable-requires : goal.unreachable-requires
-unreachable-requires c = (rw c.in-Err-Refused.field-0-is at c.in-Err-Refused.ensures.malformed)
-    c.requires.0 (rw (rest_is c.args.frame.now) (spelled_alone c.args.frame.now c.requires))
+unreachable-requires c =
+    (rw c.in-Err-Refused.field-0-is at c.in-Err-Refused.ensures.malformed) c.requires.0
+    (subst (IsSpelling c.requires.0) (sym (rest_is c.args.frame.now)) (spelled_alone c.args.frame.now c.requires))
 
 pub returns-in-Ok : goal.returns-in-Ok
 returns-in-Ok c =

@@ -1,4 +1,4 @@
-use Rattle.std.proofs.Common.{◌∙◌, ◌≡◌, Some}
+use Rattle.std.proofs.Common.{◌∙◌, ◌≡◌, List, Some, ap, ℕ}
 use Rattle.base.proofs.Exports.{on_err}
 use Rattle.wire.specs.Exports.{frames}
 use Rattle.message_bag.specs.Exports.{frames_in}
@@ -16,7 +16,9 @@ returns-in_err-number-clause-unchanged c =
 
 its : (c : goal.After-push)
     → frames_in c.spell.new.kept.items (c.deref.result.now, Some c.in_ok-number.number) ≡ frames c.args.message.now
-its c = cc (c.deref.ensures.value, c.in_ok-number.ensures.own)
+its c =
+    ap (λ (b : List ℕ). frames_in c.spell.new.kept.items (b, Some c.in_ok-number.number)) c.deref.ensures.value
+    ∙ c.in_ok-number.ensures.own
 
 pub invariant_of-self-2 : goal.invariant_of-self-2
 invariant_of-self-2 c = kept_after c.push.result c.args.message.now c.self.inside.tables.items

@@ -1,6 +1,7 @@
-use Rattle.std.proofs.Common.{[], ◌∙◌, List, ap, ℕ}
+use Rattle.std.proofs.Common.{[], ◌++◌, ◌∙◌, ◌∷◌, List, ap, ℕ}
+use Rattle.ctrl_msg.specs.declared.message.Message.{Message}
 use Rattle.message_bag.proofs.RepeatedMessages.{all_same, last_numbered, one_set}
-use Rattle.message_bag.specs.Exports.{item_numbered}
+use Rattle.message_bag.specs.Exports.{item_numbered, posted_frames}
 use Rattle.message_bag.proofs.sharing_bag.SharingBag.post_advert.Goals as goal
 
 pub post_first-requires-clause-adverts : goal.post_first-requires-clause-adverts
@@ -17,5 +18,6 @@ invariant_of-self-2 c =
     ∙ last_numbered c.self.inside.bag _ c.in_ok-number.number c.in_ok-number.ensures.number)
 
 pub returns-clause-posted : goal.returns-clause-posted
-returns-clause-posted c =
-    cc (c.in_ok-number.ensures.posted, c.in_ok-message.ensures, c.self.view_is)
+returns-clause-posted c = c.in_ok-number.ensures.posted
+    ∙ ap (λ (m : Message). c.self.inside.bag ++ posted_frames m ∷ []) c.in_ok-message.ensures
+    ∙ ap (λ (b : List (List (List ℕ))). b ++ posted_frames c.args.message ∷ []) c.self.view_is
