@@ -5,7 +5,7 @@ use Rattle.ctrl_msg.specs.declared.message.Body.{Body}
 use Rattle.ctrl_msg.specs.declared.message.Body.TheVariants.{Install}
 use Rattle.ctrl_msg.specs.declared.message.Message.{Message}
 use Rattle.ctrl_msg.specs.declared.message.Place.{Place}
-use Rattle.wire.specs.Exports.{body, chunks, chunks_behind_head, equal_chunks, frames, frames_from, frames_of, frames_of_receiver, head_len, message, most_of_chunk, receiver}
+use Rattle.wire.specs.Exports.{body, chunks_behind_head, equal_chunks, frames, frames_from, frames_of, frames_of_receiver, head_len, message, most_of_chunk, receiver}
 use Rattle.message_bag.proofs.SpellingLengths.{length_receiver}
 use Rattle.message_bag.proofs.TablesRestamped.{replaced}
 
