@@ -1,5 +1,5 @@
 -- What a database holds.
-use Rattle.std.proofs.Common.{◌&&◌, ◌<◌, ◌∙◌, ◌≡◌, ◌≢◌, ◌⊎◌, Bool, List, None, Option, Some, ap, arith, cond, false, get_or-set_other, get_or-set_same, inl, inr, length, length-set, map, nat_lt, refl, set, subst, sym, true, ℕ}
+use Rattle.std.proofs.Common.{◌&&◌, ◌<◌, ◌∙◌, ◌≡◌, ◌≢◌, ◌⊎◌, Bool, List, None, Option, Some, ap, arith, cond, false, get_or-set_other, get_or-set_same, inl, inr, length-set, map, nat_lt, refl, set, subst, sym, true, ℕ, rules}
 use Rattle.base.proofs.Exports.{cases_eq, cases_lt, get_or-map-range_with_len, get_or-replicate, get_or_past, length-map-range_with_len, length-replicate, nat_tests}
 use Rattle.failover.specs.declared.advert.Advert.{Advert}
 use Rattle.base.specs.Exports.{switches}
@@ -10,21 +10,12 @@ set_by_origin : (adverts : List (Option Advert)) (advert : Advert) → AreByOrig
     advert.origin < 64 → (origin : ℕ) (found : Advert) →
     held_advert (set adverts advert.origin (Some advert)) origin ≡ Some found → found.origin
     ≡ origin
-set_by_origin adverts advert by fits origin found e = elim (cases_eq origin advert.origin) [
-  | inl same ↦ (let there : advert.origin < length adverts = omega (arith, by.places) in
-      let put : held_advert (set adverts advert.origin (Some advert)) origin ≡ Some advert =
-      rw (same, get_or-set_same _ _ _ _ there) refl in
-      let it : Some advert ≡ Some found = sym put ∙ e in cc)
-  | inr apart ↦ by.origins origin found
-      (sym (get_or-set_other adverts advert.origin origin (Some advert) None apart) ∙ e)
-]
+set_by_origin adverts advert by fits origin found e =
+    search (rules, cases_eq, get_or-set_same, get_or-set_other)
 
 pub by_origin-set : (adverts : List (Option Advert)) (advert : Advert) → AreByOrigin adverts →
     advert.origin < 64 → AreByOrigin (set adverts advert.origin (Some advert))
-by_origin-set adverts advert by fits = record {
-  places = length-set adverts advert.origin (Some advert) ∙ by.places;
-  origins = set_by_origin adverts advert by fits;
-}
+by_origin-set adverts advert by fits = search (rules, length-set, set_by_origin)
 
 pub by_origin-none : AreByOrigin no_adverts
 by_origin-none = record {
@@ -77,12 +68,7 @@ after_news adverts advert new = rw new refl
 pub hearing : (adverts : List (Option Advert)) (advert : Advert) → ((is_news adverts advert ≡ true)
     × (after_hearing adverts advert ≡ set adverts advert.origin (Some advert)))
     ⊎ ((is_news adverts advert ≡ false) × (after_hearing adverts advert ≡ adverts))
-hearing adverts advert = by_test (is_news adverts advert) refl where
-  by_test : (test : Bool) → is_news adverts advert ≡ test → ((is_news adverts advert ≡ true)
-      × (after_hearing adverts advert ≡ set adverts advert.origin (Some advert)))
-      ⊎ ((is_news adverts advert ≡ false) × (after_hearing adverts advert ≡ adverts))
-  by_test true e = inl (e, after_news adverts advert e)
-  by_test false e = inr (e, after_no_news adverts advert e)
+hearing adverts advert = search (rules, after_news, after_no_news)
 
 below_test : (origin : ℕ) (more : Bool) → (nat_lt origin 64 && more) ≡ true → origin < 64
 below_test origin more h = grind (arith, nat_tests)
@@ -102,10 +88,7 @@ by_origin-hearing adverts advert by = elim (hearing adverts advert) [
 pub held_heard : (adverts : List (Option Advert)) (advert : Advert) → AreByOrigin adverts →
     is_news adverts advert ≡ true → held_advert (after_hearing adverts advert) advert.origin
     ≡ Some advert
-held_heard adverts advert by news =
-    ap (λ (all : List (Option Advert)). held_advert all advert.origin)
-    (after_news adverts advert news) ∙ get_or-set_same adverts advert.origin (Some advert) None
-    (omega (arith, by.places, news_below))
+held_heard adverts advert by news = search (rules, after_news, get_or-set_same, news_below)
 
 pub held_others : (adverts : List (Option Advert)) (advert : Advert) (origin : ℕ) → origin
     ≢ advert.origin → held_advert (after_hearing adverts advert) origin ≡ held_advert adverts origin

@@ -1,10 +1,10 @@
 -- The rows of known links.
-use Rattle.std.proofs.Common.{[], ◌&&◌, ◌+◌, ◌<◌, ◌==◌, ◌↔◌, ◌∙◌, ◌∷◌, ◌≡◌, ◌≢◌, ◌≤◌, ◌⊎◌, Bool, IsTrue, List, None, Option, ap, arith, eq-eqb, eqb-true, false, get_or, get_or-set_other, get_or-set_same, inl, inr, length, length-set, map, nat_le, not, refl, set, sym, true, ℕ}
+use Rattle.std.proofs.Common.{[], ◌&&◌, ◌+◌, ◌<◌, ◌==◌, ◌↔◌, ◌∙◌, ◌∷◌, ◌≡◌, ◌≢◌, ◌≤◌, ◌⊎◌, Bool, IsTrue, List, None, Option, ap, arith, eq-eqb, eqb-true, false, get_or, get_or-set_other, get_or-set_same, inl, inr, length, length-set, map, nat_le, not, refl, set, sym, true, ℕ, rules}
 use Rattle.base.proofs.Exports.{and_parts, cases_lt, get_or-map, get_or-switches, get_or_past, has-zero, has_mask, has_mask_past, length-map, length-switches, nat_tests, same_sets}
 use Rattle.failover.specs.declared.advert.Advert.{Advert}
 use Rattle.base.specs.Exports.{has, mask_of, mask_where, switches}
 use Rattle.failover.specs.Exports.{IsDatabase, IsIsolated, has_link, is_isolated, is_link, known_links, links_at, links_of_each, named_links, names_neighbour, neighbours_named}
-use Rattle.failover.proofs.LinkBalls.{and_both, apart_tests, false_of}
+use Rattle.failover.proofs.LinkBalls.{and_both, false_of}
 use Rattle.failover.proofs.LinkSets.{has_link-turned}
 use Rattle.failover.proofs.WiderLoop.{AreBothWays}
 
@@ -33,9 +33,7 @@ at_least n past = grind (arith, nat_tests)
 pub no_row_past : (neighbours down : List ℕ) (one : ℕ) → length neighbours ≡ 64 → 64 ≤ one →
     nat_le 64 one ≡ (links_at neighbours down one == 0)
 unfolding mask_of
-no_row_past neighbours down one rows past = at_least one past
-    ∙ is_zero _ (mask_where_none (is_link neighbours down one) 0 switches
-    (strange neighbours down one (omega arith)))
+no_row_past neighbours down one rows past = search (rules, mask_where_none, strange)
 
 -- ---- rows of links
 
@@ -66,11 +64,7 @@ row_past neighbours down one other past = elim (cases_lt one 64) [
 ]
 
 swapped : (a b c d : Bool) → (a && b && c && d) ≡ (a && c && b && d)
-swapped true true true d = refl
-swapped true true false d = refl
-swapped true false true d = refl
-swapped true false false d = refl
-swapped false b c d = refl
+swapped a b c d = search rules
 
 pub turned_number : (x y : ℕ) → (x == y) ≡ (y == x)
 turned_number x y = grind (arith, nat_tests)
@@ -78,9 +72,7 @@ turned_number x y = grind (arith, nat_tests)
 link_turned : (neighbours down : List ℕ) (one other : ℕ) →
     is_link neighbours down one other ≡ is_link neighbours down other one
 unfolding is_link
-link_turned neighbours down one other = rw (turned_number one other, has_link-turned down one other)
-    (swapped (not (other == one)) (has (get_or neighbours one 0) other)
-    (has (get_or neighbours other 0) one) (not (has_link down other one)))
+link_turned neighbours down one other = search (rules, turned_number, has_link-turned)
 
 pub row_turned : (neighbours down : List ℕ) → AreBothWays (links_of_each neighbours down)
 row_turned neighbours down one other = elim (both_or_not one other) [
@@ -157,11 +149,8 @@ bare_known adverts at near down target one fits bare =
 joined_row : (adverts : List (Option Advert)) (at near : ℕ) (down : List ℕ) (target : ℕ) →
     links_at (named_links adverts at near) down target ≡ 0 → (one : ℕ) →
     has (get_or (known_links adverts at near down) one 0) target ≡ true → ⊥
-joined_row adverts at near down target bare one joined = apart_tests _
-    (sym (known_turned adverts at near down one target) ∙ joined) (elim (cases_lt target 64) [
-      | inl fits ↦ bare_known adverts at near down target one fits bare
-      | inr past ↦ known_past adverts at near down target one (λ p q. absurd (omega arith))
-    ])
+joined_row adverts at near down target bare one joined =
+    search (rules, known_turned, bare_known, known_past)
 
 not_test : (x y : ℕ) → x ≢ y → not (x == y) ≡ true
 not_test x y apart = grind (arith, nat_tests)
@@ -224,18 +213,11 @@ pub own_link : (adverts : List (Option Advert)) (at near : ℕ) (down : List ℕ
     has (get_or (known_links adverts at near down) at 0) other ≡
     (has near other && names_neighbour adverts other at && not (has_link down at other))
 own_link adverts at near down other rows fits other_fits apart =
-    has_known adverts at near down at other fits other_fits
-    ∙ link_test (named_links adverts at near) down at other (has near other)
-    (names_neighbour adverts other at) apart
-    (ap (λ row. has row other) (told_own adverts at near rows fits))
-    (told_other adverts at near other at rows other_fits (λ e. apart (sym e)))
+    search (rules, has_known, link_test, told_own, told_other)
 
 pub link_elsewhere : (adverts : List (Option Advert)) (at near : ℕ) (down : List ℕ) (one other : ℕ)
     → length adverts ≡ 64 → one < 64 → other < 64 → one ≢ other → one ≢ at → other ≢ at
     → has (get_or (known_links adverts at near down) one 0) other ≡ (names_neighbour adverts one
     other && names_neighbour adverts other one && not (has_link down one other))
 link_elsewhere adverts at near down one other rows one_fits other_fits apart one_apart other_apart =
-    has_known adverts at near down one other one_fits other_fits
-    ∙ link_test (named_links adverts at near) down one other (names_neighbour adverts one other)
-    (names_neighbour adverts other one) apart (told_other adverts at near one other rows one_fits
-    one_apart) (told_other adverts at near other one rows other_fits other_apart)
+    search (rules, has_known, link_test, told_other)

@@ -1,6 +1,6 @@
 -- The route of the search is the least path.
-use Rattle.std.proofs.Common.{[], ◌<◌, ◌∙◌, ◌∷◌, ◌≡◌, ◌≤◌, List, ap, arith, eqb-true, false, inl, inr, length, nat_eq, refl, subst, suc, sym, true, zero, ℕ}
-use Rattle.base.proofs.Exports.{AllByRecursion, IsDistinct, cases_lt}
+use Rattle.std.proofs.Common.{[], ◌<◌, ◌∙◌, ◌∷◌, ◌≡◌, ◌≤◌, List, ap, arith, eqb-true, false, length, nat_eq, refl, subst, suc, sym, true, zero, ℕ, rules}
+use Rattle.base.proofs.Exports.{AllByRecursion, IsDistinct}
 use Rattle.base.specs.Exports.{has}
 use Rattle.failover.specs.Exports.{IsAtMost, IsAway, LinksLead, ball, path_after}
 use Rattle.failover.proofs.LinkBalls.{false_of, apart_tests, ball_grows, ball_gains, at_target, has_target, next_step}
@@ -62,10 +62,7 @@ reaches links target at (next ∷ rest) (suc k) rows fits leads short = ball_gai
 
 at_most_next : (x y : ℕ) (xs ys : List ℕ) → x ≤ y → (x ≡ y → IsAtMost xs ys) →
     IsAtMost (x ∷ xs) (y ∷ ys)
-at_most_next x y xs ys less rest = elim (cases_lt x y) [
-  | inl below ↦ inl below
-  | inr above ↦ (let same : x ≡ y = omega arith in inr (same, rest same))
-]
+at_most_next x y xs ys less rest = search rules
 
 pub onward_least : (links : List ℕ) (target k at : ℕ) (rest : List ℕ) → length links ≡ 64 →
     target < 64 → at < 64 → IsAway links target k at → LinksLead links target at rest →

@@ -1,5 +1,5 @@
 -- The switches at most k links away from a target, and the least of them that is one link nearer.
-use Rattle.std.proofs.Common.{◌&&◌, ◌<◌, ◌==◌, ◌^◌, ◌||◌, ◌∙◌, ◌≡◌, ◌≤◌, ◌⊎◌, Bool, List, arith, bit_and, false, get_or, inl, inr, length, not, refl, suc, sym, true, zero, ℕ}
+use Rattle.std.proofs.Common.{◌&&◌, ◌<◌, ◌==◌, ◌^◌, ◌||◌, ◌∙◌, ◌≡◌, ◌≤◌, ◌⊎◌, Bool, List, arith, bit_and, false, get_or, inl, inr, length, not, refl, suc, sym, true, zero, ℕ, rules}
 use Rattle.base.proofs.Exports.{and_le_r, and_parts, cases_eq, cases_lt, has-and, has-or, has-pow_other, has-pow_same, has-zero, has_least, least_below, least_lt, mask_where_at, mask_where_lt, nat_tests, or_lt, pow_below, some_of}
 use Rattle.base.specs.Exports.{has, least_in}
 use Rattle.failover.specs.Exports.{IsAway, ball, grown_ball, least_neighbour_in}
@@ -53,11 +53,7 @@ wider_lt links within rows fits = or_lt 64 _ _ fits (mask_where_lt _ 0 links 64 
 has_wider : (links : List ℕ) (within at : ℕ) → at < length links → has (grown_ball links within) at
     ≡ (has within at || not (bit_and (get_or links at 0) within == 0))
 unfolding grown_ball
-has_wider links within at below = rw (
-  has-or,
-  mask_where_at (λ row. not (bit_and row within == 0)) 0 links 0 at at (omega arith) below,
-)
-    refl
+has_wider links within at below = search (rules, has-or, mask_where_at)
 
 pub wider_keeps : (links : List ℕ) (within at : ℕ) → at < length links → has within at ≡ true →
     has (grown_ball links within) at ≡ true
@@ -133,10 +129,7 @@ ball_gains links target k at next below link h = wider_gains links _ at next bel
 
 -- a switch without links has itself alone
 only_target : (target at : ℕ) → has (2 ^ target) at ≡ true → at ≡ target
-only_target target at h = elim (cases_eq at target) [
-  | inl same ↦ same
-  | inr apart ↦ apart_tests _ h (has-pow_other target at apart)
-]
+only_target target at h = search (rules, cases_eq, has-pow_other)
 
 pub at_target : (links : List ℕ) (target at : ℕ) → has (ball links target 0) at ≡ true → at ≡ target
 unfolding ball

@@ -1,9 +1,9 @@
 -- Sets of links.
-use Rattle.std.proofs.Common.{◌&&◌, ◌<◌, ◌==◌, ◌^◌, ◌||◌, ◌∙◌, ◌≡◌, ◌≢◌, ◌≤◌, ◌⊎◌, Bool, IsTrue, List, ap, arith, bit_or, eq-eqb, eqb-true, false, get_or, get_or-set_other, get_or-set_same, inl, inr, length, length-set, max, min, refl, set, sym, true, ℕ}
-use Rattle.base.proofs.Exports.{and_parts, cases_eq, cases_lt, get_or-replicate, get_or_default, get_or_past, has-or, has-pow_other, has-pow_same, has-zero, length-replicate, or-false, same_lists, same_sets}
+use Rattle.std.proofs.Common.{◌&&◌, ◌<◌, ◌==◌, ◌^◌, ◌||◌, ◌∙◌, ◌≡◌, ◌≢◌, ◌≤◌, ◌⊎◌, Bool, IsTrue, List, ap, arith, bit_or, eq-eqb, eqb-true, false, get_or, get_or-set_other, get_or-set_same, inl, inr, length, length-set, max, min, refl, set, sym, true, ℕ, rules}
+use Rattle.base.proofs.Exports.{and_parts, cases_eq, cases_lt, get_or-replicate, get_or_default, get_or_past, has-or, has-pow_other, has-pow_same, has-zero, length-replicate, same_lists, same_sets}
 use Rattle.base.specs.Exports.{has}
 use Rattle.failover.specs.Exports.{IsLinkSet, has_link, is_link_of, no_links, with_link}
-use Rattle.failover.proofs.LinkBalls.{and_both, or_left, or_right, or_cases, apart_tests, false_of}
+use Rattle.failover.proofs.LinkBalls.{and_both, or_left, apart_tests, false_of}
 
 no_row : (k : ℕ) → get_or no_links k 0 ≡ 0
 no_row k = elim (cases_lt k 64)
@@ -23,34 +23,14 @@ none_is_link_set = record {
 gained : (links : List ℕ) (low high k x : ℕ) →
     IsTrue (has (get_or (set links low (bit_or (get_or links low 0) (2 ^ high))) k 0) x) →
     low < length links → IsTrue (has (get_or links k 0) x) ⊎ ((k ≡ low) × (x ≡ high))
-gained links low high k x h there = elim (cases_eq k low) [
-  | inl same ↦ (let row : get_or (set links low (bit_or (get_or links low 0) (2 ^ high))) k 0 ≡
-      bit_or (get_or links low 0) (2 ^ high) = rw (same, get_or-set_same _ _ _ _ there) refl in
-      elim (or_cases _ _ (sym (has-or (get_or links low 0) (2 ^ high) x)
-      ∙ ap (λ n. has n x) (sym row) ∙ h)) [
-        | inl old ↦ inl (ap (λ n. has (get_or links n 0) x) same ∙ old)
-        | inr new ↦ elim (cases_eq x high)
-            [ inl at ↦ inr (same, at) | inr apart ↦ apart_tests _ new (has-pow_other high x apart) ]
-      ])
-  | inr apart ↦ inl (ap (λ n. has n x) (sym (get_or-set_other links low k _ 0 apart)) ∙ h)
-]
+gained links low high k x h there =
+    search (rules, cases_eq, get_or-set_same, has-or, has-pow_other, get_or-set_other)
 
 pub with_link_is_link_set : (links : List ℕ) (one other : ℕ) → IsLinkSet links → one ≢ other →
     one < 64 → other < 64 → IsLinkSet (with_link links one other)
 unfolding with_link
-with_link_is_link_set links one other set differ one_fits other_fits = record {
-  masks = length-set links (min one other) _ ∙ set.masks;
-  above = λ k x h. elim (gained links (min one other) (max one other) k x h
-      (omega (arith, set.masks))) [
-        | inl old ↦ set.above k x old
-        | inr new ↦ omega (arith, new.0, new.1)
-      ];
-  switches = λ k x h. elim (gained links (min one other) (max one other) k x h
-      (omega (arith, set.masks))) [
-        | inl old ↦ set.switches k x old
-        | inr new ↦ omega (arith, new.1)
-      ];
-}
+with_link_is_link_set links one other set differ one_fits other_fits =
+    search (rules, length-set, gained)
 
 pub has_link-here : (links : List ℕ) (one other low high : ℕ) → low ≡ min one other →
     high ≡ max one other → has (get_or links low 0) high ≡ has_link links one other
@@ -63,13 +43,7 @@ not_above links k x set past = false_of _ (λ h. absurd (omega (arith, set.above
 -- the row of the higher number doesn't have the lower
 has_link-either : (links : List ℕ) (one other : ℕ) → IsLinkSet links →
     (has (get_or links one 0) other || has (get_or links other 0) one) ≡ has_link links one other
-has_link-either links one other set = elim (cases_lt one other) [
-  | inl less ↦ ap (λ b. has (get_or links one 0) other || b)
-      (not_above links other one set (omega arith)) ∙ or-false _
-      ∙ has_link-here links one other one other (omega arith) (omega arith)
-  | inr past ↦ ap (λ b. b || has (get_or links other 0) one) (not_above links one other set past)
-      ∙ has_link-here links one other other one (omega arith) (omega arith)
-]
+has_link-either links one other set = search (rules, has_link-here)
 
 pub has_link-first : (links : List ℕ) (one other : ℕ) → IsLinkSet links →
     has (get_or links one 0) other ≡ true → true ≡ has_link links one other
@@ -100,59 +74,34 @@ has_link-none x y = ap (λ row. has row (max x y)) (no_row (min x y)) ∙ has-ze
 
 pub has_link-turned : (links : List ℕ) (x y : ℕ) → has_link links x y ≡ has_link links y x
 unfolding has_link
-has_link-turned links x y =
-    let low : min x y ≡ min y x = omega arith in
-    let high : max x y ≡ max y x = omega arith in rw (low, high) refl
+has_link-turned links x y = search rules
 
 same_pair : (one other x y : ℕ) → min x y ≡ min one other → max x y ≡ max one other →
     is_link_of one other x y ≡ true
-same_pair one other x y low high = elim (cases_eq x one) [
-  | inl same ↦ or_left _ _ (and_both _ _ (eq-eqb x one same) (eq-eqb y other (omega arith)))
-  | inr apart ↦ or_right _ _ (and_both _ _ (eq-eqb x other (omega arith))
-      (eq-eqb y one (omega arith)))
-]
+same_pair one other x y low high = search (rules, cases_eq, or_left, and_both, eq-eqb)
 
 both_numbers : (a b c d : ℕ) → ((a == b) && (c == d)) ≡ true → (a ≡ b) × (c ≡ d)
 both_numbers a b c d h = (eqb-true a b (and_parts _ _ h).0, eqb-true c d (and_parts _ _ h).1)
 
 other_pair : (one other x y : ℕ) → (min x y ≡ min one other → max x y ≡ max one other → ⊥) →
     is_link_of one other x y ≡ false
-other_pair one other x y apart =
-    false_of _ (λ h. elim (or_cases ((x == one) && (y == other)) ((x == other) && (y == one)) h) [
-      | inl straight ↦ (let both = both_numbers x one y other straight in apart (omega arith)
-          (omega arith))
-      | inr turned ↦ (let both = both_numbers x other y one turned in apart (omega arith)
-          (omega arith))
-    ])
+other_pair one other x y apart = search (rules, false_of, both_numbers)
 
 row_gains : (row high z : ℕ) (pair : Bool) → (z ≡ high → pair ≡ true) →
     ((z ≡ high → ⊥) → pair ≡ false) → has (bit_or row (2 ^ high)) z ≡ (has row z || pair)
-row_gains row high z pair here elsewhere = elim (cases_eq z high) [
-  | inl same ↦ (let set : has (2 ^ high) z ≡ true =
-      rw same (has-pow_same high) in rw (has-or, set, here same) refl)
-  | inr apart ↦ rw (has-or, has-pow_other high z apart, elsewhere apart) refl
-]
+row_gains row high z pair here elsewhere =
+    search (rules, cases_eq, has-pow_same, has-or, has-pow_other)
 
 pub has_link-with_link : (links : List ℕ) (one other x y : ℕ) → IsLinkSet links → one < 64 →
     other < 64 → has_link (with_link links one other) x y ≡
     (has_link links x y || is_link_of one other x y)
 unfolding has_link with_link
 has_link-with_link links one other x y set one_fits other_fits =
-    let there : min one other < length links = omega (arith, set.masks) in
-    elim (cases_eq (min x y) (min one other)) [
-      | inl same ↦ rw (same, get_or-set_same _ _ _ _ there)
-          (row_gains (get_or links (min one other) 0) (max one other) (max x y)
-          (is_link_of one other x y) (λ e. same_pair one other x y same e)
-          (λ apart. other_pair one other x y (λ low high. apart high)))
-      | inr apart ↦ rw (get_or-set_other, other_pair one other x y (λ low high. apart low))
-          (sym (or-false _))
-    ]
+    search (rules, cases_eq, get_or-set_same, row_gains, other_pair, get_or-set_other)
 
 row_at : (links : List ℕ) (k x : ℕ) → k < x → has (get_or links k 0) x ≡ has_link links k x
 unfolding has_link
-row_at links k x less =
-    let low : min k x ≡ k = omega arith in
-    let high : max k x ≡ x = omega arith in rw (low, high) refl
+row_at links k x less = search rules
 
 same_rows : (a b : List ℕ) → IsLinkSet a → IsLinkSet b →
     ((x y : ℕ) → has_link a x y ≡ has_link b x y) → (k : ℕ) → get_or a k 0 ≡ get_or b k 0

@@ -1,9 +1,8 @@
 -- The newest advert of an origin.
-use Rattle.std.proofs.Common.{[], ◌&&◌, ◌++◌, ◌<◌, ◌==◌, ◌||◌, ◌∙◌, ◌∷◌, ◌≡◌, ◌≢◌, All, Bool, List, None, Option, Some, ap, append-nil, append_assoc, arith, false, inl, inr, nat_lt, option_to_list, refl, subst, sym, true, ℕ}
+use Rattle.std.proofs.Common.{[], ◌&&◌, ◌++◌, ◌<◌, ◌==◌, ◌||◌, ◌∷◌, ◌≡◌, ◌≢◌, All, Bool, List, None, Option, Some, append-nil, append_assoc, arith, false, nat_lt, option_to_list, refl, true, ℕ, rules}
 use Rattle.base.proofs.Exports.{All-append, All-cons, All-nil, All-push, All-same, All-weaker, cases_eq, nat_tests, option_map_or}
 use Rattle.failover.specs.declared.advert.Advert.{Advert}
 use Rattle.failover.specs.Exports.{AreByOrigin, IsNewest, after_hearing, after_hearing_all, held_advert, is_newer, is_news}
-use Rattle.failover.proofs.LinkBalls.{apart_tests}
 use Rattle.failover.proofs.HeldAdverts.{hearing, held_heard, held_others, by_origin-hearing}
 
 pub not_newer : (boot seq : ℕ) → (nat_lt boot boot || ((boot == boot) && nat_lt seq seq)) ≡ false
@@ -39,15 +38,7 @@ push_other origin seen advert (Some best) apart newest =
 
 push_first : (origin : ℕ) (seen : List Advert) (advert : Advert) → advert.origin ≡ origin →
     IsNewest origin seen None → IsNewest origin (seen ++ advert ∷ []) (Some advert)
-push_first origin seen advert of_it newest = (
-  seen,
-  [],
-  refl,
-  of_it,
-  All-weaker (λ a. a.origin ≢ origin) (λ a. a.origin ≡ origin → is_newer advert a ≡ true) (λ a apart
-      e. absurd (apart e)) seen newest,
-  All-nil (λ a. a.origin ≡ origin → is_newer a advert ≡ false),
-)
+push_first origin seen advert of_it newest = search rules
 
 push_newer : (origin : ℕ) (seen : List Advert) (advert best : Advert) → advert.origin ≡ origin →
     is_newer advert best ≡ true → IsNewest origin seen (Some best) →
@@ -77,9 +68,7 @@ push_news origin seen advert (Some best) of_it news newest =
 push_old : (origin : ℕ) (seen : List Advert) (advert : Advert) (now : Option Advert) →
     option_map_or (is_newer advert) now true ≡ false → IsNewest origin seen now →
     IsNewest origin (seen ++ advert ∷ []) now
-push_old origin seen advert None old newest = apart_tests true refl old
-push_old origin seen advert (Some best) old newest =
-    push_behind origin seen advert best (λ e. old) newest
+push_old origin seen advert now old newest = search (rules, push_behind)
 
 -- ---- as it is heard
 
@@ -97,27 +86,15 @@ newest_same : (adverts : List (Option Advert)) (seen : List Advert) (advert : Ad
     IsNewest advert.origin seen (held_advert adverts advert.origin) →
     IsNewest advert.origin (seen ++ advert ∷ [])
     (held_advert (after_hearing adverts advert) advert.origin)
-newest_same adverts seen advert by below newest = elim (hearing adverts advert) [
-  | inl news ↦ rw (held_heard adverts advert by news.0)
-      (push_news advert.origin seen advert (held_advert adverts advert.origin) refl
-      (sym (news_test adverts advert below) ∙ news.0) newest)
-  | inr old ↦ rw (ap (λ (all : List (Option Advert)). held_advert all advert.origin) old.1)
-      (push_old advert.origin seen advert (held_advert adverts advert.origin)
-      (sym (news_test adverts advert below) ∙ old.0) newest)
-]
+newest_same adverts seen advert by below newest =
+    search (rules, hearing, held_heard, push_news, news_test, push_old)
 
 newest_hearing : (adverts : List (Option Advert)) (seen : List Advert) (advert : Advert)
     (origin : ℕ) → AreByOrigin adverts → origin < 64
     → IsNewest origin seen (held_advert adverts origin) →
     IsNewest origin (seen ++ advert ∷ []) (held_advert (after_hearing adverts advert) origin)
-newest_hearing adverts seen advert origin by below newest = elim (cases_eq origin advert.origin) [
-  | inl same ↦ (let here = newest_same adverts seen advert by (omega arith) (rw same at newest) in
-      subst (λ (o : ℕ). IsNewest o (seen ++ advert ∷ [])
-      (held_advert (after_hearing adverts advert) o))
-      (sym same) here)
-  | inr apart ↦ rw (held_others adverts advert origin apart)
-      (push_other origin seen advert (held_advert adverts origin) (λ e. apart (sym e)) newest)
-]
+newest_hearing adverts seen advert origin by below newest =
+    search (rules, cases_eq, newest_same, held_others, push_other)
 
 newest_after : (adverts : List (Option Advert)) (seen heard : List Advert) (origin : ℕ) →
     AreByOrigin adverts → origin < 64 → IsNewest origin seen (held_advert adverts origin) →
@@ -145,6 +122,4 @@ pub held_newest : (adverts : List (Option Advert)) (heard : List Advert) (origin
     AreByOrigin adverts → origin < 64 →
     IsNewest origin (option_to_list (held_advert adverts origin) ++ heard)
     (held_advert (after_hearing_all adverts heard) origin)
-held_newest adverts heard origin by below =
-    newest_after adverts (option_to_list (held_advert adverts origin)) heard origin by below
-    (newest_held origin (held_advert adverts origin) (by.origins origin))
+held_newest adverts heard origin by below = search (rules, newest_after, newest_held)

@@ -1,5 +1,5 @@
 -- How the search ends: with the least path, or where no path is.
-use Rattle.std.proofs.Common.{[], ◌&&◌, ◌+◌, ◌-◌, ◌<◌, ◌==◌, ◌∙◌, ◌∷◌, ◌≡◌, ◌≤◌, ◌⊎◌, All, Bool, IfSome, IsSomeAnd, List, None, Option, Some, ap, arith, eqb-true, false, inl, inr, length, nat_eq, nat_lt, option_map, refl, subst, suc, sym, true, zero, ℕ}
+use Rattle.std.proofs.Common.{[], ◌&&◌, ◌+◌, ◌-◌, ◌<◌, ◌==◌, ◌∙◌, ◌∷◌, ◌≡◌, ◌≤◌, ◌⊎◌, All, Bool, IfSome, IsSomeAnd, List, None, Option, Some, ap, arith, eqb-true, false, inl, inr, length, nat_eq, nat_lt, option_map, refl, subst, suc, sym, true, zero, ℕ, rules}
 use Rattle.base.proofs.Exports.{All-cons, All-nil, cases_lt, length-le_from_distinct_below, list_any, nat_tests}
 use Rattle.failover.specs.declared.advert.Advert.{Advert}
 use Rattle.base.specs.Exports.{has, switches}
@@ -11,10 +11,7 @@ use Rattle.failover.proofs.LeastPaths.{length-onward, onward_leads, onward_disti
 
 switch_below : (links : List ℕ) (target at : ℕ) (rest : List ℕ) → at < 64 →
     LinksLead links target at rest → (q : ℕ) → list_any (nat_eq q) (at ∷ rest) ≡ true → q < 64
-switch_below links target at [] fits leads q h = elim (or_cases (nat_eq q at) false h) [
-  | inl same ↦ (let e = eqb-true q at same in omega arith)
-  | inr none ↦ apart_tests false none refl
-]
+switch_below links target at [] fits leads q h = search (rules, eqb-true)
 switch_below links target at (next ∷ rest) fits leads q h =
     elim (or_cases (nat_eq q at) (list_any (nat_eq q) (next ∷ rest)) h) [
       | inl same ↦ (let e = eqb-true q at same in omega arith)
@@ -68,12 +65,8 @@ least_of_all : (links : List ℕ) (target k from : ℕ) → length links ≡ 64 
     IsAway links target k from → (other : List ℕ) → IsPath links from target other →
     length other ≡ suc k → IsAtMost (from ∷ path_after links target k from) other
 unfolding IsPath
-least_of_all links target k from rows target_fits fits away [] path long = absurd path
-least_of_all links target k from rows target_fits fits away (first ∷ rest) path long = inr (
-  sym path.0,
-  onward_least links target k from rest rows target_fits fits away
-      (subst (λ (x : ℕ). LinksLead links target x rest) path.0 path.2) (omega arith),
-)
+least_of_all links target k from rows target_fits fits away other path long =
+    search (rules, onward_least)
 
 found_path : (links : List ℕ) (target k from : ℕ) → length links ≡ 64 → target < 64 → from < 64 →
     IsAway links target k from → IsPath links from target (from ∷ path_after links target k from)
@@ -89,16 +82,7 @@ pub found_is_least : (links : List ℕ) (target k from : ℕ) → length links �
     from < 64 → IsAway links target k from →
     IsLeastPath links from target (from ∷ path_after links target k from)
 found_is_least links target k from rows target_fits fits away =
-    let long = length-onward links target k from in record {
-      path = found_path links target k from rows target_fits fits away;
-      fewest = λ other path. omega (
-        arith,
-        long,
-        fewest_of links target k from rows fits away other path,
-      );
-      least = λ other path same. least_of_all links target k from rows target_fits fits away other
-          path (omega (arith, long, same));
-    }
+    search (rules, length-onward, found_path, fewest_of, least_of_all)
 
 -- ---- where nothing was found no path is
 
@@ -143,10 +127,7 @@ still_out links target j from same before = λ k fits. elim (cases_lt k (suc j))
 grows : (links : List ℕ) (target j k from : ℕ) → IsAway links target (j + suc k) from →
     (grown_ball links (ball links target j) == ball links target j) ≡ false
 unfolding ball
-grows links target j k from away = false_of _ (λ still.
-    let same : ball links target (suc j) ≡ ball links target j = eqb-true _ _ still in
-    apart_tests _ (ap (λ b. has b from) (sym (stands_still links target j (suc k) same))
-    ∙ away.here) (away.later j (omega arith)))
+grows links target j k from away = search (rules, false_of, eqb-true, stands_still)
 
 -- a turn of the search: the switch is here, balls stand still, or the rest of the search decides
 abbrev turn : Bool → Bool → Option ℕ → Option ℕ
@@ -165,15 +146,11 @@ turn_here false still rest e = apart_tests false e refl
 
 turn_on : (here still : Bool) (rest : Option ℕ) → here ≡ false → still ≡ false →
     turn here still rest ≡ option_map suc rest
-turn_on true still rest e moves = apart_tests true refl e
-turn_on false true rest e moves = apart_tests true refl moves
-turn_on false false rest e moves = refl
+turn_on here still rest e moves = search rules
 
 turn_none : (here still : Bool) (rest : Option ℕ) → here ≡ false → rest ≡ None →
     turn here still rest ≡ None
-turn_none true still rest e none = apart_tests true refl e
-turn_none false true rest e none = refl
-turn_none false false rest e none = ap (option_map suc) none
+turn_none here still rest e none = search rules
 
 away_found : (most : ℕ) (links : List ℕ) (target j k from : ℕ) → k < most →
     IsAway links target (j + k) from → links_away most links from (ball links target j) ≡ Some k
@@ -232,10 +209,8 @@ route_to-away links from target k from_fits target_fits fits away =
 
 pub route_to-out : (links : List ℕ) (from target : ℕ) → from < 64 → target < 64 →
     IsOutOfReach links target from → route_to links from target ≡ None
-route_to-out links from target from_fits target_fits out = route_to-guarded links from target
-    ∙ guarded_true _ _ (both_below from target from_fits target_fits)
-    ∙ ap (option_map (λ k. from ∷ path_after links target k from))
-    (none_found 64 links target 0 from (omega arith) out)
+route_to-out links from target from_fits target_fits out =
+    search (rules, route_to-guarded, guarded_true, both_below, none_found)
 
 above : (a b : ℕ) → (a < 64 → b < 64 → ⊥) → (nat_lt a 64 && nat_lt b 64) ≡ true → ⊥
 above a b h e = h (grind (arith, nat_tests)) (grind (arith, nat_tests))
@@ -251,11 +226,7 @@ later_or_away : (links : List ℕ) (target from k : ℕ) →
     ((j : ℕ) → j < k → has (ball links target j) from ≡ false) → (b : Bool) →
     has (ball links target k) from ≡ b →
     IsAway links target k from ⊎ ((j : ℕ) → j < suc k → has (ball links target j) from ≡ false)
-later_or_away links target from k before true e = inl (record { here = e; later = before })
-later_or_away links target from k before false e = inr (λ j less. elim (cases_lt j k) [
-  | inl earlier ↦ before j earlier
-  | inr last ↦ ap (λ n. has (ball links target n) from) (omega arith) ∙ e
-])
+later_or_away links target from k before b e = search rules
 
 search_up_to : (links : List ℕ) (target from k : ℕ) →
     ((i : ℕ) × (i < k) × IsAway links target i from)
@@ -293,9 +264,7 @@ straight_path links from target rest rows fits leads =
 stray : (links : List ℕ) (from target : ℕ) → (from < 64 → target < 64 → ⊥) → (path : List ℕ) →
     IsPath links from target path → ⊥
 unfolding IsPath
-stray links from target h [] path = path
-stray links from target h (first ∷ rest) path =
-    h (subst (λ (x : ℕ). x < 64) path.0 path.1) (target_below links target first rest path.1 path.2)
+stray links from target h path h5 = search (rules, target_below)
 
 unreachable : (links : List ℕ) (from target : ℕ) → (from < 64 → target < 64 → ⊥) →
     ¬ IsReachable links from target
@@ -330,13 +299,7 @@ answer_above links from target h =
 
 route_to_answers : (links : List ℕ) (from target : ℕ) → length links ≡ 64 →
     IsAnswer links from target (route_to links from target)
-route_to_answers links from target rows = elim (cases_lt from 64) [
-  | inl from_fits ↦ elim (cases_lt target 64) [
-    | inl target_fits ↦ answer_within links from target rows from_fits target_fits
-    | inr past ↦ answer_above links from target (λ p q. absurd (omega arith))
-  ]
-  | inr past ↦ answer_above links from target (λ p q. absurd (omega arith))
-]
+route_to_answers links from target rows = search (rules, answer_within, answer_above)
 
 abbrev chosen : Option (List ℕ) → Option (List ℕ) → Option (List ℕ)
 chosen route rest = elim route [ Some path ↦ Some path | None ↦ rest ]
@@ -350,13 +313,7 @@ chosen_is_route : (links : List ℕ) (from target : ℕ) (targets : List ℕ)
     (route rest : Option (List ℕ)) → IsAnswer links from target route →
     IsRoute links from targets rest → IsRoute links from (target ∷ targets) (chosen route rest)
 unfolding IsRoute
-chosen_is_route links from target targets (Some path) rest answer later =
-    elim answer [ inl least ↦ inl least | inr none ↦ absurd (some_is_not_none path none.1) ]
-  where
-    some_is_not_none : (path : List ℕ) → Some path ≡ None → ⊥
-    some_is_not_none path e = cc
-chosen_is_route links from target targets None rest answer later =
-    elim answer [ inl least ↦ absurd least | inr none ↦ inr (none.0, later) ]
+chosen_is_route links from target targets route rest answer later = search rules
 
 no_targets : (links : List ℕ) (from : ℕ) → IsRoute links from [] (first_route links from [])
 unfolding IsRoute first_route
@@ -399,10 +356,7 @@ reached_by links from target (Some path) least = (path, least.path)
 same_some : (links : List ℕ) (from target : ℕ) (one other : Option (List ℕ)) →
     IsSomeAnd one (IsLeastPath links from target) →
     IsSomeAnd other (IsLeastPath links from target) → one ≡ other
-same_some links from target None other a b = absurd a
-same_some links from target (Some path) None a b = absurd b
-same_some links from target (Some path) (Some more) a b =
-    ap Some (one_least_path links from target path more a b)
+same_some links from target one other a b = search (rules, one_least_path)
 
 pub one_route : (links : List ℕ) (from : ℕ) (targets : List ℕ) (one other : Option (List ℕ)) →
     IsRoute links from targets one → IsRoute links from targets other → one ≡ other
@@ -460,9 +414,7 @@ none_after links target k at most before = λ j less. before j (omega arith)
 
 least_is_list : (links : List ℕ) (from target : ℕ) (route : Option (List ℕ)) →
     IsSomeAnd route (IsLeastPath links from target) → IfSome route IsRouteList
-least_is_list links from target None least = absurd least
-least_is_list links from target (Some path) least =
-    path_is_route_list links from target path least.path
+least_is_list links from target route least = search (rules, path_is_route_list)
 
 none_is_list : (route : Option (List ℕ)) → route ≡ None → IfSome route IsRouteList
 none_is_list route e = subst (λ (r : Option (List ℕ)). IfSome r IsRouteList) (sym e) tt

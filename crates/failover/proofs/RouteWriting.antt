@@ -1,5 +1,5 @@
 -- The route as it is written down.
-use Rattle.std.proofs.Common.{[], ◌++◌, ◌+◌, ◌-◌, ◌<◌, ◌^◌, ◌∙◌, ◌∷◌, ◌≡◌, ◌≤◌, List, Some, add-one, ap, append_assoc, arith, bit_and, drop, drop-drop, false, get_or, get_or-drop, get_or-set_other, get_or-set_same, inl, inr, length, length-drop, length-take, refl, replicate, set, subst, suc, sym, take, take_all, take_at, zero, ℕ}
+use Rattle.std.proofs.Common.{[], ◌++◌, ◌+◌, ◌-◌, ◌<◌, ◌^◌, ◌∙◌, ◌∷◌, ◌≡◌, ◌≤◌, List, Some, add-one, ap, append_assoc, arith, bit_and, drop, drop-drop, false, get_or, get_or-drop, get_or-set_other, get_or-set_same, length, length-drop, length-take, refl, replicate, set, subst, suc, sym, take, take_all, take_at, zero, ℕ, rules}
 use Rattle.base.proofs.Exports.{cases_eq, set-append_seam, take_more}
 use Rattle.base.specs.Exports.{has}
 use Rattle.failover.specs.Exports.{AreBalls, IsAway, IsOutOfReach, IsRouteList, ball, grown_ball, least_neighbour_in, path_after, path_by_balls, route_to}
@@ -108,10 +108,8 @@ pub more_balls : (links : List ℕ) (target : ℕ) (balls : List ℕ) (k kept : 
     kept ≡ ball links target k → AreBalls links target balls k →
     AreBalls links target (set balls k kept) (k + 1)
 unfolding AreBalls
-more_balls links target balls k kept there e before = λ j less. elim (cases_eq j k) [
-  | inl same ↦ rw (same, get_or-set_same balls k kept 0 there) e
-  | inr apart ↦ get_or-set_other balls k j kept 0 apart ∙ before j (omega arith)
-]
+more_balls links target balls k kept there e before =
+    search (rules, cases_eq, get_or-set_same, get_or-set_other)
 
 pub first_ball : (links : List ℕ) (target : ℕ) → 2 ^ target ≡ ball links target 0
 unfolding ball
@@ -125,27 +123,18 @@ next_ball links target k within wide here e = rw (e, here, add-one) refl
 pub before_more : (links : List ℕ) (target k within from : ℕ) → within ≡ ball links target k →
     has within from ≡ false → ((j : ℕ) → j < k → has (ball links target j) from ≡ false) → (j : ℕ) →
     j < k + 1 → has (ball links target j) from ≡ false
-before_more links target k within from here absent before = λ j less. elim (cases_eq j k) [
-  | inl same ↦ ap (λ n. has (ball links target n) from) same ∙ ap (λ b. has b from) (sym here)
-      ∙ absent
-  | inr apart ↦ before j (omega arith)
-]
+before_more links target k within from here absent before = search (rules, cases_eq)
 
 -- a switch that isn't in the ball, and has a link into it
 pub next_away : (links : List ℕ) (target k within from : ℕ) → from < length links →
     within ≡ ball links target k → 0 < bit_and (get_or links from 0) within →
     has within from ≡ false → ((j : ℕ) → j < k → has (ball links target j) from ≡ false) →
     IsAway links target (k + 1) from
-next_away links target k within from below here meets absent before = record {
-  here = ap (λ m. has m from) (sym (next_ball links target k within _ here refl))
-      ∙ wider_meets links within from below meets;
-  later = before_more links target k within from here absent before;
-}
+next_away links target k within from below here meets absent before =
+    search (rules, next_ball, wider_meets)
 
 pub no_more : (links : List ℕ) (target k within wide from : ℕ) → within ≡ ball links target k →
     wide ≡ grown_ball links within → wide ≡ within → has within from ≡ false →
     ((j : ℕ) → j < k → has (ball links target j) from ≡ false) → IsOutOfReach links target from
 unfolding ball
-no_more links target k within wide from here e still absent before =
-    still_out links target k from (ap (grown_ball links) (sym here) ∙ sym e ∙ still ∙ here)
-    (λ j less. before_more links target k within from here absent before j (omega arith))
+no_more links target k within wide from here e still absent before = search (rules, still_out)

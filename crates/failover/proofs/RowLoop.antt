@@ -1,5 +1,5 @@
 -- The loop over the neighbours that a switch names.
-use Rattle.std.proofs.Common.{◌%◌, ◌&&◌, ◌*◌, ◌+◌, ◌-◌, ◌<◌, ◌==◌, ◌^◌, ◌||◌, ◌∙◌, ◌≡◌, Bool, List, ap, arith, bit_and, bit_or, bit_xor, eq-eqb, false, get_or, inl, inr, not, pow_pos, refl, sym, true, w64, ℕ}
+use Rattle.std.proofs.Common.{◌%◌, ◌&&◌, ◌+◌, ◌-◌, ◌<◌, ◌==◌, ◌^◌, ◌||◌, ◌∙◌, ◌≡◌, Bool, List, ap, arith, bit_and, bit_or, bit_xor, eq-eqb, false, get_or, inl, inr, not, pow_pos, sym, true, w64, ℕ, rules}
 use Rattle.base.proofs.Exports.{and-true, and_le_l, and_le_r, and_parts, and_pow, bit_at, bit_at-lt, bit_at-pow_same, bit_at_not, bit_at_ones, bit_at_xor, bit_not, cases_eq, has-and, has-or, has-xor_other, has-zero, has_least, has_mask, has_only_other, has_only_same, nat_tests, only_if_lt, or_lt, pow_below, same_masks, xor_add_and, xor_lt}
 use Rattle.base.specs.Exports.{has, least_in, only_if}
 use Rattle.failover.specs.Exports.{is_link, links_at}
@@ -14,10 +14,7 @@ pub record IsRowSoFar (neighbours down : List ℕ) (one within row rest : ℕ) :
       (is_link neighbours down one k && has within k)
 
 named_and : (a b c d : Bool) → (b && (a && b && c && d)) ≡ (a && b && c && d)
-named_and true true c d = refl
-named_and false true c d = refl
-named_and true false c d = refl
-named_and false false c d = refl
+named_and a b c d = search rules
 
 -- a link is to a switch that is named
 named : (neighbours down : List ℕ) (one k : ℕ) →
@@ -29,12 +26,7 @@ named neighbours down one k = named_and (not (one == k)) (has (get_or neighbours
 
 named_within : (name within link : Bool) → (name && link) ≡ link →
     ((name && within) && link) ≡ (link && within)
-named_within true true true h = refl
-named_within true true false h = refl
-named_within true false true h = refl
-named_within true false false h = refl
-named_within false within true h = apart_tests true refl (sym h)
-named_within false within false h = refl
+named_within name within link h = search rules
 
 pub row_begins : (neighbours down : List ℕ) (one within : ℕ) → within < 2 ^ 64 →
     IsRowSoFar neighbours down one within 0 (bit_and (get_or neighbours one 0) within)
@@ -57,9 +49,7 @@ row_ends neighbours down one within row rest fits so_far none = same_masks row _
   where
     at_end : (row rest link wanted : Bool) → rest ≡ false → (row || (rest && link)) ≡ wanted →
         row ≡ wanted
-    at_end true rest link wanted none h = h
-    at_end false true link wanted none h = apart_tests true refl none
-    at_end false false link wanted none h = h
+    at_end row rest link wanted none h = search rules
 
 -- ---- a switch less
 
@@ -76,21 +66,13 @@ one_bit a h = grind (arith, nat_tests)
 
 pub less : (rest k : ℕ) → has rest k ≡ true → bit_xor rest (2 ^ k) < rest
 unfolding has
-less rest k h =
-    let common : bit_and rest (2 ^ k) ≡ 2 ^ k =
-    and_pow rest k ∙ ap (λ b. b * 2 ^ k) (one_bit (bit_at rest k) h) ∙ one_times (2 ^ k) in
-    omega (arith, xor_add_and rest (2 ^ k), common, pow_pos k)
-  where
-    one_times : (n : ℕ) → 1 * n ≡ n
-    one_times n = omega arith
+less rest k h = search (rules, and_pow, one_bit, xor_add_and)
 
 -- ---- a turn
 
 turn_same : (row link wanted : Bool) → (row || (true && link)) ≡ wanted →
     ((row || link) || (false && link)) ≡ wanted
-turn_same true link wanted h = h
-turn_same false true wanted h = h
-turn_same false false wanted h = h
+turn_same row link wanted h = search rules
 
 turn_other : (row rest link wanted : Bool) → (row || (rest && link)) ≡ wanted →
     ((row || false) || (rest && link)) ≡ wanted
@@ -151,9 +133,7 @@ unfolding has
 has-not a k fits below = turned_bit (bit_at a k) _ (bit_at-lt a k) (bit_at_not w64 a k fits below)
 
 or_more : (a b : Bool) → (a || (b && not a)) ≡ (a || b)
-or_more true b = refl
-or_more false true = refl
-or_more false false = refl
+or_more a b = search rules
 
 -- what is there already may be left out of what is added
 pub or_others : (a b gain : ℕ) → a < 2 ^ 64 → b < 2 ^ 64 →

@@ -1,5 +1,5 @@
 -- The loop over the switches of a ball, where each link is known from both its ends.
-use Rattle.std.proofs.Common.{◌<◌, ◌^◌, ◌∙◌, ◌≡◌, ◌⊎◌, Bool, List, ap, arith, bit_or, bit_xor, false, get_or, inl, inr, length, refl, sym, true, ℕ}
+use Rattle.std.proofs.Common.{◌<◌, ◌^◌, ◌∙◌, ◌≡◌, ◌⊎◌, Bool, List, ap, arith, bit_or, bit_xor, false, get_or, inl, inr, length, refl, sym, true, ℕ, rules}
 use Rattle.base.proofs.Exports.{cases_eq, has-or, has-xor_other, has-zero, or_lt, pow_below, same_from_decides, same_masks, xor_lt}
 use Rattle.base.specs.Exports.{has}
 use Rattle.failover.specs.Exports.{IsEdge, grown_ball, least_neighbour_in}
@@ -84,21 +84,10 @@ wide_ends links ball wide rest rows fits so_far none =
 -- ---- edges
 
 pub edge_first : (links : List ℕ) (ball : ℕ) → IsEdge links ball ball
-edge_first links ball = record {
-  inside = λ one below h. h;
-  inner = λ one other one_fits other_fits there out link. apart_tests _ there out;
-}
+edge_first links ball = search rules
 
 -- what a widening adds is the edge of the wider ball
 pub edge_next : (links : List ℕ) (ball wide : ℕ) → length links ≡ 64 → AreBothWays links →
     wide ≡ grown_ball links ball → IsEdge links wide (bit_xor ball wide)
-edge_next links ball wide rows both e = record {
-  inside = λ one below h. elim (holds_or_not (has wide one)) [
-    | inl there ↦ there
-    | inr absent ↦ ap (λ m. has m one) e
-        ∙ wider_keeps links ball one (omega arith) (has_first ball wide one absent h)
-  ];
-  inner = λ one other one_fits other_fits there out link. ap (λ m. has m other) e
-      ∙ wider_gains links ball other one (omega arith) (both other one ∙ link)
-      (has_both ball wide one there out);
-}
+edge_next links ball wide rows both e =
+    search (rules, holds_or_not, wider_keeps, has_first, wider_gains, has_both)
