@@ -1,7 +1,7 @@
 -- The first of the switches that have room: what a rising list gives, and that one list alone is
 -- the first.
-use Rattle.std.proofs.Common.{[], ◌&&◌, ◌+◌, ◌-◌, ◌<◌, ◌^◌, ◌∙◌, ◌∷◌, ◌≡◌, ◌≢◌, ◌≤◌, All, AllPairs, Bool, List, MatchOption, None, Option, Some, ap, arith, cond, eq-eqb, eqb, false, filter, get_or, inl, inr, leb, leb-true, length, length-take, ltb, min, ne_eqb, not, refl, subst, suc, sym, take, true, true≢false, zero, ℕ}
-use Rattle.base.proofs.Exports.{All-from_recursion, AllByRecursion, and_from, and_parts, cases_Bool, cases_eq, cases_lt, false≢true, list_any, nat_tests, not-true, not_from_false, or_parts, range_with_len, recursion_from_All, sum_by-cons}
+use Rattle.std.proofs.Common.{[], ◌&&◌, ◌+◌, ◌-◌, ◌<◌, ◌^◌, ◌∙◌, ◌∷◌, ◌≡◌, ◌≢◌, ◌≤◌, All, AllPairs, Bool, List, MatchOption, None, Option, Some, ap, arith, cond, eq-eqb, eqb, false, filter, get_or, inl, inr, leb, leb-true, length, length-take, min, ne_eqb, not, refl, subst, suc, sym, take, true, true≢false, zero, ℕ, rules}
+use Rattle.base.proofs.Exports.{All-from_recursion, AllByRecursion, and_from, and_parts, cases_Bool, cases_eq, cases_lt, false≢true, list_any, nat_tests, not-true, not_from_false, or_parts, recursion_from_All, sum_by-cons}
 use Rattle.placement.specs.Order.{in_order}
 use Rattle.placement.specs.Placement.{is_earlier, is_lighter, has_room, with_room, AreFirst}
 use Rattle.placement.proofs.OrderLemmas.{IsOrder, Rises, one_of, one_of-same, one_of-other, count, count-filter, count-range-le, count-range_within, length-in_order, sum-in_order, rises-in_order, each_from_count, each_by_count, pairs_from_rises, rises_from_pairs}
@@ -18,11 +18,7 @@ earlier_order sizes = record {
 
 pub lighter_order : (load : ℕ → ℕ) → IsOrder (is_lighter load)
 unfolding is_lighter
-lighter_order load = record {
-  never = λ a. grind (arith, nat_tests);
-  trans = λ a b c p q. grind (arith, nat_tests);
-  total = λ a b other later. grind (arith, nat_tests);
-}
+lighter_order load = search (rules, nat_tests)
 
 -- ---- the front of a rising list
 
@@ -66,19 +62,8 @@ capped_within n room small = grind (arith, nat_tests)
 -- a switch is listed once if it has room, and else not at all
 pub count-with_room : (load : ℕ → ℕ) (rooms : List ℕ) (size s : ℕ)
     → count s (with_room load rooms size) ≡ cond (has_room load rooms size s) 1 0
-count-with_room load rooms size s = by_case (has_room load rooms size s) refl
-    (count-filter (has_room load rooms size) s (range_with_len 0 (length rooms)))
-  where
-    by_case : (b : Bool) → has_room load rooms size s ≡ b → count s (with_room load rooms size)
-        ≡ cond b (count s (range_with_len 0 (length rooms))) 0 → count s (with_room load rooms size)
-        ≡ cond b 1 0
-    by_case true is counts = omega (
-      arith,
-      counts,
-      count-range-le s 0 (length rooms),
-      count-range_within s (length rooms) (has_room-within load rooms size s is),
-    )
-    by_case false is counts = counts
+count-with_room load rooms size s =
+    search (rules, count-filter, count-range-le, count-range_within, has_room-within)
 
 pub count-with_room-le : (load : ℕ → ℕ) (rooms : List ℕ) (size s : ℕ)
     → count s (with_room load rooms size) ≤ 1
@@ -106,10 +91,8 @@ front_is_first held load rooms size n xs rises counts enough =
 pub first_in_order : (held load : ℕ → ℕ) (rooms : List ℕ) (size n : ℕ)
     → n ≤ length (in_order (is_lighter load) (with_room held rooms size))
     → AreFirst held load rooms size n (take n (in_order (is_lighter load) (with_room held rooms size)))
-first_in_order held load rooms size n enough = front_is_first held load rooms size n _
-    (rises-in_order (is_lighter load) (lighter_order load) (with_room held rooms size)
-    (count-with_room-le held rooms size))
-    (λ s. sum-in_order (one_of s) (is_lighter load) (with_room held rooms size)) enough
+first_in_order held load rooms size n enough =
+    search (rules, front_is_first, rises-in_order, lighter_order, count-with_room-le, sum-in_order)
 
 -- the same order, by numbers that are the same
 pub order_along : (held held' loads loads' rooms : List ℕ) (size size' : ℕ) (switches : List ℕ)
@@ -117,12 +100,7 @@ pub order_along : (held held' loads loads' rooms : List ℕ) (size size' : ℕ) 
     ≡ in_order (is_lighter (λ s. get_or loads s 0)) (with_room (λ s. get_or held s 0) rooms size)
     → switches ≡ in_order (is_lighter (λ s. get_or loads' s 0))
     (with_room (λ s. get_or held' s 0) rooms size')
-order_along held held' loads loads' rooms size size' switches holds carries large is =
-    is ∙ ap (λ xs. in_order (is_lighter (λ s. get_or xs s 0))
-    (with_room (λ s. get_or held s 0) rooms size)) carries ∙ ap (λ xs. in_order
-    (is_lighter (λ s. get_or loads' s 0)) (with_room (λ s. get_or xs s 0) rooms size)) holds
-    ∙ ap (λ n. in_order (is_lighter (λ s. get_or loads' s 0))
-    (with_room (λ s. get_or held' s 0) rooms n)) large
+order_along held held' loads loads' rooms size size' switches holds carries large is = search rules
 
 -- what a search says that found nothing
 pub none_of : (found : Option (List ℕ)) (few : Type 0) (first : List ℕ → Type 0)
@@ -134,20 +112,14 @@ none_of (Some targets) few first said none = absurd (none targets refl)
 pub fewer_in_order : (held load : ℕ → ℕ) (rooms : List ℕ) (size n : ℕ) (switches : List ℕ)
     → switches ≡ in_order (is_lighter load) (with_room held rooms size) → length switches < n
     → length (with_room held rooms size) < n
-fewer_in_order held load rooms size n switches is fewer = omega (
-  arith,
-  ap length is,
-  length-in_order (is_lighter load) (with_room held rooms size),
-  fewer,
-)
+fewer_in_order held load rooms size n switches is fewer = search (rules, length-in_order)
 
 -- the front of the switches in order
 pub first_of_order : (held load : ℕ → ℕ) (rooms : List ℕ) (size n : ℕ) (switches targets : List ℕ)
     → switches ≡ in_order (is_lighter load) (with_room held rooms size) → n ≤ length switches
     → targets ≡ take n switches → AreFirst held load rooms size n targets
 first_of_order held load rooms size n switches targets is enough front =
-    subst (AreFirst held load rooms size n) (sym (front ∙ ap (take n) is))
-    (first_in_order held load rooms size n (omega (arith, ap length is, enough)))
+    search (rules, first_in_order)
 
 -- ---- one list alone is the first
 
@@ -307,15 +279,12 @@ room_for_first held load rooms size n xs first =
 
 pub first_there : (held load : ℕ → ℕ) (rooms : List ℕ) (size n : ℕ) (xs : List ℕ)
     → AreFirst held load rooms size n xs → All (λ s. s < length rooms) xs
-first_there held load rooms size n xs first = λ k d within. has_room-within held rooms size _
-    (first.fit k d within)
+first_there held load rooms size n xs first = search (rules, has_room-within)
 
 pub first_room : (held load : ℕ → ℕ) (rooms : List ℕ) (size n : ℕ) (xs : List ℕ)
     → AreFirst held load rooms size n xs → All (λ s. held s + size ≤ get_or rooms s 0) xs
 unfolding has_room
-first_room held load rooms size n xs first = λ k d within. let s = get_or xs k d in
-    leb-true (held s + size) (get_or rooms s 0) (and_parts (ltb s (length rooms))
-    (leb (held s + size) (get_or rooms s 0)) (first.fit k d within)).1
+first_room held load rooms size n xs first = search (rules, leb-true)
 
 pub first_distinct : (held load : ℕ → ℕ) (rooms : List ℕ) (size n : ℕ) (xs : List ℕ)
     → AreFirst held load rooms size n xs → AllPairs (λ a b. a ≡ b → ⊥) xs
@@ -327,5 +296,4 @@ first_distinct held load rooms size n xs first = λ i j d less within same. fals
 pub first_along : (held held' load load' : ℕ → ℕ) (rooms : List ℕ) (size n : ℕ) (xs ys : List ℕ)
     → held ≡ held' → load ≡ load' → xs ≡ ys → AreFirst held load rooms size n xs
     → AreFirst held' load' rooms size n ys
-first_along held held' load load' rooms size n xs ys holds carries same first = rw holds at
-    (rw carries at (subst (AreFirst held load rooms size n) same first))
+first_along held held' load load' rooms size n xs ys holds carries same first = search rules

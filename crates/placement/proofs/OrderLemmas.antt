@@ -1,7 +1,7 @@
 -- Numbers in an order: what an insertion sort keeps, and that one list alone rises and has given
 -- numbers.
-use Rattle.base.proofs.Exports.{All-from_recursion, AllByRecursion, AllPairs-cons, cases_Bool, cases_eq, false≢true, get_or_default, list_any, list_any-append, list_any_none, nat_tests, ordering_then, range_with_len, recursion_from_All, sum_by-cons, ⊤}
-use Rattle.std.proofs.Common.{[], ◌&&◌, ◌++◌, ◌+◌, ◌<◌, ◌||◌, ◌∙◌, ◌∷◌, ◌≡◌, ◌≢◌, ◌≤◌, AllPairs, Bool, IsSortedBy, List, ap, arith, cond, eq-eqb, eqb, false, filter, get_or, get_or-take, inl, inr, is_lt, leb, length, length-take, ltb, nat_cmp, ne_eqb, refl, subst, suc, sum_by, sym, take, true, zero, ℕ}
+use Rattle.base.proofs.Exports.{All-from_recursion, AllByRecursion, AllPairs-cons, cases_Bool, cases_eq, false≢true, list_any, list_any-append, list_any_none, nat_tests, ordering_then, range_with_len, recursion_from_All, sum_by-cons, ⊤}
+use Rattle.std.proofs.Common.{[], ◌&&◌, ◌++◌, ◌+◌, ◌<◌, ◌||◌, ◌∙◌, ◌∷◌, ◌≡◌, ◌≢◌, ◌≤◌, AllPairs, Bool, IsSortedBy, List, ap, arith, cond, eq-eqb, eqb, false, filter, get_or, get_or-take, inl, inr, is_lt, leb, length, length-take, ltb, nat_cmp, ne_eqb, refl, subst, suc, sum_by, sym, take, true, zero, ℕ, rules}
 use Rattle.placement.specs.Order.{with_inserted, in_order}
 
 -- a test that puts any two different numbers in one order
@@ -52,8 +52,7 @@ pub count-filter : (p : ℕ → Bool) (z : ℕ) (xs : List ℕ) → count z (fil
     (count z xs) 0
 count-filter p z [] = empty_case (p z) where
   empty_case : (b : Bool) → let none : ℕ = 0 in none ≡ cond b 0 0
-  empty_case true = refl
-  empty_case false = refl
+  empty_case b = search rules
 count-filter p z (x ∷ xs) = elim (cases_eq z x) [
   | inl same ↦ same_case same (p z) refl (count-filter p z xs)
   | inr other ↦ other_case other (p x) (p z) (count-filter p z xs)
@@ -70,13 +69,7 @@ count-filter p z (x ∷ xs) = elim (cases_eq z x) [
 
   other_case : z ≢ x → (b c : Bool) → count z (filter p xs) ≡ cond c (count z xs) 0
       → count z (cond b (x ∷ filter p xs) (filter p xs)) ≡ cond c (count z (x ∷ xs)) 0
-  other_case other true true rest =
-      omega (arith, sum_by-cons (one_of z) x (filter p xs), sum_by-cons (one_of z) x xs, rest)
-  other_case other false true rest =
-      omega (arith, one_of-other z x other, sum_by-cons (one_of z) x xs, rest)
-  other_case other true false rest =
-      omega (arith, one_of-other z x other, sum_by-cons (one_of z) x (filter p xs), rest)
-  other_case other false false rest = rest
+  other_case other b c rest = search (rules, sum_by-cons, one_of-other)
 
 -- ---- the numbers from one on
 
@@ -132,8 +125,7 @@ length-inserted before x [] = refl
 length-inserted before x (y ∷ ys) = by_case (before y x) (length-inserted before x ys) where
   by_case : (b : Bool) → length (with_inserted before x ys) ≡ suc (length ys)
       → length (cond b (y ∷ with_inserted before x ys) (x ∷ y ∷ ys)) ≡ suc (suc (length ys))
-  by_case true rest = ap suc rest
-  by_case false rest = refl
+  by_case b rest = search rules
 
 pub length-in_order : (before : ℕ → ℕ → Bool) (xs : List ℕ) → length (in_order before xs) ≡ length
     xs
@@ -150,8 +142,7 @@ each-inserted P before x (y ∷ ys) here each = by_case (before y x)
   where
     by_case : (b : Bool) → AllByRecursion P (with_inserted before x ys)
         → AllByRecursion P (cond b (y ∷ with_inserted before x ys) (x ∷ y ∷ ys))
-    by_case true rest = (each.0, rest)
-    by_case false rest = (here, each)
+    by_case b rest = search rules
 
 each-trans : (before : ℕ → ℕ → Bool) → IsOrder before → (x y : ℕ) (ys : List ℕ) → before x y ≡ true
     → AllByRecursion (λ z. before y z ≡ true) ys → AllByRecursion (λ z. before x z ≡ true) ys
@@ -275,15 +266,8 @@ lexicographic a b c d = grind (arith, nat_tests)
 -- of different numbers, none stands at an earlier place
 pub not_among_before : (xs : List ℕ) (k : ℕ) → k < length xs → AllPairs (λ a b. a ≡ b → ⊥) xs
     → list_any (eqb (get_or xs k 0)) (take k xs) ≡ false
-not_among_before xs k within pairs = list_any_none (eqb (get_or xs k 0)) (take k xs)
-    (λ i d less. let before : i < k = omega (arith, length-take k xs) in
-    rw (get_or-take k xs i d before)
-    (ne_eqb (get_or xs k 0) (get_or xs i d)
-    (λ same. pairs i k 0 before within (get_or_default xs i 0 d (omega arith) ∙ sym same))))
+not_among_before xs k within pairs = search (rules, list_any_none, length-take, get_or-take, ne_eqb)
 
 pub among-push : (x : ℕ) (xs : List ℕ) (y : ℕ) → list_any (eqb x) (xs ++ y ∷ [])
     ≡ (list_any (eqb x) xs || eqb x y)
-among-push x xs y = cc (list_any-append (eqb x) xs (y ∷ []), or-false (eqb x y)) where
-  or-false : (b : Bool) → (b || false) ≡ b
-  or-false true = refl
-  or-false false = refl
+among-push x xs y = search (rules, list_any-append)

@@ -1,6 +1,6 @@
 -- Partitions in turn, whatever loads they weigh: what a turn keeps, that turns end in a placement
 -- or in a refusal, that there is one of these, and that no switch is given more than its room.
-use Rattle.std.proofs.Common.{[], ◌&&◌, ◌++◌, ◌+◌, ◌<◌, ◌∙◌, ◌∷◌, ◌≡◌, ◌≢◌, ◌≤◌, Bool, List, ap, append-nil, append_assoc, arith, cond, drop, eqb, false, filter, get_or, get_or-set_other, get_or-set_same, inl, inr, length, length-set, refl, replicate, set, subst, sum, sum_by, sym, take, take_all, true, ℕ}
+use Rattle.std.proofs.Common.{[], ◌&&◌, ◌++◌, ◌+◌, ◌<◌, ◌∙◌, ◌∷◌, ◌≡◌, ◌≢◌, ◌≤◌, Bool, List, ap, append-nil, append_assoc, arith, cond, drop, eqb, false, filter, get_or, get_or-set_other, get_or-set_same, inl, inr, length, length-set, refl, replicate, set, subst, sum, sum_by, sym, take, take_all, true, ℕ, rules}
 use Rattle.base.proofs.Exports.{AllByRecursion, cases_Bool, cases_eq, cases_lt, common_steps, drop_all, false_from_ne_true, false≢true, fill_by_all, filter_agree, fun_ext, get_or_default, get_or_past, list_any, nat_tests, range_with_len, recursion_from_All, same_lists, sum-map, sum_by-append, sum_by-cons, sum_by-le-sum_by, sum_by_push}
 use Rattle.policy_rules.proofs.CallerLemmas.{each_weaker}
 use Rattle.placement.specs.Order.{in_order}
@@ -15,16 +15,14 @@ abbrev pub turns : List ℕ → List ℕ
 turns sizes = in_order (is_earlier sizes) (range_with_len 0 (length sizes))
 
 rises-turns : (sizes : List ℕ) → Rises (is_earlier sizes) (turns sizes)
-rises-turns sizes = rises-in_order (is_earlier sizes) (earlier_order sizes)
-    (range_with_len 0 (length sizes)) (λ z. count-range-le z 0 (length sizes))
+rises-turns sizes = search (rules, rises-in_order, earlier_order, count-range-le)
 
 count-turns : (sizes : List ℕ) (z : ℕ)
     → count z (turns sizes) ≡ count z (range_with_len 0 (length sizes))
 count-turns sizes z = sum-in_order (one_of z) (is_earlier sizes) (range_with_len 0 (length sizes))
 
 in_turns : (sizes : List ℕ) (p : ℕ) → p < length sizes → 0 < count p (turns sizes)
-in_turns sizes p within =
-    omega (arith, count-turns sizes p, count-range_within p (length sizes) within)
+in_turns sizes p within = search (rules, count-turns, count-range_within)
 
 turns-within : (sizes : List ℕ) (p : ℕ) → 0 < count p (turns sizes) → p < length sizes
 turns-within sizes p there = range-within p (length sizes) (omega (arith, count-turns sizes p))
@@ -93,11 +91,7 @@ split_at p (x ∷ xs) there = elim (cases_eq p x) [
 earlier-within : (sizes : List ℕ) (o p : ℕ) → is_earlier sizes o p ≡ true → p < length sizes
     → o < length sizes
 unfolding is_earlier
-earlier-within sizes o p earlier within = elim (cases_lt o (length sizes)) [
-  | inl there ↦ there
-  | inr past ↦ let none : get_or sizes o 0 ≡ 0 = get_or_past sizes o 0 past in
-      absurd (grind (arith, nat_tests))
-]
+earlier-within sizes o p earlier within = search (rules, nat_tests, get_or_past)
 
 -- ---- what the earlier partitions put on a switch
 
@@ -110,24 +104,13 @@ sum_among chosen numbers placement done s =
 sums_agree : (chosen : List ℕ → List ℕ) (keys numbers : List ℕ) (P Q : List (List ℕ)) (p : ℕ)
     → ((o : ℕ) → is_earlier keys o p ≡ true → targets_at P o ≡ targets_at Q o)
     → sum_before chosen keys numbers P p ≡ sum_before chosen keys numbers Q p
-sums_agree chosen keys numbers P Q p same =
-    fun_ext (λ s. ap (sum_by (λ o. get_or numbers o 0)) (filter_agree _ _
-    (λ o. by_case o s (is_earlier keys o p) refl) (range_with_len 0 (length keys))))
-  where
-    by_case : (o s : ℕ) (b : Bool) → is_earlier keys o p ≡ b
-        → (b && list_any (eqb s) (chosen (targets_at P o)))
-        ≡ (b && list_any (eqb s) (chosen (targets_at Q o)))
-    by_case o s true is = ap (λ targets. list_any (eqb s) (chosen targets)) (same o is)
-    by_case o s false is = refl
+sums_agree chosen keys numbers P Q p same = search (rules, filter_agree)
 
 -- a turn changes nothing of what stands before itself or before an earlier one
 sums-set : (chosen : List ℕ → List ℕ) (keys numbers : List ℕ) (P : List (List ℕ)) (p q : ℕ)
     (targets : List ℕ) → is_earlier keys p q ≡ false
     → sum_before chosen keys numbers (set P p targets) q ≡ sum_before chosen keys numbers P q
-sums-set chosen keys numbers P p q targets later = sums_agree chosen keys numbers (set P p targets)
-    P q (λ o earlier. let other : o ≢ p =
-    λ same. false≢true (sym later ∙ subst (λ z. is_earlier keys z q ≡ true) same earlier) in
-    get_or-set_other P p o targets [] other)
+sums-set chosen keys numbers P p q targets later = search (rules, sums_agree, get_or-set_other)
 
 pub sum-filter : (f : ℕ → ℕ) (p : ℕ → Bool) (xs : List ℕ)
     → sum_by f (filter p xs) ≡ sum_by (λ x. cond (p x) (f x) 0) xs
@@ -309,8 +292,7 @@ held_before t held loads P done p left loaded = fun_ext (λ s. loaded.held_is s
 loads_before : (t : TurnRule) (held loads : List ℕ) (P : List (List ℕ)) (done : List ℕ) (p : ℕ)
     (left : List ℕ) → Loaded t held loads P done (p ∷ left)
     → (λ s. get_or loads s 0) ≡ sum_before t.loaded t.keys t.keys P p
-loads_before t held loads P done p left loaded = fun_ext (λ s. loaded.loads_is s
-    ∙ sym (running_sum t.loaded t.keys t.keys P done p left loaded.taken.split s))
+loads_before t held loads P done p left loaded = search (rules, running_sum)
 
 pub loaded_none : (t : TurnRule) (held loads : List ℕ) (P : List (List ℕ))
     → length P ≡ length t.keys → ((s : ℕ) → get_or held s 0 ≡ 0)

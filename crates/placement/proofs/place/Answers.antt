@@ -1,4 +1,4 @@
-use Rattle.std.proofs.Common.{◌∙◌, IfOk, arith}
+use Rattle.std.proofs.Common.{◌∙◌, IfOk, arith, rules}
 use Rattle.base.proofs.Exports.{IfErr-weaker, IfOk-weaker, IfRefused-weaker}
 use Rattle.placement.specs.Placement.{IsPlacement, RefusesPlacement}
 use Rattle.placement.proofs.PlacementLemmas.{placement_is, refusal_is, sum-sizes}
@@ -16,10 +16,7 @@ take_turns-requires c = rw (c.deref.ensures.value ∙ c.in_ok-wide.ensures) (rec
 -- the sizes in 64 bits are the sizes
 hosted : (c : After-take_turns) → IfOk c.take_turns.result (λ targets.
     IsPlacement c.args.sizes.now c.args.rooms.now c.args.backups targets.items)
-hosted c = rw (
-  c.deref.ensures.value ∙ c.in_ok-wide.ensures,
-  c.deref-2.ensures.value ∙ c.in_ok-wide.ensures,
-) at c.take_turns.ensures.hosted
+hosted c = search rules
 
 pub returns-clause-placement : goal.returns-clause-placement
 returns-clause-placement c = hosted (goal.at.returns-clause-placement c).After-take_turns

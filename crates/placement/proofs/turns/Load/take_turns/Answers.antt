@@ -10,16 +10,11 @@ use Rattle.placement.proofs.turns.Load.take_turns.Goals.{After-items, After-numb
 
 -- what holds of all targets holds of those that are loaded
 all_loaded : (load : Load) (P : ℕ → Type 0) (xs : List ℕ) → All P xs → All P (loaded_by load xs)
-all_loaded load.OnAll P xs all = all
-all_loaded load.OnFirst P xs all = λ k d within.
-    let here : k < 1 = omega (arith, within, length-take 1 xs) in
-    rw (get_or-take 1 xs k d here) (all k d (omega (arith, within, length-take 1 xs)))
+all_loaded load P xs all = search (rules, length-take, get_or-take)
 
 distinct_loaded : (load : Load) (xs : List ℕ) → AllPairs (λ a b. a ≡ b → ⊥) xs
     → AllPairs (λ a b. a ≡ b → ⊥) (loaded_by load xs)
-distinct_loaded load.OnAll xs distinct = distinct
-distinct_loaded load.OnFirst xs distinct = λ i j d less within.
-    absurd (omega (arith, length-take 1 xs))
+distinct_loaded load xs distinct = search (rules, length-take)
 
 -- the turn that the loop has come to
 turn : (c : After-number_at-key) → let order = c.deref-partition-items.result.now in
