@@ -1,5 +1,5 @@
 -- The bits by which a rule differs from a header, and whether a word that is widened meets it.
-use Rattle.std.proofs.Common.{◌%◌, ◌&&◌, ◌+◌, ◌/◌, ◌<◌, ◌==◌, ◌^◌, ◌||◌, ◌∙◌, ◌≡◌, ◌≢◌, ◌≤◌, Bool, IsSomeAnd, IsTrue, List, ap, arith, bit_and, bit_xor, cond, eq-eqb, eqb-true, false, get_or, inl, inr, length, min, ne_eqb, not, subst, suc, sym, take, true, zero, ℕ}
+use Rattle.std.proofs.Common.{◌%◌, ◌&&◌, ◌+◌, ◌/◌, ◌<◌, ◌==◌, ◌^◌, ◌||◌, ◌∙◌, ◌≡◌, ◌≢◌, ◌≤◌, Bool, IsSomeAnd, IsTrue, List, ap, arith, bit_and, bit_xor, cond, eq-eqb, eqb-true, false, get_or, inl, inr, length, min, ne_eqb, not, subst, suc, sym, take, true, zero, ℕ, rules}
 use Rattle.std.specs.Int.{bit_at}
 use Rattle.std.proofs.lemmas.Bool.{cases_eq}
 use Rattle.std.proofs.lemmas.Bool.Decides.{nat_tests}
@@ -56,8 +56,7 @@ digits_agree a b m p q r e = grind (arith, nat_tests)
 
 bit_at_differing : (h : ℕ) (rule : WordValue) (j : ℕ) → bit_at (differing_bits h rule) j ≡ min
     ((bit_at h j + bit_at rule.value j) % 2) (bit_at rule.mask j)
-bit_at_differing h rule j = bit_at_and (bit_xor h rule.value) rule.mask j
-    ∙ ap (λ n. min n (bit_at rule.mask j)) (bit_at_xor h rule.value j)
+bit_at_differing h rule j = search (rules, bit_at_and, bit_at_xor)
 
 -- where the word fixes the bit, to the header's
 agrees_as : (word rule : WordValue) (h j : ℕ) → IsTrue (is_fixed_of word j)
@@ -70,8 +69,7 @@ pub differs_at : (word rule : WordValue) (h j : ℕ) → IsTrue (is_fixed_of wor
     → bit_at word.value j ≡ bit_at h j
     → agrees_at word rule j ≡ false → bit_at (differing_bits h rule) j ≡ 1
 differs_at word rule h j fixed same e =
-    bit_at_differing h rule j ∙ digits_differ _ _ _ (bit_at-lt h j) (bit_at-lt rule.value j)
-    (bit_at-lt rule.mask j) (sym (agrees_as word rule h j fixed same) ∙ e)
+    search (rules, bit_at_differing, digits_differ, bit_at-lt, agrees_as)
 
 pub same_at : (word rule : WordValue) (h j : ℕ) → IsTrue (is_fixed_of word j)
     → bit_at word.value j ≡ bit_at h j → IsTrue (agrees_at word rule j)
@@ -81,14 +79,12 @@ same_at word rule h j fixed same e = bit_at_differing h rule j ∙ digits_agree 
 
 pub past_header : (h j : ℕ) (rule : WordValue) → IsWord rule → 104 ≤ j
     → bit_at (differing_bits h rule) j ≡ 0
-past_header h j rule is past =
-    cc (bit_at_differing h rule j, bit_at_above rule.mask 104 j is.bounded past, none_of _)
+past_header h j rule is past = search (rules, bit_at_differing, bit_at_above)
 
 -- ---- the test
 
 and_one : (a b c : Bool) → a ≡ (b && c) → c ≡ true → a ≡ b
-and_one a true c e one = e ∙ one
-and_one a false c e one = e
+and_one a b c e one = search rules
 
 freed_cover : FreeLaws → (a word : WordValue) (bit : ℕ) → IsTrue (covers_of a word)
     → covers_of a (free_of word bit) ≡ not (is_fixed_of a bit)
@@ -113,16 +109,12 @@ test_parts free region rules index bit word d within is =
 upper_is : (h : ℕ) (word : WordValue) (fixed : ℕ) → bit_and (differing_bits h word) fixed / 2 ^ 64
     ≡ bit_and (bit_and (bit_xor (h / 2 ^ 64) (word.value / 2 ^ 64)) (word.mask / 2 ^ 64))
     (fixed / 2 ^ 64)
-upper_is h word fixed = and_shr (differing_bits h word) fixed 64
-    ∙ ap (λ x. bit_and x (fixed / 2 ^ 64)) (and_shr (bit_xor h word.value) word.mask 64
-    ∙ ap (λ x. bit_and x (word.mask / 2 ^ 64)) (xor_shr h word.value 64))
+upper_is h word fixed = search (rules, and_shr, xor_shr)
 
 lower_is : (h : ℕ) (word : WordValue) (fixed : ℕ) → bit_and (differing_bits h word) fixed % 2 ^ 64
     ≡ bit_and (bit_and (bit_xor (h % 2 ^ 64) (word.value % 2 ^ 64)) (word.mask % 2 ^ 64))
     (fixed % 2 ^ 64)
-lower_is h word fixed = and_mod (differing_bits h word) fixed 64
-    ∙ ap (λ x. bit_and x (fixed % 2 ^ 64)) (and_mod (bit_xor h word.value) word.mask 64
-    ∙ ap (λ x. bit_and x (word.mask % 2 ^ 64)) (xor_mod h word.value 64))
+lower_is h word fixed = search (rules, and_mod, xor_mod)
 
 -- a bit of the upper half tells them apart
 pub upper_tells : (h fixed : ℕ) (word : WordValue) → (bit_and (bit_and (bit_xor (h / 2 ^ 64)

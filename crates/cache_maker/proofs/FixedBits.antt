@@ -1,6 +1,6 @@
 -- The bits that stay fixed: each has its reason, and no earlier rule is met any more. They are
 -- those of the word whose bits were freed in turn.
-use Rattle.std.proofs.Common.{◌%◌, ◌&&◌, ◌*◌, ◌+◌, ◌-◌, ◌/◌, ◌<◌, ◌==◌, ◌^◌, ◌||◌, ◌∙◌, ◌≡◌, ◌≢◌, ◌≤◌, ◌⊎◌, All, Bool, IsFalse, IsSomeAnd, IsTrue, List, ap, arith, bit_and, bit_or, bit_xor, cond, eq-eqb, eqb-true, false, get_or, get_or-set_other, get_or-set_same, inl, inr, is_none, length, length-set, max, min, ne_eqb, not, pow_pos, refl, replicate, set, slice_get, subst, suc, sym, take, true, zero, ℕ}
+use Rattle.std.proofs.Common.{◌%◌, ◌&&◌, ◌*◌, ◌+◌, ◌-◌, ◌<◌, ◌==◌, ◌^◌, ◌||◌, ◌∙◌, ◌≡◌, ◌≢◌, ◌≤◌, ◌⊎◌, All, Bool, IsFalse, IsSomeAnd, IsTrue, List, ap, arith, bit_and, bit_or, bit_xor, cond, eq-eqb, eqb-true, false, get_or, get_or-set_other, get_or-set_same, inl, inr, is_none, length, length-set, min, ne_eqb, not, pow_pos, refl, replicate, set, slice_get, subst, suc, sym, take, true, zero, ℕ, rules}
 use Rattle.std.specs.Int.{bit_at}
 use Rattle.std.specs.Int.Bits.{xor_add_and}
 use Rattle.std.proofs.lemmas.Bool.{both_ways, cases_Bool, cases_lt, cases_eq, not-true}
@@ -70,13 +70,7 @@ pub closes_both : (region rule : WordValue) (m n : ℕ) → m ≡ region.mask �
     → not (bit_at (bit_or m n) bit == 1)
     ≡ (not (is_fixed_of region bit) && not (is_fixed_of rule bit))
 unfolding is_fixed_of
-closes_both region rule m n same also bit = ap (λ b. not (b == 1)) (bit_at_or m n bit)
-    ∙ digits (bit_at m bit) (bit_at n bit) (bit_at-lt m bit) (bit_at-lt n bit)
-    ∙ ap (λ x. not (bit_at x bit == 1) && not (bit_at n bit == 1)) same
-    ∙ ap (λ x. not (bit_at region.mask bit == 1) && not (bit_at x bit == 1)) also
-  where
-    digits : (a b : ℕ) → a < 2 → b < 2 → not (max a b == 1) ≡ (not (a == 1) && not (b == 1))
-    digits a b p q = grind (arith, nat_tests)
+closes_both region rule m n same also bit = search (rules, nat_tests, bit_at_or, bit_at-lt)
 
 -- ---- a turn
 
@@ -117,8 +111,7 @@ turn exact free h region rules index n m before below =
 pub independent_at : {h : ℕ} {region : WordValue} {rules : List Rule} {index closed : ℕ}
     → IsGiven h region rules index closed → (n : ℕ)
     → IsIndependent region rules index (widening_of h region rules index n)
-independent_at {h} {region} {rules} {index} given n =
-    widened_independent h region rules index n given.start
+independent_at {h} {region} {rules} {index} given n = search (rules, widened_independent)
 
 -- whether a bit is fixed at last
 at_last : {h : ℕ} {region : WordValue} {rules : List Rule} {index closed : ℕ}
@@ -539,9 +532,7 @@ left_less h closed fixed earlier reasons reason b stays are new without =
 
 -- the bits of a number, of which b is the highest
 pub top_set : (n b : ℕ) → 2 ^ b ≤ n → n < 2 * 2 ^ b → bit_at n b ≡ 1
-top_set n b low high =
-    let one : n / 2 ^ b ≡ 1 = div-eq_of_lt-le (2 ^ b) (omega arith) (omega arith) in
-    ap (λ q. q % 2) one
+top_set n b low high = search (rules, div-eq_of_lt-le)
 
 -- ---- the fixed bits without some
 
@@ -564,44 +555,23 @@ xor_same : (a n : ℕ) → bit_at a n ≡ 1 → bit_at (bit_xor a (2 ^ n)) n ≡
 xor_same a n one = cc (bit_at_xor a (2 ^ n) n, one, bit_at-pow_same n)
 
 xor_other : (a n j : ℕ) → j ≢ n → bit_at (bit_xor a (2 ^ n)) j ≡ bit_at a j
-xor_other a n j other =
-    cc (bit_at_xor a (2 ^ n) j, bit_at-pow_other n j other, whole (bit_at a j) (bit_at-lt a j))
-  where
-    whole : (d : ℕ) → d < 2 → (d + 0) % 2 ≡ d
-    whole d p = omega arith
+xor_other a n j other = search (rules, bit_at_xor, bit_at-pow_other, bit_at-lt)
 
 -- a bit that is left without n not_so n, and was left
 xor_left : (a n j : ℕ) → bit_at a n ≡ 1 → bit_at (bit_xor a (2 ^ n)) j ≡ 1
     → (j ≢ n) × (bit_at a j ≡ 1)
-xor_left a n j one also =
-    let other : j ≢ n = λ here.
-    absurd (omega (arith, xor_same a n one, ap (λ k. bit_at (bit_xor a (2 ^ n)) k) (sym here) ∙ also)) in
-    (other, sym (xor_other a n j other) ∙ also)
+xor_left a n j one also = search (rules, xor_same, xor_other)
 
 pub fewer : (n k : ℕ) → bit_at n k ≡ 1 → bit_xor n (2 ^ k) < n
-fewer n k one =
-    omega (arith, xor_add_and n (2 ^ k), and_pow n k ∙ ap (λ b. b * 2 ^ k) one, pow_pos k)
+fewer n k one = search (rules, xor_add_and, and_pow)
 
 pub part_at_first : (fixed : ℕ) (reasons : List ℕ) (b : ℕ) → fixed < 2 ^ 104
     → IsPartWithout fixed reasons b fixed fixed
-part_at_first fixed reasons b small = record {
-  small = small;
-  bound = small;
-  waits = λ n one. one;
-  gone = λ n one. (one, inl one);
-  stay = λ n one none. one;
-}
+part_at_first fixed reasons b small = search rules
 
 pub part_at_last : {fixed : ℕ} {reasons : List ℕ} {b stays : ℕ}
     → IsPartWithout fixed reasons b stays 0 → IsWithout fixed reasons b stays
-part_at_last part = record {
-  small = part.small;
-  gone = λ n one. let was = part.gone n one in (
-    was.0,
-    elim was.1 [ inl waits ↦ absurd (omega (arith, waits, bit_at-zero n)) | inr none ↦ none ],
-  );
-  stay = part.stay;
-}
+part_at_last part = search (rules, bit_at-zero)
 
 -- the bit n stays, since its reason doesn't have b
 pub part_stays : {fixed : ℕ} {reasons : List ℕ} {b stays left : ℕ}

@@ -1,5 +1,5 @@
 -- Independent words: the test, what they hold, and smaller ones.
-use Rattle.std.proofs.Common.{[], ◌&&◌, ◌<◌, ◌^◌, ◌∙◌, ◌∷◌, ◌≡◌, All, Bool, IsNone, IsSomeAnd, IsTrue, List, None, Option, Some, ap, arith, cond, false, get_or, get_or-take, is_none, is_some, length, length-take, lt-ltb, nat_lt, not, position, refl, slice_get, subst, sym, take, true, ℕ}
+use Rattle.std.proofs.Common.{[], ◌&&◌, ◌<◌, ◌^◌, ◌∙◌, ◌∷◌, ◌≡◌, All, Bool, IsNone, IsSomeAnd, IsTrue, List, None, Option, Some, ap, arith, cond, false, get_or, get_or-take, is_none, is_some, length, length-take, lt-ltb, nat_lt, not, position, refl, slice_get, subst, sym, take, true, ℕ, rules}
 use Rattle.std.specs.Option.{option_map_or}
 use Rattle.std.proofs.lemmas.Bool.{and_parts, not-true}
 use Rattle.std.proofs.lemmas.Option.{slice_get_within, slice_get-get_or, get_or_from_slice_get}
@@ -14,8 +14,7 @@ use Rattle.cache_maker.specs.Independent.{IsIndependent, is_apart, is_independen
 -- ---- tests and facts
 
 pub true_not : (b : Bool) → b ≡ false → not b ≡ true
-true_not true e = cc
-true_not false e = refl
+true_not b e = search rules
 
 some_and : (index : ℕ) (rules : List Rule) (word : WordValue)
     → option_map_or (λ rule. covers_of rule.word word) (slice_get rules index) false ≡ true

@@ -1,7 +1,5 @@
 -- The first place at which a test passes, from a place on and before it.
-use Rattle.std.proofs.Common.{[], ◌+◌, ◌<◌, ◌∙◌, ◌∷◌, ◌≡◌, All, Bool, IfSome, IsFalse, IsSomeAnd, IsTrue, List, None, Option, Some, ap, arith, cond, drop, get_or-drop, get_or-take, inl, inr, length, length-drop, length-take, lt-ltb, position, refl, slice_get, sym, take, take-append-drop, take_all, ℕ}
-use Rattle.std.specs.List.{position_or_len}
-use Rattle.std.proofs.lemmas.Bool.{cases_lt}
+use Rattle.std.proofs.Common.{[], ◌+◌, ◌<◌, ◌∙◌, ◌∷◌, ◌≡◌, All, Bool, IfSome, IsFalse, IsSomeAnd, IsTrue, List, None, Option, Some, ap, arith, drop, get_or-drop, get_or-take, length, length-drop, length-take, lt-ltb, position, slice_get, sym, take, take-append-drop, take_all, ℕ, rules}
 use Rattle.std.proofs.lemmas.List.{drop_all}
 use Rattle.std.proofs.lemmas.List.Elements.{All-append}
 use Rattle.std.proofs.lemmas.List.Quantifiers.{position-Some}
@@ -36,12 +34,7 @@ found_before p (x ∷ xs) from i hit =
 
 not_found : {X : Type 0} (p : X → Bool) (xs : List X) → position p xs ≡ None
     → All (λ x. IsFalse (p x)) xs
-not_found p xs none k d within = elim (cases_lt (position_or_len p xs) (length xs)) [
-  | inl there ↦ let some = ap (λ b. cond b (Some (position_or_len p xs)) None)
-      (lt-ltb (position_or_len p xs) (length xs) there) in
-      cc (none, some)
-  | inr past ↦ fails_before_first p xs k d (omega (arith, past, within))
-]
+not_found p xs none k d within = search (rules, lt-ltb, fails_before_first)
 
 pub not_found_on_both_sides : {X : Type 0} (p : X → Bool) (xs : List X) (from : ℕ) → position p
     (drop from xs) ≡ None → position p (take from xs) ≡ None → All (λ x. IsFalse (p x)) xs
@@ -51,5 +44,4 @@ not_found_on_both_sides p xs from after before = rw (take-append-drop from xs) a
 
 pub if_some : {X : Type 0} (o : Option X) {P : X → Type 0} → ((x : X) → o ≡ Some x → P x)
     → IfSome o P
-if_some None each = tt
-if_some (Some x) each = each x refl
+if_some o each = search rules

@@ -1,5 +1,5 @@
 -- The word after the bits below n were freed in turn.
-use Rattle.std.proofs.Common.{◌<◌, ◌^◌, ◌≡◌, ◌≤◌, Bool, IsTrue, List, arith, cond, eq-eqb, eqb-true, false, inl, inr, refl, subst, suc, sym, true, zero, ℕ}
+use Rattle.std.proofs.Common.{◌<◌, ◌^◌, ◌≡◌, ◌≤◌, Bool, IsTrue, List, arith, cond, eq-eqb, eqb-true, false, inl, inr, refl, subst, suc, sym, true, zero, ℕ, rules}
 use Rattle.std.specs.Int.{bit_at}
 use Rattle.std.proofs.lemmas.Bool.{cases_lt}
 use Rattle.ternary.specs.Exports.{CoversLaws, ExactLaws, FreeLaws, IsWord, MeetLaws, WordValue, covers_of, exact_word, free_of, holds, is_fixed_of}
@@ -85,8 +85,7 @@ turn_independent region rules index bit false word after is tested made = rw mad
 
 pub turn_word : FreeLaws → (bit : ℕ) (test : Bool) (word after : WordValue) → IsWord word
     → after ≡ cond test (free_of word bit) word → IsWord after
-turn_word free bit true word after is made = rw made (free.word word bit is)
-turn_word free bit false word after is made = subst (λ (w : WordValue). IsWord w) (sym made) is
+turn_word free bit test word after is made = search rules
 
 -- ---- all turns so far
 
