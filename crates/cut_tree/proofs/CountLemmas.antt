@@ -1,5 +1,5 @@
 -- Counters in planes of bits.
-use Rattle.std.proofs.Common.{[], ◌*◌, ◌+◌, ◌<◌, ◌^◌, ◌∙◌, ◌∷◌, ◌≡◌, ◌≤◌, List, add-one, ap, arith, bit_and, bit_or, bit_xor, drop, get_or, length, length-drop, pow-suc, pow_mono, set, suc, zero, ℕ}
+use Rattle.std.proofs.Common.{[], ◌*◌, ◌+◌, ◌<◌, ◌^◌, ◌∙◌, ◌∷◌, ◌≡◌, ◌≤◌, List, add-one, ap, arith, bit_and, bit_or, bit_xor, drop, get_or, length, length-drop, pow-suc, set, suc, zero, ℕ, rules}
 use Rattle.base.proofs.Exports.{bit_at, bit_at-lt, bit_at-zero, bit_at_and, bit_at_or, bit_at_xor}
 use Rattle.cut_tree.specs.Exports.{count_at}
 
@@ -20,13 +20,7 @@ count_at-set (old ∷ planes) (suc place) plane bit within = rw (pow-suc 2 place
 -- a plane and a carry are added bit by bit
 full_adder : (plane carry bit : ℕ) → bit_at (bit_xor plane carry) bit + 2 * bit_at
     (bit_and plane carry) bit ≡ bit_at plane bit + bit_at carry bit
-full_adder plane carry bit = omega (
-  arith,
-  bit_at_xor plane carry bit,
-  bit_at_and plane carry bit,
-  bit_at-lt plane bit,
-  bit_at-lt carry bit,
-)
+full_adder plane carry bit = search (rules, bit_at_xor, bit_at_and, bit_at-lt)
 
 -- so are three sets
 pub three_added : (a b c bit : ℕ) → bit_at (bit_xor (bit_xor a b) c) bit
@@ -54,8 +48,7 @@ pub four_added : (planes : List ℕ) (sum one ones two twos fours a b c d bit : 
     → count_at (set (set planes 0 ones) 1 twos) bit + 2 ^ 2 * bit_at fours bit
     ≡ count_at planes bit + (bit_at a bit + bit_at b bit + bit_at c bit + bit_at d bit)
 four_added [] sum one ones two twos fours a b c d bit within low high rest = absurd (omega arith)
-four_added (p ∷ []) sum one ones two twos fours a b c d bit within low high rest =
-    absurd (omega arith)
+four_added (p ∷ []) sum one ones two twos fours a b c d bit within low high rest = search rules
 four_added (p ∷ q ∷ planes) sum one ones two twos fours a b c d bit within low high rest =
     omega (arith, low, high, rest)
 
@@ -85,6 +78,4 @@ carried_out planes place carry bit within none =
 -- the planes past the first count less than half as far
 pub rest_below : (planes : List ℕ) (place bit : ℕ) → length planes ≡ 32 → 0 < place
     → count_at (drop place planes) bit < 2 ^ 31
-rest_below planes place bit whole past =
-    let few : length (drop place planes) ≤ 31 = omega (arith, length-drop place planes) in
-    omega (arith, count_at-lt (drop place planes) bit, pow_mono few)
+rest_below planes place bit whole past = search (rules, length-drop, count_at-lt)

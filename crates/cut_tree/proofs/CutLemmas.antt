@@ -1,5 +1,5 @@
 -- The least cut of a region.
-use Rattle.std.proofs.Common.{◌<◌, ◌∙◌, ◌≡◌, IsFalse, List, None, Option, Some, ap, arith, false, inl, inr, refl, subst, suc, sym, true, zero, ℕ}
+use Rattle.std.proofs.Common.{◌<◌, ◌∙◌, ◌≡◌, IsFalse, List, None, Option, Some, ap, arith, false, inl, inr, refl, subst, suc, sym, true, zero, ℕ, rules}
 use Rattle.base.proofs.Exports.{both_ways, cases_Bool, cases_eq, cond-false, cond-true}
 use Rattle.ternary.specs.Exports.{WordValue, is_fixed_of}
 use Rattle.policy_rules.specs.declared.rules.Rule.{Rule}
@@ -153,10 +153,8 @@ least_only rules region a b p q = at_most_both (cost_of rules region a) (cost_of
 found_by : (rules : List Rule) (region : WordValue) (bit : ℕ) → IsLeastCut rules region bit
     → (found : Option Cost) → least_below 104 rules region ≡ found → (cost : Cost)
     × (least_below 104 rules region ≡ Some cost) × (cost.bit ≡ bit)
-found_by rules region bit p None is =
-    absurd (both_ways _ p.cuts.free (least_missing 104 rules region is bit p.cuts.bound))
-found_by rules region bit p (Some cost) is =
-    (cost, is, least_only rules region cost.bit bit (least_cuts rules region cost is) p)
+found_by rules region bit p None is = search (rules, both_ways, least_missing)
+found_by rules region bit p (Some cost) is = search (rules, least_only, least_cuts)
 
 pub least_found : (rules : List Rule) (region : WordValue) (bit : ℕ) → IsLeastCut rules region bit
     → (cost : Cost) × (least_below 104 rules region ≡ Some cost) × (cost.bit ≡ bit)

@@ -1,5 +1,5 @@
 -- What a word shares with half of a region that it lies in.
-use Rattle.std.proofs.Common.{◌&&◌, ◌/◌, ◌<◌, ◌==◌, ◌^◌, ◌||◌, ◌∙◌, ◌≡◌, All, Bool, IsFalse, IsTrue, List, None, Some, ap, arith, bit_and, eq-eqb, eqb-true, false, get_or, length, not, refl, subst, sym, true, ℕ}
+use Rattle.std.proofs.Common.{◌&&◌, ◌/◌, ◌<◌, ◌==◌, ◌^◌, ◌∙◌, ◌≡◌, All, Bool, IsFalse, IsTrue, List, None, Some, ap, bit_and, eq-eqb, eqb-true, false, get_or, length, refl, subst, sym, true, ℕ, rules}
 use Rattle.base.proofs.Exports.{beq, bit_at, bit_at-lt, both_ways, false_from_ne_true, from_bool, nat_tests, shr_and_one}
 use Rattle.ternary.specs.Exports.{HoldsLaws, IsWord, WordValue, admits, covers_of, fix_of, holds, is_fixed_of, meet_of, meeting_word, meets}
 use Rattle.policy_rules.specs.declared.rules.Rule.{Rule}
@@ -7,8 +7,7 @@ use Rattle.cut_tree.specs.Exports.{LiesIn}
 use Rattle.ternary.proofs.CallerLemmas.{apart_none, covers_held, fix_holds, fix_word, meet_both, meet_word, meets_cover, meets_half, met_joined}
 
 both_within : (p q t : Bool) → (p ≡ true → q ≡ true) → (p && (q && t)) ≡ (p && t)
-both_within true q t is = ap (λ x. x && t) (is refl)
-both_within false q t is = refl
+both_within p q t is = search rules
 
 meets_by : (w r : WordValue) (bit : ℕ) (one : Bool) → IsFalse (is_fixed_of r bit)
     → IsTrue (covers_of r w) → meets w (fix_of r bit one) ≡ admits w bit one
@@ -23,58 +22,40 @@ admits_free w bit one free = rw free refl
 
 -- a digit that is 1 or isn't, as it should be
 one_digit : (n : ℕ) (one : Bool) → n < 2 → (n == 1) ≡ one → n ≡ from_bool one
-one_digit n true small is = grind (arith, nat_tests)
-one_digit n false small is = grind (arith, nat_tests)
+one_digit n one small is = search (rules, nat_tests)
 
 other_digit : (n : ℕ) (one : Bool) → n < 2 → ((n == 1) ≡ one → ⊥) → (n == from_bool one) ≡ false
-other_digit n true small other = false_from_ne_true (n == 1) other
-other_digit n false small other = false_from_ne_true (n == 0) (λ e. other
-    (false_from_ne_true (n == 1) (λ set. omega (arith, eqb-true n 0 e, eqb-true n 1 set))))
+other_digit n one small other = search (rules, false_from_ne_true, eqb-true)
 
 same_bool : (a b : Bool) → beq a b ≡ true → a ≡ b
-same_bool true true e = refl
-same_bool true false e = sym e
-same_bool false true e = e
-same_bool false false e = refl
+same_bool a b e = search rules
 
 other_bool : (a b : Bool) → beq a b ≡ false → a ≡ b → ⊥
-other_bool true true e same = both_ways true e refl
-other_bool true false e same = both_ways false refl (sym same)
-other_bool false true e same = both_ways false refl same
-other_bool false false e same = both_ways true e refl
+other_bool a b e same = search (rules, both_ways)
 
 pub value_digit : (w : WordValue) (bit : ℕ) (one : Bool)
     → beq (bit_and (w.value / 2 ^ bit) 1 == 1) one ≡ true → bit_at w.value bit ≡ from_bool one
-value_digit w bit one is = one_digit (bit_at w.value bit) one (bit_at-lt w.value bit)
-    (ap (λ n. n == 1) (sym (shr_and_one w.value bit)) ∙ same_bool _ one is)
+value_digit w bit one is = search (rules, one_digit, bit_at-lt, shr_and_one, same_bool)
 
 pub admits_digit : (w : WordValue) (bit : ℕ) (one : Bool) → bit_at w.value bit ≡ from_bool one
     → admits w bit one ≡ true
 unfolding admits
-admits_digit w bit one is = by_case (not (is_fixed_of w bit)) where
-  by_case : (free : Bool) → (free || (bit_at w.value bit == from_bool one)) ≡ true
-  by_case true = refl
-  by_case false = eq-eqb (bit_at w.value bit) (from_bool one) is
+admits_digit w bit one is = search (rules, eq-eqb)
 
 pub admits_other : (w : WordValue) (bit : ℕ) (one : Bool) → is_fixed_of w bit ≡ true
     → beq (bit_and (w.value / 2 ^ bit) 1 == 1) one ≡ false → admits w bit one ≡ false
 unfolding admits
-admits_other w bit one fixed other = rw fixed
-    (other_digit (bit_at w.value bit) one (bit_at-lt w.value bit)
-    (λ e. other_bool _ one other (ap (λ n. n == 1) (shr_and_one w.value bit) ∙ e)))
+admits_other w bit one fixed other = search (rules, other_digit, bit_at-lt, other_bool, shr_and_one)
 
 both_same : (p t : Bool) → (p ≡ true → t ≡ true) → p ≡ (p && t)
-both_same true t is = sym (is refl)
-both_same false t is = refl
+both_same p t is = search rules
 
 -- each header of a word has the bit that the word fixes
 pub held_bit : HoldsLaws → (w : WordValue) (bit : ℕ) (one : Bool) → is_fixed_of w bit ≡ true
     → bit_at w.value bit ≡ from_bool one
     → (h : ℕ) → holds w h ≡ (holds w h && (bit_at h bit == from_bool one))
 unfolding is_fixed_of
-held_bit laws w bit one fixed is h = both_same (holds w h) (bit_at h bit == from_bool one)
-    (λ held. eq-eqb (bit_at h bit) (from_bool one)
-    ((laws.bitwise w h).0 held bit (eqb-true (bit_at w.mask bit) 1 fixed) ∙ is))
+held_bit laws w bit one fixed is h = search (rules, both_same, eq-eqb, eqb-true)
 
 -- ---- half of a region
 
@@ -102,5 +83,4 @@ half_met laws w r x bit one w_word r_word x_word bound free within admitted each
 -- no header where the word has the other bit
 pub half_apart : (w r : WordValue) (bit : ℕ) (one : Bool) → IsFalse (is_fixed_of r bit)
     → IsTrue (covers_of r w) → admits w bit one ≡ false → None ≡ meet_of w (fix_of r bit one)
-half_apart w r bit one free within lost =
-    sym (apart_none w (fix_of r bit one) (meets_by w r bit one free within ∙ lost))
+half_apart w r bit one free within lost = search (rules, apart_none, meets_by)

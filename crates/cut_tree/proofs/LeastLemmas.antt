@@ -1,5 +1,5 @@
 -- The least of counts that stand in planes of bits.
-use Rattle.std.proofs.Common.{[], ◌%◌, ◌*◌, ◌+◌, ◌-◌, ◌<◌, ◌==◌, ◌^◌, ◌↔◌, ◌∙◌, ◌∷◌, ◌≡◌, ◌≢◌, ◌≤◌, ◌⊎◌, List, Some, add-one, ap, arith, bit_and, bit_or, bit_xor, drop, eq-eqb, false, get_or, inl, inr, length, max, min, ne_eqb, refl, subst, suc, sym, true, zero, ℕ}
+use Rattle.std.proofs.Common.{[], ◌%◌, ◌*◌, ◌+◌, ◌-◌, ◌<◌, ◌==◌, ◌^◌, ◌↔◌, ◌∙◌, ◌∷◌, ◌≡◌, ◌≢◌, ◌⊎◌, List, Some, add-one, ap, arith, bit_and, bit_or, bit_xor, drop, eq-eqb, false, get_or, inl, inr, length, max, min, ne_eqb, refl, subst, suc, sym, true, zero, ℕ, rules}
 use Rattle.base.proofs.Exports.{and_le_l, bit_at, bit_at-lt, bit_at-trailing_zeros, bit_at-zero, bit_at_and, bit_at_not, bit_at_ones, bit_at_ones_above, bit_at_or, bit_at_xor, both_ways, cases_Bool, cases_eq, cases_lt, cond-false, cond-true, trailing_zeros, w128, xor_lt}
 use Rattle.ternary.specs.Exports.{WordValue, is_fixed_of}
 use Rattle.policy_rules.specs.declared.rules.Rule.{Rule}
@@ -12,29 +12,13 @@ use Rattle.cut_tree.proofs.CutLemmas.{least_is}
 
 fewer_digit : (left plane bit : ℕ) → bit_at (bit_xor left (bit_and left plane)) bit
     + min (bit_at left bit) (bit_at plane bit) ≡ bit_at left bit
-fewer_digit left plane bit = omega (
-  arith,
-  bit_at_xor left (bit_and left plane) bit,
-  bit_at_and left plane bit,
-  bit_at-lt left bit,
-  bit_at-lt plane bit,
-)
+fewer_digit left plane bit = search (rules, bit_at_xor, bit_at_and, bit_at-lt)
 
 -- a least count is least by its higher planes
 least_above : (bits plane : ℕ) (rest count : ℕ → ℕ)
     → ((bit : ℕ) → count bit ≡ bit_at plane bit + 2 * rest bit) → (bit : ℕ)
     → IsLeastOf bits count bit → IsLeastOf bits rest bit
-least_above bits plane rest count is bit best = record {
-  member = best.member;
-  least = λ other m. omega (
-    arith,
-    best.least other m,
-    is bit,
-    is other,
-    bit_at-lt plane bit,
-    bit_at-lt plane other,
-  );
-}
+least_above bits plane rest count is bit best = search (rules, bit_at-lt)
 
 -- counts with one plane more below: those that are least have a 0 there, if any has
 pub least_fewer : (bits left plane : ℕ) (rest count : ℕ → ℕ)
@@ -124,16 +108,7 @@ chosen_digit a b which bit set = omega (
 
 left_digit : (a b which bit : ℕ) → bit_at which bit ≢ 1
     → bit_at (bit_xor a (bit_and (bit_xor a b) which)) bit ≡ bit_at a bit
-left_digit a b which bit clear = omega (
-  arith,
-  clear,
-  bit_at-lt which bit,
-  bit_at_xor a (bit_and (bit_xor a b) which) bit,
-  bit_at_and (bit_xor a b) which bit,
-  bit_at_xor a b bit,
-  bit_at-lt a bit,
-  bit_at-lt b bit,
-)
+left_digit a b which bit clear = search (rules, bit_at-lt, bit_at_xor, bit_at_and)
 
 pub by_second : (first second : List ℕ) (which bit : ℕ) → bit_at which bit ≡ 1
     → count_by first second which bit ≡ count_at second bit
@@ -149,26 +124,13 @@ pub chosen_at : (first second : List ℕ) (place next which bit : ℕ) → next 
     ≡ bit_at (bit_xor (get_or first place 0) (bit_and (bit_xor (get_or first place 0) (get_or second place 0)) which)) bit
     + 2 * count_by (drop next first) (drop next second) which bit
 chosen_at first second place next which bit is within also =
-    let a = get_or first place 0 in
-    let b = get_or second place 0 in
-    let of_first = planes_at first place next bit is within in
-    let of_second = planes_at second place next bit is also in
-    elim (cases_eq (bit_at which bit) 1) [
-      | inl set ↦ rw (eq-eqb _ _ set, chosen_digit a b which bit set) of_second
-      | inr clear ↦ rw (ne_eqb _ _ clear, left_digit a b which bit clear) of_first
-    ]
+    search (rules, planes_at, cases_eq, eq-eqb, chosen_digit, ne_eqb, left_digit)
 
 -- past the height there is no difference
 pub least_start : (first second : List ℕ) (height which bits bit : ℕ) → IsHeight first height
     → IsHeight second height → (bit_at bits bit ≡ 1)
     ↔ IsLeastOf bits (count_by (drop height first) (drop height second) which) bit
-least_start first second height which bits bit p q =
-    let none : (k : ℕ) → count_by (drop height first) (drop height second) which k ≡ 0 = λ k.
-    elim (cases_eq (bit_at which k) 1) [
-      | inl set ↦ by_second (drop height first) (drop height second) which k set ∙ q.above k
-      | inr clear ↦ by_first (drop height first) (drop height second) which k clear ∙ p.above k
-    ] in
-    (λ set. record { member = set; least = λ other m. omega (arith, none bit) }, λ best. best.member)
+least_start first second height which bits bit p q = search (rules, cases_eq)
 
 -- ---- which count is higher
 
@@ -182,24 +144,13 @@ AreOrdered settled more first second = ((settled ≡ 0) × (more ≡ 0) × (firs
 pub ordered_start : (first second : List ℕ) (height bit : ℕ) → IsHeight first height
     → IsHeight second height → AreOrdered (bit_at 0 bit) (bit_at 0 bit)
     (count_at (drop height first) bit) (count_at (drop height second) bit)
-ordered_start first second height bit p q =
-    inl (bit_at-zero bit, bit_at-zero bit, p.above bit ∙ sym (q.above bit))
+ordered_start first second height bit p q = search (rules, bit_at-zero)
 
 -- one digit more below
 ordered_next : (s m t n a b x y : ℕ) → a < 2 → b < 2 → t ≡ max s ((a + b) % 2)
     → n ≡ max m (min (((a + b) % 2 + min ((a + b) % 2) s) % 2) a) → AreOrdered s m x y
     → AreOrdered t n (a + 2 * x) (b + 2 * y)
-ordered_next s m t n a b x y p q is_t is_n (inl same) = elim (cases_lt a b) [
-  | inl less ↦ inr (inr (omega (arith, same.0), omega (arith, same.0, same.1), omega (arith, same.2)))
-  | inr no_less ↦ elim (cases_lt b a) [
-    | inl more ↦ inr (inl (omega (arith, same.0), omega (arith, same.0, same.1), omega (arith, same.2)))
-    | inr equal ↦ inl (omega (arith, same.0), omega (arith, same.0, same.1), omega (arith, same.2))
-  ]
-]
-ordered_next s m t n a b x y p q is_t is_n (inr (inl above)) =
-    inr (inl (omega (arith, above.0), omega (arith, above.1), omega (arith, above.2)))
-ordered_next s m t n a b x y p q is_t is_n (inr (inr below)) =
-    inr (inr (omega (arith, below.0), omega (arith, below.0, below.1), omega (arith, below.2)))
+ordered_next s m t n a b x y p q is_t is_n h12 = search rules
 
 pub ordered_step : (first second : List ℕ) (place next settled more bit : ℕ) → next ≡ place + 1
     → place < length first → place < length second
@@ -231,20 +182,7 @@ larger_is : (low high : List ℕ) (above bit : ℕ)
     → (bit_at above bit ≡ 1) ↔ (count_at low bit < count_at high bit)
     → (count_by low high above bit ≡ max (count_at low bit) (count_at high bit))
     × (count_by low high above bit + count_by high low above bit ≡ count_at low bit + count_at high bit)
-larger_is low high above bit is = elim (cases_eq (bit_at above bit) 1) [
-  | inl set ↦ (
-    omega (arith, by_second low high above bit set, is.0 set),
-    omega (arith, by_second low high above bit set, by_second high low above bit set),
-  )
-  | inr clear ↦
-      let no_less : count_at high bit ≤ count_at low bit = elim (cases_lt (count_at low bit) (count_at high bit)) [
-        | inl less ↦ absurd (clear (is.1 less))
-        | inr more ↦ more
-      ] in (
-        omega (arith, by_first low high above bit clear, no_less),
-        omega (arith, by_first low high above bit clear, by_first high low above bit clear),
-      )
-]
+larger_is low high above bit is = search (rules, cases_eq)
 
 pub least_first : (low high : List ℕ) (above bits fewest least bit : ℕ)
     → ((k : ℕ) → (bit_at above k ≡ 1) ↔ (count_at low k < count_at high k))
@@ -303,12 +241,7 @@ free_mask region mask bit same small =
 
 pub all_fixed : (region : WordValue) (free bit : ℕ) → bit < 104
     → ((bit_at free bit ≡ 1) ↔ IsFreeBit region bit) → free ≡ 0 → is_fixed_of region bit ≡ true
-all_fixed region free bit within is none = elim (cases_Bool (is_fixed_of region bit)) [
-  | inl fixed ↦ fixed
-  | inr unfixed ↦
-      let zero_bit : bit_at free bit ≡ 0 = ap (λ n. bit_at n bit) none ∙ bit_at-zero bit in
-      absurd (omega (arith, is.1 (record { bound = within; free = unfixed }), zero_bit))
-]
+all_fixed region free bit within is none = search (rules, cases_Bool, bit_at-zero)
 
 -- what is counted at the first bit that costs least
 pub counted_cut : (low high : Side) (rules : List Rule) (region : WordValue) (free bit : ℕ)

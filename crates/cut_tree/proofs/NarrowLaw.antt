@@ -1,5 +1,5 @@
 -- Narrowing twice, and the first rule of a narrowed list.
-use Rattle.std.proofs.Common.{[], ◌&&◌, ◌∙◌, ◌∷◌, ◌≡◌, IsTrue, List, Option, Some, ap, false, find, inl, inr, is_some, option_map, sym, true, ℕ}
+use Rattle.std.proofs.Common.{[], ◌&&◌, ◌∙◌, ◌∷◌, ◌≡◌, IsTrue, List, Option, Some, ap, false, find, inl, inr, is_some, option_map, sym, true, ℕ, rules}
 use Rattle.base.proofs.Exports.{and-true, both_ways, cases_Bool, false_from_ne_true}
 use Rattle.ternary.specs.Exports.{WordValue, covers_of, holds, meet_of, meeting_word, meets}
 use Rattle.ternary.proofs.CallerLemmas.{covers_held, covers_transitive, meet_is_some, meet_both, meet_disjoint, meet_greatest, meet_narrowed, meets_comm, meets_cover, met_joined, apart_none}
@@ -48,8 +48,7 @@ narrowed_inner : (rule : Rule) (outer inner : WordValue) → IsTrue (covers_of o
     → meets rule.word outer ≡ true → meets rule.word inner ≡ true
     → narrowed_rule inner (narrowed_rule outer rule) ≡ narrowed_rule inner rule
 unfolding narrowed_rule
-narrowed_inner rule outer inner within meet met = ap (λ w. with_word rule w)
-    (joined_inner rule.word outer inner within meet met)
+narrowed_inner rule outer inner within meet met = search (rules, joined_inner)
 
 covered_meets : (a b : WordValue) → IsTrue (covers_of a b) → meets a b ≡ true
 covered_meets a b covers = meets_comm a b ∙ meets_cover a b covers
@@ -85,13 +84,7 @@ covered_alone : (rule : Rule) (rest : List Rule) (outer inner : WordValue)
     (rule ∷ rest) inner
 unfolding narrowed_rule
 covered_alone rule rest outer inner within meet covers =
-    let word = meeting_word rule.word outer in
-    let meeting = meets_inner rule.word outer inner within meet in
-    let hit = covered_meets rule.word inner covers in
-    let covered = covers_inner rule.word outer inner within meet in
-    narrow_covered inner (with_word rule word) [] (meeting ∙ hit) (covered ∙ covers)
-    ∙ ap (λ r. r ∷ []) (narrowed_inner rule outer inner within meet hit)
-    ∙ sym (narrow_covered inner rule rest hit covers)
+    search (rules, meets_inner, covered_meets, covers_inner, narrow_covered, narrowed_inner)
 
 pub narrow_twice : (rules : List Rule) (outer inner : WordValue) → IsTrue (covers_of outer inner)
     → narrow (narrow rules outer) inner ≡ narrow rules inner

@@ -1,5 +1,5 @@
 -- Narrowing, rule by rule.
-use Rattle.std.proofs.Common.{[], ◌&&◌, ◌++◌, ◌+◌, ◌<◌, ◌∙◌, ◌∷◌, ◌≡◌, ◌≤◌, All, Bool, IsTrue, List, None, Some, ap, append-nil, append_assoc, arith, drop, eq-eqb, eqb, eqb-true, false, get_or, inl, inr, length, ne_eqb, refl, sym, true, ℕ}
+use Rattle.std.proofs.Common.{[], ◌&&◌, ◌++◌, ◌+◌, ◌<◌, ◌∙◌, ◌∷◌, ◌≡◌, ◌≤◌, All, Bool, IsTrue, List, None, Some, ap, append-nil, append_assoc, arith, drop, eq-eqb, eqb, eqb-true, false, get_or, inl, inr, length, ne_eqb, refl, sym, true, ℕ, rules}
 use Rattle.base.proofs.Exports.{All-cons, All-head, All-nil, All-same, All-tail, at_drop_all, at_item, bit_at, bit_at-lt, cases_Bool, false_from_ne_true, nat_tests, same_from_bits}
 use Rattle.ternary.specs.Exports.{IsWord, WordValue, covers_of, meet_of, meets}
 use Rattle.ternary.proofs.CallerLemmas.{covers_decides, covers_full, covers_reflexive, meet_greatest, meet_within, meet_word, meet_none, meet_some, met_joined}
@@ -51,9 +51,7 @@ same_masks m r p q = same_from_bits m.mask r.mask (λ k.
     (λ e. ((covers_decides m r).0 p k e).0) (λ e. ((covers_decides r m).0 q k e).0))
 
 mask_covers : (m r : WordValue) → IsTrue (covers_of r m) → m.mask ≡ r.mask → IsTrue (covers_of m r)
-mask_covers m r q e = (covers_decides m r).1 (λ k p.
-    let here : bit_at r.mask k ≡ 1 = sym (ap (λ n. bit_at n k) e) ∙ p in
-    (here, sym ((covers_decides r m).0 q k here).1))
+mask_covers m r q e = search (rules, covers_decides)
 
 -- a word covers the region that its meet with the region covers
 covers_met : (w r m : WordValue) → meet_of w r ≡ Some m → covers_of m r ≡ covers_of w r
@@ -163,8 +161,7 @@ narrow_few (rule ∷ rules) region = let rest = narrow_few rules region in
 pub narrow_words : (rules : List Rule) (region : WordValue) → IsWord region → AreWords rules
     → AreWords (narrow rules region)
 unfolding narrowed_rule
-narrow_words [] region whole words = All-same (λ rule. IsWord rule.word) _ _ (narrow_none region)
-    (All-nil (λ (rule : Rule). IsWord rule.word))
+narrow_words [] region whole words = search (rules, All-same, narrow_none)
 narrow_words (rule ∷ rules) region whole words =
     let P : Rule → Type 0 = λ rule. IsWord rule.word in
     let rest = narrow_words rules region whole (All-tail P rule rules words) in
@@ -196,9 +193,4 @@ narrow_one (rule ∷ rules) region words one =
 
 pub narrow_node : (rules : List Rule) (region : WordValue) → IsWord region → AreWords rules
     → AreNodeRules (narrow rules region) region
-narrow_node rules region whole words = record {
-  whole = whole;
-  words = narrow_words rules region whole words;
-  within = narrow_within rules region;
-  ended = narrow_one rules region words;
-}
+narrow_node rules region whole words = search (rules, narrow_words, narrow_within, narrow_one)

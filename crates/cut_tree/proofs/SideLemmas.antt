@@ -1,5 +1,5 @@
 -- Which halves of a region a word meets and covers, bit by bit.
-use Rattle.std.proofs.Common.{◌%◌, ◌&&◌, ◌*◌, ◌+◌, ◌-◌, ◌<◌, ◌==◌, ◌^◌, ◌||◌, ◌∙◌, ◌∷◌, ◌≡◌, ◌≢◌, ◌≤◌, Bool, IsTrue, List, ap, arith, bit_and, bit_or, bit_xor, drop, false, inl, inr, length, max, min, not, refl, suc, sym, true, zero, ℕ}
+use Rattle.std.proofs.Common.{◌%◌, ◌&&◌, ◌*◌, ◌+◌, ◌-◌, ◌<◌, ◌==◌, ◌^◌, ◌||◌, ◌∙◌, ◌∷◌, ◌≡◌, ◌≢◌, ◌≤◌, Bool, IsTrue, List, ap, arith, bit_and, bit_or, bit_xor, drop, false, inl, inr, length, max, min, not, suc, sym, true, zero, ℕ, rules}
 use Rattle.base.proofs.Exports.{bit_at, bit_at-lt, bit_at-pow_other, bit_at-pow_same, bit_at-trailing_zeros, bit_at-zero, bit_at_and, bit_at_not, bit_at_or, bit_at_xor, both_ways, cases_Bool, cases_eq, false_from_ne_true, from_bool, nat_tests, pow_below, same_from_bits, trailing_zeros, w128, xor_lt}
 use Rattle.ternary.specs.Exports.{IsWord, WordValue, admits, covers_of, fix_of, free_of, is_fixed_of, meets}
 use Rattle.ternary.proofs.CallerLemmas.{covers_decides, covers_half, meets_comm, meets_cover, meets_half, without_bit-other, without_bit-same}
@@ -74,8 +74,7 @@ pub covered_whole : (w r : WordValue) (k : ℕ) (one : Bool) (met : ℕ) → IsT
     → beyond w r ≡ 0 → bit_at met k ≡ from_bool (admits w k one)
     → bit_at met k ≡ from_bool (covers_of w (fix_of r k one))
 covered_whole w r k one met within none admitted =
-    let covers = only_covers w r k within (λ j other. ap (λ n. bit_at n j) none ∙ bit_at-zero j) in
-    admitted ∙ sym (ap from_bool (covers_half w r k one ∙ ap (λ t. t && admits w k one) covers))
+    search (rules, only_covers, bit_at-zero, covers_half)
 
 -- a word that fixes one bit more
 pub covered_one : (w r : WordValue) (t k : ℕ) (one : Bool) (met : ℕ) → IsTrue (covers_of r w)
@@ -119,8 +118,7 @@ covered_none w r k one within some small many =
     bit_at-zero k ∙ sym (ap from_bool (covers_half w r k one ∙ ap (λ t. t && admits w k one) lost))
 
 from_bool-zero : (b : Bool) → from_bool b ≡ 0 → b ≡ false
-from_bool-zero true is = absurd (omega (arith, is))
-from_bool-zero false is = refl
+from_bool-zero b is = search rules
 
 pub covers_no_half : (w r : WordValue) (k : ℕ) (one : Bool) → IsTrue (covers_of r w)
     → 0 < beyond w r → beyond w r < 2 ^ 128
@@ -148,16 +146,12 @@ still_open a b bit small within =
 -- what a rule adds to the count of a half, and what it leaves to come
 side_sum : (was met covered rest all : ℕ) → was < 2 → met < 2 → met + (1 - covered) * rest ≡ all
     → min was met + min was (1 - covered) * rest ≡ was * all
-side_sum zero met covered rest all digit small is =
-    let none : min zero (1 - covered) ≡ 0 = omega arith in rw none (omega arith)
-side_sum (suc zero) met covered rest all digit small is =
-    let same : min (suc zero) (1 - covered) ≡ 1 - covered = omega arith in
-    rw same (omega (arith, is))
+side_sum zero met covered rest all digit small is = search rules
+side_sum (suc zero) met covered rest all digit small is = search rules
 side_sum (suc (suc was)) met covered rest all digit small is = absurd (omega arith)
 
 from_bool-lt : (b : Bool) → from_bool b < 2
-from_bool-lt true = omega arith
-from_bool-lt false = omega arith
+from_bool-lt b = search rules
 
 -- a half keeps the rule where this meets it, and those after it where it does not cover it
 kept_count : (half : WordValue) (rule : Rule) (rules : List Rule)

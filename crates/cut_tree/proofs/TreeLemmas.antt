@@ -1,12 +1,12 @@
 -- The tree as a function of the rules, and as a test.
-use Rattle.std.proofs.Common.{◌+◌, ◌<◌, ◌∙◌, ◌≡◌, ◌≤◌, Bool, List, None, Option, Some, ap, arith, false, get_or, inl, inr, le-leb, length, length-append, refl, subst, suc, sym, true, zero, ℕ}
+use Rattle.std.proofs.Common.{◌+◌, ◌<◌, ◌∙◌, ◌≡◌, ◌≤◌, Bool, List, None, Option, Some, ap, arith, false, get_or, inl, inr, le-leb, length, length-append, refl, subst, suc, sym, true, zero, ℕ, rules}
 use Rattle.base.proofs.Exports.{IfRefused-weaker, both_ways, cases_lt, lt-leb}
 use Rattle.ternary.specs.Exports.{WordValue, any_word, fix_of}
 use Rattle.ternary.proofs.CallerLemmas.{any_covers, any_unfixed, fix_word, free_bits_shorter}
 use Rattle.base.specs.Exports.{IfRefused}
 use Rattle.base.specs.declared.error.Failure.{Failure}
 use Rattle.policy_rules.specs.declared.rules.Rule.{Rule}
-use Rattle.cut_tree.specs.Exports.{AreNodeRules, AreWords, End, IsDefinedTree, IsLeastCut, IsOneHeader, IsTreeOf, Node, Shape, cut_by, free_count, leaf_count, least_below, leaves_of, side_of, tree_at, tree_of, tree_within}
+use Rattle.cut_tree.specs.Exports.{AreNodeRules, AreWords, End, IsDefinedTree, IsLeastCut, IsOneHeader, IsTreeOf, Node, Shape, cut_by, free_count, leaf_count, least_below, side_of, tree_at, tree_of, tree_within}
 use Rattle.cut_tree.specs.declared.choice.Cost.{Cost}
 use Rattle.cut_tree.proofs.CutLemmas.{least_cuts, least_only, least_missing}
 use Rattle.cut_tree.proofs.NarrowLemmas.{narrow_node}
@@ -67,8 +67,7 @@ root_node rules words = record {
 pub side_node : (rules : List Rule) (region : WordValue) (bit : ℕ) (one : Bool)
     → AreNodeRules rules region → bit < 104 → AreNodeRules (side_of rules region bit one)
     (fix_of region bit one)
-side_node rules region bit one node within = narrow_node rules (fix_of region bit one)
-    (fix_word region bit one node.whole within) node.words
+side_node rules region bit one node within = search (rules, narrow_node, fix_word)
 
 -- more rules than one leave a bit to cut at
 pub never_stuck : (most : ℕ) (rules : List Rule) (region : WordValue) → 0 < most
@@ -87,8 +86,7 @@ cut_defined : (most : ℕ) (rules : List Rule) (region : WordValue) (cost : Cost
     → IsTreeOf (side_of rules region cost.bit false) (fix_of region cost.bit false) most low
     → IsTreeOf (side_of rules region cost.bit true) (fix_of region cost.bit true) most high
     → IsTreeOf rules region most (Node cost.bit low high)
-cut_defined most rules region cost low high many is lower higher =
-    (record { many = many; least = least_cuts rules region cost is }, lower, higher)
+cut_defined most rules region cost low high many is lower higher = search (rules, least_cuts)
 
 -- down from a region with so many free bits
 defined_from : (n most : ℕ) (rules : List Rule) (region : WordValue) (found : Option Cost)
@@ -127,8 +125,7 @@ defined_from (suc n) most rules region (Some cost) some node count is =
 
 pub one_tree : (a b : Shape) (rules : List Rule) (region : WordValue) (most : ℕ)
     → IsTreeOf rules region most a → IsTreeOf rules region most b → a ≡ b
-one_tree (End r rs) (End s ss) rules region most p q =
-    λ i. End ((p.same_region ∙ sym q.same_region) i) ((p.same_rules ∙ sym q.same_rules) i)
+one_tree (End r rs) (End s ss) rules region most p q = search rules
 one_tree (End r rs) (Node bit low high) rules region most p q =
     absurd (omega (arith, p.few, q.0.many))
 one_tree (Node bit low high) (End r rs) rules region most p q =
@@ -185,13 +182,10 @@ half_smaller rules region cost half one is same =
 pub exceeds_low : {R : Type 0} (tree low high : Shape) (bit room : ℕ) (e : Failure R)
     → tree ≡ Node bit low high → IfRefused (λ _. room < leaf_count low) e
     → IfRefused (λ _. room < leaf_count tree) e
-exceeds_low tree low high bit room e is =
-    IfRefused-weaker (λ _. room < leaf_count low) (λ _. room < leaf_count tree)
-    (λ _ more. rw is (omega (arith, more, length-append (leaves_of low) (leaves_of high)))) e
+exceeds_low tree low high bit room e is = search (rules, IfRefused-weaker, length-append)
 
 pub exceeds_high : {R : Type 0} (tree low high : Shape) (bit room left : ℕ) (e : Failure R)
     → tree ≡ Node bit low high → room ≡ left + leaf_count low
     → IfRefused (λ _. left < leaf_count high) e → IfRefused (λ _. room < leaf_count tree) e
-exceeds_high tree low high bit room left e is taken = IfRefused-weaker (λ _. left < leaf_count high)
-    (λ _. room < leaf_count tree)
-    (λ _ more. rw is (omega (arith, taken, more, length-append (leaves_of low) (leaves_of high)))) e
+exceeds_high tree low high bit room left e is taken =
+    search (rules, IfRefused-weaker, length-append)

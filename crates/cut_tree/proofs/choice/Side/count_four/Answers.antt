@@ -1,4 +1,4 @@
-use Rattle.std.proofs.Common.{◌+◌, ◌∷◌, ◌≤◌, arith, bit_and, ℕ}
+use Rattle.std.proofs.Common.{◌+◌, ◌∷◌, ◌≤◌, arith, bit_and, ℕ, rules}
 use Rattle.base.proofs.Exports.{bit_at, bit_at-lt}
 use Rattle.cut_tree.proofs.SideLemmas.{met_step}
 use Rattle.cut_tree.proofs.choice.Side.count_four.Goals as goal
@@ -10,14 +10,7 @@ added_few : (c : After-halves_met-fourth) (bit : ℕ) → let left = c.args.self
     + bit_at (bit_and left c.halves_met-second.result) bit
     + bit_at (bit_and left c.halves_met-third.result) bit
     + bit_at (bit_and left c.halves_met-fourth.result) bit ≤ 4
-added_few c bit = let left = c.args.self.now.«open» in
-    omega (
-      arith,
-      bit_at-lt (bit_and left c.halves_met-first.result) bit,
-      bit_at-lt (bit_and left c.halves_met-second.result) bit,
-      bit_at-lt (bit_and left c.halves_met-third.result) bit,
-      bit_at-lt (bit_and left c.halves_met-fourth.result) bit,
-    )
+added_few c bit = search (rules, bit_at-lt)
 
 pub add_four-requires : goal.add_four-requires
 add_four-requires c = λ bit. omega (
