@@ -1,6 +1,6 @@
 -- The leaves of a tree, as partitions.
-use Rattle.std.proofs.Common.{[], ◌&&◌, ◌++◌, ◌+◌, ◌<◌, ◌==◌, ◌∙◌, ◌∷◌, ◌≡◌, ◌≤◌, All, Bool, IsFalse, IsTrue, List, None, Option, Some, add-zero, ap, append_assoc, arith, cond, count_by, drop, false, find, get_or, inl, inr, length, length-append, option_map, refl, suc, sym, true, zero, ℕ}
-use Rattle.std.specs.Int.{bit_at, from_bool}
+use Rattle.std.proofs.Common.{[], ◌&&◌, ◌++◌, ◌+◌, ◌<◌, ◌==◌, ◌∙◌, ◌∷◌, ◌≡◌, ◌≤◌, All, Bool, IsFalse, IsTrue, List, None, Option, Some, add-zero, ap, append_assoc, arith, cond, count_by, drop, false, find, get_or, inl, inr, length, length-append, option_map, refl, suc, sym, true, zero, ℕ, rules}
+use Rattle.std.specs.Int.{from_bool}
 use Rattle.std.specs.List.{enumerate_from}
 use Rattle.std.proofs.lemmas.Bool.{cases_Bool, both_ways, cond-true, cond-false}
 use Rattle.std.proofs.lemmas.List.Elements.{All-nil, All-cons, All-head, All-tail, All-append, All-weaker, All-same}
@@ -31,23 +31,16 @@ hit_at header rules = option_map hit_of_rule (find (is_held header) rules)
 
 one_digit : (t : Bool) (digit : ℕ) → digit < 2 → from_bool (t && (digit == from_bool false))
     + from_bool (t && (digit == from_bool true)) ≡ from_bool t
-one_digit true zero small = refl
-one_digit true (suc zero) small = refl
-one_digit true (suc (suc digit)) small = absurd (omega arith)
-one_digit false digit small = refl
+one_digit t digit small = search rules
 
 counted : (t : Bool) → cond t 1 0 ≡ from_bool t
-counted true = refl
-counted false = refl
+counted t = search rules
 
 -- a header of the region is in exactly one half
 one_half : (region : WordValue) (bit header : ℕ) → IsFalse (is_fixed_of region bit)
     → from_bool (holds (fix_of region bit false) header) + from_bool
     (holds (fix_of region bit true) header) ≡ from_bool (holds region header)
-one_half region bit header free =
-    let low = fix_holds region bit false free header in
-    let high = fix_holds region bit true free header in
-    rw (low, high) (one_digit (holds region header) (bit_at header bit) (bit_at-lt header bit))
+one_half region bit header free = search (rules, fix_holds, one_digit, bit_at-lt)
 
 -- the leaves of a tree whose region holds the header
 abbrev leaves_at : ℕ → List (WordValue × List Rule) → ℕ
@@ -82,8 +75,7 @@ hit_narrowed region rule = refl
 
 hits_narrowed : (region : WordValue) (rule : Option Rule)
     → option_map hit_of_rule (option_map (narrowed_rule region) rule) ≡ option_map hit_of_rule rule
-hits_narrowed region None = refl
-hits_narrowed region (Some rule) = ap Some (hit_narrowed region rule)
+hits_narrowed region rule = search (rules, hit_narrowed)
 
 -- a leaf of a half is one of the whole
 widened : (rules : List Rule) (region half : WordValue) (header : ℕ)
@@ -172,8 +164,7 @@ numbered_append number (leaf ∷ a) b = numbered_more number leaf (a ++ b)
 numbers_at : (number : ℕ) (leaves : List (WordValue × List Rule)) (place : ℕ) (d : Partition)
     → place < length leaves → (get_or (numbered_from number leaves) place d).number ≡ number + place
 numbers_at number [] place d within = absurd (omega arith)
-numbers_at number (leaf ∷ leaves) zero d within = ap (λ ps. (get_or ps zero d).number)
-    (numbered_more number leaf leaves) ∙ sym (add-zero number)
+numbers_at number (leaf ∷ leaves) zero d within = search (rules, numbered_more, add-zero)
 numbers_at number (leaf ∷ leaves) (suc place) d within =
     ap (λ ps. (get_or ps (suc place) d).number) (numbered_more number leaf leaves)
     ∙ numbers_at (number + 1) leaves place d (omega arith) ∙ omega arith
@@ -306,29 +297,15 @@ pushed_leaf old tree number region rules copy is same last = rw (is, same, last)
 pub pushed_room : (old new : List Partition) (tree low high : Shape) (bit most : ℕ)
     → tree ≡ Node bit low high → new ≡ old ++ numbered_from (length old) (leaves_of low)
     → length old + leaf_count tree < most → length new + leaf_count high < most
-pushed_room old new tree low high bit most is pushed room = omega (
-  arith,
-  ap leaf_count is,
-  length-append (leaves_of low) (leaves_of high),
-  ap length pushed,
-  length-append old (numbered_from (length old) (leaves_of low)),
-  numbered_length (length old) (leaves_of low),
-  room,
-)
+pushed_room old new tree low high bit most is pushed room =
+    search (rules, length-append, numbered_length)
 
 pub pushed_both : (old middle new : List Partition) (tree low high : Shape) (bit : ℕ)
     → tree ≡ Node bit low high → middle ≡ old ++ numbered_from (length old) (leaves_of low)
     → new ≡ middle ++ numbered_from (length middle) (leaves_of high)
     → new ≡ old ++ numbered_from (length old) (leaves_of tree)
 pushed_both old middle new tree low high bit is first second =
-    let front = numbered_from (length old) (leaves_of low) in
-    let count = ap length first ∙ length-append old front
-    ∙ ap (λ n. length old + n) (numbered_length (length old) (leaves_of low)) in
-    let whole = ap (λ t. numbered_from (length old) (leaves_of t)) is
-    ∙ numbered_append (length old) (leaves_of low) (leaves_of high) in
-    second ∙ ap (λ n. middle ++ numbered_from n (leaves_of high)) count
-    ∙ ap (λ ps. ps ++ numbered_from (length old + leaf_count low) (leaves_of high)) first
-    ∙ append_assoc old front _ ∙ ap (λ ps. old ++ ps) (sym whole)
+    search (rules, length-append, numbered_length, numbered_append, append_assoc)
 
 some_leaf : (tree : Shape) → 0 < leaf_count tree
 some_leaf (End region rules) = omega arith
@@ -339,8 +316,4 @@ some_leaf (Node bit low high) =
 pub both_sides : (tree low high : Shape) (bit : ℕ) → tree ≡ Node bit low high
     → (leaf_count tree ≡ leaf_count low + leaf_count high) × (0 < leaf_count low)
     × (0 < leaf_count high)
-both_sides tree low high bit is = (
-  ap leaf_count is ∙ length-append (leaves_of low) (leaves_of high),
-  some_leaf low,
-  some_leaf high,
-)
+both_sides tree low high bit is = search (rules, length-append, some_leaf)

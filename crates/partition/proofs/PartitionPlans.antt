@@ -1,5 +1,5 @@
 -- What holds of each plan.
-use Rattle.std.proofs.Common.{[], ◌+◌, ◌<◌, ◌∙◌, ◌∷◌, ◌≡◌, ◌≤◌, All, Bool, Err, List, Ok, Result, ap, arith, cond, false, get_or, length, ltb, map, refl, subst, suc, sym, true, zip, ℕ}
+use Rattle.std.proofs.Common.{[], ◌+◌, ◌<◌, ◌∙◌, ◌∷◌, ◌≡◌, ◌≤◌, All, Bool, Err, List, Ok, Result, ap, arith, cond, false, get_or, length, ltb, map, subst, suc, sym, true, zip, ℕ, rules}
 use Rattle.std.specs.Result.{result_map_both}
 use Rattle.std.proofs.lemmas.Bool.Decides.{nat_tests}
 use Rattle.std.proofs.lemmas.List.{length-map}
@@ -42,8 +42,7 @@ small_leaves (Node bit low high) rules region most is =
 
 small_parts : (most number : ℕ) (leaves : List (WordValue × List Rule))
     → All (IsSmallLeaf most) leaves → All (IsSmall most) (numbered_from number leaves)
-small_parts most number [] all = All-same (IsSmall most) _ _ (numbered_none number)
-    (All-nil (IsSmall most))
+small_parts most number [] all = search (rules, All-same, numbered_none)
 small_parts most number (leaf ∷ leaves) all = All-same (IsSmall most) _ _
     (numbered_more number leaf leaves) (All-cons (IsSmall most) _ _ (all 0 leaf (omega arith))
     (small_parts most (number + 1) leaves (λ k d within. all (suc k) d (omega arith))))
@@ -60,31 +59,23 @@ record IsMadeOf (rows : List Row) (net : Net) (plan : List Hosted) (tree : Shape
 hosted_by : (parts : List Partition) (plan : List Hosted) (answer : Result (List (List ℕ)) ℕ)
     → result_map_both (zip parts) NoRoom answer ≡ Ok plan → (targets : List (List ℕ))
     × (answer ≡ Ok targets) × (zip parts targets ≡ plan)
-hosted_by parts plan (Ok targets) is = (targets, refl, cc)
-hosted_by parts plan (Err number) is = cc
+hosted_by parts plan answer is = search rules
 
 made_by : (rows : List Row) (net : Net) (plan : List Hosted) (tree : Shape) (many : Bool)
     → ltb 512 (leaf_count tree) ≡ many
     → cond many (Err TooManyLeaves) (hosted_on net (parts_of tree)) ≡ Ok plan
     → IsMadeOf rows net plan tree
-made_by rows net plan tree true test is = cc
-made_by rows net plan tree false test is =
-    let made = hosted_by (parts_of tree) plan
-    (placement_of (sizes_of (parts_of tree)) (rooms_of net) net.backups) is in
-    record { few = grind (arith, nat_tests); targets = made.0; chosen = made.1; pairs = made.2 }
+made_by rows net plan tree many test is = search (rules, nat_tests, hosted_by)
 
 worded_by : (rows : List Row) (net : Net) (plan : List Hosted) (tree : Shape) (many : Bool)
     → cond many (Err (TooManyWords (word_total rows))) (plan_of_tree net tree) ≡ Ok plan
     → IsMadeOf rows net plan tree
-worded_by rows net plan tree true is = cc
-worded_by rows net plan tree false is = made_by rows net plan tree (ltb 512 (leaf_count tree)) refl
-    is
+worded_by rows net plan tree many is = search rules
 
 made_of : (rows : List Row) (net : Net) (plan : List Hosted) → plan_of rows net ≡ Ok plan
     → IsMadeOf rows net plan (tree_of (rules_of rows) net.leaf_rules)
 unfolding plan_of
-made_of rows net plan is = worded_by rows net plan (tree_of (rules_of rows) net.leaf_rules)
-    (ltb 4096 (word_total rows)) is
+made_of rows net plan is = search rules
 
 -- ---- what holds of it
 
@@ -149,8 +140,7 @@ plan_holds rows net plan policy network is =
 
 pub parts_small : (rules : List Rule) (most : ℕ) (tree : Shape) → IsDefinedTree rules most tree
     → All (λ part. length part.rules ≤ most) (parts_of tree)
-parts_small rules most tree is = small_parts most 0 (leaves_of tree)
-    (small_leaves tree rules any_word most is)
+parts_small rules most tree is = search (rules, small_parts, small_leaves)
 
 pub no_words : (rows : List Row) (net : Net) → 4096 < word_total rows
     → plan_of rows net ≡ Err (TooManyWords (word_total rows))
@@ -184,5 +174,4 @@ pub planned : (rows : List Row) (net : Net) (tree : Shape) (targets : List (List
     → word_total rows ≤ 4096 → tree ≡ tree_of (rules_of rows) net.leaf_rules → leaf_count tree ≤ 512
     → placement_of (sizes_of (parts_of tree)) (rooms_of net) net.backups ≡ Ok targets
     → plan_of rows net ≡ Ok (zip (parts_of tree) targets)
-planned rows net tree targets few is small hosted = hosted_plan rows net tree few is small
-    ∙ ap (result_map_both (zip (parts_of tree)) NoRoom) hosted
+planned rows net tree targets few is small hosted = search (rules, hosted_plan, NoRoom)
