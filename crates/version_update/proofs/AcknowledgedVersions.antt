@@ -1,5 +1,5 @@
 -- The versions that a switch acknowledged.
-use Rattle.std.proofs.Common.{◌&&◌, ◌-◌, ◌<◌, ◌^◌, ◌||◌, ◌∙◌, ◌≡◌, ◌≤◌, ◌⊎◌, Bool, IsTrue, ap, arith, bit_or, cond, eq-eqb, eqb, false, inl, inr, max, ne_eqb, refl, sym, true, ℕ}
+use Rattle.std.proofs.Common.{◌&&◌, ◌-◌, ◌<◌, ◌^◌, ◌||◌, ◌∙◌, ◌≡◌, ◌≤◌, ◌⊎◌, Bool, IsTrue, ap, arith, bit_or, cond, eq-eqb, eqb, false, inl, inr, max, ne_eqb, sym, true, ℕ, rules}
 use Rattle.base.proofs.Exports.{bit_at, bit_at-lt, bit_at-pow_other, bit_at-pow_same, bit_at-zero, bit_at_above, bit_at_or, cases_eq}
 use Rattle.version_update.specs.declared.record.SwitchRecord.{SwitchRecord}
 use Rattle.version_update.specs.Exports.{IsSoundRecord, after_installed, first_record, has_acked, hello_recorded, takes_hello, takes_installed}
@@ -16,12 +16,10 @@ pub hello_acked : (boot version : ℕ) (known : SwitchRecord) → IsTrue (takes_
 hello_acked boot version known taken = cc (taken, bit_at-zero (version - 1))
 
 or_false : (b : Bool) → b ≡ (b || false)
-or_false true = refl
-or_false false = refl
+or_false b = search rules
 
 or_true : (b : Bool) → true ≡ (b || true)
-or_true true = refl
-or_true false = refl
+or_true b = search rules
 
 one_more : (acked version other : ℕ) → 1 ≤ version → 1 ≤ other
     → eqb (max (bit_at acked (other - 1)) (bit_at (2 ^ (version - 1)) (other - 1))) 1
@@ -58,5 +56,4 @@ installed_acked boot version other known low low' = by_test (takes_installed boo
 
 pub past_acked : (count version : ℕ) (known : SwitchRecord) → IsSoundRecord count known
     → count < version → has_acked known version ≡ false
-past_acked count version known sound past = ap (λ d. eqb d 1)
-    (bit_at_above known.acked count (version - 1) sound.acked (omega arith))
+past_acked count version known sound past = search (rules, bit_at_above)

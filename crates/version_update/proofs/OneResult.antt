@@ -1,39 +1,24 @@
 -- A change settles in one way.
-use Rattle.std.proofs.Common.{[], ◌&&◌, ◌+◌, ◌-◌, ◌<◌, ◌∙◌, ◌∷◌, ◌≡◌, ◌≤◌, ◌⊎◌, All, Bool, Contains, IsFalse, List, MatchOption, None, Option, Some, ap, arith, cond, false, fold, inl, inr, le-ltb, ltb, map, min, refl, slice_get, suc, sym, unwrap_or, zero, ℕ, ⊎_elim}
+use Rattle.std.proofs.Common.{[], ◌&&◌, ◌<◌, ◌∙◌, ◌∷◌, ◌≡◌, ◌≤◌, ◌⊎◌, All, Bool, Contains, IsFalse, List, MatchOption, None, ap, arith, cond, false, fold, inl, inr, le-ltb, ltb, map, min, refl, slice_get, suc, sym, zero, ℕ, rules}
 use Rattle.base.proofs.Exports.{All-cons, All-head, All-nil, All-tail, bit_at-zero, cases_lt, from_bool, option_map_or, same_from_bits}
 use Rattle.version_update.specs.declared.record.Phase.TheVariants.{Member}
 use Rattle.version_update.specs.declared.record.SwitchRecord.{SwitchRecord}
 use Rattle.version_update.specs.declared.marks.Settled.{Settled}
-use Rattle.version_update.specs.Exports.{AreMarksSettled, IsLeast, MarksValue, Names, Reports, RisesTo, Settles, acked_stamps, is_member, least_of, nothing_rose, opened_record, opens_at, rises_to}
+use Rattle.version_update.specs.Exports.{AreMarksSettled, IsLeast, MarksValue, Names, Reports, RisesTo, Settles, least_of, nothing_rose, opened_record, opens_at, rises_to}
 
 -- ---- one result
 
 -- a version that each member acknowledged isn't one that stops current
 rises_past : (marks : MarksValue) (low high : ℕ) → RisesTo marks low → RisesTo marks high
     → low < high → ⊥
-rises_past marks low high stops rises less =
-    let short = stops.stopped (omega (arith, rises.bound)) in
-    cc ((rises.acknowledged (low + 1) (omega (arith, stops.rises)) (omega arith)), short)
+rises_past marks low high stops rises less = search rules
 
 one_current : (marks : MarksValue) (a b : ℕ) → RisesTo marks a → RisesTo marks b → a ≡ b
-one_current marks a b left right = ⊎_elim (λ less. absurd (rises_past marks a b left right less))
-    (λ more. ⊎_elim (λ less. absurd (rises_past marks b a right left less)) (λ least. omega arith)
-    (cases_lt b a)) (cases_lt a b)
+one_current marks a b left right = search (rules, rises_past)
 
 pub one_result : (before a b : MarksValue) (x y : Settled) → Settles before a x → Settles before b y
     → a ≡ b
-one_result before a b x y left right =
-    let count : a.count ≡ b.count = left.count ∙ sym right.count in
-    let current = one_current before a.current b.current left.current right.current in
-    let switches : a.switches ≡ b.switches = left.switches
-    ∙ ap (λ c. map (opened_record c) before.switches) current ∙ sym right.switches in
-    let allowed = ap (λ c. unwrap_or (least_of (acked_stamps a.switches)) c - 1) current
-    ∙ ap (λ (l : List SwitchRecord). unwrap_or (least_of (acked_stamps l)) b.current - 1) switches in
-    let retired : a.retired ≡ b.retired = left.retired ∙ allowed ∙ sym right.retired in
-    ap (λ n. record a { count = n }) count
-    ∙ ap (λ n. record a { count = b.count; current = n }) current
-    ∙ ap (λ n. record b { retired = n; switches = a.switches }) retired
-    ∙ ap (λ (l : List SwitchRecord). record b { switches = l }) switches
+one_result before a b x y left right = search (rules, one_current)
 
 -- ---- one answer
 
@@ -68,11 +53,7 @@ raised_none n = rw (le-ltb n n (omega arith)) refl
 
 names_none : (n : ℕ) (passes : SwitchRecord → Bool) (switches : List SwitchRecord)
     → Names 0 (λ known. ltb n n && passes known) switches
-names_none n passes switches s = bit_at-zero s ∙ by_option (slice_get switches s) where
-  by_option : (o : Option SwitchRecord)
-      → 0 ≡ from_bool (option_map_or (λ known. ltb n n && passes known) o false)
-  by_option None = refl
-  by_option (Some known) = rw (le-ltb n n (omega arith)) refl
+names_none n passes switches s = search (rules, bit_at-zero, le-ltb)
 
 all_stay : (current : ℕ) (switches : List SwitchRecord)
     → All (λ known. IsFalse (opens_at current known)) switches → switches ≡ map (opened_record current)
@@ -99,24 +80,7 @@ none_named current switches closed s = bit_at-zero s ∙ at_place switches s clo
 
 pub settled_stay : (marks : MarksValue) (taken : Bool) → AreMarksSettled marks
     → Settles marks marks (nothing_rose taken)
-settled_stay marks taken settled = record {
-  count = refl;
-  current = record {
-    rises = omega arith;
-    bound = settled.bounds.last;
-    acknowledged = λ version above upto. absurd (omega arith);
-    stopped = settled.stopped;
-  };
-  switches = all_stay marks.current marks.switches settled.opened;
-  retired = settled.retired;
-  tells = record {
-    current = sym (raised_none marks.current);
-    stamps = names_none marks.current (λ known. is_member known.phase) marks.switches;
-    opens = none_named marks.current marks.switches settled.opened;
-    retired = sym (raised_none marks.retired);
-    collects = names_none marks.retired (λ known. is_member known.phase) marks.switches;
-  };
-}
+settled_stay marks taken settled = search (rules, all_stay, raised_none, names_none, none_named)
 
 -- ---- the least
 

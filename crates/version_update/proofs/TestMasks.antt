@@ -1,5 +1,5 @@
 -- Masks whose bits name the switches that pass a test.
-use Rattle.std.proofs.Common.{[], ◌%◌, ◌&&◌, ◌*◌, ◌++◌, ◌+◌, ◌<◌, ◌^◌, ◌||◌, ◌∙◌, ◌∷◌, ◌≡◌, ◌≤◌, Bool, IsTrue, List, None, Option, Some, ap, arith, bit_or, eq-eqb, eqb, false, get_or, inl, inr, length, length-take, max, mod-eq_of_lt, ne_eqb, refl, slice_get, subst, suc, sym, take, true, zero, ℕ}
+use Rattle.std.proofs.Common.{[], ◌%◌, ◌&&◌, ◌*◌, ◌++◌, ◌+◌, ◌<◌, ◌^◌, ◌||◌, ◌∙◌, ◌∷◌, ◌≡◌, ◌≤◌, Bool, IsTrue, List, Some, ap, arith, bit_or, eq-eqb, eqb, false, get_or, inl, inr, length, length-take, max, mod-eq_of_lt, ne_eqb, refl, slice_get, subst, suc, sym, take, true, zero, ℕ, rules}
 use Rattle.base.proofs.Exports.{bit_at, bit_at-pow_other, bit_at-pow_same, bit_at-zero, bit_at_or, cases_eq, from_bool, nat_tests, option_map_or, pow-lt, take_more}
 use Rattle.version_update.specs.declared.record.SwitchRecord.{SwitchRecord}
 use Rattle.version_update.specs.Exports.{Names}
@@ -9,13 +9,10 @@ abbrev passes_at : (SwitchRecord → Bool) → List SwitchRecord → ℕ → Boo
 passes_at passes switches s = option_map_or passes (slice_get switches s) false
 
 and_true : (b : Bool) → b ≡ (b && true)
-and_true true = refl
-and_true false = refl
+and_true b = search rules
 
 and_false : (a b : Bool) → a ≡ (a || (b && false))
-and_false true b = refl
-and_false false true = refl
-and_false false false = refl
+and_false a b = search rules
 
 eqb-zero_suc : (n : ℕ) → eqb 0 (suc n) ≡ false
 eqb-zero_suc n = grind (arith, nat_tests)
@@ -32,16 +29,12 @@ passes_at-push : (passes : SwitchRecord → Bool) (switches : List SwitchRecord)
     ≡ (passes_at passes switches s || (passes known && eqb s (length switches)))
 passes_at-push passes [] known zero = and_true (passes known)
 passes_at-push passes [] known (suc s) = rw (eqb-suc_zero s) (and_false false (passes known))
-passes_at-push passes (first ∷ switches) known zero = rw (eqb-zero_suc (length switches))
-    (and_false (passes first) (passes known))
+passes_at-push passes (first ∷ switches) known zero = search (rules, eqb-zero_suc, and_false)
 passes_at-push passes (first ∷ switches) known (suc s) = rw (← eqb-suc s (length switches))
     (passes_at-push passes switches known s)
 
 from_bool-or : (a b : Bool) → from_bool (a || b) ≡ max (from_bool a) (from_bool b)
-from_bool-or true true = refl
-from_bool-or true false = refl
-from_bool-or false true = refl
-from_bool-or false false = refl
+from_bool-or a b = search rules
 
 -- the mask of switch n alone
 bit_of_one : (named : Bool) (n s : ℕ) → n < 64 → bit_at (from_bool named * 2 ^ n % 2 ^ 64) s
@@ -56,12 +49,7 @@ bit_of_one true n s few =
       | inr other ↦ ap (λ x. bit_at x s) one ∙ bit_at-pow_other n s other
           ∙ ap from_bool (sym (ne_eqb s n other))
     ]
-bit_of_one false n s few = let plain : 0 * 2 ^ n ≡ 0 = omega arith in
-    ap (λ x. bit_at x s) (ap (λ x. x % 2 ^ 64) plain) ∙ bit_at-zero s
-
--- the mask of no switch
-pub Names-none : (passes : SwitchRecord → Bool) → Names 0 passes []
-Names-none passes s = bit_at-zero s
+bit_of_one false n s few = search (rules, bit_at-zero)
 
 -- the mask with the next switch, where that passes
 pub Names-more : (mask bit : ℕ) (passes : SwitchRecord → Bool) (switches : List SwitchRecord)
@@ -88,13 +76,4 @@ Names-more mask bit passes switches i d known within few here named_bit names s 
 pub named : (mask s : ℕ) (passes : SwitchRecord → Bool) (switches : List SwitchRecord)
     → Names mask passes switches → bit_at mask s ≡ 1 → (known : SwitchRecord)
     × (slice_get switches s ≡ Some known) × IsTrue (passes known)
-named mask s passes switches names set = by_option (slice_get switches s) refl (sym (names s) ∙ set)
-  where
-    by_option : (o : Option SwitchRecord) → slice_get switches s ≡ o
-        → from_bool (option_map_or passes o false) ≡ 1 → (known : SwitchRecord)
-        × (slice_get switches s ≡ Some known) × IsTrue (passes known)
-    by_option None is one = absurd (omega (arith, one))
-    by_option (Some known) is one = (known, is, true_of (passes known) one) where
-      true_of : (b : Bool) → from_bool b ≡ 1 → b ≡ true
-      true_of true e = refl
-      true_of false e = absurd (omega (arith, e))
+named mask s passes switches names set = search rules
