@@ -1,6 +1,5 @@
 -- Masks number by number.
-use Rattle.std.proofs.Common.{[], ◌%◌, ◌&&◌, ◌+◌, ◌<◌, ◌==◌, ◌^◌, ◌||◌, ◌∙◌, ◌∷◌, ◌≡◌, ◌≢◌, ◌≤◌, Bool, List, ap, arith, bit_and, bit_or, bit_xor, eq-eqb, false, get_or, length, max, min, not, pow_pos, refl, suc, sym, true, w64, zero, ℕ}
-use Rattle.std.specs.Int.{bit_at}
+use Rattle.std.proofs.Common.{[], ◌%◌, ◌&&◌, ◌+◌, ◌<◌, ◌==◌, ◌^◌, ◌||◌, ◌∙◌, ◌∷◌, ◌≡◌, ◌≢◌, ◌≤◌, Bool, List, ap, arith, bit_and, bit_or, bit_xor, eq-eqb, false, get_or, length, max, min, not, pow_pos, refl, suc, true, w64, zero, ℕ, rules}
 use Rattle.std.proofs.lemmas.Bool.Decides.{nat_tests}
 use Rattle.std.proofs.lemmas.Nat.{pow_below, or_lt}
 use Rattle.std.proofs.lemmas.Nat.Bits.{bit_at_and, bit_at_or, bit_at-lt, bit_at-zero, bit_at-pow_same, bit_at-pow_other, bit_at_above, same_from_bits, same_from_bits_below, bit_at-trailing_zeros, bit_at_xor}
@@ -41,8 +40,7 @@ same_sum a b fits e = grind (arith, nat_tests)
 
 pub has-xor_other : (mask k j : ℕ) → j ≢ k → has (bit_xor mask (2 ^ k)) j ≡ has mask j
 unfolding has
-has-xor_other mask k j apart = rw (bit_at_xor mask (2 ^ k) j)
-    (same_sum (bit_at mask j) (bit_at (2 ^ k) j) (bit_at-lt mask j) (bit_at-pow_other k j apart))
+has-xor_other mask k j apart = search (rules, bit_at_xor, same_sum, bit_at-lt, bit_at-pow_other)
 
 -- a mask of some switches is above 0
 pub some_of : (mask : ℕ) → not (mask == 0) ≡ true → 0 < mask
@@ -59,16 +57,13 @@ same_bit a b a_fits b_fits e = grind (arith, nat_tests)
 pub same_masks : (a b : ℕ) → a < 2 ^ 64 → b < 2 ^ 64 → ((k : ℕ) → k < 64 → has a k ≡ has b k) →
     a ≡ b
 unfolding has
-same_masks a b a_fits b_fits h = same_from_bits_below 64 a b a_fits b_fits
-    (λ k below. same_bit _ _ (bit_at-lt a k) (bit_at-lt b k) (h k below))
+same_masks a b a_fits b_fits h = search (rules, same_from_bits_below, same_bit, bit_at-lt)
 
 pub has_only_same : (test : Bool) (k : ℕ) → has (only_if test k) k ≡ test
-has_only_same true k = has-pow_same k
-has_only_same false k = has-zero k
+has_only_same test k = search (rules, has-pow_same, has-zero)
 
 pub has_only_other : (test : Bool) (k j : ℕ) → j ≢ k → has (only_if test k) j ≡ false
-has_only_other true k j apart = has-pow_other k j apart
-has_only_other false k j apart = has-zero j
+has_only_other test k j apart = search (rules, has-pow_other, has-zero)
 
 -- ---- masks of the places that pass
 
@@ -85,13 +80,11 @@ unfolding mask_where
 mask_where_at test k [] d z j e below = absurd (omega arith)
 mask_where_at test k (x ∷ xs) d z zero e below = let same : z ≡ k = omega arith in
     rw (has-or, mask_where_below test (k + 1) xs z (omega arith), same, has_only_same) (or-false _)
-mask_where_at test k (x ∷ xs) d z (suc j) e below = let apart : z ≢ k = omega arith in
-    rw (has-or, has_only_other _ _ _ apart)
-    (mask_where_at test (k + 1) xs d z j (omega arith) (omega arith))
+mask_where_at test k (x ∷ xs) d z (suc j) e below = search
+    (rules, has-or, has_only_other, mask_where_at test (k + 1) xs d z j (omega arith) (omega arith))
 
 pub only_if_lt : (test : Bool) (k n : ℕ) → k < n → only_if test k < 2 ^ n
-only_if_lt true k n below = pow_below k n below
-only_if_lt false k n below = pow_pos n
+only_if_lt test k n below = search (rules, pow_below)
 
 pub mask_where_lt : {X : Type 0} (test : X → Bool) (k : ℕ) (xs : List X) (n : ℕ) → k + length xs ≤ n
     → mask_where test k xs < 2 ^ n
@@ -148,8 +141,7 @@ has_mask_past test k past = has_above (mask_of test) k (mask_of_lt test) past
 
 pub mask_of_is : (mask : ℕ) (test : ℕ → Bool) → mask < 2 ^ 64
     → ((k : ℕ) → k < 64 → has mask k ≡ test k) → mask ≡ mask_of test
-mask_of_is mask test fits same = same_masks mask (mask_of test) fits (mask_of_lt test)
-    (λ k below. same k below ∙ sym (has_mask test k below))
+mask_of_is mask test fits same = search (rules, same_masks, mask_of_lt, has_mask)
 
 pub laws : MaskLaws
 laws = record { small = mask_of_lt; bits = has_mask; past = has_above; unique = mask_of_is }

@@ -1,12 +1,11 @@
 -- What proofs above cite of lists and options of any kind.
-use Rattle.std.proofs.Common.{[], ◌++◌, ◌+◌, ◌∷◌, ◌≡◌, ◌≤◌, Bool, Contains, List, None, Option, Some, arith, cond, count_by, false, filter, filter_map, find, is_some, length, not, refl, suc, true, true≢false, ℕ}
+use Rattle.std.proofs.Common.{[], ◌++◌, ◌+◌, ◌∷◌, ◌≡◌, ◌≤◌, Bool, Contains, List, None, Option, Some, arith, cond, count_by, false, filter, filter_map, find, is_some, length, not, refl, suc, true, ℕ, rules}
 use Rattle.std.specs.List.{AllByRecursion, cons_option}
 use Rattle.std.proofs.lemmas.List.Sums.{sum_by-cons}
 use Rattle.std.proofs.lemmas.List.Filters.{sum_by-filter_both}
 
 pub none_from_not_some : {X : Type 0} (o : Option X) → is_some o ≡ false → o ≡ None
-none_from_not_some None none = refl
-none_from_not_some (Some x) none = absurd (true≢false none)
+none_from_not_some o none = search rules
 
 -- a list that ends in an item is not empty
 pub append_not_nil : {X : Type 0} (xs : List X) (x : X) → xs ++ x ∷ [] ≡ [] → ⊥
@@ -21,9 +20,7 @@ each_weaker P Q weaker (x ∷ xs) each = (weaker x each.0, each_weaker P Q weake
 -- two tests that agree find the same
 pub find_same : {X : Type 0} (p q : X → Bool) → ((x : X) → p x ≡ q x) → (xs : List X)
     → find p xs ≡ find q xs
-find_same p q same [] = refl
-find_same p q same (x ∷ xs) =
-    let rest : find p xs ≡ find q xs = find_same p q same xs in rw ((same x), rest) refl
+find_same p q same xs = search rules
 
 pub count_by-cons : {X : Type 0} (test : X → Bool) (x : X) (xs : List X)
     → count_by test (x ∷ xs) ≡ cond (test x) 1 0 + count_by test xs
@@ -37,11 +34,7 @@ count-filter-le test kept xs =
 pub length-filter_map : {X Y : Type 0} (f : X → Option Y) (xs : List X)
     → length (filter_map f xs) ≤ length xs
 length-filter_map f [] = omega arith
-length-filter_map {Y = Y} f (x ∷ xs) = by_made (f x) (length-filter_map f xs) where
-  by_made : (o : Option Y) → length (filter_map f xs) ≤ length xs
-      → length (cons_option o (filter_map f xs)) ≤ length (x ∷ xs)
-  by_made None less = omega (arith, less)
-  by_made (Some y) less = omega (arith, less)
+length-filter_map {Y = Y} f (x ∷ xs) = search (rules, length-filter_map f xs)
 
 pub in_cons_option : {X : Type 0} (first : Option X) (rest : List X) (x : X) → Contains rest x
     → Contains (cons_option first rest) x

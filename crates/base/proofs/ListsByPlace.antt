@@ -1,5 +1,5 @@
 -- What stands at a place of a list that was changed at one.
-use Rattle.std.proofs.Common.{[], if◌then◌else◌, ◌++◌, ◌+◌, ◌-◌, ◌<◌, ◌==◌, ◌∙◌, ◌∷◌, ◌≡◌, List, None, Option, Some, add-one, ap, arith, drop, drop-cons, drop-set-lt, get_or, length, length-set, length-take-le, map, option_map, refl, remove, replicate, set, slice_get, suc, swap_remove, sym, take, take_at, zero, ℕ}
+use Rattle.std.proofs.Common.{[], if◌then◌else◌, ◌++◌, ◌+◌, ◌-◌, ◌<◌, ◌==◌, ◌∙◌, ◌∷◌, ◌≡◌, List, None, Option, Some, add-one, ap, arith, drop, drop-cons, drop-set-lt, get_or, length, length-set, length-take-le, map, option_map, refl, remove, replicate, set, slice_get, suc, swap_remove, sym, take, take_at, zero, ℕ, rules}
 use Rattle.std.specs.Option.{option_map_or}
 use Rattle.std.proofs.Math.Seq.{drop-append_seam, take-append_seam}
 use Rattle.std.proofs.lemmas.List.{at_drop_more, drop-map, get_or_push, length_push, map-append, set-append_left, take-map, take-set}
@@ -72,8 +72,7 @@ at_item f xs i x within is = cc (at_drop_more f xs i x within, is)
 
 pub drop_at_item : {M : Type 0} (meters : List M) (at : ℕ) (meter : M) → at < length meters
     → get_or meters at meter ≡ meter → drop at meters ≡ meter ∷ drop (at + 1) meters
-drop_at_item meters at meter within is_meter =
-    rw add-one (drop-cons meters at meter within ∙ ap (λ m. m ∷ drop (suc at) meters) is_meter)
+drop_at_item meters at meter within is_meter = search (rules, add-one, drop-cons)
 
 pub drop_set : {M : Type 0} (meters : List M) (at : ℕ) (new : M)
     → drop (at + 1) (set meters at new) ≡ drop (at + 1) meters
@@ -81,13 +80,11 @@ drop_set meters at new = drop-set-lt (at + 1) meters at new (omega arith)
 
 pub seam_at : {M : Type 0} (front back : List M) (at : ℕ) → length front ≡ at
     → (take at (front ++ back) ≡ front) × (drop at (front ++ back) ≡ back)
-seam_at front back at long =
-    (rw (← long) (take-append_seam front back), rw (← long) (drop-append_seam front back))
+seam_at front back at long = search (rules, take-append_seam, drop-append_seam)
 
 pub remove-set : {M : Type 0} (meters : List M) (at : ℕ) (new : M) → at < length meters
     → remove (set meters at new) at ≡ take at meters ++ drop (at + 1) meters
-remove-set meters at new within = rw (take-set, add-one)
-    (ap (λ rest. take at meters ++ rest) (drop-set-lt (suc at) meters at new (omega arith)))
+remove-set meters at new within = search (rules, take-set, add-one, drop-set-lt)
 
 pub drop_removed : {M : Type 0} (meters : List M) (at : ℕ) (new : M) → at < length meters
     → drop at (remove (set meters at new) at) ≡ drop (at + 1) meters

@@ -1,5 +1,5 @@
 -- What a filter keeps, and sums and counts over it.
-use Rattle.std.proofs.Common.{[], if◌then◌else◌, ◌&&◌, ◌*◌, ◌+◌, ◌∙◌, ◌∷◌, ◌≡◌, ◌≤◌, All, Bool, List, ap, arith, cond, count_by, false, filter, flat_map, get_or, length, length-append, map, not, refl, suc-mul, sum_by, sym, true, ℕ}
+use Rattle.std.proofs.Common.{[], ◌&&◌, ◌*◌, ◌+◌, ◌∙◌, ◌∷◌, ◌≡◌, ◌≤◌, All, Bool, List, ap, arith, cond, count_by, false, filter, flat_map, get_or, length, length-append, map, not, refl, suc-mul, sum_by, sym, true, ℕ, rules}
 use Rattle.std.specs.List.{AllByRecursion}
 use Rattle.std.proofs.lemmas.List.Elements.{All-head, All-tail}
 use Rattle.std.proofs.lemmas.List.Filters.{sum_by-filter_both}
@@ -40,15 +40,7 @@ length_filter_less test xs = omega (arith, length-filter test xs, count_by-le-le
 pub filter_filter : {X : Type 0} (p q r : X → Bool) → ((x : X) → r x ≡ (p x && q x)) → (xs : List X)
     → filter q (filter p xs) ≡ filter r xs
 filter_filter p q r both [] = refl
-filter_filter {X} p q r both (x ∷ xs) = by_case (p x) (q x) refl (filter_filter p q r both xs)
-    ∙ ap (λ b. cond b (x ∷ filter r xs) (filter r xs)) (sym (both x))
-  where
-    by_case : (a b : Bool) → q x ≡ b → filter q (filter p xs) ≡ filter r xs
-        → filter q (cond a (x ∷ filter p xs) (filter p xs)) ≡ cond (a && b) (x ∷ filter r xs)
-        (filter r xs)
-    by_case true true is rest = rw is (ap (λ ys. x ∷ ys) rest)
-    by_case true false is rest = rw is rest
-    by_case false b is rest = rest
+filter_filter {X} p q r both (x ∷ xs) = search (rules, filter_filter p q r both xs)
 
 pub filter_all : {X : Type 0} (p : X → Bool) (xs : List X) → All (λ x. p x ≡ true) xs → filter p xs ≡ xs
 filter_all p [] all = refl
@@ -85,12 +77,7 @@ map_twice f g (x ∷ xs) = ap (λ ys. g (f x) ∷ ys) (map_twice f g xs)
 pub filter_made : {X Y : Type 0} (f : X → Y) (p : Y → Bool) (xs : List X)
     → filter p (map f xs) ≡ map f (filter (λ x. p (f x)) xs)
 filter_made f p [] = refl
-filter_made f p (x ∷ xs) = by_test (p (f x)) (filter_made f p xs) where
-  by_test : (b : Bool) → filter p (map f xs) ≡ map f (filter (λ x. p (f x)) xs)
-      → (if b then f x ∷ filter p (map f xs) else filter p (map f xs))
-      ≡ map f (if b then x ∷ filter (λ x. p (f x)) xs else filter (λ x. p (f x)) xs)
-  by_test true same = ap (λ ys. f x ∷ ys) same
-  by_test false same = same
+filter_made f p (x ∷ xs) = search (rules, filter_made f p xs)
 
 -- as many bytes as each has at most
 pub each_short : {A : Type 0} (spell : A → List ℕ) (most : ℕ) (xs : List A)

@@ -1,10 +1,10 @@
 -- The first element that passes a test, and its place.
-use Rattle.std.proofs.Common.{[], ◌&&◌, ◌++◌, ◌+◌, ◌<◌, ◌||◌, ◌∙◌, ◌∷◌, ◌≡◌, ◌≤◌, All, Bool, Contains, IfSome, IsSome, List, MatchOption, None, Option, Some, ap, arith, cond, count_by, false, filter, find, get_or, inl, inr, is_some, le-ltb, length, lt-ltb, map, min, not, option_and_then, option_map, position, refl, slice_get, subst, suc, sym, true, zero, ℕ}
+use Rattle.std.proofs.Common.{[], ◌&&◌, ◌++◌, ◌+◌, ◌<◌, ◌||◌, ◌∙◌, ◌∷◌, ◌≡◌, ◌≤◌, All, Bool, Contains, IfSome, IsSome, List, MatchOption, None, Option, Some, ap, arith, cond, count_by, false, filter, find, get_or, inl, inr, is_some, le-ltb, length, lt-ltb, map, min, not, option_and_then, option_map, position, refl, slice_get, subst, suc, sym, true, zero, ℕ, rules}
 use Rattle.std.specs.List.{list_any, position_from, position_or_len}
 use Rattle.std.proofs.lemmas.Bool.{both_ways, cases_lt}
 use Rattle.std.proofs.lemmas.Iterator.Adapters.{position_from-zero}
 use Rattle.std.proofs.lemmas.List.{length-map}
-use Rattle.std.proofs.lemmas.List.Elements.{All-cons, All-head, All-nil, All-tail}
+use Rattle.std.proofs.lemmas.List.Elements.{All-head, All-nil, All-tail}
 use Rattle.std.proofs.lemmas.List.Folds.{find_at}
 use Rattle.std.proofs.lemmas.List.Quantifiers.{position-Some}
 use Rattle.std.proofs.lemmas.List.Sums.{position_or_len_is}
@@ -15,11 +15,7 @@ use Rattle.base.proofs.ListsOfAll.{contains_later}
 none_from_count : {X : Type 0} (test : X → Bool) (xs : List X) → count_by test xs ≡ 0
     → find test xs ≡ None
 none_from_count test [] none = refl
-none_from_count {X} test (x ∷ xs) none = by_case (test x) refl (none_from_count test xs) where
-  by_case : (b : Bool) → test x ≡ b → (count_by test xs ≡ 0 → find test xs ≡ None)
-      → cond b (Some x) (find test xs) ≡ None
-  by_case true passes rest = absurd (grind (arith, count_by-cons test x xs))
-  by_case false fails rest = rest (grind (arith, count_by-cons test x xs))
+none_from_count {X} test (x ∷ xs) none = search (rules, count_by-cons, none_from_count test xs)
 
 pub some_from_count : {X : Type 0} (test : X → Bool) (xs : List X) → count_by test xs ≡ 1 → (x : X)
     × (find test xs ≡ Some x)
@@ -34,38 +30,13 @@ some_from_count {X} test (x ∷ xs) one = by_case (test x) refl (some_from_count
 pub find-filter : {X : Type 0} (test kept : X → Bool) (xs : List X) (x : X) → count_by test xs ≡ 1
     → find test xs ≡ Some x → find test (filter kept xs) ≡ cond (kept x) (Some x) None
 find-filter test kept [] x one is = absurd (omega arith)
-find-filter {X} test kept (y ∷ ys) x one is = by_case (test y) refl is (find-filter test kept ys x)
-  where
-    here : test y ≡ true → (b : Bool) → find test ys ≡ None → find test (filter kept ys) ≡ None
-        → find test (cond b (y ∷ filter kept ys) (filter kept ys)) ≡ cond b (Some y) None
-    here passes true none rest = rw passes refl
-    here passes false none rest = rest
-
-    later : test y ≡ false → (b : Bool) → find test (cond b (y ∷ filter kept ys) (filter kept ys))
-        ≡ find test (filter kept ys)
-    later fails true = rw fails refl
-    later fails false = refl
-
-    by_case : (b : Bool) → test y ≡ b → cond b (Some y) (find test ys) ≡ Some x
-        → (count_by test ys ≡ 1 → find test ys ≡ Some x → find test (filter kept ys) ≡ cond (kept x)
-        (Some x) None) → find test (filter kept (y ∷ ys)) ≡ cond (kept x) (Some x) None
-    by_case true passes is rest =
-        let same : y ≡ x = cc in
-        let none : count_by test ys ≡ 0 = grind (arith, count_by-cons test y ys) in
-        subst (λ z. find test (filter kept (y ∷ ys)) ≡ cond (kept z) (Some z) None) same
-        (here passes (kept y) (none_from_count test ys none)
-        (none_from_count test (filter kept ys) (omega (arith, count-filter-le))))
-    by_case false fails is rest = later fails (kept y) ∙ rest (grind (arith, count_by-cons)) is
+find-filter {X} test kept (y ∷ ys) x one is =
+    search (rules, count_by-cons, none_from_count, count-filter-le, find-filter test kept ys x)
 
 pub find-map : {X Y : Type 0} (test : Y → Bool) (f : X → Y) (xs : List X)
     → find test (map f xs) ≡ option_map f (find (λ x. test (f x)) xs)
 find-map test f [] = refl
-find-map {X} {Y} test f (x ∷ xs) = by_case (test (f x)) (find-map test f xs) where
-  by_case : (b : Bool) → find test (map f xs) ≡ option_map f (find (λ z. test (f z)) xs)
-      → cond b (Some (f x)) (find test (map f xs)) ≡ option_map f
-      (cond b (Some x) (find (λ z. test (f z)) xs))
-  by_case true rest = refl
-  by_case false rest = rest
+find-map {X} {Y} test f (x ∷ xs) = search (rules, find-map test f xs)
 
 -- what is found passes and is there
 pub find-there : {X : Type 0} (test : X → Bool) (xs : List X) (x : X) → find test xs ≡ Some x
@@ -83,12 +54,7 @@ find-there {X} test (y ∷ ys) x is = by_case (test y) refl is (find-there test 
 pub find_ends : {X : Type 0} (test : X → Bool) (earlier : List X) (last : X) → test last ≡ true
     → IsSome (find test (earlier ++ last ∷ []))
 find_ends test [] last passes = rw passes refl
-find_ends {X} test (x ∷ earlier) last passes = by_case (test x) (find_ends test earlier last passes)
-  where
-    by_case : (b : Bool) → IsSome (find test (earlier ++ last ∷ []))
-        → IsSome (cond b (Some x) (find test (earlier ++ last ∷ [])))
-    by_case true rest = refl
-    by_case false rest = rest
+find_ends {X} test (x ∷ earlier) last passes = search (rules, find_ends test earlier last passes)
 
 position_or_len-map : {X Y : Type 0} (test : Y → Bool) (f : X → Y) (xs : List X) →
     position_or_len test (map f xs) ≡ position_or_len (λ x. test (f x)) xs
@@ -116,18 +82,7 @@ place_none (x ∷ xs) = omega (arith, place_none xs)
 pub place_either : {X : Type 0} (p q : X → Bool) (xs : List X) →
     position_or_len (λ x. p x || q x) xs ≡ min (position_or_len p xs) (position_or_len q xs)
 place_either p q [] = refl
-place_either {X} p q (x ∷ xs) = by_case (p x) (q x) (place_either p q xs) where
-  step : Bool → ℕ → ℕ
-  step b n = cond (not b) (1 + n) 0
-
-  by_case : (a b : Bool) →
-      position_or_len (λ y. p y || q y) xs ≡ min (position_or_len p xs) (position_or_len q xs) →
-      step (a || b) (position_or_len (λ y. p y || q y) xs)
-      ≡ min (step a (position_or_len p xs)) (step b (position_or_len q xs))
-  by_case true true rest = refl
-  by_case true false rest = omega arith
-  by_case false true rest = omega arith
-  by_case false false rest = omega (arith, rest)
+place_either {X} p q (x ∷ xs) = search (rules, place_either p q xs)
 
 -- the first one that passes a test passes another too
 pub place_both : {X : Type 0} (p q : X → Bool) (xs : List X) (x : X) →
@@ -153,26 +108,12 @@ place_both {X} p q (y ∷ ys) x there holds = by_case (p y) there (λ later. pla
 pub none_both : {X : Type 0} (p q : X → Bool) (xs : List X) → position_or_len p xs ≡ length xs →
     position_or_len (λ y. p y && q y) xs ≡ length xs
 none_both p q [] none = refl
-none_both {X} p q (y ∷ ys) none = by_case (p y) none (none_both p q ys) where
-  n : ℕ
-  n = position_or_len p ys
-
-  both : ℕ
-  both = position_or_len (λ z. p z && q z) ys
-
-  by_case : (a : Bool) → cond (not a) (1 + n) 0 ≡ length (y ∷ ys)
-      → (n ≡ length ys → both ≡ length ys) → cond (not (a && q y)) (1 + both) 0 ≡ length (y ∷ ys)
-  by_case true end rest = absurd (omega (arith, end))
-  by_case false end rest = omega (arith, rest (omega (arith, end)))
+none_both {X} p q (y ∷ ys) none = search (rules, none_both p q ys)
 
 pub find_none : {X : Type 0} (p : X → Bool) (xs : List X) → find p xs ≡ None
     → All (λ x. p x ≡ false) xs
 find_none p [] none = All-nil (λ x. p x ≡ false)
-find_none {X} p (x ∷ xs) none = by (p x) refl none (find_none p xs) where
-  by : (b : Bool) → p x ≡ b → cond b (Some x) (find p xs) ≡ None
-      → (find p xs ≡ None → All (λ y. p y ≡ false) xs) → All (λ y. p y ≡ false) (x ∷ xs)
-  by true is none rest = absurd cc
-  by false is none rest = All-cons (λ y. p y ≡ false) x xs is (rest none)
+find_none {X} p (x ∷ xs) none = search (rules, find_none p xs)
 
 -- what holds of each item holds of the one that is found
 pub found_all : {X : Type 0} (P : X → Type 0) (p : X → Bool) (xs : List X) (x : X) → All P xs
@@ -189,14 +130,7 @@ found_all P p (y ∷ ys) x all is =
 pub find_found : {X : Type 0} (p : X → Bool) (xs : List X)
     → MatchOption (find p xs) (All (λ x. p x ≡ false) xs) (λ x. Contains xs x × (p x ≡ true))
 find_found p [] = All-nil _
-find_found {X} p (x ∷ xs) = by_case (p x) refl (find p xs) (find_found p xs) where
-  by_case : (b : Bool) → p x ≡ b → (found : Option X)
-      → MatchOption found (All (λ x. p x ≡ false) xs) (λ y. Contains xs y × (p y ≡ true))
-      → MatchOption (cond b (Some x) found) (All (λ x. p x ≡ false) (x ∷ xs))
-      (λ y. Contains (x ∷ xs) y × (p y ≡ true))
-  by_case true is found rest = ((0, omega arith, refl), is)
-  by_case false is None rest = All-cons (λ x. p x ≡ false) x xs is rest
-  by_case false is (Some y) rest = (contains_later x xs y rest.0, rest.1)
+find_found {X} p (x ∷ xs) = search (rules, contains_later, find_found p xs)
 
 -- the element at the first place that passes is the first that passes
 pub find-position : {X : Type 0} (p : X → Bool) (xs : List X)
@@ -212,17 +146,12 @@ find-position {X} p xs =
 -- what is found passes the test
 pub found_passes : {X : Type 0} (test : X → Bool) (xs : List X) (x : X) → find test xs ≡ Some x → test x ≡ true
 found_passes test [] x is = cc is
-found_passes test (y ∷ ys) x is = first (test y) refl is (found_passes test ys x) where
-  first : (b : Bool) → test y ≡ b → cond b (Some y) (find test ys) ≡ Some x
-      → (find test ys ≡ Some x → test x ≡ true) → test x ≡ true
-  first true passes is later = subst (λ z. test z ≡ true) (cc is) passes
-  first false fails is later = later is
+found_passes test (y ∷ ys) x is = search (rules, found_passes test ys x)
 
 none_pass : {X : Type 0} (test : X → Bool) (xs : List X) (k : ℕ) (x : X) → count_by test xs ≡ 0
     → slice_get xs k ≡ Some x → test x ≡ true → ⊥
 none_pass test [] k x none is passes = none-some x is
-none_pass test (y ∷ ys) zero x none is passes = let same : y ≡ x = same_Some y x is in
-    omega (arith, none, count_by-cons test y ys, ap {B = ℕ} (λ t. cond t 1 0) (ap test same ∙ passes))
+none_pass test (y ∷ ys) zero x none is passes = search (rules, count_by-cons)
 none_pass test (y ∷ ys) (suc k) x none is passes =
     none_pass test ys k x (omega (arith, none, count_by-cons test y ys)) is passes
 
@@ -259,26 +188,12 @@ find_agree {X} p q (x ∷ xs) agree =
 pub find_kept : {X : Type 0} (test kept : X → Bool) (xs : List X)
     → ((x : X) → test x ≡ true → kept x ≡ true) → find test (filter kept xs) ≡ find test xs
 find_kept test kept [] keeps = refl
-find_kept {X} test kept (x ∷ xs) keeps =
-    by_case (test x) (kept x) refl (keeps x) (find_kept test kept xs keeps)
-  where
-    by_case : (t k : Bool) → test x ≡ t → (test x ≡ true → k ≡ true)
-        → find test (filter kept xs) ≡ find test xs
-        → find test (cond k (x ∷ filter kept xs) (filter kept xs)) ≡ find test (x ∷ xs)
-    by_case true true passes keep rest = rw passes refl
-    by_case true false passes keep rest = absurd (both_ways false refl (keep passes))
-    by_case false true fails keep rest = rw fails rest
-    by_case false false fails keep rest = rw fails rest
+find_kept {X} test kept (x ∷ xs) keeps = search (rules, both_ways, find_kept test kept xs keeps)
 
 pub found_from_count : {X : Type 0} (test : X → Bool) (xs : List X) → 1 ≤ count_by test xs
     → IsSome (find test xs)
 found_from_count test [] one = absurd (omega arith)
-found_from_count {X} test (x ∷ xs) one = by_case (test x) refl (found_from_count test xs) where
-  by_case : (b : Bool) → test x ≡ b → (1 ≤ count_by test xs → IsSome (find test xs))
-      → IsSome (cond b (Some x) (find test xs))
-  by_case true passes rest = refl
-  by_case false fails rest =
-      rest (omega (arith, one, count_by-cons test x xs, ap {B = ℕ} (λ t. cond t 1 0) fails))
+found_from_count {X} test (x ∷ xs) one = search (rules, count_by-cons, found_from_count test xs)
 
 some_position_from : {X : Type 0} (test : X → Bool) (i : ℕ) (xs : List X) → is_some (position_from test i xs)
     ≡ list_any test xs

@@ -1,27 +1,10 @@
 -- Lists joined end to end, pair by pair, or made of what each element gives.
-use Rattle.std.proofs.Common.{[], ◌++◌, ◌+◌, ◌<◌, ◌∙◌, ◌∷◌, ◌≡◌, ◌≤◌, List, None, Option, Some, ap, append-nil, append_assoc, arith, drop, drop-cons, filter_map, flat_map, get_or, length, refl, suc, sym, take, take-add, take-append-drop, take_all, zip, ℕ}
+use Rattle.std.proofs.Common.{[], ◌++◌, ◌+◌, ◌<◌, ◌∙◌, ◌∷◌, ◌≡◌, List, Option, ap, append-nil, append_assoc, arith, drop, drop-cons, filter_map, flat_map, get_or, length, refl, suc, sym, take, take-add, take-append-drop, zip, ℕ, rules}
 use Rattle.std.specs.List.{cons_option, enumerate_from}
 use Rattle.std.specs.Option.{option_map_or}
-use Rattle.std.proofs.lemmas.Grind.{flat_map-append, take_at_read}
+use Rattle.std.proofs.lemmas.Grind.{flat_map-append}
 use Rattle.std.proofs.lemmas.List.{take_more}
 use Rattle.std.proofs.lemmas.List.Elements.{filter_map-append}
-use Rattle.std.proofs.lemmas.Slice.Zip.{get_or-zip, length-zip}
-
-pub zip_read : {A B : Type 0} (ks : List A) (vs : List B) (i : ℕ) (a : A) (b : B) → i < length ks
-    → i < length vs → (get_or ks i a ≡ get_or ks i a) × (get_or vs i b ≡ get_or vs i b)
-    × (take (i + 1) (zip ks vs) ≡ take i (zip ks vs) ++ (get_or ks i a, get_or vs i b) ∷ [])
-zip_read ks vs i a b here there =
-    let within : i < length (zip ks vs) = grind (arith, length-zip ks vs) in (
-      refl,
-      refl,
-      (take_at_read (zip ks vs) i (a, b) within).1
-          ∙ ap (λ x. take i (zip ks vs) ++ x ∷ []) (get_or-zip ks vs i (a, b) here there),
-    )
-
-pub zip_all : {A B : Type 0} (ks : List A) (vs : List B) → length vs ≡ length ks
-    → take (length ks) (zip ks vs) ≡ zip ks vs
-zip_all ks vs same = let all : length (zip ks vs) ≤ length ks = grind (arith, length-zip ks vs) in
-    take_all (length ks) (zip ks vs) all
 
 pub zip_pushed : {A B : Type 0} (xs : List A) (ys : List B) (x : A) (y : B) → length xs ≡ length ys
     → zip (xs ++ x ∷ []) (ys ++ y ∷ []) ≡ zip xs ys ++ (x, y) ∷ []
@@ -47,8 +30,7 @@ middle_none (x ∷ xs) ys zs is = cc is
 -- the first items were written, and then the rest
 pub both_written : {A : Type 0} (old begun new first rest : List A) → begun ≡ old ++ first
     → new ≡ begun ++ rest → new ≡ old ++ (first ++ rest)
-both_written old begun new first rest first_is grown =
-    grown ∙ ap (λ js. js ++ rest) first_is ∙ append_assoc old first rest
+both_written old begun new first rest first_is grown = search (rules, append_assoc)
 
 -- one more item of a list
 pub taken_more : {X Y : Type 0} (f : X → List Y) (xs : List X) (i : ℕ) (x : X) → i < length xs
@@ -60,8 +42,7 @@ taken_more f xs i x within at = sym (
 
 one_found : {Y Z : Type 0} (f : Y → List Z) (o : Option Y)
     → flat_map f (cons_option o []) ≡ option_map_or f o []
-one_found f None = refl
-one_found f (Some y) = append-nil (f y)
+one_found f o = search rules
 
 -- one more item, for which another may be found
 pub found_more : {X Y Z : Type 0} (f : Y → List Z) (h : X → Option Y) (xs : List X) (i : ℕ) (x : X)
@@ -86,8 +67,7 @@ flat_map-at f xs i d within = sym (flat_map-append f (take i xs) (get_or xs i d 
 flat_map-more : {X : Type 0} (f : X → List ℕ) (xs block : List X) (at : ℕ)
     → block ≡ take (length block) (drop at xs) → flat_map f (take at xs) ++ flat_map f block
     ≡ flat_map f (take (at + length block) xs)
-flat_map-more f xs block at is =
-    cc (flat_map-append f (take at xs) block, is, take-add at (length block) xs)
+flat_map-more f xs block at is = search (rules, flat_map-append, take-add)
 
 -- the same of an item that is known to stand there
 pub flat_map-there : {X : Type 0} (f : X → List ℕ) (xs : List X) (i : ℕ) (x : X) → i < length xs

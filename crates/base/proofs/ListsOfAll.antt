@@ -1,7 +1,6 @@
 -- What holds of all elements, of all pairs of them, or of one that is there.
-use Rattle.std.proofs.Common.{[], ◌++◌, ◌+◌, ◌<◌, ◌∙◌, ◌∷◌, ◌≡◌, All, AllPairs, Contains, IfSome, IsSomeAnd, List, None, Option, Some, ap, arith, drop, filter_map, flat_map, get_or, get_or-append-add, inl, inr, length, length-append, map, refl, remove, slice_get, subst, suc, sym, take, zero, ℕ}
+use Rattle.std.proofs.Common.{[], ◌++◌, ◌+◌, ◌<◌, ◌∙◌, ◌∷◌, ◌≡◌, All, AllPairs, Contains, IfSome, IsSomeAnd, List, None, Option, Some, ap, arith, drop, filter_map, flat_map, get_or, get_or-append-add, length, length-append, map, refl, remove, slice_get, subst, suc, sym, take, zero, ℕ, rules}
 use Rattle.std.specs.List.{AllZip, cons_option, range_with_len}
-use Rattle.std.proofs.lemmas.Bool.{cases_lt}
 use Rattle.std.proofs.lemmas.List.{get_or-map, get_or_append_left, length-map}
 use Rattle.std.proofs.lemmas.List.Elements.{All-append, All-cons, All-contains, All-contains_itself, All-drop, All-head, All-nil, All-tail, All-take, All-weaker, Contains-append_left, Contains-append_right}
 use Rattle.std.proofs.lemmas.List.Kept.{AllPairs-cons}
@@ -57,8 +56,7 @@ All-filter_map {X} {Y} P f (x ∷ xs) all = by_case (f x) (All-head (λ z. IfSom
 pub Contains-filter_map : {X Y : Type 0} (f : X → Option Y) (xs : List X) (x : X) (y : Y) → Contains xs x
     → f x ≡ Some y → Contains (filter_map f xs) y
 Contains-filter_map f [] x y (k, within, is) made = absurd (omega (arith, within))
-Contains-filter_map f (z ∷ zs) x y (zero, within, is) made =
-    rw (ap f is ∙ made) (0, omega arith, refl)
+Contains-filter_map f (z ∷ zs) x y (zero, within, is) made = search rules
 Contains-filter_map f (z ∷ zs) x y (suc k, within, is) made = in_cons_option (f z) (filter_map f zs)
     y (Contains-filter_map f zs x y (k, omega arith, is) made)
 
@@ -96,12 +94,6 @@ pub All-remove : {X : Type 0} (P : X → Type 0) (xs : List X) (k : ℕ) → All
 All-remove P xs k all = All-append P (take k xs) (drop (suc k) xs) (All-take P k xs all)
     (All-drop P (suc k) xs all)
 
--- what holds of each holds of the one at a place
-pub got_is : {X : Type 0} (P : X → Type 0) (xs : List X) (place : ℕ) (x : X) → All P xs
-    → Some x ≡ slice_get xs place → P x
-got_is P xs place x all is = rw (get_or_from_slice_get xs place x x (sym is)) at
-    (all place x (slice_get_within xs place x (sym is)))
-
 -- the item at a place, if there is one
 pub IfSome-at_place : {A : Type 0} (P : A → Type 0) (xs : List A) (place : ℕ) (o : Option A) → All P xs
     → slice_get xs place ≡ o → IfSome o P
@@ -113,21 +105,15 @@ IfSome-at_place P xs place (Some x) sound e = subst P (get_or_from_slice_get xs 
 pub there_at : {X : Type 0} (P : X → Type 0) (xs : List X) (k : ℕ) (d : X)
     → IsSomeAnd (slice_get xs k) P
     → (k < length xs) × (slice_get xs k ≡ Some (get_or xs k d)) × P (get_or xs k d)
-there_at P xs k d is = elim (cases_lt k (length xs)) [
-  | inl within ↦ let at = slice_get-get_or xs k d within in
-      (within, at, subst (λ o. IsSomeAnd o P) at is)
-  | inr past ↦ absurd (subst (λ o. IsSomeAnd o P) (slice_get_past xs k past) is)
-]
+there_at P xs k d is = search (rules, slice_get-get_or, slice_get_past)
 
 pub All-one : {X : Type 0} (P : X → Type 0) (x : X) → P x → All P (x ∷ [])
-All-one P x is k d within =
-    let zero : k ≡ 0 = omega arith in subst (λ (n : ℕ). P (get_or (x ∷ []) n d)) (sym zero) is
+All-one P x is k d within = search rules
 
 AllZip-range_next : {A : Type 0} (R : ℕ → A → Type 0) (low count next : ℕ) (all : List A) (one : A)
     → low + count ≡ next → AllZip R (range_with_len low count) all → R next one
     → AllZip R (range_with_len low (suc count)) (all ++ one ∷ [])
-AllZip-range_next R low zero next [] one is each last =
-    let same : next ≡ low = omega arith in (subst (λ n. R n one) same last, tt)
+AllZip-range_next R low zero next [] one is each last = search rules
 AllZip-range_next R low zero next (first ∷ all) one is each last = absurd each
 AllZip-range_next R low (suc count) next [] one is each last = absurd each
 AllZip-range_next R low (suc count) next (first ∷ all) one is each last =
@@ -137,9 +123,7 @@ AllZip-range_next R low (suc count) next (first ∷ all) one is each last =
 pub AllZip-range_more : {A : Type 0} (R : ℕ → A → Type 0) (count : ℕ) (all : List A) (one : A)
     → AllZip R (range_with_len 0 count) all → R count one
     → AllZip R (range_with_len 0 (count + 1)) (all ++ one ∷ [])
-AllZip-range_more R count all one each last = let on : suc count ≡ count + 1 = omega arith in
-    subst (λ n. AllZip R (range_with_len 0 n) (all ++ one ∷ [])) on
-    (AllZip-range_next R 0 count count all one (omega arith) each last)
+AllZip-range_more R count all one each last = search (rules, AllZip-range_next)
 
 -- where each is seen as one of these, so are all
 pub seen_are : {A S : Type 0} (seen : A → S) (value : ℕ → S) (ports : List ℕ) (all : List A)

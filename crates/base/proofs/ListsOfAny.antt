@@ -1,5 +1,5 @@
 -- Whether an element passes a test.
-use Rattle.std.proofs.Common.{[], ◌&&◌, ◌<◌, ◌||◌, ◌∙◌, ◌∷◌, ◌≡◌, All, Bool, IsTrue, List, ap, arith, cond, eqb, false, filter, flat_map, get_or, length, map, refl, sym, true, ℕ}
+use Rattle.std.proofs.Common.{[], ◌&&◌, ◌<◌, ◌||◌, ◌∷◌, ◌≡◌, All, Bool, IsTrue, List, ap, arith, eqb, false, filter, flat_map, get_or, length, map, refl, sym, true, ℕ, rules}
 use Rattle.std.specs.List.{list_any}
 use Rattle.std.proofs.Math.Bool.{and-false}
 use Rattle.std.proofs.lemmas.Bool.{both_ways, false_from_ne_true}
@@ -8,21 +8,12 @@ use Rattle.std.proofs.lemmas.List.Folds.{list_any-append, list_any_at}
 
 pub none_passes : {X : Type 0} (test : X → Bool) (xs : List X) (i : ℕ) (d : X) → i < length xs
     → list_any test xs ≡ false → test (get_or xs i d) ≡ false
-none_passes test xs i d within none = false_from_ne_true _
-    (λ passes. both_ways _ none (list_any_at test xs i d within passes))
+none_passes test xs i d within none = search (rules, false_from_ne_true, both_ways, list_any_at)
 
 pub any_filter : {X : Type 0} (test passes : X → Bool) (xs : List X)
     → list_any test (filter passes xs) ≡ true → list_any test xs ≡ true
 any_filter test passes [] is = is
-any_filter {X = X} test passes (x ∷ xs) is =
-    by_tests (passes x) (test x) refl refl (any_filter test passes xs) is
-  where
-    by_tests : (b c : Bool) → passes x ≡ b → test x ≡ c
-        → (list_any test (filter passes xs) ≡ true → list_any test xs ≡ true)
-        → list_any test (filter passes (x ∷ xs)) ≡ true → list_any test (x ∷ xs) ≡ true
-    by_tests b true e f rest is = rw f refl
-    by_tests true false e f rest is = rw f (rest (rw (e, f) at is))
-    by_tests false false e f rest is = rw f (rest (rw e at is))
+any_filter {X = X} test passes (x ∷ xs) is = search (rules, any_filter test passes xs)
 
 pub any_key : {X : Type 0} (key : X → ℕ) (xs : List X) (q : ℕ)
     → list_any (λ n. eqb n q) (map key xs) ≡ list_any (λ x. eqb (key x) q) xs
@@ -37,8 +28,7 @@ list_any_map p f (x ∷ xs) = ap (λ b. p (f x) || b) (list_any_map p f xs)
 pub list_any_flat_map : {X Y : Type 0} (p : Y → Bool) (f : X → List Y) (xs : List X)
     → list_any p (flat_map f xs) ≡ list_any (λ x. list_any p (f x)) xs
 list_any_flat_map p f [] = refl
-list_any_flat_map p f (x ∷ xs) = list_any-append p (f x) (flat_map f xs)
-    ∙ ap (λ b. list_any p (f x) || b) (list_any_flat_map p f xs)
+list_any_flat_map p f (x ∷ xs) = search (rules, list_any-append, list_any_flat_map p f xs)
 
 -- some element passes f where some passes y, within what does not depend on the element
 pub any_within : {X : Type 0} (w : Bool → Bool) (none : w false ≡ false) (f y : X → Bool) (xs : List X)
@@ -66,24 +56,7 @@ pub any_filter_by : {X : Type 0} (test passes : X → Bool) (b : Bool)
     → ((x : X) → test x ≡ true → passes x ≡ b) → (xs : List X)
     → list_any test (filter passes xs) ≡ (list_any test xs && b)
 any_filter_by test passes b so [] = refl
-any_filter_by {X = X} test passes b so (x ∷ xs) = picked (passes x) (filter passes xs)
-    ∙ by_test (test x) (passes x) b (list_any test (filter passes xs)) (list_any test xs) (so x)
-    (any_filter_by test passes b so xs)
-  where
-    picked : (p : Bool) (rest : List X) → list_any test (cond p (x ∷ rest) rest)
-        ≡ cond p (test x || list_any test rest) (list_any test rest)
-    picked true rest = refl
-    picked false rest = refl
-
-    by_test : (t p b rest all : Bool) → (t ≡ true → p ≡ b) → rest ≡ (all && b)
-        → cond p (t || rest) rest ≡ ((t || all) && b)
-    by_test true true true rest all same more = refl
-    by_test true true false rest all same more = absurd (let e = same refl in cc)
-    by_test true false true rest all same more = absurd (let e = same refl in cc)
-    by_test true false false rest true same more = more
-    by_test true false false rest false same more = more
-    by_test false true b rest all same more = more
-    by_test false false b rest all same more = more
+any_filter_by {X = X} test passes b so (x ∷ xs) = search (rules, any_filter_by test passes b so xs)
 
 pub list_any-both : {X : Type 0} (t : Bool) (q : X → Bool) (xs : List X) →
     list_any (λ x. t && q x) xs ≡ (t && list_any q xs)
@@ -94,24 +67,9 @@ list_any-both false q (x ∷ xs) = list_any-both false q xs
 pub any_filtered : {X : Type 0} (test passes : X → Bool) (xs : List X)
     → list_any test (filter passes xs) ≡ list_any (λ x. test x && passes x) xs
 any_filtered test passes [] = refl
-any_filtered {X = X} test passes (x ∷ xs) =
-    by_tests (passes x) (test x) refl refl (any_filtered test passes xs)
-  where
-    by_tests : (b c : Bool) → passes x ≡ b → test x ≡ c → list_any test (filter passes xs)
-        ≡ list_any (λ y. test y && passes y) xs
-        → list_any test (filter passes (x ∷ xs)) ≡ list_any (λ y. test y && passes y) (x ∷ xs)
-    by_tests true true e f rest = rw (e, f) refl
-    by_tests true false e f rest = rw (e, f) rest
-    by_tests false true e f rest = rw (e, f) rest
-    by_tests false false e f rest = rw (e, f) rest
+any_filtered {X = X} test passes (x ∷ xs) = search (rules, any_filtered test passes xs)
 
 pub any_weaker : {X : Type 0} (test passes : X → Bool) (xs : List X)
     → IsTrue (list_any (λ x. test x && passes x) xs) → IsTrue (list_any test xs)
 any_weaker test passes [] is = is
-any_weaker {X = X} test passes (x ∷ xs) is = by_test (test x) refl (any_weaker test passes xs) is
-  where
-    by_test : (b : Bool) → test x ≡ b
-        → (IsTrue (list_any (λ y. test y && passes y) xs) → IsTrue (list_any test xs))
-        → IsTrue (list_any (λ y. test y && passes y) (x ∷ xs)) → IsTrue (list_any test (x ∷ xs))
-    by_test true e rest is = rw e refl
-    by_test false e rest is = rw e (rest (rw e at is))
+any_weaker {X = X} test passes (x ∷ xs) is = search (rules, any_weaker test passes xs)

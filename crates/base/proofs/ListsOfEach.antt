@@ -1,5 +1,5 @@
 -- What holds of each element, by recursion over the list.
-use Rattle.std.proofs.Common.{[], if◌then◌else◌, ◌&&◌, ◌++◌, ◌∷◌, ◌≡◌, Bool, IsTrue, List, None, Option, Some, false, filter, flat_map, map, option_to_list, refl, true}
+use Rattle.std.proofs.Common.{[], ◌++◌, ◌∷◌, ◌≡◌, Bool, IsTrue, List, Option, Some, filter, flat_map, map, option_to_list, rules}
 use Rattle.std.specs.List.{AllByRecursion, list_all}
 use Rattle.std.specs.Prelude.{⊤}
 
@@ -16,8 +16,7 @@ each_append P (x ∷ xs) ys all others = (all.0, each_append P xs ys all.1 other
 pub each_flat_map : {X Y : Type 0} (P : Y → Type 0) (f : X → List Y)
     → ((x : X) → AllByRecursion P (f x)) → (xs : List X) → AllByRecursion P (flat_map f xs)
 each_flat_map P f all [] = tt
-each_flat_map P f all (x ∷ xs) = each_append P (f x) (flat_map f xs) (all x)
-    (each_flat_map P f all xs)
+each_flat_map P f all (x ∷ xs) = search (rules, each_append, each_flat_map P f all xs)
 
 pub each_always : {X : Type 0} (P : X → Type 0) → ((x : X) → P x) → (xs : List X) → AllByRecursion P xs
 each_always P all [] = tt
@@ -28,12 +27,7 @@ pub each_passing : {X : Type 0} (Q P : X → Type 0) (test : X → Bool)
     → ((x : X) → Q x → IsTrue (test x) → P x) → (xs : List X) → AllByRecursion Q xs
     → AllByRecursion P (filter test xs)
 each_passing Q P test so [] all = tt
-each_passing Q P test so (x ∷ xs) all = by_test (test x) refl (each_passing Q P test so xs all.1)
-  where
-    by_test : (b : Bool) → test x ≡ b → AllByRecursion P (filter test xs)
-        → AllByRecursion P (if b then x ∷ filter test xs else filter test xs)
-    by_test true e rest = (so x all.0 e, rest)
-    by_test false e rest = rest
+each_passing Q P test so (x ∷ xs) all = search (rules, each_passing Q P test so xs all.1)
 
 pub each_filter : {X : Type 0} (P : X → Type 0) (test : X → Bool)
     → ((x : X) → IsTrue (test x) → P x) → (xs : List X) → AllByRecursion P (filter test xs)
@@ -47,23 +41,16 @@ each_kept P test = each_passing P P test (λ x all is. all)
 pub each_flat_map_in : {X Y : Type 0} (P : Y → Type 0) (f : X → List Y) (xs : List X)
     → AllByRecursion (λ x. AllByRecursion P (f x)) xs → AllByRecursion P (flat_map f xs)
 each_flat_map_in P f [] all = tt
-each_flat_map_in P f (x ∷ xs) all =
-    each_append P (f x) (flat_map f xs) all.0 (each_flat_map_in P f xs all.1)
+each_flat_map_in P f (x ∷ xs) all = search (rules, each_append, each_flat_map_in P f xs all.1)
 
 pub each_option : {X : Type 0} (P : X → Type 0) (o : Option X) → ((x : X) → o ≡ Some x → P x)
     → AllByRecursion P (option_to_list o)
-each_option P None all = tt
-each_option P (Some x) all = (all x refl, tt)
+each_option P o all = search rules
 
 pub each_of_all : {X : Type 0} (test : X → Bool) (xs : List X) → IsTrue (list_all test xs)
     → AllByRecursion (λ x. IsTrue (test x)) xs
 each_of_all test [] all = tt
-each_of_all test (x ∷ xs) all = by_test (test x) refl all (each_of_all test xs) where
-  by_test : (b : Bool) → test x ≡ b → IsTrue (b && list_all test xs)
-      → (IsTrue (list_all test xs) → AllByRecursion (λ y. IsTrue (test y)) xs)
-      → AllByRecursion (λ y. IsTrue (test y)) (x ∷ xs)
-  by_test true e all rest = (e, rest all)
-  by_test false e all rest = absurd cc
+each_of_all test (x ∷ xs) all = search (rules, each_of_all test xs)
 
 pub each_unmap : {X Y : Type 0} (P : Y → Type 0) (f : X → Y) (xs : List X)
     → AllByRecursion P (map f xs) → AllByRecursion (λ x. P (f x)) xs

@@ -1,5 +1,5 @@
 -- Numbers of a range that a test picks, and what is made of them.
-use Rattle.std.proofs.Common.{[], if◌then◌else◌, ◌++◌, ◌+◌, ◌-◌, ◌<◌, ◌∙◌, ◌∷◌, ◌≡◌, ◌≤◌, Bool, IsTrue, List, None, Option, Some, ap, append-nil, append_assoc, arith, cond, false, filter, filter_map, get_or, inl, inr, length, map, map-id, max, nat_le, refl, suc, sym, take, true, zero, ℕ}
+use Rattle.std.proofs.Common.{[], if◌then◌else◌, ◌++◌, ◌+◌, ◌-◌, ◌<◌, ◌∙◌, ◌∷◌, ◌≡◌, ◌≤◌, Bool, IsTrue, List, None, Option, Some, ap, append_assoc, arith, cond, false, filter, filter_map, get_or, inl, inr, length, map, map-id, max, nat_le, refl, suc, sym, take, true, zero, ℕ, rules}
 use Rattle.std.specs.List.{AllByRecursion, cons_option, range_with_len}
 use Rattle.std.proofs.lemmas.Bool.{cases_eq}
 use Rattle.std.proofs.lemmas.Bool.Decides.{nat_tests}
@@ -51,19 +51,16 @@ filter_more p n = cc (range_more 0 n n (omega arith), filter-append p (range_wit
 picked_one : {X : Type 0} (x : X) (b : Bool) (old front whole acts new : List X)
     → whole ≡ front ++ cond b (x ∷ []) [] → acts ≡ old ++ front → b ≡ true → new ≡ acts ++ x ∷ []
     → new ≡ old ++ whole
-picked_one x b old front whole acts new grown before passes made =
-    cc (made, before, append_assoc old front (x ∷ []), passes, grown)
+picked_one x b old front whole acts new grown before passes made = search (rules, append_assoc)
 
 picked_none : {X : Type 0} (x : X) (b : Bool) (old front whole acts new : List X)
     → whole ≡ front ++ cond b (x ∷ []) [] → acts ≡ old ++ front → b ≡ false → new ≡ acts
     → new ≡ old ++ whole
-picked_none x b old front whole acts new grown before fails made =
-    cc (made, before, append-nil _, fails, grown)
+picked_none x b old front whole acts new grown before fails made = search rules
 
 map_test : {X Y : Type 0} (f : X → Y) (x : X) (b : Bool)
     → map f (cond b (x ∷ []) []) ≡ cond b (f x ∷ []) []
-map_test f x true = refl
-map_test f x false = refl
+map_test f x b = search rules
 
 -- one more number
 picked_more : {X : Type 0} (f : ℕ → X) (p : ℕ → Bool) (n : ℕ)
@@ -113,8 +110,7 @@ item_skip f p xs i x old acts new within read =
 -- what a list by numbers has at a place
 pub read_map : {X : Type 0} (f : ℕ → X) (xs : List X) (s : ℕ) (x : X)
     → xs ≡ map f (range_with_len 0 (length xs)) → s < length xs → x ≡ get_or xs s x → x ≡ f s
-read_map f xs s x made within read = read ∙ ap (λ l. get_or l s x) made
-    ∙ get_or-map-range_with_len f 0 (length xs) s s x within (omega arith)
+read_map f xs s x made within read = search (rules, get_or-map-range_with_len)
 
 pub map-range_same : {X : Type 0} (f g : ℕ → X) (low n : ℕ)
     → ((x : ℕ) → low ≤ x → x < low + n → f x ≡ g x)
@@ -130,8 +126,7 @@ pub later_same : {X : Type 0} (f g : ℕ → X) (to low n : ℕ)
     → ((x : ℕ) → low ≤ x → x < low + n → f x ≡ g x)
     → map f (filter (nat_le to) (range_with_len low n))
     ≡ map g (range_with_len (max to low) (low + n - max to low))
-later_same f g to low zero same = let none : 0 ≡ low + 0 - max to low = omega arith in
-    ap (λ k. map g (range_with_len (max to low) k)) none
+later_same f g to low zero same = search rules
 later_same f g to low (suc n) same = by_place (nat_le to low) refl
     (later_same f g to (low + 1) n (λ x above below. same x (omega arith) (omega arith)))
   where
