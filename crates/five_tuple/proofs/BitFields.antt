@@ -1,5 +1,5 @@
 -- Bit fields that lie apart, and two numbers that agree in their high bits.
-use Rattle.std.proofs.Common.{◌%◌, ◌*◌, ◌+◌, ◌/◌, ◌<◌, ◌^◌, ◌∙◌, ◌≡◌, ap, arith, bit_or, bit_xor, eq-eqb, eqb-true, mod-eq_of_lt, nat_eq, refl, sym, ℕ}
+use Rattle.std.proofs.Common.{◌%◌, ◌*◌, ◌+◌, ◌/◌, ◌<◌, ◌^◌, ◌∙◌, ◌≡◌, ap, arith, bit_or, bit_xor, eq-eqb, eqb-true, mod-eq_of_lt, nat_eq, refl, sym, ℕ, rules}
 use Rattle.std.proofs.lemmas.Nat.{or_shifted, xor_shr, and_le_l, and_le_r}
 use Rattle.std.proofs.lemmas.Bool.Decides.{same_from_decides, Decides-eqb}
 use Rattle.five_tuple.specs.declared.header.Header.{Header}
@@ -46,13 +46,7 @@ same_high_bits a b k =
 pub header_numbered-number_of : (h : Header) (n : ℕ) → h.fields.src < 2 ^ 32 → h.fields.dst < 2 ^ 32
     → h.fields.sport < 2 ^ 16 → h.fields.dport < 2 ^ 16 → h.fields.proto < 2 ^ 8 → n ≡ number_of h
     → header_numbered n ≡ h
-header_numbered-number_of h n hs hd hp hq hr e =
-    let f = h.fields in
-    let a : n / 2 ^ 72 ≡ f.src = omega arith in
-    let b : n / 2 ^ 40 % 2 ^ 32 ≡ f.dst = omega arith in
-    let c : n / 2 ^ 24 % 2 ^ 16 ≡ f.sport = omega arith in
-    let d : n / 2 ^ 8 % 2 ^ 16 ≡ f.dport = omega arith in
-    let g : n % 2 ^ 8 ≡ f.proto = omega arith in rw (a, b, c, d, g)
+header_numbered-number_of h n hs hd hp hq hr e = search rules
 
 -- the number of the header that a number packs
 pub number_back : (n : ℕ) → n < 2 ^ 104 → number_of (header_numbered n) ≡ n

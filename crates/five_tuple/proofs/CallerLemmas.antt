@@ -2,7 +2,7 @@
 -- under masks that pack five masks.
 pub use Rattle.five_tuple.proofs.CoverOf.{is_cover_of}
 pub use Rattle.five_tuple.proofs.SplitParts.{parts_at, parts_none}
-use Rattle.std.proofs.Common.{◌&&◌, ◌*◌, ◌+◌, ◌<◌, ◌^◌, ◌∙◌, ◌≡◌, ap, arith, bit_and, eqb, sym, ℕ}
+use Rattle.std.proofs.Common.{◌&&◌, ◌*◌, ◌+◌, ◌<◌, ◌^◌, ◌≡◌, arith, bit_and, eqb, ℕ, rules}
 use Rattle.std.proofs.lemmas.Bool.Decides.{Decides-eqb, Decides-like, Decides-and, same_from_decides}
 use Rattle.std.proofs.lemmas.Nat.{and_le_l, and_block}
 use Rattle.five_tuple.specs.Exports.{packed_number}
@@ -26,20 +26,12 @@ module _ (s d p q r s' d' p' q' r' : ℕ) (h : HasBits d p q r) (h' : HasBits d'
   and_steps : bit_and (steps s d p q r) (steps s' d' p' q' r') ≡ steps (bit_and s s') (bit_and d d')
       (bit_and p p') (bit_and q q') (bit_and r r')
   unfolding steps
-  and_steps =
-      let e2 = and_block 16 (s * 2 ^ 32 + d) (s' * 2 ^ 32 + d') p p' h.sport h'.sport in
-      let e3 = and_block 16 ((s * 2 ^ 32 + d) * 2 ^ 16 + p) ((s' * 2 ^ 32 + d') * 2 ^ 16 + p') q q'
-      h.dport h'.dport in
-      let e4 = and_block 8 (((s * 2 ^ 32 + d) * 2 ^ 16 + p) * 2 ^ 16 + q)
-      (((s' * 2 ^ 32 + d') * 2 ^ 16 + p') * 2 ^ 16 + q') r r' h.proto h'.proto in
-      rw (e4, e3, e2, and_block 32 s s' d d' h.dst h'.dst)
+  and_steps = search (rules, and_block)
 
   -- `and` of two packed numbers is that of each field
   pub and_packed : bit_and (packed_number s d p q r) (packed_number s' d' p' q' r')
       ≡ packed_number (bit_and s s') (bit_and d d') (bit_and p p') (bit_and q q') (bit_and r r')
-  and_packed = ap (λ n. bit_and n (packed_number s' d' p' q' r')) (packed_steps s d p q r)
-      ∙ ap (λ n. bit_and (steps s d p q r) n) (packed_steps s' d' p' q' r') ∙ and_steps ∙ sym
-      (packed_steps (bit_and s s') (bit_and d d') (bit_and p p') (bit_and q q') (bit_and r r'))
+  and_packed = search (rules, packed_steps, and_steps)
 
   -- packed numbers are equal where each field is
   pub same_packed : eqb (packed_number s d p q r) (packed_number s' d' p' q' r')
@@ -54,12 +46,7 @@ module _ (s d p q r s' d' p' q' r' : ℕ) (h : HasBits d p q r) (h' : HasBits d'
 -- less bits than these
 fewer_bits : (d p q r d' p' q' r' : ℕ) → HasBits d p q r → HasBits (bit_and d d') (bit_and p p')
     (bit_and q q') (bit_and r r')
-fewer_bits d p q r d' p' q' r' h = record {
-  dst = omega (arith, and_le_l d d', h.dst);
-  sport = omega (arith, and_le_l p p', h.sport);
-  dport = omega (arith, and_le_l q q', h.dport);
-  proto = omega (arith, and_le_l r r', h.proto);
-}
+fewer_bits d p q r d' p' q' r' h = search (rules, and_le_l)
 
 -- packed fields agree with packed values under packed masks where each field does
 pub masked_packed : (s d p q r s' d' p' q' r' vs vd vp vq vr : ℕ) → HasBits d p q r
@@ -68,7 +55,4 @@ pub masked_packed : (s d p q r s' d' p' q' r' vs vd vp vq vr : ℕ) → HasBits 
     (packed_number vs vd vp vq vr) ≡ (eqb (bit_and s s') vs && eqb (bit_and d d') vd
     && eqb (bit_and p p') vp && eqb (bit_and q q') vq && eqb (bit_and r r') vr)
 masked_packed s d p q r s' d' p' q' r' vs vd vp vq vr fields masks values =
-    ap (λ n. eqb n (packed_number vs vd vp vq vr))
-    (and_packed s d p q r s' d' p' q' r' fields masks)
-    ∙ same_packed (bit_and s s') (bit_and d d') (bit_and p p') (bit_and q q') (bit_and r r') vs vd
-    vp vq vr (fewer_bits d p q r d' p' q' r' fields) values
+    search (rules, and_packed, same_packed, fewer_bits)

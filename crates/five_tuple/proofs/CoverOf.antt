@@ -1,8 +1,8 @@
 -- `cover_of` gives the blocks that `IsCover` describes, and the code finds their sizes.
-use Rattle.std.proofs.Common.{[], ◌%◌, ◌*◌, ◌+◌, ◌-◌, ◌<◌, ◌^◌, ◌∙◌, ◌∷◌, ◌≡◌, ◌≤◌, ◌⊎◌, Bool, List, ap, arith, cond, eq-eqb, eqb, eqb-true, false, inl, inr, le-leb, le-ltb, leb, leb-true, length, lt-ltb, min, pow-suc, pow_pos, refl, subst, suc, true, w32, zero, ℕ}
+use Rattle.std.proofs.Common.{[], ◌%◌, ◌*◌, ◌+◌, ◌-◌, ◌<◌, ◌^◌, ◌∙◌, ◌∷◌, ◌≡◌, ◌≤◌, Bool, List, ap, arith, cond, eq-eqb, eqb-true, inl, inr, le-leb, le-ltb, leb-true, length, lt-ltb, min, pow-suc, pow_pos, refl, subst, suc, true, w32, zero, ℕ, rules}
 use Rattle.std.specs.Int.{bit_at, trailing_zeros}
 use Rattle.std.proofs.Math.Nat.{mod-one, pow-le-pow_right}
-use Rattle.std.proofs.lemmas.Bool.{cases_lt, and_parts}
+use Rattle.std.proofs.lemmas.Bool.{cases_lt}
 use Rattle.std.proofs.lemmas.Nat.{mod-pow-add}
 use Rattle.std.proofs.lemmas.Nat.Bits.{bit_at-trailing_zeros}
 use lib.Count.{count_trailing_zeros}
@@ -17,39 +17,19 @@ record IsLargestUpTo (k first high exponent : ℕ) : Type 0 where
   largest : (other : ℕ) → other ≤ k → IsBlock first high other → other ≤ exponent
 
 block_from : (first high e : ℕ) → fits_at first high e ≡ true → IsBlock first high e
-block_from first high e h =
-    let parts = and_parts (eqb (first % 2 ^ e) 0) (leb (first + 2 ^ e) (high + 1)) h in record {
-      aligned = eqb-true (first % 2 ^ e) 0 parts.0;
-      fits = leb-true (first + 2 ^ e) (high + 1) parts.1;
-    }
+block_from first high e h = search (rules, eqb-true, leb-true)
 
 block_test : (first high e : ℕ) → IsBlock first high e → fits_at first high e ≡ true
-block_test first high e b =
-    rw (eq-eqb (first % 2 ^ e) 0 b.aligned, le-leb (first + 2 ^ e) (high + 1) b.fits)
+block_test first high e b = search (rules, eq-eqb, le-leb)
 
 larger : (k first high e : ℕ) (b : Bool) → fits_at first high (suc k) ≡ b
     → IsLargestUpTo k first high e → IsLargestUpTo (suc k) first high (cond b (suc k) e)
-larger k first high e true is l =
-    record { block = block_from first high (suc k) is; largest = λ other most _. most }
-larger k first high e false is l = record {
-  block = l.block;
-  largest = λ other most block. smaller other most block (cases_lt k other);
-} where
-  smaller : (other : ℕ) → other ≤ suc k → IsBlock first high other → (k < other) ⊎ (other ≤ k)
-      → other ≤ e
-  smaller other most block (inr less) = l.largest other less block
-  smaller other most block (inl more) =
-      let test = block_test first high (suc k) (subst (IsBlock first high) (omega arith) block) in
-      absurd (cc)
+larger k first high e b is l = search (rules, block_test)
 
 largest_is : (k first high : ℕ) → first ≤ high
     → IsLargestUpTo k first high (largest_up_to k first high)
-largest_is zero first high h = record {
-  block = record { aligned = mod-one first; fits = omega arith };
-  largest = λ other most _. most;
-}
-largest_is (suc k) first high h = larger k first high (largest_up_to k first high) _ refl
-    (largest_is k first high h)
+largest_is zero first high h = search (rules, mod-one)
+largest_is (suc k) first high h = search (rules, largest_is k first high h)
 
 largest_of_all : (first high : ℕ) → first ≤ high → high < 2 ^ 16
     → IsLargestBlock first high (largest_up_to 16 first high)
@@ -76,8 +56,7 @@ covers_from (suc most) low high bound enough = let e = largest_up_to 16 low high
 is_cover : (range : PortRangeValue) → range.high < 2 ^ 16
     → IsCover range.low range.high (cover_of range)
 unfolding cover_of
-is_cover range bound = covers_from (range.high + 1 - range.low) range.low range.high bound
-    (omega arith)
+is_cover range bound = search (rules, covers_from)
 
 pub greedy : (range : PortRangeValue) → IsPortRange range
     → IsCover range.low range.high (cover_of range)
@@ -107,8 +86,7 @@ is_cover_of range sound = let c = greedy range sound in record {
 
 pub cover_of-past : (low high : ℕ) → high < low → cover_of (record { low = low; high = high }) ≡ []
 unfolding cover_of
-cover_of-past low high past = let none : high + 1 - low ≡ 0 = omega arith in ap
-    (λ most. blocks_from most low high) none
+cover_of-past low high past = search rules
 
 pub cover_of-step : (low high e size : ℕ) → IsLargestBlock low high e → size ≡ 2 ^ e → high < 2 ^ 16
     → cover_of (record { low = low; high = high }) ≡ (low, 2 ^ 16 - size) ∷ cover_of

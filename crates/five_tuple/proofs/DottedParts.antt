@@ -1,12 +1,12 @@
 -- A text's first part before a dot, read byte by byte.
-use Rattle.std.proofs.Common.{[], ◌&&◌, ◌++◌, ◌+◌, ◌<◌, ◌==◌, ◌∙◌, ◌∷◌, ◌≡◌, ◌≢◌, ◌≤◌, ◌⊎◌, List, None, Option, Some, add-one, ap, arith, drop, drop-cons, eq-eqb, eqb-true, false, get_or, get_or-take, inl, inr, length, length-take, ltb-false, ltb-true, nat_lt, not, position, refl, subst, sym, take, take-append-drop, take-take, true, ℕ}
+use Rattle.std.proofs.Common.{[], ◌&&◌, ◌++◌, ◌+◌, ◌<◌, ◌==◌, ◌∙◌, ◌∷◌, ◌≡◌, ◌≢◌, ◌≤◌, ◌⊎◌, List, None, Option, Some, add-one, ap, arith, drop, drop-cons, eq-eqb, eqb-true, false, get_or, get_or-take, inl, inr, length, length-take, ltb-false, ltb-true, nat_lt, not, position, refl, subst, sym, take, take-append-drop, take-take, true, ℕ, rules}
 use Rattle.std.specs.Char.{is_ascii_digit}
 use Rattle.std.specs.List.{list_all}
 use Rattle.std.specs.Str.Parse.{digits_value}
 use Rattle.std.proofs.lemmas.Bool.{and_cases, and_parts, cases_lt, both_ways, not-false, not-true}
 use Rattle.std.proofs.lemmas.List.Quantifiers.{position-Some}
 use Rattle.std.proofs.lemmas.List.Splits.{slice_split_at}
-use Rattle.five_tuple.specs.Exports.{IsByteBefore, LacksByte, address_from, address_of, address_of_parts, has_leading_zero, number_up_to, parts_round}
+use Rattle.five_tuple.specs.Exports.{IsByteBefore, LacksByte, address_from, address_of, has_leading_zero, number_up_to, parts_round}
 use Rattle.five_tuple.proofs.WrittenNumbers.{accepted, leading_zero, no_digit, other_byte, too_large}
 use Rattle.five_tuple.proofs.PartReadings.{address_reads}
 use Rattle.five_tuple.proofs.SplitParts.{digits_are_one_part, digits_lack, parts_at, parts_none}
@@ -133,57 +133,25 @@ byte_before text place number within digits dot plain value small = record {
 -- ---- four parts
 
 no_second : (x z w : Option ℕ) → address_from x None z w ≡ None
-no_second None z w = refl
-no_second (Some a) z w = refl
+no_second x z w = search rules
 
 no_third : (x y w : Option ℕ) → address_from x y None w ≡ None
-no_third None y w = refl
-no_third (Some a) None w = refl
-no_third (Some a) (Some b) w = refl
+no_third x y w = search rules
 
 -- four parts are no address where one of the first three is no number
 pub lacks_first : (text : List ℕ) → LacksByte text → None ≡ address_of text
 unfolding address_of
-lacks_first text lacks = sym (by_parts (parts_round 46 text) refl) where
-  by_parts : (xs : List (List ℕ)) → parts_round 46 text ≡ xs → address_of_parts xs ≡ None
-  by_parts [] e = refl
-  by_parts (a ∷ []) e = refl
-  by_parts (a ∷ b ∷ []) e = refl
-  by_parts (a ∷ b ∷ c ∷ []) e = refl
-  by_parts (a ∷ b ∷ c ∷ d ∷ []) e = cc (lacks a b (c ∷ d ∷ []) e)
-  by_parts (a ∷ b ∷ c ∷ d ∷ f ∷ others) e = refl
+lacks_first text lacks = search rules
 
 pub lacks_second : (text rest : List ℕ) (first : ℕ) → IsByteBefore text first rest
     → LacksByte rest → None ≡ address_of text
 unfolding address_of
-lacks_second text rest first before lacks =
-    sym (ap address_of_parts before.parts ∙ by_parts (parts_round 46 rest) refl)
-  where
-    by_parts : (xs : List (List ℕ)) → parts_round 46 rest ≡ xs
-        → address_of_parts (before.part ∷ xs) ≡ None
-    by_parts [] e = refl
-    by_parts (b ∷ []) e = refl
-    by_parts (b ∷ c ∷ []) e = refl
-    by_parts (b ∷ c ∷ d ∷ []) e = ap (λ n. address_from (number_up_to 255 before.part) n
-        (number_up_to 255 c) (number_up_to 255 d)) (lacks b c (d ∷ []) e)
-        ∙ no_second (number_up_to 255 before.part) (number_up_to 255 c) (number_up_to 255 d)
-    by_parts (b ∷ c ∷ d ∷ f ∷ others) e = refl
+lacks_second text rest first before lacks = search (rules, no_second)
 
 pub lacks_third : (text rest left : List ℕ) (first second : ℕ) → IsByteBefore text first rest
     → IsByteBefore rest second left → LacksByte left → None ≡ address_of text
 unfolding address_of
-lacks_third text rest left first second before then lacks =
-    sym (ap address_of_parts (before.parts ∙ ap (λ xs. before.part ∷ xs) then.parts)
-    ∙ by_parts (parts_round 46 left) refl)
-  where
-    by_parts : (xs : List (List ℕ)) → parts_round 46 left ≡ xs
-        → address_of_parts (before.part ∷ then.part ∷ xs) ≡ None
-    by_parts [] e = refl
-    by_parts (c ∷ []) e = refl
-    by_parts (c ∷ d ∷ []) e = ap (λ n. address_from (number_up_to 255 before.part)
-        (number_up_to 255 then.part) n (number_up_to 255 d)) (lacks c d [] e)
-        ∙ no_third (number_up_to 255 before.part) (number_up_to 255 then.part) (number_up_to 255 d)
-    by_parts (c ∷ d ∷ f ∷ others) e = refl
+lacks_third text rest left first second before then lacks = search (rules, no_third)
 
 -- the last part is read as a number
 pub four_parts : (text rest left end : List ℕ) (first second third : ℕ)

@@ -1,14 +1,11 @@
 -- What a reader of parts finds, where it takes them off one at a time and reads the last as a
 -- number.
-use Rattle.std.proofs.Common.{◌∷◌, ◌≡◌, List, None, Option, Some, inl, inr, refl, sym, ℕ}
+use Rattle.std.proofs.Common.{◌∷◌, ◌≡◌, List, None, Option, inl, inr, refl, sym, ℕ, rules}
 use Rattle.five_tuple.specs.Exports.{address_from, address_of, block_from, block_of_parts, number_up_to, parts_round, range_from, range_of_parts}
 use Rattle.five_tuple.proofs.SplitParts.{last_part}
 
 no_last : (x y z : Option ℕ) → address_from x y z None ≡ None
-no_last None y z = refl
-no_last (Some a) None z = refl
-no_last (Some a) (Some b) None = refl
-no_last (Some a) (Some b) (Some c) = refl
+no_last x y z = search rules
 
 pub address_reads : (text a b c d r s : List ℕ) → parts_round 46 text ≡ a ∷ parts_round 46 r
     → parts_round 46 r ≡ b ∷ parts_round 46 s → parts_round 46 s ≡ c ∷ parts_round 46 d
@@ -22,8 +19,7 @@ address_reads text a b c d r s e f g = rw (e, f, g) (elim (last_part 46 255 d re
 ])
 
 no_len : (x : Option ℕ) → block_from x None ≡ None
-no_len None = refl
-no_len (Some a) = refl
+no_len x = search rules
 
 pub block_reads : (text a len : List ℕ) → parts_round 47 text ≡ a ∷ parts_round 47 len
     → block_of_parts (parts_round 47 text) ≡ block_from (address_of a) (number_up_to 32 len)
@@ -31,8 +27,7 @@ block_reads text a len e = rw e (elim (last_part 47 32 len refl)
     [ inl one ↦ rw one | inr w ↦ rw (w.3, w.4) (sym (no_len (address_of a))) ])
 
 no_high : (x : Option ℕ) → range_from x None ≡ None
-no_high None = refl
-no_high (Some a) = refl
+no_high x = search rules
 
 pub range_reads : (text low high : List ℕ) → parts_round 45 text ≡ low ∷ parts_round 45 high
     → range_of_parts (parts_round 45 text) ≡ range_from (number_up_to 65535 low)

@@ -1,12 +1,11 @@
 -- Each printed form has plain characters alone.
-use Rattle.std.proofs.Common.{◌%◌, ◌&&◌, ◌++◌, ◌/◌, ◌<◌, ◌==◌, ◌^◌, ◌∷◌, ◌≡◌, List, arith, codes, decimal, refl, true, ℕ}
+use Rattle.std.proofs.Common.{◌%◌, ◌&&◌, ◌++◌, ◌/◌, ◌<◌, ◌==◌, ◌^◌, ◌∷◌, ◌≡◌, List, arith, codes, decimal, refl, true, ℕ, rules}
 use Rattle.std.specs.Char.{is_ascii_digit}
 use Rattle.std.specs.List.{AllPass, list_all}
 use Rattle.std.proofs.lemmas.Bool.{cond_both, or_left}
 use Rattle.std.proofs.lemmas.List.Elements.{All-append, All-cons, All-weaker}
 use Rattle.std.proofs.lemmas.List.Sums.{AllPass-from_list_all}
 use Rattle.five_tuple.specs.declared.matching.Proto.{Proto}
-use Rattle.five_tuple.specs.declared.matching.Proto.TheVariants.{Any, Is}
 use Rattle.five_tuple.specs.Exports.{AddressBlock, IsAddressBlock, IsPortRange, IsProtocol, PortRangeValue, address_text, is_plain_char, prefix_text, proto_number_text, proto_text, range_text}
 use Rattle.five_tuple.proofs.RoundTrip.{decimal_is_digits}
 
@@ -61,5 +60,4 @@ plain_proto_number n fits =
 
 pub plain_proto : (p : Proto) → IsProtocol p → IsPlain (proto_text p)
 unfolding proto_text
-plain_proto Any sound = plain_tested (codes "any") refl
-plain_proto (Is n) sound = plain_proto_number n sound
+plain_proto p sound = search (rules, plain_tested, plain_proto_number)

@@ -1,5 +1,5 @@
 -- What holds of a cover of ports, by induction over its blocks.
-use Rattle.std.proofs.Common.{[], ◌%◌, ◌&&◌, ◌*◌, ◌++◌, ◌+◌, ◌-◌, ◌/◌, ◌<◌, ◌==◌, ◌^◌, ◌||◌, ◌∙◌, ◌∷◌, ◌≡◌, ◌≤◌, All, AllPairs, List, ap, append_assoc, arith, bit_and, eqb, eqb-true, false, inl, inr, le-leb, leb, leb-true, length, ltb, ltb-true, mod-eq_of_lt, mod-lt, nat_le, pow-suc, pow_pos, refl, subst, suc, sym, zero, ℕ}
+use Rattle.std.proofs.Common.{[], ◌%◌, ◌&&◌, ◌*◌, ◌++◌, ◌+◌, ◌-◌, ◌/◌, ◌<◌, ◌==◌, ◌^◌, ◌||◌, ◌∙◌, ◌∷◌, ◌≡◌, ◌≤◌, All, AllPairs, List, ap, append_assoc, arith, bit_and, eqb, eqb-true, false, inl, inr, le-leb, leb, leb-true, length, ltb, ltb-true, mod-eq_of_lt, mod-lt, nat_le, pow-suc, pow_pos, refl, subst, suc, sym, zero, ℕ, rules}
 use Rattle.std.specs.List.{list_any}
 use Rattle.std.proofs.Math.Nat.{div-eq_of_lt-le, mod-one, pow-le-pow_right}
 use Rattle.std.proofs.lemmas.Bool.{cases_eq, cases_lt, and_parts}
@@ -64,9 +64,8 @@ from_low low high (b ∷ bs) (e, l, same, rest) = All-cons (λ b. low ≤ b.0) b
 pub ascending : (low high : ℕ) (xs : List (ℕ × ℕ)) → IsCover low high xs
     → AllPairs (λ a b. a.0 < b.0) xs
 ascending low high [] c = λ i j d h k. absurd (omega arith)
-ascending low high (b ∷ bs) (e, l, same, rest) = AllPairs-cons (λ a b. a.0 < b.0) b bs
-    (λ k d h. rw same (omega (arith, from_low (low + 2 ^ e) high bs rest k d h, pow_pos e)))
-    (ascending (low + 2 ^ e) high bs rest)
+ascending low high (b ∷ bs) (e, l, same, rest) =
+    search (rules, AllPairs-cons, from_low, ascending (low + 2 ^ e) high bs rest)
 
 apart : (first high e : ℕ) → IsBlock first high e → high < 2 ^ 16 → (b : ℕ × ℕ)
     → first + 2 ^ e ≤ b.0 → AreBlocksApart (first, 2 ^ 16 - 2 ^ e) b
@@ -138,15 +137,11 @@ same_size m low high e l aligned fits ends =
 -- where twice the block would be aligned, it does not fit
 ends_before : (low high e : ℕ) → IsLargestBlock low high e → low % 2 ^ suc e ≡ 0
     → high + 1 < low + 2 ^ suc e
-ends_before low high e l aligned = elim (cases_lt (high + 1) (low + 2 ^ suc e)) [
-  | inl ends ↦ ends
-  | inr fits ↦ absurd (omega (arith, l.largest (suc e) (record { aligned = aligned; fits = fits })))
-]
+ends_before low high e l aligned = search rules
 
 -- a multiple that is not 0 is at least as large
 multiple_large : (n m : ℕ) → 0 < n → n % 2 ^ m ≡ 0 → 2 ^ m ≤ n
-multiple_large n m pos aligned = elim (cases_lt n (2 ^ m))
-    [ inl less ↦ absurd (omega (arith, mod-eq_of_lt less, aligned)) | inr more ↦ more ]
+multiple_large n m pos aligned = search (rules, mod-eq_of_lt)
 
 exponent_at_even : (low high e : ℕ) → IsBlock low high e → 0 < low → high < 2 ^ 16
     → low % 2 ^ suc e ≡ 0 → e ≤ 14
@@ -159,17 +154,13 @@ exponent_at_even low high e block pos h even = elim (cases_lt 14 e) [
 
 -- a place that is aligned to t and not to twice the block has a block of 2 ^ t or more
 exponent_past : (low e t : ℕ) → low % 2 ^ t ≡ 0 → (low % 2 ^ suc e ≡ 0 → ⊥) → t ≤ e
-exponent_past low e t aligned odd = elim (cases_lt e t) [
-  | inl less ↦ absurd (odd (aligned_down low (suc e) t less aligned))
-  | inr most ↦ most
-]
+exponent_past low e t aligned odd = search (rules, aligned_down)
 
 -- what is left is shorter than the alignment: each further block is smaller than the one before it
 falling : (m low high : ℕ) (xs : List (ℕ × ℕ)) → IsCover low high xs → low % 2 ^ m ≡ 0
     → high + 1 < low + 2 ^ m → length xs ≤ m
 falling m low high [] c aligned h = omega arith
-falling zero low high (b ∷ bs) (e, l, same, rest) aligned h =
-    absurd (omega (arith, l.block.fits, pow_pos e))
+falling zero low high (b ∷ bs) (e, l, same, rest) aligned h = search rules
 falling (suc m) low high (b ∷ bs) (e, l, same, rest) aligned h =
     let here = aligned_down low m (suc m) (omega arith) aligned in
     elim (cases_lt (high + 1) (low + 2 ^ m)) [
@@ -257,5 +248,4 @@ pub one_more : (low high next e size : ℕ) (blocks pushed more : List (ℕ × �
     → pushed ≡ blocks ++ (next, 2 ^ 16 - size) ∷ [] → IsCover (next + size) high more
     → IsCover low high (pushed ++ more)
 one_more low high next e size blocks pushed more l is completes push tail =
-    let head = ap {B = ℕ × ℕ} (λ s. (next, 2 ^ 16 - s)) is in
-    rw (push, append_assoc) (completes ((next, 2 ^ 16 - size) ∷ more) (e, l, head, rw is at tail))
+    search (rules, append_assoc)

@@ -1,20 +1,18 @@
 -- Each printed form is read back to what it prints.
-use Rattle.std.proofs.Common.{[], ◌%◌, ◌&&◌, ◌*◌, ◌++◌, ◌+◌, ◌-◌, ◌/◌, ◌<◌, ◌==◌, ◌^◌, ◌∙◌, ◌∷◌, ◌≡◌, ◌≤◌, All, List, Some, ap, arith, bytes_eq, codes, decimal, eq-eqb, eqb-true, false, get_or, inl, inr, le-leb, length, ne_eqb, refl, rules, sym, true, ℕ}
+use Rattle.std.proofs.Common.{[], ◌%◌, ◌*◌, ◌++◌, ◌+◌, ◌/◌, ◌<◌, ◌==◌, ◌^◌, ◌∙◌, ◌∷◌, ◌≡◌, ◌≤◌, All, List, Some, ap, arith, bytes_eq, codes, decimal, eq-eqb, eqb-true, false, get_or, inl, inr, le-leb, length, ne_eqb, refl, rules, sym, true, ℕ}
 use Rattle.std.specs.Char.{is_ascii_digit}
 use Rattle.std.specs.List.{list_all, join_with_byte}
 use Rattle.std.specs.Str.Parse.{digits_value}
-use Rattle.std.proofs.lemmas.Bool.{and_left, and_parts, and_right, cases_lt, false≢true, cases_Bool, both_ways, false_from_ne_true, true_from_ne_false}
+use Rattle.std.proofs.lemmas.Bool.{false≢true, cases_Bool, both_ways, false_from_ne_true, true_from_ne_false}
 use Rattle.std.proofs.lemmas.Fmt.{decimal_digit, decimal_nonempty, first_decimal, digits_decimal, digits_value-decimal}
 use Rattle.std.proofs.lemmas.List.{get_or_append_left}
 use Rattle.std.proofs.lemmas.List.Elements.{All-append, All-cons}
 use Rattle.std.proofs.lemmas.List.Folds.{list_all_at}
 use Rattle.std.proofs.lemmas.List.Splits.{slice_split_at}
-use Rattle.std.proofs.lemmas.Nat.{shr_split}
 use Rattle.std.proofs.lemmas.Option.{none-some}
 use Rattle.std.proofs.lemmas.Slice.Eq.{bytes_eq-Decides}
 use Rattle.std.proofs.lemmas.Str.Parse.{IsNumeralModel, numerals_by_value}
 use Rattle.five_tuple.specs.declared.matching.Proto.{Proto}
-use Rattle.five_tuple.specs.declared.matching.Proto.TheVariants.{Any, Is}
 use Rattle.five_tuple.specs.Exports.{AddressBlock, IsAddressBlock, IsPortRange, IsProtocol, PortRangeValue, address_of, address_text, block_round, has_leading_zero, number_up_to, parts_round, prefix_of, prefix_text, proto_number_of, proto_number_text, proto_of, proto_text, range_of, range_text}
 use Rattle.five_tuple.proofs.WrittenNumbers.{accepted}
 use Rattle.five_tuple.proofs.SplitParts.{digits_lack, digits_are_one_part}
@@ -27,11 +25,7 @@ pub decimal_is_digits : (n : ℕ) → n < 2 ^ 64 → list_all is_ascii_digit (de
 decimal_is_digits n h = digits_decimal own n h
 
 no_leading_zero : (n : ℕ) → n < 2 ^ 64 → has_leading_zero (decimal n) ≡ false
-no_leading_zero n h = elim (cases_lt 0 n) [
-  | inl more ↦ and_right _ _
-      (ne_eqb (get_or (decimal n) 0 0) 48 (λ e. omega (arith, first_decimal n more h)))
-  | inr none ↦ let e : n ≡ 0 = omega arith in rw (e, decimal_digit 0 (omega arith)) refl
-]
+no_leading_zero n h = search (rules, ne_eqb, first_decimal, decimal_digit)
 
 -- a printed number is read back
 pub number_back : (most n : ℕ) → n ≤ most → n < 2 ^ 64 → number_up_to most (decimal n) ≡ Some n
@@ -42,14 +36,11 @@ number_back most n l h = let value = digits_value-decimal own n h in
 -- a text that begins with a digit is no keyword
 no_keyword : (text keyword : List ℕ) (c : ℕ) → is_ascii_digit (get_or text 0 0) ≡ true
     → is_ascii_digit c ≡ false → bytes_eq text (c ∷ keyword) ≡ false
-no_keyword [] keyword c digit other = refl
-no_keyword (x ∷ text) keyword c digit other = and_left _ _ (false_from_ne_true _
-    (λ same. both_ways _ (ap is_ascii_digit (eqb-true x c same) ∙ other) digit))
+no_keyword text keyword c digit other = search (rules, false_from_ne_true, both_ways, eqb-true)
 
 digit_first : (text : List ℕ) → 0 < length text → list_all is_ascii_digit text ≡ true
     → is_ascii_digit (get_or text 0 0) ≡ true
-digit_first text h digits = true_from_ne_false _
-    (λ e. both_ways _ (list_all_at is_ascii_digit text 0 0 h e) digits)
+digit_first text h digits = search (rules, true_from_ne_false, both_ways, list_all_at)
 
 first_digit : (n : ℕ) (rest : List ℕ) → n < 2 ^ 64 → is_ascii_digit (get_or (decimal n ++ rest) 0 0)
     ≡ true
@@ -86,8 +77,7 @@ four_back a b c d ha hb hc hd =
 
 pub address_back : (a : ℕ) → a < 2 ^ 32 → address_of (address_text a) ≡ Some a
 unfolding address_text
-address_back a h = four_back (a / 2 ^ 24) (a / 2 ^ 16 % 2 ^ 8) (a / 2 ^ 8 % 2 ^ 8) (a % 2 ^ 8)
-    (omega arith) (omega arith) (omega arith) (omega arith) ∙ ap Some (omega arith)
+address_back a h = search (rules, four_back)
 
 keeps_first : (xs ys : List ℕ) → is_ascii_digit (get_or xs 0 0) ≡ true
     → is_ascii_digit (get_or (xs ++ ys) 0 0) ≡ true
@@ -118,12 +108,10 @@ made_block : (address len : ℕ) (p : AddressBlock) → address ≡ p.address �
 made_block address len p e f = rw (e, f)
 
 block_same : (p : AddressBlock) → IsAddressBlock p → block_round p.address p.len ≡ p
-block_same p v = let e : p.address / 2 ^ (32 - p.len) * 2 ^ (32 - p.len) ≡ p.address =
-    omega (arith, shr_split p.address (32 - p.len), v.cleared) in rw e
+block_same p v = search rules
 
 block_at_zero : (p : AddressBlock) → IsAddressBlock p → p.len ≡ 0 → block_round 0 0 ≡ p
-block_at_zero p v e =
-    let z : p.address ≡ 0 = omega (arith, rw e at v.cleared) in made_block 0 0 p (sym z) (sym e)
+block_at_zero p v e = search rules
 
 pub prefix_back : (p : AddressBlock) → IsAddressBlock p → prefix_of (prefix_text p) ≡ Some p
 unfolding prefix_text prefix_of
@@ -183,46 +171,20 @@ unfolding range_of
 every_port_back r e f = ap Some (made_ports 0 65535 r (sym e) (sym f))
 
 pub range_back : (r : PortRangeValue) → IsPortRange r → range_of (range_text r) ≡ Some r
-unfolding range_text
-range_back r v = elim (cases_Bool (r.low == 0 && r.high == 65535)) [
-  | inl e ↦ let p = and_parts _ _ e in rw e
-      (every_port_back r (eqb-true r.low 0 p.0) (eqb-true r.high 65535 p.1))
-  | inr e ↦ elim (cases_Bool (r.low == r.high)) [
-    | inl f ↦ rw (e, f) (one_port_back r.low (omega (arith, v.ordered, v.bound))
-        ∙ ap Some (made_ports r.low r.low r refl (eqb-true r.low r.high f)))
-    | inr f ↦ rw (e, f) (two_ports_back r.low r.high v.ordered v.bound)
-  ]
-]
+unfolding range_text range_of
+range_back r v =
+    search (rules, cases_Bool, every_port_back, eqb-true, one_port_back, two_ports_back)
 
 pub proto_number_back : (n : ℕ) → n < 2 ^ 8 → proto_number_of (proto_number_text n) ≡ Some n
 unfolding proto_number_text proto_number_of
-proto_number_back n h = elim (cases_Bool (n == 1)) [
-  | inl e ↦ rw e (ap Some (sym (eqb-true n 1 e)))
-  | inr e ↦ elim (cases_Bool (n == 6)) [
-    | inl f ↦ rw (e, f) (ap Some (sym (eqb-true n 6 f)))
-    | inr f ↦ elim (cases_Bool (n == 17)) [
-      | inl g ↦ rw (e, f, g) (ap Some (sym (eqb-true n 17 g)))
-      | inr g ↦ rw (
-        e,
-        f,
-        g,
-        number_no_keyword n 105 _ (omega arith) refl,
-        number_no_keyword n 116 _ (omega arith) refl,
-        number_no_keyword n 117 _ (omega arith) refl,
-      )
-          (number_back 255 n (omega arith) (omega arith))
-    ]
-  ]
-]
+proto_number_back n h = search (rules, cases_Bool, eqb-true, number_no_keyword, number_back)
 
 -- `any` is no protocol's name
 not_any : (text : List ℕ) (n : ℕ) → proto_number_of text ≡ Some n → bytes_eq text (codes "any")
     ≡ false
 unfolding proto_number_of number_up_to
-not_any text n h = false_from_ne_true _
-    (λ same. let e = (bytes_eq-Decides text (codes "any")).0 same in none-some n (rw e at h))
+not_any text n h = search (rules, false_from_ne_true, bytes_eq-Decides, none-some)
 
 pub proto_back : (p : Proto) → IsProtocol p → proto_of (proto_text p) ≡ Some p
 unfolding proto_text proto_of
-proto_back Any v = refl
-proto_back (Is n) v = let h = proto_number_back n v in rw (not_any (proto_number_text n) n h, h)
+proto_back p v = search (rules, proto_number_back, not_any)

@@ -1,22 +1,18 @@
 -- The parts of a text round a byte, taken off one at a time.
-use Rattle.std.proofs.Common.{[], ◌&&◌, ◌+◌, ◌<◌, ◌==◌, ◌∙◌, ◌∷◌, ◌≡◌, ◌⊎◌, All, List, None, Option, Some, ap, arith, drop, eqb-true, false, inl, inr, leb, length, ltb, ltb-false, ltb-true, position, refl, sym, take, true, ℕ}
+use Rattle.std.proofs.Common.{[], ◌+◌, ◌<◌, ◌==◌, ◌∙◌, ◌∷◌, ◌≡◌, ◌⊎◌, All, List, None, Option, Some, ap, arith, drop, eqb-true, false, inl, inr, length, ltb, ltb-false, ltb-true, position, refl, sym, take, true, ℕ, rules}
 use Rattle.std.specs.List.{position_or_len, list_all}
-use Rattle.std.proofs.lemmas.Bool.{false_from_ne_true, and_parts, both_ways, cond-true}
+use Rattle.std.proofs.lemmas.Bool.{false_from_ne_true, both_ways, cond-true}
 use Rattle.std.proofs.lemmas.List.Folds.{list_all_at}
 use Rattle.std.proofs.lemmas.Option.{cond_some, none-some}
 use Rattle.std.proofs.lemmas.List.Splits.{slice_split_first, slice_split_none, length-slice_split}
 use Rattle.std.proofs.lemmas.List.Sums.{fails_before_first}
 use Rattle.std.specs.Char.{is_ascii_digit}
-use Rattle.std.specs.Str.Parse.{digits_value}
-use Rattle.five_tuple.specs.Exports.{is_number, number_up_to, parts_round}
+use Rattle.five_tuple.specs.Exports.{number_up_to, parts_round}
 
 -- the first such byte stands at this place
 pub parts_at : (byte : ℕ) (text : List ℕ) (at : ℕ) → position (λ b. b == byte) text ≡ Some at
     → parts_round byte text ≡ take at text ∷ parts_round byte (drop (at + 1) text)
-parts_at byte text at e =
-    let p = cond_some (ltb (position_or_len (λ b. b == byte) text) (length text))
-    (position_or_len (λ b. b == byte) text) at e in
-    rw (← p.1) (slice_split_first (λ b. b == byte) text 0 (ltb-true _ _ p.0))
+parts_at byte text at e = search (rules, cond_some, slice_split_first, ltb-true)
 
 -- no such byte stands there
 pub parts_none : (byte : ℕ) (text : List ℕ) → position (λ b. b == byte) text ≡ None
@@ -51,27 +47,19 @@ digits_lack byte text other digits k d h = false_from_ne_true _ (λ same. both_w
 
 pub digits_are_one_part : (byte : ℕ) (text : List ℕ) → is_ascii_digit byte ≡ false
     → list_all is_ascii_digit text ≡ true → parts_round byte text ≡ text ∷ []
-digits_are_one_part byte text other digits = slice_split_none (λ b. b == byte) text
-    (digits_lack byte text other digits)
+digits_are_one_part byte text other digits = search (rules, slice_split_none, digits_lack)
 
 -- a number has no other byte in it, so it is one part
 number_is_one_part : (byte most : ℕ) (text : List ℕ) (n : ℕ) → is_ascii_digit byte ≡ false
     → number_up_to most text ≡ Some n → parts_round byte text ≡ text ∷ []
 unfolding number_up_to
-number_is_one_part byte most text n other e =
-    let number = (cond_some (is_number text && leb (digits_value 10 text) most)
-    (digits_value 10 text) n e).0 in
-    let parts = and_parts (is_number text) (leb (digits_value 10 text) most) number in
-    digits_are_one_part byte text other (and_parts _ _ parts.0).1
+number_is_one_part byte most text n other e = search (rules, cond_some, digits_are_one_part)
 
 last_part_at : (byte most : ℕ) (text : List ℕ) → is_ascii_digit byte ≡ false → (o : Option ℕ)
     → number_up_to most text ≡ o → (parts_round byte text ≡ text ∷ [])
     ⊎ ((p q : List ℕ) × (more : List (List ℕ)) × (parts_round byte text ≡ p ∷ q ∷ more)
     × (number_up_to most text ≡ None))
-last_part_at byte most text other (Some n) e = inl (number_is_one_part byte most text n other e)
-last_part_at byte most text other None e =
-    elim (cut_cases_at byte text (position (λ b. b == byte) text) refl)
-    [ inl one ↦ inl one | inr w ↦ inr (w.0, w.1, w.2, w.3, e) ]
+last_part_at byte most text other o e = search (rules, number_is_one_part, cut_cases_at)
 
 -- the last part: one where it is a number, whatever bytes stand in it else
 pub last_part : (byte most : ℕ) (text : List ℕ) → is_ascii_digit byte ≡ false
