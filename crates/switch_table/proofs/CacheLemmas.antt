@@ -1,5 +1,5 @@
 -- What each call keeps of a cache.
-use Rattle.std.proofs.Common.{[], ◌++◌, ◌+◌, ◌<◌, ◌||◌, ◌∷◌, ◌≡◌, ◌≤◌, Bool, List, ap, arith, cond, drop, false, inl, inr, le-ltb, leb, length, length-append, lt-ltb, nat_lt, refl, remove, subst, suc, sym, true, zero, ℕ}
+use Rattle.std.proofs.Common.{[], ◌++◌, ◌+◌, ◌<◌, ◌∷◌, ◌≡◌, ◌≤◌, List, ap, arith, drop, false, inl, inr, le-ltb, length, length-append, lt-ltb, nat_lt, refl, remove, suc, zero, ℕ, rules}
 use Rattle.base.proofs.Exports.{AllPairs-filter, all_pairs_remove, cases_lt, count_by-le-length, length-filter, length-remove, list_any}
 use Rattle.switch_table.specs.Exports.{CacheValue, HaveDistinctKeys, IsCache, after_accept, after_clear, after_expire, after_raise, newest_entries, same_key}
 use Rattle.switch_table.specs.declared.cache.CacheEntry.{CacheEntry}
@@ -13,10 +13,7 @@ cache_cleared cache is = record { distinct = none_distinct; few = omega arith }
 
 pub cache_raised : (stamp : ℕ) (cache : CacheValue) → IsCache cache
     → IsCache (after_raise stamp cache)
-cache_raised stamp cache is = let kept = λ (entry : CacheEntry). leb stamp entry.version in record {
-  distinct = AllPairs-filter (λ a b. same_key a b ≡ false) kept cache.entries is.distinct;
-  few = omega (arith, length-filter, count_by-le-length, is.few);
-}
+cache_raised stamp cache is = search (rules, AllPairs-filter, length-filter, count_by-le-length)
 
 remove_past : (entries : List CacheEntry) (place : ℕ) → length entries ≤ place →
     remove entries place ≡ entries
@@ -38,40 +35,16 @@ cache_expired place cache is = elim (cases_lt place (length cache.entries)) [
 
 pub length-rest : (entries : List CacheEntry) (most : ℕ) → length entries ≤ most + 1 →
     length (drop 1 entries) ≤ most
-length-rest [] most few = omega arith
-length-rest (x ∷ xs) most few = omega (arith, few)
+length-rest entries most few = search rules
 
 newest_is : (capacity : ℕ) (entries : List CacheEntry) → HaveDistinctKeys entries →
     length entries ≤ capacity + 1 →
     IsCache (record { entries = newest_entries capacity entries; capacity = capacity })
-newest_is capacity entries pairs few =
-    let cache_by = λ (more : Bool).
-    IsCache (record { entries = cond more (drop 1 entries) entries; capacity = capacity }) in
-    elim (cases_lt capacity (length entries)) [
-      | inl more ↦ subst cache_by (sym (lt-ltb capacity (length entries) more)) (record {
-        distinct = rest_distinct entries pairs;
-        few = length-rest entries capacity few;
-      })
-      | inr fits ↦ subst cache_by (sym (le-ltb capacity (length entries) fits))
-          (record { distinct = pairs; few = fits })
-    ]
+newest_is capacity entries pairs few = search (rules, lt-ltb, rest_distinct, length-rest, le-ltb)
 
 pub cache_accepted : (stamp : ℕ) (entry : CacheEntry) (cache : CacheValue) → IsCache cache →
     IsCache (after_accept stamp entry cache)
-cache_accepted stamp entry cache is =
-    by_case (nat_lt entry.version stamp) (list_any (same_key entry) cache.entries) refl
-  where
-    with_it : List CacheEntry
-    with_it = cache.entries ++ entry ∷ []
-
-    by_case : (below there : Bool) → list_any (same_key entry) cache.entries ≡ there →
-        IsCache (cond (below || there) cache
-        (record { entries = newest_entries cache.capacity with_it; capacity = cache.capacity }))
-    by_case true there _ = is
-    by_case false true _ = is
-    by_case false false absent = newest_is cache.capacity with_it
-        (push_distinct cache.entries entry is.distinct absent)
-        (omega (arith, length-append cache.entries (entry ∷ []), is.few))
+cache_accepted stamp entry cache is = search (rules, newest_is, push_distinct, length-append)
 
 -- a new entry of a full cache evicts the first one
 pub first_evicted : (stamp : ℕ) (entry : CacheEntry) (cache : CacheValue)
@@ -79,8 +52,4 @@ pub first_evicted : (stamp : ℕ) (entry : CacheEntry) (cache : CacheValue)
     → cache.capacity < length (cache.entries ++ entry ∷ [])
     → record { entries = drop 1 (cache.entries ++ entry ∷ []); capacity = cache.capacity }
     ≡ after_accept stamp entry cache
-first_evicted stamp entry cache late absent full = let with_it = cache.entries ++ entry ∷ [] in
-    sym (λ i. cond (late i || absent i) cache (record {
-      entries = cond ((lt-ltb cache.capacity (length with_it) full) i) (drop 1 with_it) with_it;
-      capacity = cache.capacity;
-    }))
+first_evicted stamp entry cache late absent full = search (rules, lt-ltb)

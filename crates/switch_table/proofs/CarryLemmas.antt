@@ -1,5 +1,5 @@
 -- What a cache keeps as it goes over to a version.
-use Rattle.std.proofs.Common.{[], ◌&&◌, ◌++◌, ◌+◌, ◌||◌, ◌∙◌, ◌∷◌, ◌≡◌, ◌≤◌, ◌⊎◌, All, AllPairs, Any, Bool, Contains, IfSome, List, None, Option, Some, ap, append-nil, arith, cond, drop, eq-eqb, eqb, eqb-true, false, filter, filter_map, get_or, inl, inr, le-leb, le-ltb, leb, leb-true, length, length-append, not, refl, subst, sym, true, ℕ}
+use Rattle.std.proofs.Common.{[], ◌&&◌, ◌++◌, ◌+◌, ◌||◌, ◌∙◌, ◌∷◌, ◌≡◌, ◌≤◌, ◌⊎◌, All, AllPairs, Any, Bool, Contains, IfSome, List, None, Option, Some, ap, arith, cond, drop, eq-eqb, eqb, eqb-true, false, filter, filter_map, get_or, inl, inr, le-leb, le-ltb, leb, leb-true, length, length-append, not, refl, subst, sym, true, ℕ, rules}
 use Rattle.base.proofs.Exports.{All-contains_itself, All-filter_map, All-weaker, AllPairs-filter_map, Any-from_list_any, Contains-filter_map, cons_option, false_from_ne_true, filter_map-append, get_or_default, length-filter_map, list_any, list_any-from_Any}
 use Rattle.ternary.specs.Exports.{WordValue, any_word}
 use Rattle.ternary.proofs.CallerLemmas.{any_covers, meets_cover}
@@ -20,43 +20,24 @@ record GoesOver (version : ℕ) (touched : List WordValue) (entries : List Cache
 
 over_parts : (before met there : Bool) → (before && not met && not there) ≡ true
     → (before ≡ true) × (met ≡ false) × (there ≡ false)
-over_parts true false false is = (refl, refl, refl)
-over_parts true false true is = absurd (cc is)
-over_parts true true false is = absurd (cc is)
-over_parts true true true is = absurd (cc is)
-over_parts false false false is = absurd (cc is)
-over_parts false false true is = absurd (cc is)
-over_parts false true false is = absurd (cc is)
-over_parts false true true is = absurd (cc is)
+over_parts before met there is = search rules
 
 over_from : (before met there : Bool) → before ≡ true → met ≡ false → there ≡ false
     → (before && not met && not there) ≡ true
-over_from true false false b m t = refl
-over_from true false true b m t = absurd (cc t)
-over_from true true false b m t = absurd (cc m)
-over_from true true true b m t = absurd (cc m)
-over_from false met there b m t = absurd (cc b)
+over_from before met there b m t = search rules
 
 gone_over : (version : ℕ) (touched : List WordValue) (entries : List CacheEntry)
     (entry : CacheEntry) → is_carried version touched entries entry ≡ true
     → GoesOver version touched entries entry
-gone_over version touched entries entry is =
-    let parts = over_parts (eqb (entry.version + 1) version) (meets_any touched entry.word)
-    (list_any (same_key (under version entry)) entries) is in record {
-      before = eqb-true _ _ parts.0;
-      apart = parts.1;
-      alone = parts.2;
-    }
+gone_over version touched entries entry is = search (rules, over_parts, eqb-true)
 
 in_list : (test : CacheEntry → Bool) (entries : List CacheEntry) (entry : CacheEntry)
     → Contains entries entry → test entry ≡ true → list_any test entries ≡ true
-in_list test entries entry (k, within, is) passes =
-    list_any-from_Any test entries (k, entry, within, is, passes)
+in_list test entries entry h3 passes = search (rules, list_any-from_Any)
 
 none_in : (test : CacheEntry → Bool) (entries : List CacheEntry) (entry : CacheEntry)
     → Contains entries entry → list_any test entries ≡ false → test entry ≡ false
-none_in test entries entry there none = false_from_ne_true (test entry)
-    (λ passes. let found = in_list test entries entry there passes in absurd (cc (none, found)))
+none_in test entries entry there none = search (rules, false_from_ne_true, in_list)
 
 -- ---- no two entries of one key
 
@@ -79,10 +60,7 @@ pairs_within entries distinct = λ i j d less within. (
 both_over : (version : ℕ) (a b : CacheEntry) → a.version + 1 ≡ version → b.version + 1 ≡ version
     → same_key a b ≡ false → same_key (under version a) (under version b) ≡ false
 both_over version a b before_a before_b apart =
-    false_from_ne_true (same_key (under version a) (under version b)) (λ same.
-    let one = same_key_from a b (omega (arith, before_a, before_b))
-    (same_key_parts (under version a) (under version b) same).1 in
-    absurd (cc (apart, one)))
+    search (rules, false_from_ne_true, same_key_from, same_key_parts)
 
 pair_carried : (version : ℕ) (touched : List WordValue) (entries : List CacheEntry)
     (a b : CacheEntry) → IsPair entries a b → IfSome (carried_entry version touched entries a)
@@ -127,10 +105,7 @@ left_few version capacity touched entries few = omega (arith, length-filter_map)
 
 pub cache_carried : (version : ℕ) (touched : List WordValue) (cache : CacheValue) → IsCache cache
     → IsCache (after_carry version touched cache)
-cache_carried version touched cache is = record {
-  distinct = carried_distinct version touched cache.entries is.distinct;
-  few = left_few version cache.capacity touched cache.entries is.few;
-}
+cache_carried version touched cache is = search (rules, carried_distinct, left_few)
 
 -- ---- what isn't touched stays
 
@@ -221,28 +196,13 @@ only_carried version touched cache =
 
 none_over : (version : ℕ) (entries : List CacheEntry) (entry : CacheEntry)
     → is_carried version all_touched entries entry ≡ false
-none_over version entries entry = false_from_ne_true (is_carried version all_touched entries entry)
-    (λ is. let met = (gone_over version all_touched entries entry is).apart in
-    absurd (cc (met, meets_all entry.word)))
+none_over version entries entry = search (rules, false_from_ne_true, gone_over, meets_all)
 
 all_left : (version : ℕ) (entries rest : List CacheEntry)
     → filter_map (carried_entry version all_touched entries) rest
     ≡ filter (λ (entry : CacheEntry). leb version entry.version) rest
 all_left version entries [] = refl
-all_left version entries (entry ∷ rest) = ap (λ b. cons_option (cond (leb version entry.version)
-    (Some entry) (cond b (Some (under version entry)) None)) left) (none_over version entries entry)
-    ∙ by_case (leb version entry.version) (all_left version entries rest)
-  where
-    left : List CacheEntry
-    left = filter_map (carried_entry version all_touched entries) rest
-
-    kept : List CacheEntry
-    kept = filter (λ (x : CacheEntry). leb version x.version) rest
-
-    by_case : (stays : Bool) → left ≡ kept
-        → cons_option (cond stays (Some entry) None) left ≡ cond stays (entry ∷ kept) kept
-    by_case true same = ap (λ es. entry ∷ es) same
-    by_case false same = same
+all_left version entries (entry ∷ rest) = search (rules, none_over, all_left version entries rest)
 
 pub all_carried : (version : ℕ) (cache : CacheValue)
     → after_carry version all_touched cache ≡ after_raise version cache
@@ -253,8 +213,7 @@ all_carried version cache = cc (all_left version cache.entries cache.entries)
 -- an entry of which nothing is left ..
 pub left_out : (f : CacheEntry → Option CacheEntry) (before : List CacheEntry) (entry : CacheEntry)
     → f entry ≡ None → filter_map f before ≡ filter_map f (before ++ entry ∷ [])
-left_out f before entry none = sym (filter_map-append f before (entry ∷ [])
-    ∙ ap (λ o. filter_map f before ++ cons_option o []) none ∙ append-nil (filter_map f before))
+left_out f before entry none = search (rules, filter_map-append)
 
 -- .. or something, which a cache of what is left of those before it accepts
 pub left_in : (f : CacheEntry → Option CacheEntry) (before : List CacheEntry)

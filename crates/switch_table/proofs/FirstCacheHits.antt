@@ -1,7 +1,6 @@
 -- The first entry that holds a header, by the keys of its masks.
-use Rattle.std.proofs.Common.{[], ◌&&◌, ◌+◌, ◌∙◌, ◌∷◌, ◌≡◌, Bool, List, Option, Some, ap, arith, bit_and, cond, eqb, eqb-true, false, find, option_map, refl, sym, true, ℕ}
-use Rattle.base.proofs.Exports.{All-head, All-tail, and-false, list_any, list_any-both, nat_tests}
-use Rattle.std.proofs.Math.Bool.{and_assoc as and_joined}
+use Rattle.std.proofs.Common.{[], ◌&&◌, ◌+◌, ◌∙◌, ◌∷◌, ◌≡◌, Bool, List, Option, Some, ap, cond, eqb, eqb-true, false, find, option_map, refl, sym, true, ℕ, rules}
+use Rattle.base.proofs.Exports.{All-head, All-tail, list_any, list_any-both, nat_tests}
 use Rattle.ternary.specs.Exports.{WordValue, holds}
 use Rattle.switch_table.specs.Exports.{AreMasked, HasMaskIn, HaveVersions, Pair, equal_keys, first_entry, is_hit, kept_entries, kept_entry, key_of, key_under}
 use Rattle.switch_table.specs.declared.cache.CacheEntry.{CacheEntry}
@@ -16,23 +15,7 @@ key_is : (shift version header : ℕ) (masks : List WordValue) (entry : CacheEnt
     equal_keys (key_under (version + shift) header mask) (key_of shift entry)
     ≡ (holds_of version header entry && eqb mask.mask entry.word.mask)
 unfolding equal_keys holds
-key_is shift version header masks entry mask has = by_case (eqb mask.mask entry.word.mask) refl
-  where
-    numbers : eqb (version + shift) (entry.version + shift) ≡ eqb entry.version version
-    numbers = grind (arith, nat_tests)
-
-    by_case : (b : Bool) → eqb mask.mask entry.word.mask ≡ b
-        → (eqb (version + shift) (entry.version + shift)
-        && (eqb (bit_and header mask.mask) entry.word.value && b)) ≡ ((eqb entry.version version
-        && eqb (bit_and header entry.word.mask) (bit_and entry.word.value entry.word.mask)) && b)
-    by_case true is =
-        let masks_are : mask.mask ≡ entry.word.mask = eqb-true mask.mask entry.word.mask is in
-        (λ i. numbers i && (eqb (bit_and header (masks_are i)) ((sym has.sound.within) i) && true))
-        ∙ sym (and_joined (eqb entry.version version)
-        (eqb (bit_and header entry.word.mask) (bit_and entry.word.value entry.word.mask)) true)
-    by_case false is = ap (λ b. eqb (version + shift) (entry.version + shift) && b)
-        (and-false (eqb (bit_and header mask.mask) entry.word.value))
-        ∙ and-false (eqb (version + shift) (entry.version + shift)) ∙ sym (and-false _)
+key_is shift version header masks entry mask has = search (rules, nat_tests, eqb-true)
 
 -- whether the entry is of the version and holds the header, by its key
 pub entry_hit : (shift version header : ℕ) (masks : List WordValue) (entry : CacheEntry) →

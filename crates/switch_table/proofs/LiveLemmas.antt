@@ -1,6 +1,6 @@
 -- Counts of live places by blocks of 64: what they sum up to, what a place that comes or dies
 -- makes of them, and where the place stands that has so many live ones before it.
-use Rattle.std.proofs.Common.{[], ◌%◌, ◌*◌, ◌++◌, ◌+◌, ◌-◌, ◌/◌, ◌<◌, ◌^◌, ◌∙◌, ◌∷◌, ◌≡◌, ◌≤◌, Bool, List, ap, arith, cond, div-add-mod', drop, drop-set-lt, false, get_or, get_or-drop, get_or-set_other, get_or-set_same, get_or-take, inl, inr, length, length-append, length-drop, length-set, length-take, min, mod-eq_of_lt, mul-le-mul_left, refl, replicate, set, subst, suc, sum, sym, take, take-take, take_all, true, zero, ℕ}
+use Rattle.std.proofs.Common.{[], ◌%◌, ◌*◌, ◌++◌, ◌+◌, ◌-◌, ◌/◌, ◌<◌, ◌^◌, ◌∙◌, ◌∷◌, ◌≡◌, ◌≤◌, Bool, List, ap, arith, cond, div-add-mod', drop, drop-set-lt, false, get_or, get_or-drop, get_or-set_other, get_or-set_same, get_or-take, inl, inr, length, length-append, length-drop, length-set, length-take, min, mod-eq_of_lt, mul-le-mul_left, refl, replicate, set, subst, suc, sum, sym, take, take-take, take_all, true, zero, ℕ, rules}
 use Rattle.base.proofs.Exports.{cases_eq, cases_lt, count_by-le-length, drop-append-le, drop-replicate, drop-set-add, drop-take, drop_all, get_or_append_left, get_or_push, get_or_read, length-replicate, mod-mul-add, mod_below, sum_by-replicate, sum_by-set, sum_by-take-drop, sum_by_more, sum_by_push, take-append-le, take-replicate, take-set-le, take-set-lt, take_min}
 use Rattle.switch_table.specs.Exports.{AreBlocks, count_set}
 
@@ -25,8 +25,7 @@ count_both m n flags = let whole = take (m + n) flags in
 -- the blocks before one count the places before it
 sum_before : (counts : List ℕ) (flags : List Bool) → AreBlocks counts flags →
     (k : ℕ) → k ≤ length counts → sum (take k counts) ≡ count_set (take (64 * k) flags)
-sum_before counts flags are zero within =
-    let none : 0 ≡ 64 * 0 = omega arith in ap (λ n. count_set (take n flags)) none
+sum_before counts flags are zero within = search rules
 sum_before counts flags are (suc k) within = let next : suc k ≡ k + 1 = omega arith in
     ap (λ n. sum (take n counts)) next ∙ sum_by_more (λ n. n) counts k 0 (omega arith)
     ∙ ap (λ n. n + get_or counts k 0) (sum_before counts flags are k (omega arith))
@@ -46,20 +45,12 @@ changed : (block count : ℕ) (counts : List ℕ) (flags news : List Bool) → A
     → block < length counts → length news ≤ 64 * length counts → count ≡ set_in news block
     → ((k : ℕ) → (k ≡ block → ⊥) → set_in news k ≡ set_in flags k)
     → AreBlocks (set counts block count) news
-changed block count counts flags news are within room here elsewhere = record {
-  room = subst (λ n. length news ≤ 64 * n) (sym (length-set counts block count)) room;
-  each = λ k less. elim (cases_eq k block) [
-    | inl same ↦ ap (λ n. get_or (set counts block count) n 0) same
-        ∙ get_or-set_same counts block count 0 within ∙ here ∙ ap (set_in news) (sym same)
-    | inr other ↦ get_or-set_other counts block k count 0 other
-        ∙ are.each k (omega (arith, length-set counts block count)) ∙ sym (elsewhere k other)
-  ];
-}
+changed block count counts flags news are within room here elsewhere =
+    search (rules, length-set, cases_eq, get_or-set_same, get_or-set_other)
 
 -- an earlier block ends before this one
 block_ends : (k block : ℕ) → k < block → 64 * k + 64 ≤ 64 * block
-block_ends k block less =
-    let more : k + 1 ≤ block = omega arith in omega (arith, mul-le-mul_left 64 more)
+block_ends k block less = search (rules, mul-le-mul_left)
 
 -- another block has the same flags then
 other_pushed : (block k : ℕ) (flags : List Bool) → 64 * block ≤ length flags → length flags
@@ -118,17 +109,12 @@ other_died block at k flags inside other = let place = 64 * block + at in
 -- one less is live without this place
 count_died : (flags : List Bool) (place : ℕ) → place < length flags →
     get_or flags place false ≡ true → count_set (set flags place false) + 1 ≡ count_set flags
-count_died flags place within live =
-    ap (λ flag. count_set (set flags place false) + one_if flag) (sym live)
-    ∙ sum_by-set one_if flags place false false within ∙ omega arith
+count_died flags place within live = search (rules, sum_by-set)
 
 -- a place is in a block that is counted
 inside_counts : (block at : ℕ) (counts : List ℕ) (flags : List Bool) →
     AreBlocks counts flags → 64 * block + at < length flags → block < length counts
-inside_counts block at counts flags are there = elim (cases_lt block (length counts)) [
-  | inl less ↦ less
-  | inr past ↦ absurd (omega (arith, are.room, mul-le-mul_left 64 past))
-]
+inside_counts block at counts flags are there = search (rules, mul-le-mul_left)
 
 -- the live place dies that stands there in this block
 pub died : (block at : ℕ) (counts : List ℕ) (flags : List Bool) → AreBlocks counts flags
@@ -209,8 +195,7 @@ block_holds counts flags before block left are some within sums found =
 
 -- what `wrapping_sub(1)` makes of a number above 0
 wrapped_less : (w n : ℕ) → 0 < n → n ≤ w → (n + (w - 1)) % w ≡ n - 1
-wrapped_less w n some fits = let over : n + (w - 1) ≡ 1 * w + (n - 1) = omega arith in
-    ap (λ m. m % w) over ∙ mod-mul-add 1 w (n - 1) (omega arith)
+wrapped_less w n some fits = search (rules, mod-mul-add)
 
 -- a live place comes behind so many
 pub added : (place count : ℕ) (counts : List ℕ) (flags : List Bool) → place + 1 ≤ 64 * length counts → length flags ≡ place → AreBlocks counts flags →
@@ -250,11 +235,9 @@ taken place count counts flags there live are is =
 -- in all
 pub all_added : (flags : List Bool) (all : ℕ) → all ≡ count_set flags → length flags < 2 ^ 63 →
     (all + 1) % 18446744073709551616 ≡ count_set (flags ++ true ∷ [])
-all_added flags all is short = mod-eq_of_lt (omega (arith, count_by-le-length)) ∙ ap (λ n. n + 1) is
-    ∙ sym (sum_by_push one_if flags true)
+all_added flags all is short = search (rules, mod-eq_of_lt, count_by-le-length, sum_by_push)
 
 pub all_taken : (flags : List Bool) (all place : ℕ) → all ≡ count_set flags → all < 2 ^ 64 →
     place < length flags → get_or flags place false ≡ true →
     (all + 18446744073709551615) % 18446744073709551616 ≡ count_set (set flags place false)
-all_taken flags all place is fits there live = let less = count_died flags place there live in
-    wrapped_less 18446744073709551616 all (omega (arith, less)) (omega arith) ∙ omega (arith, less)
+all_taken flags all place is fits there live = search (rules, count_died, wrapped_less)

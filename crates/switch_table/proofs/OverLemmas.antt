@@ -1,6 +1,6 @@
 -- What a carry leaves where no entry is of the version or a later one: the shift falls by one.
-use Rattle.std.proofs.Common.{[], ◌&&◌, ◌+◌, ◌-◌, ◌<◌, ◌^◌, ◌||◌, ◌∙◌, ◌∷◌, ◌≡◌, ◌≤◌, All, Bool, IfSome, List, None, Option, Some, ap, arith, cond, eq-eqb, eqb, eqb-true, false, filter, filter_map, le-leb, leb, leb-true, not, refl, true, ℕ}
-use Rattle.base.proofs.Exports.{All-filter_map, All-head, All-tail, All-weaker, and_parts, cons_option, false_from_ne_true, filter_passes, list_any}
+use Rattle.std.proofs.Common.{[], ◌&&◌, ◌+◌, ◌-◌, ◌<◌, ◌^◌, ◌||◌, ◌∙◌, ◌∷◌, ◌≡◌, ◌≤◌, All, Bool, IfSome, List, None, Option, Some, ap, arith, cond, eq-eqb, eqb, eqb-true, false, filter, filter_map, le-leb, leb, leb-true, not, refl, true, ℕ, rules}
+use Rattle.base.proofs.Exports.{All-filter_map, All-head, All-tail, All-weaker, cons_option, false_from_ne_true, filter_passes, list_any}
 use Rattle.ternary.specs.Exports.{WordValue}
 use Rattle.switch_table.specs.Exports.{AreMasked, AreUpTo, HasMaskOf, HaveVersions, Pair, carried_entry, is_carried, is_carried_key, kept_entries, kept_entry, meets_any, same_key, under}
 use Rattle.switch_table.specs.declared.cache.CacheEntry.{CacheEntry}
@@ -13,12 +13,7 @@ IsBelow version entry = leb version entry.version ≡ false
 
 pub below_newest : (version newest : ℕ) (entries : List CacheEntry) → newest < version
     → AreUpTo newest entries → All (IsBelow version) entries
-below_newest version newest entries later up_to =
-    All-weaker (λ (entry : CacheEntry). entry.version ≤ newest) (IsBelow version) below entries up_to
-  where
-    below : (entry : CacheEntry) → entry.version ≤ newest → IsBelow version entry
-    below entry le = false_from_ne_true (leb version entry.version) (λ is.
-        absurd (omega (arith, leb-true version entry.version is, le, later)))
+below_newest version newest entries later up_to = search (rules, false_from_ne_true, leb-true)
 
 -- no entry has the version
 alone_below : (version : ℕ) (entry : CacheEntry) (entries : List CacheEntry)
@@ -43,34 +38,19 @@ pairs_over shift version touched pairs =
 -- the entry is of the version before, as its number says
 before_is : (shift version number : ℕ) → 0 < shift → shift ≤ number
     → eqb number (version + (shift - 1)) ≡ eqb (number - shift + 1) version
-before_is shift version number some fits = by_case (eqb (number - shift + 1) version) refl where
-  by_case : (same : Bool) → eqb (number - shift + 1) version ≡ same
-      → eqb number (version + (shift - 1)) ≡ same
-  by_case true is = eq-eqb number (version + (shift - 1)) (omega (arith, eqb-true))
-  by_case false is = false_from_ne_true (eqb number (version + (shift - 1)))
-      (λ same. let equal : number - shift + 1 ≡ version = omega (arith, eqb-true) in
-      let there = eq-eqb (number - shift + 1) version equal in absurd (cc (is, there)))
+before_is shift version number some fits = search (rules, eq-eqb, eqb-true, false_from_ne_true)
 
 -- an entry that goes over keeps its pair
 entry_stays : (shift version : ℕ) (touched : List WordValue) (pair : Pair) → 0 < shift
     → is_carried_key (version + (shift - 1)) touched pair.0 ≡ true
     → kept_entry (shift - 1) pair ≡ under version (kept_entry shift pair)
-entry_stays shift version touched pair some is =
-    let parts = and_parts (eqb pair.0.number (version + (shift - 1)))
-    (not (meets_any touched pair.0.word)) is in
-    let number = eqb-true pair.0.number (version + (shift - 1)) parts.0 in
-    let versions : pair.0.number - (shift - 1) ≡ version = omega (arith, number, some) in
-    λ i. record (kept_entry shift pair) { version = versions i }
+entry_stays shift version touched pair some is = search (rules, eqb-true)
 
 left_of : (version : ℕ) (entry : CacheEntry) (goes before apart stays there : Bool)
     → goes ≡ (before && apart) → stays ≡ false → there ≡ false
     → cond goes (Some (under version entry)) None
     ≡ cond stays (Some entry) (cond (before && apart && not there) (Some (under version entry)) None)
-left_of version entry goes true true false false is _ _ = cc is
-left_of version entry goes true false false false is _ _ = cc is
-left_of version entry goes false apart false false is _ _ = cc is
-left_of version entry goes before apart true there _ stays _ = absurd (cc stays)
-left_of version entry goes before apart false true _ _ there = absurd (cc there)
+left_of version entry goes before apart stays there is h8 h9 = search rules
 
 -- the pairs that stay are those of what is left of the entries
 pub carried_pairs : (shift version : ℕ) (touched : List WordValue) (entries : List CacheEntry)
@@ -109,19 +89,7 @@ carried_pairs shift version touched entries (pair ∷ pairs) some are all below 
 
 pub versions_over : (shift version : ℕ) (touched : List WordValue) (pairs : List Pair) → 0 < shift
     → version < 2 ^ 32 → HaveVersions (shift - 1) (pairs_over shift version touched pairs)
-versions_over shift version touched pairs some small =
-    All-weaker (λ (pair : Pair). test pair ≡ true) (HasVersion (shift - 1)) each
-    (filter test pairs) (filter_passes test pairs)
-  where
-    test : Pair → Bool
-    test pair = is_carried_key (version + (shift - 1)) touched pair.0
-
-    each : (pair : Pair) → test pair ≡ true → HasVersion (shift - 1) pair
-    each pair is =
-        let parts = and_parts (eqb pair.0.number (version + (shift - 1)))
-        (not (meets_any touched pair.0.word)) is in
-        let number = eqb-true pair.0.number (version + (shift - 1)) parts.0 in
-        (omega (arith, number), omega (arith, number, small, some))
+versions_over shift version touched pairs some small = search (rules, filter_passes, eqb-true)
 
 -- ---- what is left
 

@@ -1,8 +1,8 @@
 -- Cache entries as pairs, whose keys add a shift to versions: what a push, a removal and a filter
 -- make of them, and that no two have one key.
-use Rattle.std.proofs.Common.{[], ◌++◌, ◌+◌, ◌-◌, ◌<◌, ◌^◌, ◌||◌, ◌∙◌, ◌∷◌, ◌≡◌, ◌≤◌, All, Bool, List, Option, ap, arith, cond, drop, eq-eqb, eqb, eqb-true, false, filter, get_or, le-leb, leb, leb-true, length, length-append, refl, remove, subst, suc, sym, true, zero, ℕ}
-use Rattle.base.proofs.Exports.{All-cons, All-filter, All-head, All-nil, All-push, All-remove, All-tail, All-weaker, AllByRecursion, AllPairs-cons, IsDistinct, all_pairs_push, and_from, and_parts, count_by-le-length, false_from_ne_true, false≢true, get_or-append_seam, get_or_default, keys_of, length-filter, list_any, list_any-from_Any, map-append, map-remove}
-use Rattle.ternary.specs.Exports.{WordValue, word_eq}
+use Rattle.std.proofs.Common.{[], ◌++◌, ◌+◌, ◌-◌, ◌<◌, ◌^◌, ◌||◌, ◌∙◌, ◌∷◌, ◌≡◌, ◌≤◌, All, Bool, List, Option, ap, arith, cond, drop, eq-eqb, eqb, eqb-true, false, filter, get_or, le-leb, leb, leb-true, length, length-append, refl, remove, subst, suc, sym, true, zero, ℕ, rules}
+use Rattle.base.proofs.Exports.{All-cons, All-filter, All-head, All-push, All-remove, All-tail, All-weaker, AllByRecursion, AllPairs-cons, IsDistinct, all_pairs_push, and_from, count_by-le-length, false_from_ne_true, get_or-append_seam, keys_of, length-filter, list_any, list_any-from_Any, map-append, map-remove}
+use Rattle.ternary.specs.Exports.{WordValue}
 use Rattle.switch_table.specs.Exports.{AreMasked, AreUpTo, HasMaskOf, HaveDistinctKeys, HaveOwnKeys, HaveVersions, HoldsEntries, Pair, equal_keys, has_key, kept_entries, kept_entry, key_of, pair_of, same_key}
 use Rattle.switch_table.specs.declared.cache.CacheEntry.{CacheEntry}
 
@@ -11,46 +11,23 @@ use Rattle.switch_table.specs.declared.cache.CacheEntry.{CacheEntry}
 pub same_key_parts : (a b : CacheEntry) → same_key a b ≡ true
     → (a.version ≡ b.version) × (a.word ≡ b.word)
 unfolding same_key
-same_key_parts a b is =
-    let parts = and_parts (eqb a.version b.version) (word_eq a.word b.word) is in
-    let words = and_parts (eqb a.word.value b.word.value) (eqb a.word.mask b.word.mask) parts.1 in
-    let masks = eqb-true a.word.mask b.word.mask words.1 in (
-      eqb-true a.version b.version parts.0,
-      λ i. record { value = (eqb-true a.word.value b.word.value words.0) i; mask = masks i },
-    )
+same_key_parts a b is = search (rules, eqb-true)
 
 pub same_key_from : (a b : CacheEntry) → a.version ≡ b.version → a.word ≡ b.word
     → same_key a b ≡ true
 unfolding same_key
-same_key_from a b versions words = and_from (eqb a.version b.version) (word_eq a.word b.word)
-    (eq-eqb a.version b.version versions) (and_from (eqb a.word.value b.word.value)
-    (eqb a.word.mask b.word.mask) (eq-eqb a.word.value b.word.value (ap (λ w. w.value) words))
-    (eq-eqb a.word.mask b.word.mask (ap (λ w. w.mask) words)))
+same_key_from a b versions words = search (rules, and_from, eq-eqb)
 
 pub eqb-shift : (a b shift : ℕ) → eqb a b ≡ eqb (a + shift) (b + shift)
-eqb-shift a b shift = by_case (eqb a b) refl where
-  by_case : (same : Bool) → eqb a b ≡ same → same ≡ eqb (a + shift) (b + shift)
-  by_case true is = sym (eq-eqb (a + shift) (b + shift) (ap (λ n. n + shift) (eqb-true a b is)))
-  by_case false is = sym (false_from_ne_true (eqb (a + shift) (b + shift))
-      (λ same. let equal : a ≡ b = omega (arith, eqb-true (a + shift) (b + shift) same) in
-      false≢true (sym is ∙ eq-eqb a b equal)))
+eqb-shift a b shift = search (rules, eq-eqb, eqb-true, false_from_ne_true)
 
 -- two entries of different keys, in either order
 pub apart-sym : (a b : CacheEntry) → same_key a b ≡ false → same_key b a ≡ false
-apart-sym a b apart = false_from_ne_true (same_key b a)
-    (λ same. let parts = same_key_parts b a same in
-    false≢true (sym apart ∙ same_key_from a b (sym parts.0) (sym parts.1)))
+apart-sym a b apart = search (rules, false_from_ne_true, same_key_parts, same_key_from)
 
 pub none_at : (test : CacheEntry → Bool) (entries : List CacheEntry) (k : ℕ) (d : CacheEntry)
     → list_any test entries ≡ false → k < length entries → test (get_or entries k d) ≡ false
-none_at test entries k d none within = false_from_ne_true _
-    (λ passes. false≢true (sym none ∙ list_any-from_Any test entries (
-      k,
-      get_or entries k d,
-      within,
-      get_or_default entries k (get_or entries k d) d within,
-      passes,
-    )))
+none_at test entries k d none within = search (rules, false_from_ne_true, list_any-from_Any)
 
 pub none_distinct : HaveDistinctKeys []
 none_distinct = λ i j d less within. absurd (omega arith)
@@ -74,15 +51,11 @@ abbrev pub HasVersion : ℕ → Pair → Type 0
 HasVersion shift pair = (shift ≤ pair.0.number) × (pair.0.number < shift + 2 ^ 32)
 
 pub entry_of_pair : (shift : ℕ) (entry : CacheEntry) → kept_entry shift (pair_of shift entry) ≡ entry
-entry_of_pair shift entry =
-    let versions : entry.version + shift - shift ≡ entry.version = omega arith in
-    λ i. record entry { version = versions i }
+entry_of_pair shift entry = search rules
 
 pub key_of_entry : (shift : ℕ) (pair : Pair) → HasVersion shift pair
     → key_of shift (kept_entry shift pair) ≡ pair.0
-key_of_entry shift pair is =
-    let numbers : pair.0.number - shift + shift ≡ pair.0.number = omega (arith, is.0) in
-    λ i. record { number = numbers i; word = pair.0.word }
+key_of_entry shift pair is = search rules
 
 pub same_key-is : (shift : ℕ) (a b : CacheEntry)
     → same_key a b ≡ equal_keys (key_of shift a) (key_of shift b)
@@ -107,8 +80,7 @@ apart_from_all : (shift : ℕ) (pair : Pair) (pairs : List Pair) → HasVersion 
     → HaveVersions shift pairs
     → AllByRecursion (λ key. equal_keys pair.0 key ≡ false) (keys_of pairs)
     → All (λ entry. same_key (kept_entry shift pair) entry ≡ false) (kept_entries shift pairs)
-apart_from_all shift pair [] is are apart =
-    All-nil (λ entry. same_key (kept_entry shift pair) entry ≡ false)
+apart_from_all shift pair [] is are apart = search rules
 apart_from_all shift pair (next ∷ pairs) is are apart =
     let here : same_key (kept_entry shift pair) (kept_entry shift next) ≡ false =
     sym (same_key_of shift (kept_entry shift pair) next (All-head (HasVersion shift) next pairs are))
@@ -160,21 +132,12 @@ entries_filtered shift test kept same (pair ∷ pairs) are =
 
 leb-shift : (shift version number : ℕ) → shift ≤ number
     → leb (version + shift) number ≡ leb version (number - shift)
-leb-shift shift version number fits = by_case (leb version (number - shift)) refl where
-  by_case : (less : Bool) → leb version (number - shift) ≡ less
-      → leb (version + shift) number ≡ less
-  by_case true is = le-leb (version + shift) number (omega (arith, leb-true))
-  by_case false is = false_from_ne_true (leb (version + shift) number)
-      (λ le. let less : version ≤ number - shift = omega (arith, leb-true) in
-      false≢true (sym is ∙ le-leb version (number - shift) less))
+leb-shift shift version number fits = search (rules, le-leb, leb-true, false_from_ne_true)
 
 pub entries_from : (shift version : ℕ) (pairs : List Pair) → HaveVersions shift pairs
     → kept_entries shift (filter (λ (pair : Pair). leb (version + shift) pair.0.number) pairs)
     ≡ filter (λ (entry : CacheEntry). leb version entry.version) (kept_entries shift pairs)
-entries_from shift version pairs are =
-    entries_filtered shift (λ (pair : Pair). leb (version + shift) pair.0.number)
-    (λ (entry : CacheEntry). leb version entry.version)
-    (λ pair is. leb-shift shift version pair.0.number is.0) pairs are
+entries_from shift version pairs are = search (rules, entries_filtered, leb-shift)
 
 -- no entry before another one has its key
 pub none_before : (before : List CacheEntry) (entry : CacheEntry) (rest : List CacheEntry) →
@@ -195,14 +158,8 @@ pub holds_of : (masks : Option (List WordValue)) (shift newest capacity : ℕ) (
     → HaveVersions shift pairs → kept_entries shift pairs ≡ entries → AreUpTo newest entries
     → AreMasked masks entries → length entries ≤ capacity
     → HoldsEntries masks shift newest capacity pairs
-holds_of masks shift newest capacity pairs entries fits falls versions are up_to masked few = record {
-  fits = fits;
-  falls = falls;
-  versions = versions;
-  up_to = subst (AreUpTo newest) (sym are) up_to;
-  masked = subst (AreMasked masks) (sym are) masked;
-  few = omega (arith, ap length are, few);
-}
+holds_of masks shift newest capacity pairs entries fits falls versions are up_to masked few =
+    search rules
 
 -- one more comes, of a version up to the newest one
 pub holds_pushed : (masks after : Option (List WordValue)) (shift newest later capacity : ℕ)
@@ -233,8 +190,7 @@ few_removed (x ∷ xs) zero = omega arith
 few_removed (x ∷ xs) (suc place) = omega (arith, few_removed xs place)
 
 pub first_removed : (entries : List CacheEntry) → remove entries 0 ≡ drop 1 entries
-first_removed [] = refl
-first_removed (x ∷ xs) = refl
+first_removed entries = search rules
 
 pub holds_removed : (masks : Option (List WordValue)) (shift newest capacity most place : ℕ)
     (pairs new : List Pair) → HoldsEntries masks shift newest most pairs

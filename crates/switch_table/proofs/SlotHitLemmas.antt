@@ -1,6 +1,6 @@
 -- Where the first live slot stands whose key has a header's bits under one of some masks.
-use Rattle.std.proofs.Common.{[], ◌&&◌, ◌+◌, ◌<◌, ◌^◌, ◌||◌, ◌∙◌, ◌∷◌, ◌≡◌, Bool, List, None, Option, Some, ap, arith, bit_and, cond, false, find, get_or, length, min, not, option_map, refl, slice_get, subst, suc, sym, take, true, ℕ}
-use Rattle.base.proofs.Exports.{AllByRecursion, IsDistinct, and_assoc, and_self, cons_option, find_at, keys_of, list_any_more, none_both, place_both, place_either, position_or_len, same_Some}
+use Rattle.std.proofs.Common.{[], ◌&&◌, ◌+◌, ◌<◌, ◌^◌, ◌||◌, ◌∙◌, ◌∷◌, ◌≡◌, Bool, List, Some, ap, arith, bit_and, cond, false, find, get_or, length, min, not, option_map, refl, slice_get, subst, suc, sym, take, true, ℕ, rules}
+use Rattle.base.proofs.Exports.{AllByRecursion, IsDistinct, and_assoc, and_self, find_at, keys_of, list_any_more, none_both, place_both, place_either, position_or_len, same_Some}
 use Rattle.ternary.specs.Exports.{IsWord, WordValue}
 use Rattle.switch_table.specs.Exports.{Pair, SlotPair, equal_keys, is_hit, is_live, key_under, live_pairs}
 use Rattle.switch_table.specs.declared.key.CacheKey.{CacheKey}
@@ -75,9 +75,7 @@ pub place_dead : (key : CacheKey) (slots : List SlotPair) (place : ℕ) (slot : 
     IsDistinct equal_keys (keys_of slots) →
     position_or_len (equal_keys key) (keys_of slots) ≡ place → slice_get slots place ≡ Some slot →
     slot.1.is_live ≡ false → length slots ≡ position_or_len (has_live key) slots
-place_dead key slots place slot distinct is there dead =
-    let at : position_or_len (has key) slots ≡ place = sym (keys_place key slots) ∙ is in
-    sym (dead_place key slots slot distinct (ap (slice_get slots) at ∙ there) dead)
+place_dead key slots place slot distinct is there dead = search (rules, keys_place, dead_place)
 
 -- a header's bits under a mask are a word
 pub under_is_word : (header mask : ℕ) → mask < 2 ^ 104 →
@@ -129,23 +127,7 @@ first_live : (test : CacheKey → Bool) (slots : List SlotPair) →
     option_map pair_at (find (λ slot. test slot.0 && is_live slot) slots)
     ≡ find (λ pair. test pair.0) (live_pairs slots)
 first_live test [] = refl
-first_live test (x ∷ xs) = by_case (test x.0) (is_live x) refl (first_live test xs) where
-  first : Option SlotPair
-  first = find (λ slot. test slot.0 && is_live slot) xs
-
-  passes : Pair → Bool
-  passes pair = test pair.0
-
-  rest : Option Pair
-  rest = find (λ pair. test pair.0) (live_pairs xs)
-
-  by_case : (a b : Bool) → test x.0 ≡ a → option_map pair_at first ≡ rest →
-      option_map pair_at (cond (a && b) (Some x) first)
-      ≡ find (λ pair. test pair.0) (cons_option (cond b (Some (pair_at x)) None) (live_pairs xs))
-  by_case true true is same = sym (ap (λ b. cond b (Some (pair_at x)) rest) is)
-  by_case true false is same = same
-  by_case false true is same = same ∙ sym (ap (λ b. cond b (Some (pair_at x)) rest) is)
-  by_case false false is same = same
+first_live test (x ∷ xs) = search (rules, first_live test xs)
 
 -- what stands at the first place is the first one
 pub hit_at : (test : CacheKey → Bool) (slots : List SlotPair) (place : ℕ) →

@@ -1,6 +1,6 @@
 -- The keys of slots: those of versions, and those of the places of dead slots.
-use Rattle.std.proofs.Common.{[], ◌&&◌, ◌++◌, ◌+◌, ◌-◌, ◌<◌, ◌^◌, ◌∙◌, ◌∷◌, ◌≡◌, ◌≢◌, Bool, List, None, Some, ap, arith, cond, false, filter, inl, inr, ne_eqb, refl, set, slice_get, subst, suc, sym, true, zero, ℕ}
-use Rattle.base.proofs.Exports.{false≢true, lookup, none-some, same_Some}
+use Rattle.std.proofs.Common.{[], ◌&&◌, ◌++◌, ◌+◌, ◌-◌, ◌<◌, ◌^◌, ◌∙◌, ◌∷◌, ◌≡◌, ◌≢◌, Bool, List, None, Some, ap, arith, cond, false, filter, inl, inr, ne_eqb, refl, set, slice_get, subst, suc, sym, true, zero, ℕ, rules}
+use Rattle.base.proofs.Exports.{false≢true, lookup, none-some}
 use Rattle.ternary.specs.Exports.{word_eq}
 use Rattle.switch_table.specs.Exports.{AreNamed, IsNamed, SlotPair, equal_keys, is_live, killed}
 use Rattle.switch_table.specs.declared.key.CacheKey.{CacheKey}
@@ -9,8 +9,7 @@ named_at : (n : ℕ) (slots : List SlotPair) (at : ℕ) (slot : SlotPair) → Ar
     slice_get slots at ≡ Some slot → IsNamed (n + at) slot
 unfolding AreNamed
 named_at n [] at slot named there = absurd (none-some slot there)
-named_at n (x ∷ xs) zero slot named there = let same : n ≡ n + 0 = omega arith in
-    subst (λ p. IsNamed p slot) same (subst (IsNamed n) (same_Some x slot there) named.0)
+named_at n (x ∷ xs) zero slot named there = search rules
 named_at n (x ∷ xs) (suc at) slot named there = let same : suc n + at ≡ n + suc at = omega arith in
     subst (λ p. IsNamed p slot) same (named_at (suc n) xs at slot named.1 there)
 
@@ -18,8 +17,7 @@ pub named_set : (n : ℕ) (slots : List SlotPair) (at : ℕ) (slot : SlotPair) �
     IsNamed (n + at) slot → AreNamed n (set slots at slot)
 unfolding AreNamed
 named_set n [] at slot named is = tt
-named_set n (x ∷ xs) zero slot named is =
-    let same : n + 0 ≡ n = omega arith in (subst (λ p. IsNamed p slot) same is, named.1)
+named_set n (x ∷ xs) zero slot named is = search rules
 named_set n (x ∷ xs) (suc at) slot named is = let same : n + suc at ≡ suc n + at = omega arith in
     (named.0, named_set (suc n) xs at slot named.1 (subst (λ p. IsNamed p slot) same is))
 

@@ -1,6 +1,6 @@
 -- Live slots among dead ones: their counts and keys, and what a push, a new key and a sweep leave.
-use Rattle.std.proofs.Common.{[], ◌++◌, ◌+◌, ◌<◌, ◌^◌, ◌||◌, ◌∙◌, ◌∷◌, ◌≡◌, ◌≤◌, Bool, IfSome, List, None, Option, Some, ap, arith, cond, eq-eqb, eqb, eqb-true, false, filter, get_or, length, length-append, length-take-le, not, option_map, position, refl, replicate, set, slice_get, subst, suc, swap_remove, sym, take, true, zero, ℕ}
-use Rattle.base.proofs.Exports.{AllByRecursion, IsDistinct, and_from, and_parts, cons_option, count_by-le-length, filter_map-append, get_or-map, get_or_append_left, get_or_from_slice_get, keys_of, length-filter, length-map, length_push, lookup, map_push, none-some, position_or_len, put_last, same_Some, slice_get-get_or, slice_get-map, slice_get_within, take-append-le, take-map, values_of}
+use Rattle.std.proofs.Common.{[], ◌++◌, ◌<◌, ◌^◌, ◌∙◌, ◌∷◌, ◌≡◌, ◌≤◌, Bool, IfSome, List, None, Option, Some, ap, arith, cond, eqb-true, false, filter, get_or, length, length-append, length-take-le, not, option_map, position, refl, replicate, set, slice_get, subst, suc, swap_remove, sym, take, true, zero, ℕ, rules}
+use Rattle.base.proofs.Exports.{AllByRecursion, IsDistinct, cons_option, count_by-le-length, filter_map-append, get_or-map, get_or_append_left, get_or_from_slice_get, keys_of, length-filter, length-map, length_push, lookup, map_push, none-some, position_or_len, put_last, same_Some, slice_get-get_or, slice_get-map, slice_get_within, take-append-le, take-map, values_of}
 use Rattle.indexmap.proofs.MapLemmas.{Found-position}
 use Rattle.ternary.specs.Exports.{WordValue, word_eq}
 use Rattle.switch_table.specs.Exports.{AreCounts, AreNamed, AreSlots, CountPlaces, HaveOwnKeys, Pair, SlotPair, count_set, equal_keys, flags_of, has_key, is_live, live_pair, live_pairs}
@@ -12,24 +12,12 @@ use Rattle.switch_table.proofs.SlotKeyLemmas.{named_pushed}
 
 -- ---- keys
 
-pub equal_keys_itself : (key : CacheKey) → equal_keys key key ≡ true
-unfolding equal_keys
-equal_keys_itself key = and_from (eqb key.number key.number) (word_eq key.word key.word)
-    (eq-eqb _ _ refl) (and_from (eqb key.word.value key.word.value)
-    (eqb key.word.mask key.word.mask) (eq-eqb _ _ refl) (eq-eqb _ _ refl))
-
 words_same : (a b : WordValue) → word_eq a b ≡ true → a ≡ b
-words_same a b is =
-    let parts = and_parts (eqb a.value b.value) (eqb a.mask b.mask) is in
-    let values = eqb-true a.value b.value parts.0 in
-    let masks = eqb-true a.mask b.mask parts.1 in λ i. record { value = values i; mask = masks i }
+words_same a b is = search (rules, eqb-true)
 
 pub equal_keys_same : (a b : CacheKey) → equal_keys a b ≡ true → a ≡ b
 unfolding equal_keys
-equal_keys_same a b is =
-    let parts = and_parts (eqb a.number b.number) (word_eq a.word b.word) is in
-    let words = words_same a.word b.word parts.1 in
-    λ i. record { number = (eqb-true a.number b.number parts.0) i; word = words i }
+equal_keys_same a b is = search (rules, words_same, eqb-true)
 
 -- ---- counts and keys of live slots
 
@@ -59,11 +47,7 @@ AreApart key keys = AllByRecursion (λ other. equal_keys key other ≡ false) ke
 apart_live : (key : CacheKey) (slots : List SlotPair) → AreApart key (keys_of slots) →
     AreApart key (keys_of (live_pairs slots))
 apart_live key [] apart = apart
-apart_live key (slot ∷ slots) apart = by_case slot.1.is_live (apart_live key slots apart.1) where
-  by_case : (live : Bool) → AreApart key (keys_of (live_pairs slots)) →
-      AreApart key (keys_of (with_slot live slot (live_pairs slots)))
-  by_case true rest = (apart.0, rest)
-  by_case false rest = rest
+apart_live key (slot ∷ slots) apart = search (rules, apart_live key slots apart.1)
 
 pub distinct_live : (slots : List SlotPair) → IsDistinct equal_keys (keys_of slots) →
     HaveOwnKeys (live_pairs slots)
@@ -81,16 +65,7 @@ distinct_live (slot ∷ slots) distinct = by_case slot.1.is_live (distinct_live 
 pub absent_live : (key : CacheKey) (slots : List SlotPair) →
     lookup (equal_keys key) slots ≡ None → has_key key (live_pairs slots) ≡ false
 absent_live key [] none = refl
-absent_live key (slot ∷ slots) none =
-    by_case (equal_keys key slot.0) slot.1.is_live refl none (absent_live key slots)
-  where
-    by_case : (here live : Bool) → equal_keys key slot.0 ≡ here →
-        cond here (Some slot.1) (lookup (equal_keys key) slots) ≡ None →
-        (lookup (equal_keys key) slots ≡ None → has_key key (live_pairs slots) ≡ false) →
-        has_key key (with_slot live slot (live_pairs slots)) ≡ false
-    by_case true live is gone rest = absurd (none-some slot.1 (sym gone))
-    by_case false true is gone rest = ap (λ b. b || has_key key (live_pairs slots)) is ∙ rest gone
-    by_case false false is gone rest = rest gone
+absent_live key (slot ∷ slots) none = search (rules, none-some, absent_live key slots)
 
 apart_absent : (key : CacheKey) (slots : List SlotPair) → AreApart key (keys_of slots) →
     lookup (equal_keys key) slots ≡ None
@@ -129,29 +104,7 @@ first_found : (key : CacheKey) (slots : List SlotPair) →
     position_or_len (equal_keys key) (keys_of slots) < length slots →
     IsFound key (position_or_len (equal_keys key) (keys_of slots)) slots
 first_found key [] within = absurd (omega arith)
-first_found key (slot ∷ slots) within =
-    by_case (equal_keys key slot.0) refl within (first_found key slots)
-  where
-    later : ℕ
-    later = position_or_len (equal_keys key) (keys_of slots)
-
-    by_case : (here : Bool) → equal_keys key slot.0 ≡ here → cond (not here) (1 + later) 0
-        < length (slot ∷ slots) → (later < length slots → IsFound key later slots)
-        → IsFound key (cond (not here) (1 + later) 0) (slot ∷ slots)
-    by_case true is less rest = record {
-      pair = slot;
-      at = refl;
-      passes = is;
-      value = ap (λ b. cond b (Some slot.1) (lookup (equal_keys key) slots)) is;
-    }
-    by_case false is less rest =
-        let found = rest (omega (arith, less)) in
-        let next : 1 + later ≡ suc later = omega arith in record {
-          pair = found.pair;
-          at = ap (slice_get (slot ∷ slots)) next ∙ found.at;
-          passes = found.passes;
-          value = ap (λ b. cond b (Some slot.1) (lookup (equal_keys key) slots)) is ∙ found.value;
-        }
+first_found key (slot ∷ slots) within = search (rules, first_found key slots)
 
 pub found_at : (key : CacheKey) (place : ℕ) (slots : List SlotPair) →
     position (equal_keys key) (keys_of slots) ≡ Some place → IsFound key place slots
@@ -163,9 +116,7 @@ found_at key place slots is = let found = Found-position (equal_keys key) slots 
 pub found_dead : (key : CacheKey) (place : ℕ) (slots : List SlotPair) →
     IsFound key place slots → IsDistinct equal_keys (keys_of slots) →
     has_key key (live_pairs slots) ≡ false → slice_get (flags_of slots) place ≡ Some false
-found_dead key place slots found distinct absent =
-    slice_get-map is_live slots place ∙ ap (option_map is_live) found.at
-    ∙ ap Some (sym (found_live key slots found.pair.1 distinct found.value) ∙ absent)
+found_dead key place slots found distinct absent = search (rules, slice_get-map, found_live)
 
 -- ---- another key for a dead slot
 
@@ -250,44 +201,22 @@ same_flags live first old new same named are =
 -- the same slots under other counts
 pub with_counts : (live more : LiveCounts) (first : ℕ) (slots : List SlotPair) →
     AreSlots live first slots → AreCounts more (flags_of slots) → AreSlots more first slots
-with_counts live more first slots are counts = record {
-  within = are.within;
-  dead = are.dead;
-  counted = counts;
-  named = are.named;
-}
+with_counts live more first slots are counts = search rules
 
 -- ---- a sweep
 
 pub swept_pairs : (slots : List SlotPair) → live_pairs (filter is_live slots) ≡ live_pairs slots
 swept_pairs [] = refl
-swept_pairs (slot ∷ slots) = by_case slot.1.is_live refl (swept_pairs slots) where
-  by_case : (live : Bool) → slot.1.is_live ≡ live →
-      live_pairs (filter is_live slots) ≡ live_pairs slots →
-      live_pairs (cond live (slot ∷ filter is_live slots) (filter is_live slots))
-      ≡ with_slot live slot (live_pairs slots)
-  by_case true is rest = cc (is, rest)
-  by_case false is rest = rest
+swept_pairs (slot ∷ slots) = search (rules, swept_pairs slots)
 
 pub swept_flags : (slots : List SlotPair) →
     flags_of (filter is_live slots) ≡ replicate (length (filter is_live slots)) true
 swept_flags [] = refl
-swept_flags (slot ∷ slots) = by_case slot.1.is_live refl (swept_flags slots) where
-  by_case : (live : Bool) → slot.1.is_live ≡ live →
-      flags_of (filter is_live slots) ≡ replicate (length (filter is_live slots)) true →
-      flags_of (cond live (slot ∷ filter is_live slots) (filter is_live slots))
-      ≡ replicate (length (cond live (slot ∷ filter is_live slots) (filter is_live slots))) true
-  by_case true is rest = λ i. is i ∷ rest i
-  by_case false is rest = rest
+swept_flags (slot ∷ slots) = search (rules, swept_flags slots)
 
 pub swept_slots : (live : LiveCounts) (slots : List SlotPair) → AreCounts live (flags_of slots) →
     AreNamed 0 slots → AreSlots live 0 slots
-swept_slots live slots are named = record {
-  within = omega arith;
-  dead = λ k d less. absurd (omega (arith, less, length-take-le 0 slots (omega arith)));
-  counted = are;
-  named = named;
-}
+swept_slots live slots are named = search (rules, length-take-le)
 
 pub room_of : (live : LiveCounts) (slots : List SlotPair) (places : ℕ) →
     AreCounts live (flags_of slots) → places ≤ length slots → CountPlaces live places
@@ -299,17 +228,11 @@ room_of live slots places are within =
 pub pushed_pairs : (slots : List SlotPair) (key : CacheKey) (learnt : Learnt) →
     live_pairs (slots ++ (key, record { learnt = learnt; is_live = true }) ∷ [])
     ≡ live_pairs slots ++ (key, learnt) ∷ []
-pushed_pairs slots key learnt = filter_map-append live_pair slots
-    ((key, record { learnt = learnt; is_live = true }) ∷ [])
+pushed_pairs slots key learnt = search (rules, filter_map-append)
 
 pub pushed_slots : (live more : LiveCounts) (first : ℕ) (slots : List SlotPair) (key : CacheKey)
     (learnt : Learnt) → AreSlots live first slots →
     AreCounts more (flags_of slots ++ true ∷ []) → key.number < 2 ^ 33 →
     AreSlots more first (slots ++ (key, record { learnt = learnt; is_live = true }) ∷ [])
 pushed_slots live more first slots key learnt are counts small =
-    let slot : SlotPair = (key, record { learnt = learnt; is_live = true }) in record {
-      within = omega (arith, are.within, length_push slots slot);
-      dead = rw (take-append-le first slots (slot ∷ []) are.within) are.dead;
-      counted = subst (AreCounts more) (sym (map_push is_live slots slot)) counts;
-      named = named_pushed 0 slots slot are.named small;
-    }
+    search (rules, length_push, take-append-le, map_push, named_pushed)

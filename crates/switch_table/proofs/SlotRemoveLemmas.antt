@@ -1,6 +1,6 @@
 -- Where the live slots stand, and what is left once one of them is dead or only some are kept.
-use Rattle.std.proofs.Common.{[], ◌&&◌, ◌*◌, ◌+◌, ◌<◌, ◌∙◌, ◌∷◌, ◌≡◌, ◌≤◌, ◌⊎◌, All, Bool, IsFalse, List, None, Option, Some, ap, arith, cond, drop, false, filter, get_or, inl, inr, length, length-set, map, option_map, refl, remove, replicate, set, slice_get, subst, suc, sym, take, true, zero, ℕ}
-use Rattle.base.proofs.Exports.{All-cons, All-head, All-nil, All-tail, and_parts, cons_option, none-some, same_Some, slice_get-get_or, slice_get-map, slice_get_within, sum_by-cons, sum_by-take-drop, sum_by-take-le, take-map, values_of}
+use Rattle.std.proofs.Common.{[], ◌&&◌, ◌*◌, ◌+◌, ◌<◌, ◌∙◌, ◌∷◌, ◌≡◌, ◌≤◌, ◌⊎◌, All, Bool, IsFalse, List, None, Some, ap, arith, cond, drop, false, filter, get_or, inl, inr, length, length-set, map, option_map, refl, remove, replicate, set, slice_get, subst, suc, sym, take, true, zero, ℕ, rules}
+use Rattle.base.proofs.Exports.{All-cons, All-head, All-nil, All-tail, cons_option, none-some, slice_get-get_or, slice_get-map, slice_get_within, sum_by-cons, sum_by-take-drop, sum_by-take-le, take-map, values_of}
 use Rattle.indexmap.specs.Layout.{set_value_at}
 use Rattle.switch_table.specs.Exports.{AreCounts, AreNamed, AreSlots, IsNthSet, Pair, SlotPair, count_set, flags_of, is_live, killed, live_pair, live_pairs}
 use Rattle.switch_table.specs.declared.key.CacheKey.{CacheKey}
@@ -27,10 +27,8 @@ flags_values (slot ∷ slots) = ap (λ flags. is_live slot ∷ flags) (flags_val
 pub nth_here : (slots : List Slot) (before left place : ℕ) (d : Slot) → place < length slots
     → (get_or slots place d).is_live ≡ true → count_set (map flag_of (take place slots)) + left
     ≡ before → left ≡ 0 → IsNthSet before place (map flag_of slots)
-nth_here slots before left place d within live counted none = record {
-  is_set = cc (slice_get-map flag_of slots place, slice_get-get_or slots place d within, live);
-  earlier = ap count_set (take-map flag_of place slots) ∙ omega (arith, counted, none);
-}
+nth_here slots before left place d within live counted none =
+    search (rules, slice_get-map, slice_get-get_or, take-map)
 
 slice_get_behind : (start at : ℕ) (flags : List Bool) →
     slice_get flags (start + at) ≡ slice_get (drop start flags) at
@@ -47,10 +45,7 @@ pub record IsStart (start left before : ℕ) (flags : List Bool) : Type 0 where
 
 pub nth_behind : (start left before at : ℕ) (flags : List Bool) → IsStart start left before flags →
     IsNthSet left at (drop start flags) → IsNthSet before (start + at) flags
-nth_behind start left before at flags begins nth = record {
-  is_set = slice_get_behind start at flags ∙ nth.is_set;
-  earlier = count_both start at flags ∙ omega (arith, begins.past, nth.earlier);
-}
+nth_behind start left before at flags begins nth = search (rules, slice_get_behind, count_both)
 
 abbrev pub IsDead : SlotPair → Type 0
 IsDead slot = IsFalse (is_live slot)
@@ -114,8 +109,7 @@ live_at : (slots : List SlotPair) (at : ℕ) (slot : SlotPair) → slice_get slo
     → slot.1.is_live ≡ true → slice_get (live_pairs slots) (count_set (take at (flags_of slots)))
     ≡ Some (slot.0, slot.1.learnt)
 live_at [] at slot there live = absurd (none-some slot there)
-live_at (x ∷ xs) zero slot there live = ap (λ o. slice_get (cons_option o (live_pairs xs)) 0)
-    (ap live_pair (same_Some x slot there) ∙ pair_of_live slot live)
+live_at (x ∷ xs) zero slot there live = search (rules, pair_of_live)
 live_at (x ∷ xs) (suc at) slot there live =
     ap (slice_get (live_pairs (x ∷ xs))) (count_cons (is_live x) (take at (flags_of xs)))
     ∙ by_case (is_live x) (live_at xs at slot there live)
@@ -141,8 +135,7 @@ live_killed : (slots : List SlotPair) (at : ℕ) (slot : SlotPair) → slice_get
     → slot.1.is_live ≡ true → live_pairs (set slots at (killed slot))
     ≡ remove (live_pairs slots) (count_set (take at (flags_of slots)))
 live_killed [] at slot there live = absurd (none-some slot there)
-live_killed (x ∷ xs) zero slot there live = sym (ap (λ o. remove (cons_option o (live_pairs xs)) 0)
-    (ap live_pair (same_Some x slot there) ∙ pair_of_live slot live))
+live_killed (x ∷ xs) zero slot there live = search (rules, pair_of_live)
 live_killed (x ∷ xs) (suc at) slot there live =
     by_case (is_live x) (live_killed xs at slot there live)
     ∙ ap (remove (live_pairs (x ∷ xs))) (sym (count_cons (is_live x) (take at (flags_of xs))))
@@ -192,51 +185,18 @@ module _ (test : CacheKey → Bool) where
   pub kept_pairs : (slots : List SlotPair) →
       live_pairs (filter is_kept slots) ≡ filter (λ pair. test pair.0) (live_pairs slots)
   kept_pairs [] = refl
-  kept_pairs (x ∷ xs) = by_case (is_live x) (test x.0) refl refl (kept_pairs xs) where
-    kept : List SlotPair
-    kept = filter is_kept xs
-
-    first : Pair
-    first = (x.0, x.1.learnt)
-
-    rest : List Pair
-    rest = filter passes (live_pairs xs)
-
-    by_case : (a b : Bool) → is_live x ≡ a → test x.0 ≡ b → live_pairs kept ≡ rest →
-        live_pairs (cond (a && b) (x ∷ kept) kept)
-        ≡ filter passes (cons_option (cond a (Some first) None) (live_pairs xs))
-    by_case true true live there same = cc (pair_of_live x live, same, there)
-    by_case true false live gone same = same ∙ sym (ap (λ b. cond b (first ∷ rest) rest) gone)
-    by_case false b dead _ same = same
+  kept_pairs (x ∷ xs) = search (rules, pair_of_live, kept_pairs xs)
 
   kept_flags : (slots : List SlotPair) →
       flags_of (filter is_kept slots) ≡ replicate (length (filter is_kept slots)) true
   kept_flags [] = refl
-  kept_flags (x ∷ xs) = by_case (is_live x) (test x.0) refl (kept_flags xs) where
-    kept : List SlotPair
-    kept = filter is_kept xs
-
-    by_case : (a b : Bool) → is_live x ≡ a → flags_of kept ≡ replicate (length kept) true →
-        flags_of (cond (a && b) (x ∷ kept) kept)
-        ≡ replicate (length (cond (a && b) (x ∷ kept) kept)) true
-    by_case true true live same = λ i. live i ∷ same i
-    by_case true false live same = same
-    by_case false b live same = same
+  kept_flags (x ∷ xs) = search (rules, kept_flags xs)
 
   -- all of these are live
   pub kept_slots : (live : LiveCounts) (slots new : List SlotPair) (count : ℕ) →
       new ≡ filter is_kept slots → count ≡ length new → AreCounts live (replicate count true) →
       AreNamed 0 slots → AreSlots live 0 new
-  kept_slots live slots new count made long counted named =
-      let flags : replicate count true ≡ flags_of new =
-      ap (λ n. replicate n true) (long ∙ ap length made)
-      ∙ sym (kept_flags slots) ∙ ap flags_of (sym made) in record {
-        within = omega arith;
-        dead = All-nil IsDead;
-        counted = subst (AreCounts live) flags counted;
-        named = subst (AreNamed 0) (sym made) (named_kept is_kept
-            (λ slot is. (and_parts (is_live slot) (test slot.0) is).0) 0 0 slots named);
-      }
+  kept_slots live slots new count made long counted named = search (rules, kept_flags, named_kept)
 
 -- the slots past the dead ones at the front have all that live
 pub past_dead : (first : ℕ) (slots : List SlotPair) → All IsDead (take first slots) →
@@ -255,26 +215,17 @@ pub set_at_killed : (slots : List SlotPair) (at : ℕ) (slot : SlotPair) (value 
     Some value ≡ slice_get (values_of slots) at → slice_get slots at ≡ Some slot →
     set_value_at slots at (record value { is_live = false }) ≡ set slots at (killed slot)
 set_at_killed [] at slot value is there = refl
-set_at_killed (x ∷ xs) zero slot value is there = let held = same_Some value x.1 is in
-    (λ i. (x.0, record (held i) { is_live = false }) ∷ xs)
-    ∙ ap (λ s. killed s ∷ xs) (same_Some x slot there)
+set_at_killed (x ∷ xs) zero slot value is there = search rules
 set_at_killed (x ∷ xs) (suc at) slot value is there = cc (set_at_killed xs at slot value is there)
 
 -- the slot there is live
 live_there : (slots : List SlotPair) (before at : ℕ) (slot : SlotPair)
     → IsNthSet before at (flags_of slots) → slice_get slots at ≡ Some slot → slot.1.is_live ≡ true
-live_there slots before at slot nth there = same_Some (is_live slot) true
-    (sym (ap (option_map is_live) there) ∙ sym (slice_get-map is_live slots at) ∙ nth.is_set)
+live_there slots before at slot nth there = search (rules, slice_get-map)
 
 nth_slot : (slots : List SlotPair) (before at : ℕ) → IsNthSet before at (flags_of slots) →
     (slot : SlotPair) × (slice_get slots at ≡ Some slot)
-nth_slot slots before at nth =
-    by_case (slice_get slots at) (sym (slice_get-map is_live slots at) ∙ nth.is_set)
-  where
-    by_case : (o : Option SlotPair) → option_map is_live o ≡ Some true →
-        (slot : SlotPair) × (o ≡ Some slot)
-    by_case None is = absurd (none-some true is)
-    by_case (Some slot) is = (slot, refl)
+nth_slot slots before at nth = search (rules, slice_get-map, none-some)
 
 -- what stands there is the pair in that place
 pub nth_pair : (slots : List SlotPair) (before at : ℕ) → IsNthSet before at (flags_of slots) →

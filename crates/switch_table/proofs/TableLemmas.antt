@@ -1,5 +1,5 @@
 -- Plans and their tables: where a header lies, and where its rules stand.
-use Rattle.std.proofs.Common.{[], ◌<◌, ◌^◌, ◌∙◌, ◌≡◌, ◌≢◌, All, AllPairs, Bool, Contains, IfSome, IsSome, List, None, Option, Some, ap, arith, cond, count_by, eq-eqb, eqb, false, filter, find, get_or, length, map, option_and_then, option_map, position, refl, slice_get, subst, sym, true, unwrap_or, ℕ}
+use Rattle.std.proofs.Common.{[], ◌<◌, ◌^◌, ◌∙◌, ◌≡◌, ◌≢◌, All, AllPairs, Bool, Contains, IfSome, IsSome, List, None, Option, Some, ap, arith, cond, count_by, eq-eqb, eqb, false, filter, find, get_or, length, map, option_and_then, option_map, position, refl, slice_get, subst, sym, true, unwrap_or, ℕ, rules}
 use Rattle.base.proofs.Exports.{All-contains, All-contains_itself, All-filter, All-map, All-weaker, AllPairs-filter, AllPairs-map, Contains-map, count_by-map, find-filter, find-map, find-position, find-there, find_ends, get_or-map, get_or_default, length-map, list_any, list_any-from_Any, option_map_or, position-Some, position-map, slice_get-get_or, slice_get-map, some_from_count}
 use Rattle.five_tuple.specs.Exports.{IsHeader, number_of}
 use Rattle.five_tuple.specs.declared.header.Header.{Header}
@@ -7,7 +7,6 @@ use Rattle.ternary.proofs.CallerLemmas.{covers_held}
 use Rattle.policy_rules.specs.Exports.{ArePartsNumbered, AreSoundPartitions, LastCovers, first_rule, hit_of_rule, is_held, is_in, scan}
 use Rattle.policy_rules.specs.declared.policy.Row.{Row}
 use Rattle.policy_rules.specs.declared.rules.Partition.{Partition}
-use Rattle.policy_rules.specs.declared.rules.Rule.{Rule}
 use Rattle.switch_table.specs.Exports.{AllDecide, AreSoundTables, DecidesAll, FindsFirstMatch, Hosted, LeadsToFirstMatch, authority_of, has_target, lookup_in, part_of, plan_lookup, redirect_of, row_has, row_of, table_lookup, tables_of}
 use Rattle.switch_table.specs.declared.tables.PartRow.{PartRow}
 use Rattle.switch_table.specs.declared.tables.Tables.{Tables}
@@ -93,9 +92,7 @@ lookup_at rows plan version switch header hosted sound is at =
 row_targets : (rows : List Row) (plan : List Hosted) (header : Header) (hosted : Hosted)
     → IsAt rows plan header hosted → option_map_or (λ (row : PartRow). row.targets)
     (find (row_has header) (map row_of plan)) [] ≡ hosted.1
-row_targets rows plan header hosted at =
-    ap (λ row. option_map_or (λ (r : PartRow). r.targets) row [])
-    (find-map (row_has header) row_of plan ∙ ap (option_map row_of) at.found)
+row_targets rows plan header hosted at = search (rules, find-map)
 
 pub tables_lead : (rows : List Row) (plan : List Hosted) (version switch : ℕ) (header : Header)
     → AreSoundPartitions rows (map part_of plan) → All (λ hosted. 0 < length hosted.1) plan
@@ -197,11 +194,7 @@ numbers_differ plan numbers = λ i j d less within same.
 
 -- where the last rule covers the region, some rule decides each header of it
 pub decides_all : (part : Partition) → LastCovers part → DecidesAll part
-decides_all part ends header is inside =
-    let last : Rule = ends.1 in
-    let number = number_of header in
-    rw ends.2 (find_ends (is_held number) ends.0 last
-    (covers_held last.word part.region number ends.3 inside))
+decides_all part ends header is inside = search (rules, find_ends, covers_held)
 
 pub auth_decides : (tables : Tables) → AreSoundTables tables → All DecidesAll tables.auth
 auth_decides tables sound = All-weaker LastCovers DecidesAll decides_all tables.auth sound.covers
@@ -239,31 +232,17 @@ pub record IsRow (header : Header) (rows : List PartRow) (place : ℕ) : Type 0 
 
 pub row_there : (header : Header) (rows : List PartRow) → count_by (row_has header) rows ≡ 1
     → IsSome (position (row_has header) rows)
-row_there header rows one = by_case (position (row_has header) rows)
-    (find-position (row_has header) rows) (some_from_count (row_has header) rows one)
-  where
-    by_case : (place : Option ℕ) → option_and_then (slice_get rows) place ≡ find (row_has header)
-        rows → (row : PartRow) × (find (row_has header) rows ≡ Some row) → IsSome place
-    by_case (Some place) leads some = refl
-    by_case None leads some = let clash : None ≡ Some some.0 = leads ∙ some.1 in absurd (cc)
+row_there header rows one = search (rules, find-position, some_from_count)
 
 pub row_at : (header : Header) (rows : List PartRow) (place : ℕ) (d : PartRow)
     → position (row_has header) rows ≡ Some place → IsRow header rows place
-row_at header rows place d is =
-    let within = (position-Some (row_has header) rows place d is).0 in record {
-      within = within;
-      targets = λ e. ap (λ row. option_map_or (λ (r : PartRow). r.targets) row [])
-          (sym (find-position (row_has header) rows) ∙ ap (option_and_then (slice_get rows)) is
-          ∙ slice_get-get_or rows place e within);
-    }
+row_at header rows place d is = search (rules, position-Some, find-position, slice_get-get_or)
 
 pub place_fits : (place : Option ℕ) (n : ℕ) → IfSome place (λ p. p < n) → n < 2 ^ 32
     → unwrap_or place 0 < 2 ^ 32
-place_fits None n within few = omega arith
-place_fits (Some place) n within few = omega arith
+place_fits place n within few = search rules
 
 pub own_found : (header : Header) (parts : List Partition) (part : Partition)
     → Some part ≡ find (is_in header) parts → All (λ part. length part.rules < 2 ^ 32) parts
     → length part.rules < 2 ^ 32
-own_found header parts part is few = All-contains (λ p. length p.rules < 2 ^ 32) parts part few
-    (find-there (is_in header) parts part (sym is)).0
+own_found header parts part is few = search (rules, find-there)

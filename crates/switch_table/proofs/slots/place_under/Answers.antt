@@ -1,7 +1,6 @@
-use Rattle.std.proofs.Common.{◌∙◌, ◌≡◌, ap, bit_and, sym, ℕ}
-use Rattle.base.proofs.Exports.{MatchOption-at_some, keys_of, position_or_len}
-use Rattle.ternary.specs.Exports.{WordValue}
-use Rattle.indexmap.proofs.MapLemmas.{Found-position, Missing-position}
+use Rattle.std.proofs.Common.{◌∙◌, ◌≡◌, sym, ℕ, rules}
+use Rattle.base.proofs.Exports.{keys_of, position_or_len}
+use Rattle.indexmap.proofs.MapLemmas.{Missing-position}
 use Rattle.switch_table.specs.Exports.{equal_keys, key_under}
 use Rattle.switch_table.proofs.SlotHitLemmas.{has_live, place_dead, place_live, place_missing, under_is_word}
 use Rattle.switch_table.proofs.slots.place_under.Goals as goal
@@ -16,22 +15,14 @@ under_mask : (c : After-unwrap-word) (place : ℕ) → place ≡ position_or_len
     (record { number = c.args.number; word = c.unwrap-word.result })) c.args.map.now.entries
     → place ≡ position_or_len (has_live (key_under c.args.number c.args.header c.args.mask.now))
     c.args.map.now.entries
-under_mask c place is =
-    let word = MatchOption-at_some _ _ c.unwrap-word.result c.unwrap-word.ensures
-    c.new.ensures.pair in
-    let bits = c.mask-bits.ensures.mask in
-    is ∙ ap (λ (w : WordValue). position_or_len
-    (has_live (record { number = c.args.number; word = w })) c.args.map.now.entries)
-    (word.0 ∙ λ i. record { value = bit_and c.args.header (bits i); mask = bits i })
+under_mask c place is = search rules
 
 -- the map's place of the key
 found_at : (c : In-Some) → position_or_len
     (equal_keys (record { number = c.args.number; word = c.unwrap-word.result }))
     (keys_of c.args.map.now.entries) ≡ c.in-Some.place
 unfolding equal_keys
-found_at c = (Found-position
-    (equal_keys (record { number = c.args.number; word = c.unwrap-word.result }))
-    c.args.map.now.entries c.in-Some.place (sym c.in-Some.ensures.index)).or_len
+found_at c = search rules
 
 pub returns-then-slot : goal.returns-then-slot
 returns-then-slot c = under_mask (goal.at.returns-then-slot c).After-unwrap-word c.in-Some.place

@@ -6,8 +6,7 @@ use Rattle.switch_table.proofs.slots.sweep.Goals as goal
 use Rattle.switch_table.proofs.slots.sweep.Goals.{After-retain}
 
 kept : (c : After-retain) → c.retain.new.self.entries ≡ filter is_live c.args.map.now.entries
-kept c = filter-RetainsPairs _ is_live _
-    (λ k v b w g called. (search rules, search rules, search rules)) _ _ c.retain.ensures.filtered
+kept c = search (rules, filter-RetainsPairs)
 
 pub returns-clause-slots : goal.returns-clause-slots
 returns-clause-slots c = kept (goal.at.returns-clause-slots c).After-retain

@@ -1,17 +1,14 @@
-use Rattle.std.proofs.Common.{◌+◌, ◌-◌, ◌<◌, ◌∙◌, ◌≡◌, All, ap, arith, filter, filter_map, subst, sym}
-use Rattle.switch_table.specs.Exports.{HaveVersions, HoldsEntries, Pair, after_carry, carried_entry, is_carried_key, kept_entries}
+use Rattle.std.proofs.Common.{◌-◌, ◌<◌, ◌∙◌, ◌≡◌, ap, arith, filter_map, subst, sym, rules}
+use Rattle.switch_table.specs.Exports.{HaveVersions, HoldsEntries, after_carry, carried_entry, kept_entries}
 use Rattle.switch_table.proofs.CarryLemmas.{left_few}
-use Rattle.switch_table.proofs.OverLemmas.{IsBelow, below_newest, carried_pairs, masked_carried, pairs_over, up_to_carried, versions_over}
+use Rattle.switch_table.proofs.OverLemmas.{below_newest, carried_pairs, masked_carried, pairs_over, up_to_carried, versions_over}
 use Rattle.switch_table.proofs.PairLemmas.{holds_of}
 use Rattle.switch_table.proofs.cache.Cache.carry.Goals as goal
 use Rattle.switch_table.proofs.cache.Cache.carry.Goals.{After-keep_carried}
 
 kept : (c : After-keep_carried) → c.keep_carried.new.self
     ≡ pairs_over c.self.inside.shift c.args.version c.args.touched.now c.self.inside.slots
-kept c = let lower = c.self.inside.shift - 1 in
-    c.keep_carried.ensures
-    ∙ (λ i. filter (λ (pair : Pair). is_carried_key (c.from.ensures i + lower) c.args.touched.now
-    pair.0) c.self.inside.slots)
+kept c = search rules
 
 -- the shift isn't 0
 some : (c : After-keep_carried) → 0 < c.self.inside.shift
@@ -20,15 +17,7 @@ some c = omega (arith, c.self.invariant.falls, c.if-self-version.true, c.ranges.
 gone_over : (c : After-keep_carried) → let entries = kept_entries c.self.inside.shift c.self.inside.slots in
     kept_entries (c.self.inside.shift - 1) c.keep_carried.new.self
     ≡ filter_map (carried_entry c.args.version c.args.touched.now entries) entries
-gone_over c =
-    let shift = c.self.inside.shift in
-    let version = c.args.version in
-    let entries = kept_entries shift c.self.inside.slots in
-    let below : All (IsBelow version) entries = below_newest version c.self.inside.newest entries
-    (omega (arith, c.if-self-version.true)) c.self.invariant.up_to in
-    ap (kept_entries (shift - 1)) (kept c)
-    ∙ carried_pairs shift version c.args.touched.now entries c.self.inside.slots
-    (some c) c.self.invariant.versions below below
+gone_over c = search (rules, below_newest, carried_pairs)
 
 pub invariant_of-self : goal.invariant_of-self
 invariant_of-self c =

@@ -1,4 +1,4 @@
-use Rattle.std.proofs.Common.{◌+◌, ◌∙◌, ◌≡◌, ap, filter, leb}
+use Rattle.std.proofs.Common.{◌+◌, ◌∙◌, ◌≡◌, ap, filter, leb, rules}
 use Rattle.switch_table.specs.Exports.{Pair, after_raise, kept_entries}
 use Rattle.switch_table.proofs.PairLemmas.{entries_from, holds_from}
 use Rattle.switch_table.proofs.cache.Cache.raise.Goals as goal
@@ -6,8 +6,7 @@ use Rattle.switch_table.proofs.cache.Cache.raise.Goals.{After-keep_from}
 
 kept : (c : After-keep_from) → c.keep_from.new.self ≡ filter (λ (pair : Pair). leb
     (c.args.stamp + c.self.inside.shift) pair.0.number) c.self.inside.slots
-kept c = c.keep_from.ensures ∙ ap (λ stamp. filter (λ (pair : Pair). leb
-    (stamp + c.self.inside.shift) pair.0.number) c.self.inside.slots) c.from.ensures
+kept c = search rules
 
 pub invariant_of-self : goal.invariant_of-self
 invariant_of-self c = rw c.wait_for.ensures (holds_from _ _ _ _ c.args.stamp _ _ c.self.invariant

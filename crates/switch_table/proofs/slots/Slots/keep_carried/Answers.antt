@@ -7,8 +7,7 @@ use Rattle.switch_table.proofs.slots.Slots.keep_carried.Goals.{After-retain}
 
 kept : (c : After-retain) → c.retain.new.self.entries
     ≡ filter (is_kept (is_carried_key c.args.number c.args.touched.now)) c.self.inside.map.entries
-kept c = filter-RetainsPairs _ (is_kept (is_carried_key c.args.number c.args.touched.now)) _
-    (λ k v b w g called. (search rules, search rules, search rules)) _ _ c.retain.ensures.filtered
+kept c = search (rules, filter-RetainsPairs)
 
 pub invariant_of-self : goal.invariant_of-self
 invariant_of-self c = kept_slots (is_carried_key c.args.number c.args.touched.now) c.fill.new.self

@@ -8,8 +8,7 @@ use Rattle.switch_table.proofs.slots.Slots.keep_from.Goals.{After-retain}
 
 kept : (c : After-retain) → c.retain.new.self.entries
     ≡ filter (is_kept (λ (key : CacheKey). leb c.args.number key.number)) c.self.inside.map.entries
-kept c = filter-RetainsPairs _ (is_kept (λ (key : CacheKey). leb c.args.number key.number)) _
-    (λ k v b w g called. (search rules, search rules, search rules)) _ _ c.retain.ensures.filtered
+kept c = search (rules, filter-RetainsPairs)
 
 pub invariant_of-self : goal.invariant_of-self
 invariant_of-self c = kept_slots (λ (key : CacheKey). leb c.args.number key.number) c.fill.new.self

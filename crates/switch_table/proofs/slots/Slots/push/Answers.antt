@@ -1,4 +1,4 @@
-use Rattle.std.proofs.Common.{[], ◌++◌, ◌∙◌, ◌∷◌, ◌≡◌, List, ap, length, subst, sym, true}
+use Rattle.std.proofs.Common.{[], ◌++◌, ◌∙◌, ◌∷◌, ◌≡◌, List, ap, length, subst, sym, true, rules}
 use Rattle.base.proofs.Exports.{length-map}
 use Rattle.indexmap.proofs.CallerLemmas.{insert_entry-new}
 use Rattle.switch_table.specs.Exports.{AreSlots, SlotPair, equal_keys, flags_of, is_live, live_pairs}
@@ -9,8 +9,7 @@ use Rattle.switch_table.proofs.slots.Slots.push.Goals.{In_ok-insert}
 added : (c : In_ok-insert) → c.insert.new.self.entries ≡ c.release_key.new.map.entries
     ++ (c.args.key, record { learnt = c.args.learnt; is_live = true }) ∷ []
 unfolding equal_keys
-added c = c.in_ok-insert.ensures.entries ∙ insert_entry-new _ c.release_key.new.map c.args.key _
-    c.in_ok-release_key.ensures.gone
+added c = search (rules, insert_entry-new)
 
 pub invariant_of-self : goal.invariant_of-self
 invariant_of-self c = c.release_key.ensures.slots c.self.inside.live c.self.inside.first c.self.invariant
