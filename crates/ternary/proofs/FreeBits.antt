@@ -1,9 +1,9 @@
 -- The list of a word's free bits.
-use Rattle.std.proofs.Common.{[], ◌&&◌, ◌+◌, ◌<◌, ◌==◌, ◌↔◌, ◌∙◌, ◌∷◌, ◌≡◌, ◌≢◌, ◌≤◌, All, Bool, Contains, IsFalse, IsTrue, List, ap, arith, cond, false, filter, inl, inr, length, not, refl, subst, suc, sym, true, zero, ℕ}
+use Rattle.std.proofs.Common.{[], ◌&&◌, ◌+◌, ◌<◌, ◌==◌, ◌↔◌, ◌∙◌, ◌∷◌, ◌≡◌, ◌≢◌, ◌≤◌, All, Bool, Contains, IsFalse, IsTrue, List, ap, arith, cond, false, filter, inl, inr, length, not, refl, subst, suc, sym, true, zero, ℕ, rules}
 use Rattle.std.specs.List.{range_with_len}
 use Rattle.std.specs.List.Sorted.{IsStrictlyIncreasing}
 use Rattle.std.proofs.lemmas.Bool.{cases_eq, cond_both, cond-true, eq-eqb, ne_eqb, both_ways, and_right, not-true}
-use Rattle.std.proofs.lemmas.List.Elements.{All-nil, All-cons, All-weaker, All-contains, filter_agree}
+use Rattle.std.proofs.lemmas.List.Elements.{All-nil, All-contains, filter_agree}
 use Rattle.std.proofs.lemmas.List.FromFn.{length-range_with_len, get_or-range_with_len}
 use Rattle.std.proofs.lemmas.List.Kept.{IsStrictlyIncreasing-filter}
 use Rattle.std.proofs.lemmas.Nat.Bits.{bit_at-zero, bit_at_ones}
@@ -32,12 +32,7 @@ IsKept p a n k = (a ≤ k) × (k < a + n) × (p k ≡ true)
 
 all_kept : (p : ℕ → Bool) (a n : ℕ) → All (IsKept p a n) (kept p a n)
 all_kept p a zero = All-nil _
-all_kept p a (suc n) =
-    let rest : All (IsKept p a (suc n)) (kept p (a + 1) n) = All-weaker (IsKept p (a + 1) n)
-    (IsKept p a (suc n)) (λ x h. (omega arith, omega arith, h.2)) _ (all_kept p (a + 1) n) in
-    cond_both (p a) (a ∷ kept p (a + 1) n) (kept p (a + 1) n) (All (IsKept p a (suc n)))
-    (λ passes. All-cons (IsKept p a (suc n)) a _ (omega arith, omega arith, passes) rest)
-    (λ _. rest)
+all_kept p a (suc n) = search (rules, all_kept p (a + 1) n)
 
 Contains-cons : (xs : List ℕ) (y x : ℕ) → Contains xs x → Contains (y ∷ xs) x
 Contains-cons xs y x (i, low, same) = (suc i, omega arith, same)
@@ -58,8 +53,7 @@ weight true = 1
 weight false = 0
 
 length_step : (b : Bool) (x : ℕ) (xs : List ℕ) → length (cond b (x ∷ xs) xs) ≡ weight b + length xs
-length_step true x xs = omega arith
-length_step false x xs = omega arith
+length_step b x xs = search rules
 
 -- two tests that differ at k alone
 module _ (p q : ℕ → Bool) (k : ℕ) (agree : (j : ℕ) → j ≢ k → q j ≡ p j) where
@@ -89,8 +83,7 @@ module _ (p q : ℕ → Bool) (k : ℕ) (agree : (j : ℕ) → j ≢ k → q j �
 
 filter_cond : (q : ℕ → Bool) (b : Bool) (x : ℕ) (xs ys : List ℕ) → filter q xs ≡ ys
     → filter q (cond b (x ∷ xs) xs) ≡ cond (b && q x) (x ∷ ys) ys
-filter_cond q true x xs ys e = ap (λ zs. cond (q x) (x ∷ zs) zs) e
-filter_cond q false x xs ys e = e
+filter_cond q b x xs ys e = search rules
 
 filter_twice : (p q : ℕ → Bool) (xs : List ℕ) → filter q (filter p xs) ≡ filter (λ x. p x && q x) xs
 filter_twice p q [] = refl
@@ -116,8 +109,7 @@ run_rises a n i low = omega (arith, length-range_with_len, get_or-range_with_len
 
 pub free_bits_ascending : (w : WordValue) → IsStrictlyIncreasing (free_bits w)
 unfolding free_bits
-free_bits_ascending w = IsStrictlyIncreasing-filter (is_free w) (range_with_len 0 104)
-    (run_rises 0 104)
+free_bits_ascending w = search (rules, IsStrictlyIncreasing-filter, run_rises)
 
 all_pass : (p : ℕ → Bool) → ((k : ℕ) → p k ≡ true) → (xs : List ℕ) → filter p xs ≡ xs
 all_pass p passes [] = refl
@@ -125,9 +117,7 @@ all_pass p passes (x ∷ xs) = cc (cond-true (p x) _ _ (passes x), all_pass p pa
 
 pub any_free_bits : length (free_bits any_word) ≡ 104
 unfolding free_bits
-any_free_bits = ap length
-    (all_pass (is_free any_word) (λ k. ap not (any_unfixed k)) (range_with_len 0 104))
-    ∙ length-range_with_len 0 104
+any_free_bits = search (rules, all_pass, any_unfixed, length-range_with_len)
 
 -- a list without elements
 empty_list : (xs : List ℕ) → ((x : ℕ) → Contains xs x → ⊥) → xs ≡ []

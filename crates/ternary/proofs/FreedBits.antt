@@ -1,8 +1,8 @@
 -- A freed bit against another word.
-use Rattle.std.proofs.Common.{◌&&◌, ◌==◌, ◌^◌, ◌↔◌, ◌∙◌, ◌≡◌, ◌≢◌, Bool, Decides, IsFalse, IsTrue, inl, inr, not, sym, ℕ}
+use Rattle.std.proofs.Common.{◌&&◌, ◌^◌, ◌↔◌, ◌∙◌, ◌≡◌, ◌≢◌, Bool, Decides, IsFalse, IsTrue, inl, inr, not, sym, ℕ, rules}
 use Rattle.std.specs.Int.{bit_at, from_bool}
 use Rattle.std.specs.Int.Bits.{bit_or}
-use Rattle.std.proofs.lemmas.Bool.Decides.{same_from_decides, Decides-like, Decides-and, Decides-not, Decides-eqb}
+use Rattle.std.proofs.lemmas.Bool.Decides.{same_from_decides, Decides-like, Decides-and, Decides-not}
 use Rattle.std.proofs.lemmas.Nat.Bits.{same_from_bits}
 use Rattle.ternary.specs.Exports.{IsWord, WordValue, agrees_at, covers_of, fix_of, free_of, includes_at, is_fixed_of, meets, with_bit, without_bit}
 use Rattle.ternary.proofs.BitLemmas.{of_part, not_set, by_place, digit_cases, with_bit-same, with_bit-other, without_bit-same, without_bit-other, without_bit-unset, or_pow-same, or_pow-other}
@@ -15,10 +15,7 @@ AgreesAt a b k = (bit_at a.mask k ≡ 1) × (bit_at b.mask k ≡ 1) → bit_at a
 
 agrees_decides : (a b : WordValue) (k : ℕ) → Decides (agrees_at a b k) (AgreesAt a b k)
 unfolding agrees_at
-agrees_decides a b k =
-    implies_decides (is_fixed_of a k && is_fixed_of b k) (bit_at a.value k == bit_at b.value k)
-    (Decides-and _ _ (is_fixed_decides a k) (is_fixed_decides b k))
-    (Decides-eqb (bit_at a.value k) (bit_at b.value k))
+agrees_decides a b k = search (rules, implies_decides, Decides-and, is_fixed_decides)
 
 abbrev IncludesAt : WordValue → WordValue → ℕ → Type 0
 IncludesAt a b k = bit_at a.mask k ≡ 1 → (bit_at b.mask k ≡ 1)
@@ -26,9 +23,7 @@ IncludesAt a b k = bit_at a.mask k ≡ 1 → (bit_at b.mask k ≡ 1)
 
 includes_decides : (a b : WordValue) (k : ℕ) → Decides (includes_at a b k) (IncludesAt a b k)
 unfolding includes_at
-includes_decides a b k = implies_decides (is_fixed_of a k)
-    (is_fixed_of b k && (bit_at b.value k == bit_at a.value k)) (is_fixed_decides a k)
-    (Decides-and _ _ (is_fixed_decides b k) (Decides-eqb (bit_at b.value k) (bit_at a.value k)))
+includes_decides a b k = search (rules, implies_decides, is_fixed_decides, Decides-and)
 
 -- ---- the other bits of two words
 
@@ -64,17 +59,13 @@ module _ (a b : WordValue) (k : ℕ) where
       (covers_decides (free_of a k) b)
 
   pub meets_others : IsTrue (meets (free_of a k) b) ↔ ((j : ℕ) → j ≢ k → IsTrue (agrees_at a b j))
-  meets_others = (
-    λ t j away. (agrees_decides a b j).1 (λ both. freed_meets_decides.0 t j away both.0 both.1),
-    λ bits. freed_meets_decides.1 (λ j away p q. (agrees_decides a b j).0 (bits j away) (p, q)),
-  )
+  unfolding meets agrees_at
+  meets_others = search (rules, agrees_decides, freed_meets_decides)
 
   pub covers_others : IsTrue (covers_of (free_of a k) b)
       ↔ ((j : ℕ) → j ≢ k → IsTrue (includes_at a b j))
-  covers_others = (
-    λ t j away. (includes_decides a b j).1 (freed_covers_decides.0 t j away),
-    λ bits. freed_covers_decides.1 (λ j away. (includes_decides a b j).0 (bits j away)),
-  )
+  unfolding covers_of includes_at
+  covers_others = search (rules, includes_decides, freed_covers_decides)
 
   pub meets_bit : meets a b ≡ (meets (free_of a k) b && agrees_at a b k)
   meets_bit = same_from_decides _ _ (Decides-like _
@@ -138,8 +129,7 @@ module _ (w : WordValue) (w_word : IsWord w) (k : ℕ) where
 
   pub free_unfixed : IsFalse (is_fixed_of w k) → free_of w k ≡ w
   unfolding free_of
-  free_unfixed free = same_word _ _ (without_bit-unset w.value k (unset_value free))
-      (without_bit-unset w.mask k (free_bit w k free))
+  free_unfixed free = search (rules, same_word, without_bit-unset, unset_value, free_bit)
 
   pub free_fix : (one : Bool) → IsFalse (is_fixed_of w k) → free_of (fix_of w k one) k ≡ w
   unfolding free_of fix_of

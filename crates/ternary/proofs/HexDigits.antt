@@ -1,6 +1,6 @@
 -- What `{:010x}` and `{:016x}` write of the parts of a number is what `hex_digits` has of the
 -- whole.
-use Rattle.std.proofs.Common.{[], ◌%◌, ◌*◌, ◌++◌, ◌+◌, ◌-◌, ◌/◌, ◌<◌, ◌==◌, ◌^◌, ◌∙◌, ◌∷◌, ◌≡◌, ◌≤◌, List, ap, append-nil, append_assoc, arith, bit_and, eq-eqb, false, inl, inr, length, length-append, ne_eqb, pow-add, refl, replicate, shr-shr, subst, suc, sym, zero, ℕ}
+use Rattle.std.proofs.Common.{[], ◌%◌, ◌*◌, ◌++◌, ◌+◌, ◌-◌, ◌/◌, ◌<◌, ◌==◌, ◌^◌, ◌∙◌, ◌∷◌, ◌≡◌, ◌≤◌, List, ap, append_assoc, arith, bit_and, eq-eqb, false, inl, inr, length, length-append, ne_eqb, pow-add, refl, replicate, shr-shr, subst, suc, sym, zero, ℕ, rules}
 use Rattle.std.specs.Fmt.{char_count, digit_glyph, digits, digits_onto, padded_integral, format_spec}
 use Rattle.std.proofs.lemmas.Bool.{cases_eq, cond-true, cond-false}
 use Rattle.std.proofs.lemmas.Nat.{and_mask, mod-pow-add}
@@ -15,9 +15,7 @@ last_digit n = digit_glyph false (n % 16) ∷ []
 pub hex_digits-parts : (k j m n : ℕ) → m ≡ k + j
     → hex_digits m n ≡ hex_digits j (n / 2 ^ (4 * k)) ++ hex_digits k (n % 2 ^ (4 * k))
 unfolding hex_digits
-hex_digits-parts zero j m n e =
-    let whole : n / 2 ^ (4 * 0) ≡ n = omega arith in
-    let same : m ≡ j = omega arith in (λ i. hex_digits (same i) (sym whole i)) ∙ sym (append-nil _)
+hex_digits-parts zero j m n e = search rules
 hex_digits-parts (suc k) j zero n e = absurd (omega arith)
 hex_digits-parts (suc k) j (suc m) n e =
     let width : 4 * k + 4 ≡ 4 * suc k = omega arith in
@@ -75,21 +73,12 @@ record IsPadded (k n : ℕ) (ds : List ℕ) : Type 0 where
 
 padded_last : (k n : ℕ) → n / 16 ≡ 0 → IsPadded (suc k) n (last_digit n)
 unfolding hex_digits
-padded_last k n one = record {
-  short = omega arith;
-  same = ap (λ ds. ds ++ last_digit n)
-      (ap zeros (omega arith) ∙ zeros_are k ∙ ap (hex_digits k) (sym one));
-}
+padded_last k n one = search (rules, zeros_are)
 
 padded_more : (k n : ℕ) (ds : List ℕ) → IsPadded k (n / 16) ds
     → IsPadded (suc k) n (ds ++ last_digit n)
 unfolding hex_digits
-padded_more k n ds padded = let longer = length-append ds (last_digit n) in record {
-  short = omega (arith, longer, padded.short);
-  same = ap (λ z. zeros z ++ (ds ++ last_digit n)) (omega (arith, longer))
-      ∙ sym (append_assoc (zeros (k - length ds)) ds (last_digit n))
-      ∙ ap (λ text. text ++ last_digit n) padded.same;
-}
+padded_more k n ds padded = search (rules, length-append, append_assoc)
 
 shown_padded : (most k n : ℕ) → 0 < k → k ≤ most → n < 2 ^ (4 * k) → IsPadded k n (shown most n)
 shown_padded zero k n some within fits = absurd (omega arith)
@@ -113,8 +102,7 @@ shown_padded (suc most) (suc k) n some within fits =
 filled : (k : ℕ) (ds : List ℕ) → padded_integral (format_spec 32 0 4 k (2 ^ 64 - 1)) false [] ds
     ≡ zeros (k - length ds) ++ ds
 unfolding padded_integral char_count
-filled k ds = let none : k - length ds - 0 - 0 ≡ k - length ds = omega arith in
-    (λ i. zeros (none i) ++ append-nil ds i)
+filled k ds = search rules
 
 shown_are : (n : ℕ) → shown 64 n ≡ digits 16 false n
 unfolding digits

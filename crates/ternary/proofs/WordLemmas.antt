@@ -1,8 +1,8 @@
 -- What holds of all words.
-use Rattle.std.proofs.Common.{◌%◌, ◌&&◌, ◌*◌, ◌-◌, ◌/◌, ◌<◌, ◌==◌, ◌^◌, ◌||◌, ◌↔◌, ◌∙◌, ◌≡◌, ◌≢◌, ◌⊎◌, Bool, Decides, IsFalse, IsNone, IsTrue, None, Option, Some, ap, arith, cond, eqb-true, false, inl, inr, is_some, mod-eq_of_lt, not, option_and_then, refl, subst, sym, true, ℕ}
+use Rattle.std.proofs.Common.{◌%◌, ◌&&◌, ◌*◌, ◌-◌, ◌/◌, ◌<◌, ◌==◌, ◌^◌, ◌||◌, ◌↔◌, ◌∙◌, ◌≡◌, ◌≢◌, ◌⊎◌, Bool, Decides, IsFalse, IsNone, IsTrue, None, Option, Some, ap, arith, cond, eqb-true, false, inl, inr, is_some, mod-eq_of_lt, not, option_and_then, refl, subst, sym, true, ℕ, rules}
 use Rattle.std.specs.Int.{bit_at, from_bool}
 use Rattle.std.specs.Int.Bits.{bit_and, bit_or, and_self, or_comm, or_lt}
-use Rattle.std.proofs.lemmas.Bool.{eq-eqb, cases_Bool, and_parts, and_from, cond-true, cond-false, both_ways, false_from_ne_true, ne_eqb, or_left as either_left, or_right as either_right}
+use Rattle.std.proofs.lemmas.Bool.{eq-eqb, cases_Bool, and_parts, and_from, cond-true, cond-false, both_ways, false_from_ne_true, ne_eqb}
 use Rattle.std.proofs.lemmas.Bool.Decides.{same_from_decides, Decides-like, Decides-and, Decides-or, Decides-eqb}
 use Rattle.std.proofs.lemmas.Nat.{and_assoc, and_le_r, and_mask, pow_below}
 use Rattle.std.proofs.lemmas.Nat.Bits.{bit_at-zero, bit_at_ones, shr_and_one, same_from_bits_below}
@@ -15,9 +15,7 @@ pub same_word : (a b : WordValue) → a.value ≡ b.value → a.mask ≡ b.mask 
 same_word a b p q = λ i. record { value = p i; mask = q i }
 
 pub word_eq_decides : (a b : WordValue) → Decides (word_eq a b) (a ≡ b)
-word_eq_decides a b = Decides-like _ (λ both. same_word a b both.0 both.1)
-    (λ e. (ap (λ (w : WordValue). w.value) e, ap (λ (w : WordValue). w.mask) e))
-    (Decides-and _ _ (Decides-eqb a.value b.value) (Decides-eqb a.mask b.mask))
+word_eq_decides a b = search (rules, Decides-like, same_word, Decides-and)
 
 -- ---- each test, bit by bit
 
@@ -68,20 +66,14 @@ exact_is_word h fits = record { within = and_mask h 104 ∙ mod-eq_of_lt fits; b
 
 pub covers_held : (a b : WordValue) (h : ℕ) → IsTrue (covers_of a b) → IsTrue (holds b h)
     → IsTrue (holds a h)
-covers_held a b h c held =
-    let bits = (holds_decides b h).0 held in
-    let fixed = (covers_decides a b).0 c in
-    (holds_decides a h).1 (λ k p. bits k (fixed k p).0 ∙ (fixed k p).1)
+covers_held a b h c held = search (rules, holds_decides, covers_decides)
 
 pub covers_reflexive : (a : WordValue) → IsTrue (covers_of a a)
 covers_reflexive a = (covers_decides a a).1 (λ k p. (p, refl))
 
 pub covers_transitive : (a b c : WordValue) → IsTrue (covers_of a b) → IsTrue (covers_of b c)
     → IsTrue (covers_of a c)
-covers_transitive a b c ab bc =
-    let f = (covers_decides a b).0 ab in
-    let g = (covers_decides b c).0 bc in
-    (covers_decides a c).1 (λ k p. let q = f k p in let r = g k q.0 in (r.0, r.1 ∙ q.1))
+covers_transitive a b c ab bc = search (rules, covers_decides)
 
 pub covers_antisymmetric : (a b : WordValue) → IsWord a → IsWord b → IsTrue (covers_of a b)
     → IsTrue (covers_of b a) → a ≡ b
@@ -135,16 +127,13 @@ includes_covers a b a_word b_word inside = (covers_decides a b).1
 -- words of the same headers are equal
 pub same_headers : (a b : WordValue) → IsWord a → IsWord b
     → ((h : ℕ) → h < 2 ^ 104 → holds a h ≡ holds b h) → a ≡ b
-same_headers a b a_word b_word same = covers_antisymmetric a b a_word b_word
-    (includes_covers a b a_word b_word (λ h fits held. same h fits ∙ held)) (includes_covers b a
-    b_word a_word (λ h fits held. sym (same h fits) ∙ held))
+same_headers a b a_word b_word same = search (rules, covers_antisymmetric, includes_covers)
 
 -- ---- what is in both
 
 module _ (a b : WordValue) (agree : AgreesOnBoth a b) where
   joined_left : IsFixedIn a (meeting_word a b)
-  joined_left k p =
-      (or_left a.mask b.mask k p, masked_sum-left a.value a.mask b.value b.mask k p (agree k p))
+  joined_left k p = search (rules, or_left, masked_sum-left)
 
   joined_right : IsFixedIn b (meeting_word a b)
   joined_right k q = (
@@ -194,10 +183,7 @@ joined_within a b = part _ _ (λ k s. elim (or_from (fixed_value a) (fixed_value
 ])
 
 joined_word : (a b : WordValue) → IsWord a → IsWord b → IsWord (meeting_word a b)
-joined_word a b a_word b_word = record {
-  within = joined_within a b;
-  bounded = or_lt 104 a.mask b.mask a_word.bounded b_word.bounded;
-}
+joined_word a b a_word b_word = search (rules, joined_within, or_lt)
 
 pub meets_comm : (a b : WordValue) → meets a b ≡ meets b a
 meets_comm a b = same_from_decides _ _ (Decides-like _ (λ bits k p q. sym (bits k q p))
@@ -215,10 +201,7 @@ joined_assoc a b c = same_word _ _ (ap (λ n. bit_or n (fixed_value c)) (joined_
 -- what a covers adds nothing to a word that fixes it
 joined_covered : (a b : WordValue) → IsFixedIn a b
     → meeting_word a b ≡ record { value = fixed_value b; mask = b.mask }
-joined_covered a b fixed = same_word _ _
-    (absorbed _ _ (λ k s. let p = right_set a.value a.mask k s in
-    both_set b.value b.mask k ((fixed k p).1 ∙ left_set a.value a.mask k s) (fixed k p).0))
-    (absorbed _ _ (λ k p. (fixed k p).0))
+joined_covered a b fixed = search (rules, same_word, absorbed, right_set, both_set, left_set)
 
 -- ---- the meet
 
@@ -236,10 +219,7 @@ unfolding meet_of
 apart_none a b f = cond-false (meets a b) _ _ f
 
 pub meet_is_some : (a b : WordValue) → is_some (meet_of a b) ≡ meets a b
-meet_is_some a b = elim (cases_Bool (meets a b)) [
-  | inl t ↦ ap is_some (met_joined a b t) ∙ sym t
-  | inr f ↦ ap is_some (apart_none a b f) ∙ sym f
-]
+meet_is_some a b = search (rules, cases_Bool, met_joined, apart_none)
 
 -- where the meet is none the words do not agree
 pub meet_none : (a b : WordValue) → meet_of a b ≡ None → meets a b ≡ false
@@ -253,8 +233,7 @@ pub meet_word : (a b m : WordValue) → IsWord a → IsWord b → meet_of a b �
 meet_word a b m a_word b_word e = subst IsWord (meet_some a b m e).1 (joined_word a b a_word b_word)
 
 pub held_meets : (a b : WordValue) (h : ℕ) → IsTrue (holds a h) → IsTrue (holds b h) → meets a b ≡ true
-held_meets a b h p q =
-    (meets_decides a b).1 (λ k s t. sym ((holds_decides a h).0 p k s) ∙ (holds_decides b h).0 q k t)
+held_meets a b h p q = search (rules, meets_decides, holds_decides)
 
 pub meet_disjoint : (a b : WordValue) (h : ℕ) → meet_of a b ≡ None
     → (holds a h && holds b h) ≡ false
@@ -266,20 +245,17 @@ unfolding meet_of
 meet_comm a b = λ i. cond (meets_comm a b i) (Some (joined_comm a b i)) None
 
 cond_and : {X : Type 0} (p q : Bool) (x y : X) → cond p (cond q x y) y ≡ cond (p && q) x y
-cond_and true q x y = refl
-cond_and false q x y = refl
+cond_and p q x y = search rules
 
 then_cond : {X Y : Type 0} (f : X → Option Y) (p : Bool) (x : X)
     → option_and_then f (cond p (Some x) None) ≡ cond p (f x) None
-then_cond f true x = refl
-then_cond f false x = refl
+then_cond f p x = search rules
 
 -- the meet of three words, from the left and from the right
 meet_left : (a b c : WordValue) → option_and_then (λ m. meet_of m c) (meet_of a b) ≡ cond
     (meets a b && meets (meeting_word a b) c) (Some (meeting_word (meeting_word a b) c)) None
 unfolding meet_of
-meet_left a b c = then_cond (λ m. meet_of m c) (meets a b) (meeting_word a b)
-    ∙ cond_and (meets a b) _ _ _
+meet_left a b c = search (rules, then_cond, cond_and)
 
 meet_right : (a b c : WordValue) → option_and_then (meet_of a) (meet_of b c) ≡ cond
     (meets b c && meets a (meeting_word b c)) (Some (meeting_word a (meeting_word b c))) None
@@ -340,8 +316,7 @@ meet_within a b m e = and_parts _ _ (sym (meet_greatest a b m m e) ∙ covers_re
 
 -- a word agrees with what it covers, and with less of what that meets
 covers_meets : (a b c : WordValue) → IsTrue (covers_of a b) → meets b c ≡ true → meets a c ≡ true
-covers_meets a b c ab bc = let fixed = (covers_decides a b).0 ab in
-    (meets_decides a c).1 (λ k p q. sym (fixed k p).1 ∙ (meets_decides b c).0 bc k (fixed k p).0 q)
+covers_meets a b c ab bc = search (rules, covers_decides, meets_decides)
 
 meets_itself : (a : WordValue) → meets a a ≡ true
 meets_itself a = (meets_decides a a).1 (λ k p q. refl)
@@ -391,14 +366,12 @@ is_fixed_same v w k e = ap (λ d. d == 1) e
 
 pub implies_decides : {P Q : Type 0} (p q : Bool) → Decides p P → Decides q Q
     → Decides (not p || q) (P → Q)
-implies_decides true q of_p of_q = (λ t _. of_q.0 t, λ f. of_q.1 (f (of_p.0 refl)))
-implies_decides false q of_p of_q = (λ _ x. absurd (both_ways false refl (of_p.1 x)), λ _. refl)
+implies_decides p q of_p of_q = search (rules, both_ways)
 
 admits_decides : (w : WordValue) (k : ℕ) (one : Bool)
     → Decides (admits w k one) (bit_at w.mask k ≡ 1 → bit_at w.value k ≡ from_bool one)
 unfolding admits
-admits_decides w k one = implies_decides (is_fixed_of w k) (bit_at w.value k == from_bool one)
-    (is_fixed_decides w k) (Decides-eqb (bit_at w.value k) (from_bool one))
+admits_decides w k one = search (rules, implies_decides, is_fixed_decides)
 
 -- A word that fixes each of the 104 bits fixes what any word does, so what agrees with it covers
 -- it.
@@ -410,8 +383,7 @@ covers_full a b a_word full agree = (covers_decides a b).1
 
 pub held_admits : (w : WordValue) (k : ℕ) (one : Bool) (h : ℕ) → IsTrue (holds w h)
     → bit_at h k ≡ from_bool one → IsTrue (admits w k one)
-held_admits w k one h held e = (admits_decides w k one).1
-    (λ p. sym ((holds_decides w h).0 held k p) ∙ e)
+held_admits w k one h held e = search (rules, admits_decides, holds_decides)
 
 module _ (w : WordValue) (k : ℕ) (one : Bool) where
   pub fix_fixed : IsTrue (is_fixed_of (fix_of w k one) k)
@@ -451,31 +423,21 @@ module _ (w : WordValue) (k : ℕ) (one : Bool) where
 
     pub fix_within : IsTrue (covers_of w (fix_of w k one))
     unfolding fix_of
-    fix_within = (covers_decides w (fix_of w k one)).1
-        (by_place k (λ j. bit_at w.mask j ≡ 1 → (bit_at (bit_or w.mask (2 ^ k)) j ≡ 1)
-        × (bit_at (with_bit w.value k one) j ≡ bit_at w.value j))
-        (λ p. absurd (free_bit w k free p))
-        (λ j away p. (or_pow-other w.mask k j away ∙ p, with_bit-other w.value k one j away)))
+    fix_within = search (rules, covers_decides, free_bit, or_pow-other, with_bit-other)
 
 -- one of two tests on the halves
 parted : (t x y : Bool) → ((x ≡ true) × (y ≡ false)) ⊎ ((x ≡ false) × (y ≡ true))
     → t ≡ ((t && x) || (t && y))
-parted true x y (inl h) = sym (either_left _ _ h.0)
-parted true x y (inr h) = sym (either_right _ _ h.1)
-parted false x y h = refl
+parted t x y h = search (rules, false)
 
 bit_parts : (h k : ℕ) → (((bit_at h k == from_bool false) ≡ true)
     × ((bit_at h k == from_bool true) ≡ false))
     ⊎ (((bit_at h k == from_bool false) ≡ false) × ((bit_at h k == from_bool true) ≡ true))
-bit_parts h k = elim (digit_cases h k) [
-  | inl zero_bit ↦ inl (eq-eqb _ _ zero_bit, ne_eqb _ _ (zero_not_one _ zero_bit))
-  | inr one_bit ↦ inr (ne_eqb _ _ (λ e. zero_not_one _ e one_bit), eq-eqb _ _ one_bit)
-]
+bit_parts h k = search (rules, digit_cases, eq-eqb, ne_eqb, zero_not_one)
 
 pub halves_split : (w : WordValue) (k h : ℕ) → IsFalse (is_fixed_of w k)
     → holds w h ≡ (holds (fix_of w k false) h || holds (fix_of w k true) h)
-halves_split w k h free = parted (holds w h) _ _ (bit_parts h k)
-    ∙ (λ i. sym (fix_holds w k false free h) i || sym (fix_holds w k true free h) i)
+halves_split w k h free = search (rules, bit_parts, fix_holds)
 
 pub halves_apart : (w : WordValue) (k : ℕ) → meet_of (fix_of w k false) (fix_of w k true) ≡ None
 unfolding fix_of
