@@ -1,5 +1,5 @@
 -- What a change makes of a policy, by cases.
-use Rattle.std.proofs.Common.{[], ◌&&◌, ◌+◌, ◌<◌, ◌||◌, ◌∙◌, ◌∷◌, ◌≡◌, ◌≢◌, ◌≤◌, ◌⊎◌, All, AllPairs, Bool, Contains, Err, List, Ok, Result, ap, arith, cond, count_by, eq-eqb, eqb, false, filter, get_or, inl, inr, le-ltb, length, lt-ltb, ltb, ltb-false, map, not, refl, subst, suc, sym, true, ℕ}
+use Rattle.std.proofs.Common.{[], ◌&&◌, ◌+◌, ◌<◌, ◌||◌, ◌∙◌, ◌∷◌, ◌≡◌, ◌≢◌, ◌≤◌, ◌⊎◌, All, AllPairs, Bool, Contains, Err, List, Ok, Result, ap, arith, cond, count_by, eq-eqb, eqb, false, filter, inl, inr, le-ltb, length, lt-ltb, ltb, ltb-false, map, not, refl, subst, suc, sym, true, ℕ, rules}
 use Rattle.base.proofs.Exports.{All-append, All-cons, All-contains_itself, All-filter, All-nil, All-weaker, AllPairs-append, AllPairs-filter, AllPairs-map, Decides-eqb, IsDistinct, IsDistinct-from_AllPairs, IsIntersection, any-filter_same, any_key, count_by-le-length, exact_unsigned_eq, is_member, length-IsIntersection, length-filter_both, length-map, list_all, list_any, list_any_at, nat_eq_equiv, nat_tests, sum_by-cons}
 use Rattle.policy_rules.specs.declared.policy.Row.{Row}
 use Rattle.policy_rules.specs.Exports.{AddsOnly, HaveDistinctPriorities, IsAmendment, IsPolicy, IsSoundEdit, IsSoundRow, additions, adds_taken, amended_rows, applied, has_priority, removals, removes, removes_absent, staying_rows}
@@ -19,8 +19,7 @@ by_cases : (rows : List Row) (change : List Edit) {absent taken many : Bool} →
     change ≡ absent → adds_taken rows change ≡ taken → ltb 2000 (length (amended_rows rows change))
     ≡ many → applied rows change ≡ outcome absent taken many (amended_rows rows change)
 unfolding applied
-by_cases rows change one two three = λ i. outcome (one i) (two i) (three i)
-    (amended_rows rows change)
+by_cases rows change one two three = search rules
 
 pub is_absent : (rows : List Row) (change : List Edit) → removes_absent rows change ≡ true
     → applied rows change ≡ Err Absent
@@ -91,11 +90,7 @@ additions_sound edits sound = All-additions IsSoundRow edits
 -- no added row has the priority of one that stays
 apart : (staying added : List Row) → list_any (λ row. has_priority staying row.priority) added
     ≡ false → All (λ (x : Row). All (λ (y : Row). x.priority ≢ y.priority) added) staying
-apart staying added free = λ k d within. λ j e inside same.
-    let here = list_any_at (λ (x : Row). eqb x.priority (get_or added j e).priority) staying k d
-    within (eq-eqb _ _ same) in
-    let some = list_any_at (λ (y : Row). has_priority staying y.priority) added j e inside here in
-    cc
+apart staying added free = search (rules, list_any_at, eq-eqb)
 
 pub IsPolicy-amended : (rows : List Row) (change : List Edit) → IsPolicy rows → IsAmendment change
     → adds_taken rows change ≡ false → length (amended_rows rows change) ≤ 2000
@@ -157,13 +152,7 @@ gone_once rows change distinct = IsDistinct-from_AllPairs Decides-eqb (gone_prio
 -- they are those that the policy has, of those that the change removes
 gone_are : (rows : List Row) (change : List Edit)
     → IsIntersection eqb (removals change) (priorities rows) (gone_priorities rows change)
-gone_are rows change q = is_member_is (gone_priorities rows change) q
-    ∙ any_key (λ (row : Row). row.priority) (filter (λ row. removes change row.priority) rows) q
-    ∙ any-filter_same (λ (row : Row). eqb row.priority q) (λ row. removes change row.priority)
-    (removes change q) (λ row same. ap (removes change) (exact_unsigned_eq row.priority q same))
-    rows ∙ ap (λ b. removes change q && b) (sym (any_key (λ (row : Row). row.priority) rows q))
-    ∙ sym (ap (λ b. b && is_member eqb (priorities rows) q) (is_member_is (removals change) q)
-    ∙ ap (λ b. removes change q && b) (is_member_is (priorities rows) q))
+gone_are rows change q = search (rules, is_member_is, any_key, any-filter_same, exact_unsigned_eq)
 
 fewer : (gone staying all removed : ℕ) → gone + staying ≡ all
     → ltb gone removed ≡ ltb all (staying + removed)
@@ -213,16 +202,12 @@ none_passes [] = refl
 none_passes (row ∷ rows) = none_passes rows
 
 one_passes : (a b c d e : Bool) → e ≡ (c || d) → ((a || b) || e) ≡ ((a || c) || (b || d))
-one_passes true b c d e is = refl
-one_passes false true true d e is = refl
-one_passes false true false d e is = refl
-one_passes false false c d e is = is
+one_passes a b c d e is = search rules
 
 passes_either : (p q : Row → Bool) (rows : List Row)
     → list_any (λ row. p row || q row) rows ≡ (list_any p rows || list_any q rows)
 passes_either p q [] = refl
-passes_either p q (row ∷ rows) =
-    one_passes (p row) (q row) (list_any p rows) (list_any q rows) _ (passes_either p q rows)
+passes_either p q (row ∷ rows) = search (rules, one_passes, passes_either p q rows)
 
 -- of two lists a row of the first has the priority of one of the second, or the other way round
 share_priority : (rows others : List Row) → list_any (λ row. has_priority rows row.priority) others

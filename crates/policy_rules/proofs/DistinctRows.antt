@@ -1,14 +1,11 @@
 -- Rows that are sound and of distinct priorities, one row further.
-use Rattle.std.proofs.Common.{[], ◌++◌, ◌+◌, ◌<◌, ◌^◌, ◌||◌, ◌∙◌, ◌∷◌, ◌≡◌, ◌≢◌, ◌≤◌, All, Bool, List, ap, cond, eq-eqb, eqb, false, get_or, length, refl, subst, sym, take, take_all, true, ℕ}
+use Rattle.std.proofs.Common.{[], ◌++◌, ◌+◌, ◌<◌, ◌^◌, ◌||◌, ◌∙◌, ◌∷◌, ◌≡◌, ◌≢◌, ◌≤◌, All, Bool, List, ap, cond, eq-eqb, eqb, false, get_or, length, subst, sym, take, take_all, true, ℕ, rules}
 use Rattle.base.proofs.Exports.{All-more, all_pairs_push, get_or_default, list_any-from_Any, list_any_more, take_more}
 use Rattle.policy_rules.specs.declared.policy.Row.{Row}
 use Rattle.policy_rules.specs.Exports.{HaveDistinctPriorities, IsPolicy, IsSoundRow, has_priority}
 
 or_from_cond : (a b : Bool) → cond a true b ≡ (b || a)
-or_from_cond true true = refl
-or_from_cond true false = refl
-or_from_cond false true = refl
-or_from_cond false false = refl
+or_from_cond a b = search rules
 
 -- one more priority seen
 pub seen_more : (rows : List Row) (i : ℕ) (row : Row) (q : ℕ) → i < length rows

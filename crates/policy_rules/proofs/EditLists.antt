@@ -1,8 +1,8 @@
 -- Edits, one edit further.
-use Rattle.std.proofs.Common.{[], ◌++◌, ◌+◌, ◌<◌, ◌||◌, ◌∙◌, ◌∷◌, ◌≡◌, ◌≢◌, AllPairs, Bool, List, ap, append-nil, arith, cond, drop, eq-eqb, eqb, false, get_or, get_or-take, length, length-take, map, ne_eqb, refl, subst, sym, take, take-append-drop, take-take, true, ℕ}
-use Rattle.base.proofs.Exports.{all_pairs_push, drop_more, filter_map-append, list_any, list_any-append, list_any_at, list_any_none, pairs_before}
+use Rattle.std.proofs.Common.{[], ◌++◌, ◌+◌, ◌<◌, ◌||◌, ◌∙◌, ◌∷◌, ◌≡◌, ◌≢◌, AllPairs, Bool, List, ap, arith, cond, drop, eq-eqb, eqb, false, get_or, get_or-take, length, length-take, map, ne_eqb, refl, subst, sym, take, take-append-drop, take-take, true, ℕ, rules}
+use Rattle.base.proofs.Exports.{all_pairs_push, drop_more, filter_map-append, list_any-append, list_any_at, list_any_none, pairs_before}
 use Rattle.policy_rules.specs.declared.policy.Row.{Row}
-use Rattle.policy_rules.specs.Exports.{AreDistinctEdits, AreSeen, HaveDistinctPriorities, addition, additions, edits_of, has_priority, removal, removals, removes, repeats}
+use Rattle.policy_rules.specs.Exports.{AreDistinctEdits, AreSeen, HaveDistinctPriorities, addition, additions, edits_of, removal, removals, repeats}
 use Rattle.policy_rules.proofs.DistinctRows.{distinct_push}
 use Rattle.policy_rules.specs.declared.amendment.Edit.{Edit}
 use Rattle.policy_rules.specs.declared.amendment.Edit.TheVariants.{Remove, Add}
@@ -14,13 +14,11 @@ removals_remove : (edits : List Edit) (priority : ℕ) → removals (edits ++ Re
 removals_remove edits priority = filter_map-append removal edits (Remove priority ∷ [])
 
 removals_add : (edits : List Edit) (row : Row) → removals (edits ++ Add row ∷ []) ≡ removals edits
-removals_add edits row = filter_map-append removal edits (Add row ∷ [])
-    ∙ append-nil (removals edits)
+removals_add edits row = search (rules, filter_map-append)
 
 additions_remove : (edits : List Edit) (priority : ℕ)
     → additions (edits ++ Remove priority ∷ []) ≡ additions edits
-additions_remove edits priority = filter_map-append addition edits (Remove priority ∷ [])
-    ∙ append-nil (additions edits)
+additions_remove edits priority = search (rules, filter_map-append)
 
 additions_add : (edits : List Edit) (row : Row) → additions (edits ++ Add row ∷ []) ≡ additions
     edits ++ row ∷ []
@@ -46,46 +44,29 @@ added_back (row ∷ added) = ap (λ xs. row ∷ xs) (added_back added)
 
 pub removals_of : (removed : List ℕ) (added : List Row)
     → removals (edits_of removed added) ≡ removed
-removals_of removed added = filter_map-append removal (map Remove removed) (map Add added)
-    ∙ ap (λ xs. xs ++ removals (map Add added)) (removed_back removed)
-    ∙ ap (λ xs. removed ++ xs) (none_removed added) ∙ append-nil removed
+removals_of removed added = search (rules, filter_map-append, removed_back, none_removed)
 
 pub additions_of : (removed : List ℕ) (added : List Row)
     → additions (edits_of removed added) ≡ added
-additions_of removed added = filter_map-append addition (map Remove removed) (map Add added)
-    ∙ ap (λ xs. xs ++ additions (map Add added)) (none_added removed) ∙ added_back added
+additions_of removed added = search (rules, filter_map-append, none_added, added_back)
 
 -- ---- one priority more
 
 or_more : (a b : Bool) → cond a true b ≡ (b || (a || false))
-or_more true true = refl
-or_more true false = refl
-or_more false true = refl
-or_more false false = refl
+or_more a b = search rules
 
 abbrev Puts : (ℕ → Bool) → ℕ → (ℕ → Bool) → Type 0
 Puts old priority new = (q : ℕ) → new q ≡ cond (eqb priority q) true (old q)
 
 pub seen_remove : (removed added new : ℕ → Bool) (edits : List Edit) (priority : ℕ) → Puts removed
     priority new → AreSeen removed added edits → AreSeen new added (edits ++ Remove priority ∷ [])
-seen_remove removed added new edits priority puts seen = record {
-  of_removed = λ q. puts q ∙ ap (cond (eqb priority q) true) (seen.of_removed q)
-      ∙ or_more (eqb priority q) (removes edits q)
-      ∙ sym (ap (list_any (λ x. eqb x q)) (removals_remove edits priority)
-      ∙ list_any-append (λ x. eqb x q) (removals edits) (priority ∷ []));
-  of_added = λ q. seen.of_added q
-      ∙ ap (λ rows. has_priority rows q) (sym (additions_remove edits priority));
-}
+seen_remove removed added new edits priority puts seen =
+    search (rules, or_more, removals_remove, list_any-append, additions_remove)
 
 pub seen_add : (removed added new : ℕ → Bool) (edits : List Edit) (row : Row) → Puts added
     row.priority new → AreSeen removed added edits → AreSeen removed new (edits ++ Add row ∷ [])
-seen_add removed added new edits row puts seen = record {
-  of_removed = λ q. seen.of_removed q ∙ ap (list_any (λ x. eqb x q)) (sym (removals_add edits row));
-  of_added = λ q. puts q ∙ ap (cond (eqb row.priority q) true) (seen.of_added q)
-      ∙ or_more (eqb row.priority q) (has_priority (additions edits) q)
-      ∙ sym (ap (λ rows. has_priority rows q) (additions_add edits row)
-      ∙ list_any-append (λ (x : Row). eqb x.priority q) (additions edits) (row ∷ []));
-}
+seen_add removed added new edits row puts seen =
+    search (rules, removals_add, or_more, additions_add, list_any-append)
 
 -- ---- one edit more that repeats none
 

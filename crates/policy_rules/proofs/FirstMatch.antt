@@ -1,5 +1,5 @@
 -- The first match: of the rows that match, the one that none exceeds in priority.
-use Rattle.std.proofs.Common.{[], ◌++◌, ◌∙◌, ◌∷◌, ◌≡◌, ◌≢◌, ◌≤◌, All, Bool, Bor, Contains, List, MatchOption, None, Option, Some, ap, append-nil, arith, cond, false, filter, find, get_or, inl, inr, le-leb, leb, leb-true, ltb, ltb-false, ltb-true, refl, subst, sym, true, ℕ}
+use Rattle.std.proofs.Common.{[], ◌++◌, ◌∙◌, ◌∷◌, ◌≡◌, ◌≢◌, ◌≤◌, All, Bool, Bor, Contains, List, MatchOption, None, Option, Some, ap, append-nil, arith, cond, false, filter, find, get_or, inl, inr, le-leb, leb-true, ltb, ltb-false, ltb-true, refl, subst, sym, true, ℕ, rules}
 use Rattle.base.proofs.Exports.{All-cons, All-contains, All-nil, All-push, All-weaker, AllPairs-filter, AllPass-from_list_all, Contains-append_left, Contains-push, cases_lt, contains_later, find_found, get_or_default, list_all-from_AllPass, option_map_or}
 use Rattle.five_tuple.specs.Exports.{fields_of}
 use Rattle.five_tuple.specs.declared.header.Header.{Header}
@@ -27,13 +27,11 @@ one_of_priority rows distinct x y (i, within, is) (j, inside, also) same =
 
 passes : (rows : List Row) (row : Row) → All (λ (other : Row). other.priority ≤ row.priority) rows
     → is_highest rows row ≡ true
-passes rows row most = list_all-from_AllPass (λ (other : Row). leb other.priority row.priority) rows
-    (λ k d within. le-leb _ _ (most k d within))
+passes rows row most = search (rules, list_all-from_AllPass, le-leb)
 
 bounds : (rows : List Row) (row : Row) → is_highest rows row ≡ true
     → All (λ (other : Row). other.priority ≤ row.priority) rows
-bounds rows row is k d within = leb-true _ _
-    (AllPass-from_list_all (λ (other : Row). leb other.priority row.priority) rows is k d within)
+bounds rows row is k d within = search (rules, leb-true, AllPass-from_list_all)
 
 -- among rows of distinct priorities one is the highest
 pub highest_is : (rows : List Row) (row : Row) → HaveDistinctPriorities rows → IsHighestIn rows row
@@ -107,14 +105,12 @@ first_match_of : (rows : List Row) (header : Header) (best : Option Row)
     → MatchOption best (filter (λ row. row_matches row (fields_of header)) rows ≡ [])
     (IsHighestIn (filter (λ row. row_matches row (fields_of header)) rows))
     → IsFirstMatch rows header (hit_of best)
-first_match_of rows header None none = (none, refl)
-first_match_of rows header (Some row) is = (row, is, refl, refl)
+first_match_of rows header best none = search rules
 
 -- the scan is the first match
 pub first_match-scan : (rows : List Row) (header : Header)
     → IsFirstMatch rows header (scan rows header)
-first_match-scan rows header = first_match_of rows header _
-    (highest_of (filter (λ row. row_matches row (fields_of header)) rows))
+first_match-scan rows header = search (rules, first_match_of, highest_of)
 
 abbrev hit_with : Option ℕ → Action → Hit
 hit_with rule action = record { rule = rule; action = action }
@@ -168,8 +164,5 @@ pub best_keeps : (kept : List Row) (row : Row) (best : Option (Bor Row)) (matche
     best true ≡ false) → IsBest kept best → IsBest (kept ++ cond matches (row ∷ []) []) best
 best_keeps kept row best false lower is = rw (append-nil kept) is
 best_keeps kept row None true lower is = absurd (let e = lower refl in cc)
-best_keeps kept row (Some best) true lower is = record {
-  member = Contains-append_left kept (row ∷ []) best.now is.member;
-  highest = All-push (λ (x : Row). x.priority ≤ best.now.priority) kept row is.highest
-      (ltb-false best.now.priority row.priority (lower refl));
-}
+best_keeps kept row (Some best) true lower is =
+    search (rules, Contains-append_left, All-push, ltb-false)

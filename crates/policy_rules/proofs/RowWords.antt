@@ -1,6 +1,6 @@
 -- The word of a row and of two blocks: it is a word, and it holds what the row matches on the ports
 -- of the blocks.
-use Rattle.std.proofs.Common.{◌&&◌, ◌*◌, ◌-◌, ◌/◌, ◌<◌, ◌^◌, ◌∙◌, ◌≡◌, ap, arith, bit_and, eqb, mul-div_cancel, pow_pos, refl, sym, ℕ}
+use Rattle.std.proofs.Common.{◌&&◌, ◌*◌, ◌-◌, ◌/◌, ◌<◌, ◌^◌, ◌∙◌, ◌≡◌, ap, arith, bit_and, eqb, mul-div_cancel, pow_pos, refl, sym, ℕ, rules}
 use Rattle.base.proofs.Exports.{Decides-eqb, Decides-like, and_high_mask, and_zero_r, nat_tests, same_from_decides, shr_split}
 use Rattle.five_tuple.specs.Exports.{AddressBlock, Block, IsAddressBlock, IsHeader, IsPortBlock, IsProtocol, block_holds, fields_of, number_of, prefix_matches, proto_matches}
 use Rattle.five_tuple.specs.declared.header.Header.{Header}
@@ -39,8 +39,7 @@ proto_within Any small = refl
 proto_within (Is n) small = and_high_mask 8 0 (omega arith) n small ∙ omega arith
 
 proto_bound : (p : Proto) → IsProtocol p → (proto_value p < 2 ^ 8) × (proto_mask p < 2 ^ 8)
-proto_bound Any small = (omega arith, omega arith)
-proto_bound (Is n) small = (small, omega arith)
+proto_bound p small = search rules
 
 pub eqb_sym : (p q : ℕ) → eqb p q ≡ eqb q p
 eqb_sym p q = grind (arith, nat_tests)
@@ -55,37 +54,19 @@ masked_proto (Is this) number small bound =
 value_bits : (row : Row) (source destination : Block) → IsSoundRow row → IsPortBlock source
     → IsPortBlock destination → HasBits row.dst.address source.0 destination.0
     (proto_value row.proto)
-value_bits row source destination sound s d = record {
-  dst = sound.dst.address;
-  sport = s.value;
-  dport = d.value;
-  proto = (proto_bound row.proto sound.proto).0;
-}
+value_bits row source destination sound s d = search (rules, proto_bound)
 
 mask_bits : (row : Row) (source destination : Block) → IsSoundRow row → IsPortBlock source
     → IsPortBlock destination → HasBits (prefix_mask row.dst) source.1 destination.1
     (proto_mask row.proto)
-mask_bits row source destination sound s d = record {
-  dst = mask_bound row.dst;
-  sport = s.mask;
-  dport = d.mask;
-  proto = (proto_bound row.proto sound.proto).1;
-}
+mask_bits row source destination sound s d = search (rules, mask_bound, proto_bound)
 
 -- no bit of the value is outside the mask, and the mask has the bits of a header's number
 pub IsWord-word_of_row : (row : Row) (source destination : Block) → IsSoundRow row
     → IsPortBlock source → IsPortBlock destination → IsWord (word_of_row row source destination)
 unfolding word_of_row
 IsWord-word_of_row row source destination sound s d =
-    let bits = mask_bits row source destination sound s d in
-    let within = and_packed row.src.address row.dst.address source.0 destination.0
-    (proto_value row.proto) (prefix_mask row.src) (prefix_mask row.dst) source.1 destination.1
-    (proto_mask row.proto) (value_bits row source destination sound s d) bits in
-    let dst = prefix_within row.dst sound.dst in
-    let proto = proto_within row.proto sound.proto in record {
-      within = within ∙ rw ((prefix_within row.src sound.src), dst, s.inside, d.inside, proto) refl;
-      bounded = omega (arith, mask_bound row.src, bits.dst, bits.sport, bits.dport, bits.proto);
-    }
+    search (rules, mask_bits, and_packed, value_bits, prefix_within, proto_within, mask_bound)
 
 -- the word holds a header that the row matches by addresses and protocol, and whose ports are in
 -- the blocks

@@ -1,5 +1,5 @@
 -- The first rule that holds a header has the rule and the action of the policy's first match.
-use Rattle.std.proofs.Common.{[], ◌&&◌, ◌++◌, ◌+◌, ◌||◌, ◌∙◌, ◌∷◌, ◌≡◌, All, Bool, List, None, Option, Some, ap, append_assoc, arith, bit_and, cond, eq-eqb, false, find, flat_map, get_or, map, option_map, refl, true, ℕ}
+use Rattle.std.proofs.Common.{[], ◌&&◌, ◌++◌, ◌+◌, ◌∙◌, ◌∷◌, ◌≡◌, All, Bool, List, None, Option, Some, ap, append_assoc, arith, bit_and, cond, eq-eqb, false, find, flat_map, get_or, map, option_map, refl, true, ℕ, rules}
 use Rattle.base.proofs.Exports.{All-permutation, All-tail, and_zero_r, any_within, find-append, list_any, list_any_flat_map, list_any_map, option_or}
 use Rattle.five_tuple.specs.Exports.{Block, IsHeader, IsPortBlock, block_holds, cover_of, fields_of, number_of, prefix_matches, proto_matches}
 use Rattle.five_tuple.proofs.CallerLemmas.{is_cover_of}
@@ -7,7 +7,7 @@ use Rattle.five_tuple.specs.declared.header.Header.{Header}
 use Rattle.ternary.specs.Exports.{WordValue, any_word, holds}
 use Rattle.policy_rules.specs.declared.policy.Row.{Row}
 use Rattle.policy_rules.specs.declared.policy.Hit.{Hit}
-use Rattle.policy_rules.specs.Exports.{IsPolicy, IsSoundRow, by_falling_priority, entries_of, first_rule, hit_of, hit_of_rule, is_held, ranked_from, ranked_rule, row_matches, rules_of, scan, with_default, with_hit, word_of_row, words_of_row}
+use Rattle.policy_rules.specs.Exports.{IsPolicy, IsSoundRow, by_falling_priority, entries_of, first_rule, hit_of, hit_of_rule, is_held, ranked_from, row_matches, rules_of, scan, with_default, with_hit, word_of_row, words_of_row}
 use Rattle.policy_rules.proofs.RowWords.{holds-word_of_row}
 use Rattle.policy_rules.proofs.FallingRows.{IsPermutation-by_falling_priority, find-by_falling_priority}
 
@@ -21,44 +21,21 @@ found-ranked : (n k : ℕ) (entries : List (WordValue × Hit))
     → option_map hit_of_rule (find (is_held n) (ranked_from k entries)) ≡ found n entries
 unfolding ranked_from
 found-ranked n k [] = refl
-found-ranked n k (entry ∷ entries) = by_case (holds entry.0 n) (found-ranked n (k + 1) entries)
-  where
-    by_case : (b : Bool) → option_map hit_of_rule (find (is_held n) (ranked_from (k + 1) entries))
-        ≡ found n entries → option_map hit_of_rule
-        (cond b (Some (ranked_rule (k, entry))) (find (is_held n) (ranked_from (k + 1) entries)))
-        ≡ option_map (λ (e : WordValue × Hit). e.1)
-        (cond b (Some entry) (find (λ e. holds e.0 n) entries))
-    by_case true rest = refl
-    by_case false rest = rest
+found-ranked n k (entry ∷ entries) = search (rules, found-ranked n (k + 1) entries)
 
 -- ---- one row
 
 found-append : (n : ℕ) (xs ys : List (WordValue × Hit))
     → found n (xs ++ ys) ≡ option_or (found n xs) (found n ys)
-found-append n xs ys = ap (option_map (λ (entry : WordValue × Hit). entry.1))
-    (find-append (λ entry. holds entry.0 n) xs ys) ∙ map_or (find (λ entry. holds entry.0 n) xs)
-  where
-    map_or : (o : Option (WordValue × Hit)) → option_map (λ (entry : WordValue × Hit). entry.1)
-        (option_or o (find (λ entry. holds entry.0 n) ys)) ≡ option_or
-        (option_map (λ (entry : WordValue × Hit). entry.1) o) (found n ys)
-    map_or (Some x) = refl
-    map_or None = refl
+found-append n xs ys = search (rules, find-append)
 
 found-with_hit : (n : ℕ) (row : Row) (words : List WordValue) → found n (with_hit row words) ≡ cond
     (list_any (λ word. holds word n) words) (Some (hit_of (Some row))) None
 found-with_hit n row [] = refl
-found-with_hit n row (word ∷ words) = by_case (holds word n) (found-with_hit n row words) where
-  by_case : (b : Bool) → found n (with_hit row words) ≡ cond
-      (list_any (λ word. holds word n) words) (Some (hit_of (Some row))) None →
-      option_map (λ (e : WordValue × Hit). e.1)
-      (cond b (Some (word, hit_of (Some row))) (find (λ e. holds e.0 n) (with_hit row words)))
-      ≡ cond (b || list_any (λ word. holds word n) words) (Some (hit_of (Some row))) None
-  by_case true rest = refl
-  by_case false rest = rest
+found-with_hit n row (word ∷ words) = search (rules, found-with_hit n row words)
 
 none_passes : (a b : Bool) → (a && false && b) ≡ false
-none_passes true b = refl
-none_passes false b = refl
+none_passes a b = search rules
 
 -- some word of the row holds a header where the row matches it
 pub holds-words_of_row : (row : Row) (h : Header) → IsSoundRow row → IsHeader h

@@ -1,5 +1,5 @@
 -- Ranks by place, as a list of rules grows.
-use Rattle.std.proofs.Common.{[], ◌*◌, ◌++◌, ◌+◌, ◌∙◌, ◌∷◌, ◌≡◌, ◌≤◌, List, ap, append_assoc, arith, flat_map, length, length-append, map, mul-le-mul_left, refl, sym, ℕ}
+use Rattle.std.proofs.Common.{[], ◌*◌, ◌++◌, ◌+◌, ◌∙◌, ◌∷◌, ◌≡◌, ◌≤◌, List, ap, append_assoc, arith, flat_map, length, length-append, map, mul-le-mul_left, refl, ℕ, rules}
 use Rattle.base.proofs.Exports.{length-enumerate_from, length-map, sum_by-cons}
 use Rattle.ternary.specs.Exports.{WordValue}
 use Rattle.policy_rules.specs.declared.policy.Hit.{Hit}
@@ -26,28 +26,12 @@ pub ranked_more : (old now new : List Rule) (done more all : List (WordValue × 
     → now ≡ old ++ ranked_from (length old) done → new ≡ now ++ ranked_from (length now) more
     → all ≡ done ++ more → new ≡ old ++ ranked_from (length old) all
 ranked_more old now new done more all is pushed joined =
-    let len : length now ≡ length old + length done = omega (
-      arith,
-      ap length is,
-      length-append old (ranked_from (length old) done),
-      length-ranked_from (length old) done,
-    ) in
-    pushed
-    ∙ ap (λ k. now ++ ranked_from k more) len
-    ∙ ap (λ rules. rules ++ ranked_from (length old + length done) more) is
-    ∙ append_assoc old (ranked_from (length old) done) (ranked_from (length old + length done) more)
-    ∙ ap (λ rules. old ++ rules)
-    (sym (ranked_from-append (length old) done more) ∙ ap (ranked_from (length old)) (sym joined))
+    search (rules, length-append, length-ranked_from, append_assoc, ranked_from-append)
 
 -- how many rules there are then
 pub length_ranked : (old now : List Rule) (done : List (WordValue × Hit))
     → now ≡ old ++ ranked_from (length old) done → length now ≡ length old + length done
-length_ranked old now done is = omega (
-  arith,
-  ap length is,
-  length-append old (ranked_from (length old) done),
-  length-ranked_from (length old) done,
-)
+length_ranked old now done is = search (rules, length-append, length-ranked_from)
 
 -- a word for each pair of blocks
 length-pairs : (row : Row) (destinations sources : List Block)

@@ -1,4 +1,4 @@
-use Rattle.std.proofs.Common.{◌++◌, ◌+◌, ◌<◌, ◌∙◌, ◌≡◌, ◌≤◌, Err, List, Ok, ap, arith, eqb, false, filter, le-ltb, length, lt-ltb, ltb, nat_cmp, not, subst, sym, ℕ}
+use Rattle.std.proofs.Common.{◌+◌, ◌<◌, ◌∙◌, ◌≡◌, ◌≤◌, Err, List, Ok, ap, arith, false, le-ltb, length, lt-ltb, ltb, nat_cmp, subst, sym, rules}
 use Rattle.base.proofs.Exports.{contains, list_any}
 use Rattle.policy_rules.specs.Exports.{IsPolicy, adds_taken, amended_rows, removals, removes_absent, staying_rows}
 use Rattle.policy_rules.specs.declared.applying.Inapplicable.TheVariants.{TooManyRows}
@@ -12,12 +12,7 @@ use Rattle.policy_rules.proofs.applying.apply.Goals.{In_ok-amended, In_ok-new, I
 
 staying_is : (c : In_ok-amended) → c.in_ok-amended.amended.items
     ≡ staying_rows c.args.policy.now c.args.change.now
-staying_is c =
-    c.in_ok-amended.ensures
-    ∙ ap (filter (λ (row : Row). not (list_any (λ n. eqb n row.priority) c.removed-removed.result.now)))
-    c.rows-rows.ensures.rows
-    ∙ ap (λ (removed : List ℕ). filter (λ (row : Row). not (list_any (λ n. eqb n row.priority) removed))
-    c.args.policy.now) c.removed-removed.ensures
+staying_is c = search rules
 
 absent_is : (c : In_ok-amended) → removes_absent c.args.policy.now c.args.change.now
     ≡ ltb (length c.rows-rows.result.now)
@@ -70,14 +65,7 @@ applies : (c : In_ok-extend_from_slice)
     → adds_taken c.args.policy.now c.args.change.now ≡ list_any (λ (row : Row). contains nat_cmp
     c.in_ok-new.new row.priority) (staying_rows c.args.policy.now c.args.change.now)
     → Applies c.args.policy.now c.args.change.now c.extend_from_slice.new.self.items
-applies c staying absent taken = record {
-  there = absent ∙ le-ltb _ _ (omega arith);
-  free = cc (taken, c.deref.ensures.value, staying, c.has_some.ensures, c.if-has_some.false);
-  is = sym (c.in_ok-extend_from_slice.ensures.items
-      ∙ ap (λ (rows : List Row). rows ++ c.added-added.result.now) staying
-      ∙ ap (λ (added : List Row). staying_rows c.args.policy.now c.args.change.now ++ added)
-      c.added-added.ensures.rows);
-}
+applies c staying absent taken = search (rules, le-ltb)
 
 pub returns-then-len-gt-MAX_ROWS-clause-refused : goal.returns-then-len-gt-MAX_ROWS-clause-refused
 returns-then-len-gt-MAX_ROWS-clause-refused c =

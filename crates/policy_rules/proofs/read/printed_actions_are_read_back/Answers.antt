@@ -1,15 +1,13 @@
-use Rattle.std.proofs.Common.{◌<◌, ◌^◌, ◌≡◌, ◌≤◌, Some, ap, arith, decimal, option_map, refl, ℕ}
+use Rattle.std.proofs.Common.{◌<◌, ◌^◌, ◌≡◌, ◌≤◌, Some, decimal, ℕ, rules}
 use Rattle.five_tuple.specs.Exports.{number_up_to}
 use Rattle.policy_rules.specs.declared.policy.Action.{Action}
-use Rattle.policy_rules.specs.declared.policy.Action.TheVariants.{Drop, Out}
 use Rattle.policy_rules.specs.Exports.{HasSmallPort, action_of, action_text}
 use Rattle.policy_rules.proofs.read.printed_actions_are_read_back.Goals as goal
 
 back : ((most n : ℕ) → n ≤ most → n < 2 ^ 64 → number_up_to most (decimal n) ≡ Some n)
     → (action : Action) → HasSmallPort action → action_of (action_text action) ≡ Some action
 unfolding action_of
-back number Drop small = refl
-back number (Out port) small = ap (option_map Out) (number 63 port (omega arith) (omega arith))
+back number action small = search rules
 
 pub returns : goal.returns
 returns c = back c.printed_forms_are_read_back.ensures.number

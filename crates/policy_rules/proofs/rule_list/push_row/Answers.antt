@@ -1,4 +1,4 @@
-use Rattle.std.proofs.Common.{[], ◌++◌, ◌∙◌, ◌∷◌, ◌≡◌, ap, append-nil, arith, length, length-take, sym, take, take_all}
+use Rattle.std.proofs.Common.{[], ◌++◌, ◌∙◌, ◌∷◌, ◌≡◌, ap, append-nil, arith, length, length-take, sym, take, take_all, rules}
 use Rattle.base.proofs.Exports.{length-map, map-append, take_more}
 use Rattle.five_tuple.proofs.CallerLemmas.{is_cover_of}
 use Rattle.five_tuple.specs.Exports.{cover_of}
@@ -10,8 +10,7 @@ use Rattle.policy_rules.proofs.rule_list.push_row.Goals.{After-as_slice-word-ite
 -- the words that are there then
 words_are : (c : After-as_slice-word-items) → c.as_slice-word-items.result.now
     ≡ words_of_row c.args.row.now
-words_are c = c.as_slice-word-items.ensures.value ∙ c.in_ok-push_row_words.ensures
-    ∙ ap (λ these. these ++ words_of_row c.args.row.now) c.clear.ensures.items
+words_are c = search rules
 
 pub loop-word-init : goal.loop-word-init
 unfolding ranked_from

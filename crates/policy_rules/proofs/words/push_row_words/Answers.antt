@@ -1,4 +1,4 @@
-use Rattle.std.proofs.Common.{◌++◌, ◌∙◌, ap, append-nil, sym}
+use Rattle.std.proofs.Common.{◌++◌, ◌∙◌, ap, append-nil, sym, rules}
 use Rattle.base.proofs.Exports.{flat_map_more}
 use Rattle.policy_rules.proofs.BlockLoops.{IsAtBlock, at_block, block_words}
 use Rattle.policy_rules.proofs.words.push_row_words.Goals as goal
@@ -6,9 +6,7 @@ use Rattle.policy_rules.proofs.words.push_row_words.Goals.{After-next}
 
 -- the loop, at its next block
 here : (c : After-next) → IsAtBlock c.args.row.now.sport c.loop-source.yielded c.next.result
-here c = at_block c.args.row.now.sport c.into_iter-source-iterator.ensures.into_iter_gives
-    c.blocks-source-items.ensures.blocks c.loop-source.yielded _ c.loop-source.yielded_by c.next.result
-    c.next.new.self c.next.ensures.steps
+here c = search (rules, at_block)
 
 pub loop-source-init : goal.loop-source-init
 loop-source-init c = sym (append-nil _)

@@ -1,4 +1,4 @@
-use Rattle.std.proofs.Common.{[], ◌++◌, ◌∙◌, ◌∷◌, ap, append-nil, append_assoc, map, sym}
+use Rattle.std.proofs.Common.{[], ◌++◌, ◌∙◌, ◌∷◌, ap, append-nil, append_assoc, map, sym, rules}
 use Rattle.base.proofs.Exports.{map-append}
 use Rattle.policy_rules.specs.Exports.{word_of_row}
 use Rattle.policy_rules.proofs.BlockLoops.{IsAtBlock, at_block}
@@ -7,9 +7,7 @@ use Rattle.policy_rules.proofs.words.push_source_words.Goals.{After-next}
 
 -- the loop, at its next block
 here : (c : After-next) → IsAtBlock c.args.row.now.dport c.loop-destination.yielded c.next.result
-here c = at_block c.args.row.now.dport c.into_iter-destination-iterator.ensures.into_iter_gives
-    c.blocks-destination-items.ensures.blocks c.loop-destination.yielded _ c.loop-destination.yielded_by c.next.result
-    c.next.new.self c.next.ensures.steps
+here c = search (rules, at_block)
 
 pub loop-destination-init : goal.loop-destination-init
 loop-destination-init c = sym (append-nil _)
