@@ -1,8 +1,8 @@
 -- What is said of a packet before a route is taken, by the switch that counted the call.
-use Rattle.std.proofs.Common.{◌∙◌, ◌≡◌, List, None, Option, Some, ap, false, option_map, refl, sym, true, ℕ}
+use Rattle.std.proofs.Common.{◌≡◌, List, None, Option, Some, false, option_map, refl, true, ℕ, rules}
 use Rattle.failover.specs.Exports.{no_links}
 use Rattle.five_tuple.specs.declared.header.Header.{Header}
-use Rattle.switch_core.specs.Exports.{Answer, Answered, Arrival, IsByLookup, Site, SwitchValue, admitted, answer_of, are_isolated, call_counted, cause_of, enter_answer, entered_with, entry_of, incoming_packet, leave_by, looked_up, next_of, packet_with, serves, set_out}
+use Rattle.switch_core.specs.Exports.{Answer, Answered, IsByLookup, Site, SwitchValue, admitted, answer_of, are_isolated, call_counted, cause_of, enter_answer, entered_with, incoming_packet, leave_by, looked_up, next_of, packet_with, serves, set_out}
 use Rattle.switch_core.specs.declared.tunnel_calls.Entered.{Entered}
 use Rattle.switch_core.specs.declared.tunnel_calls.Packet.{Packet}
 use Rattle.switch_core.specs.declared.forwarding.Forwarding.{Forwarding}
@@ -28,10 +28,8 @@ module _ (s after : SwitchValue) (site : Site) (number : ℕ) (header : Header)
       ≡ Answered (looked_up s site (packet_with number header ingress no_links)) →
       Some (answer_of after site (incoming_packet s number header) forwarding)
       ≡ option_map Answered (admitted s site (incoming_packet s number header))
-  was_admitted ingress is serving here looked =
-      ap Some (answer_counted s after site (incoming_packet s number header) forwarding is
-      ∙ rw here at looked) ∙ ap (option_map Answered)
-      (sym (entry_by s site (incoming_packet s number header) true serving))
+  unfolding admitted
+  was_admitted ingress is serving here looked = search (rules, answer_counted, entry_by)
 
   -- and what is answered then
   pub answered : (result : Entered) (ingress : ℕ) (down : List ℕ)
@@ -41,26 +39,13 @@ module _ (s after : SwitchValue) (site : Site) (number : ℕ) (header : Header)
       → Some (answer_of after site (incoming_packet s number header) forwarding)
       ≡ option_map Answered (admitted s site (incoming_packet s number header))
       → result ≡ enter_answer s site (incoming_packet s number header)
-  answered result ingress down here none is =
-      by_answer (admitted s site (incoming_packet s number header))
-    where
-      what : ℕ → List ℕ → Arrival
-      what i d = answer_of after site (packet_with number header i d) forwarding
-
-      by_answer : (answer : Option Answer) →
-          Some (what s.number no_links) ≡ option_map Answered answer → result ≡ entry_of answer
-      by_answer None so = absurd cc
-      by_answer (Some answer) so = let own : what s.number no_links ≡ Answered answer = cc in
-          is answer (ap (λ i. what i down) here ∙ ap (what s.number) none ∙ own)
+  answered result ingress down here none is = search rules
 
 -- of a packet that enters there is a lookup
 pub by_lookup : (s : SwitchValue) (site : Site) (packet : Packet) (forwarding : Forwarding)
     (answer : Option Answer) →
     Some (answer_of s site packet forwarding) ≡ option_map Answered answer → IsByLookup forwarding
-by_lookup s site packet (Out port) None is = absurd cc
-by_lookup s site packet (Out port) (Some answer) is = absurd cc
-by_lookup s site packet (Decided decision word) answer is = tt
-by_lookup s site packet (Seek leg targets) answer is = tt
+by_lookup s site packet forwarding answer is = search rules
 
 -- at a switch that doesn't serve
 pub not_admitted : (s : SwitchValue) (site : Site) (packet : Packet) → serves s ≡ false →

@@ -1,5 +1,5 @@
 -- Where a packet goes that was decided.
-use Rattle.std.proofs.Common.{[], ◌==◌, ◌↔◌, ◌∙◌, ◌∷◌, ◌≡◌, ◌≢◌, Bool, Err, MatchOption, None, Ok, Option, Result, Some, ap, arith, cond, eq-eqb, eqb-true, false, refl, sym, true, ℕ}
+use Rattle.std.proofs.Common.{[], ◌==◌, ◌↔◌, ◌∙◌, ◌∷◌, ◌≡◌, ◌≢◌, Bool, Err, MatchOption, None, Ok, Option, Result, Some, ap, cond, eq-eqb, eqb-true, false, refl, true, ℕ, rules}
 use Rattle.base.proofs.Exports.{MatchOption-weaker, nat_tests}
 use Rattle.policy_rules.specs.declared.packet.Cause.{Cause}
 use Rattle.policy_rules.specs.declared.packet.Cause.TheVariants.{NoRoute}
@@ -19,18 +19,13 @@ use Rattle.switch_core.proofs.LookupAnswers.{sets_out}
 leaves_here : (s : SwitchValue) (near : ℕ) (packet : Packet) (port owner : ℕ) →
     owner ≡ s.number → leave_by s near packet port (Some owner) ≡ Out port
 unfolding leave_by
-leaves_here s near packet port owner is =
-    let way = exit_by (set_out s near packet (ExitLeg port) (owner ∷ [])) in
-    ap (λ (test : Bool). cond test (Out port) way) (eq-eqb owner s.number is)
+leaves_here s near packet port owner is = search (rules, eq-eqb)
 
 leaves_for : (s : SwitchValue) (near : ℕ) (packet : Packet) (port owner : ℕ) →
     owner ≢ s.number → leave_by s near packet port (Some owner)
     ≡ exit_by (set_out s near packet (ExitLeg port) (owner ∷ []))
 unfolding leave_by
-leaves_for s near packet port owner other =
-    let way = exit_by (set_out s near packet (ExitLeg port) (owner ∷ [])) in
-    let no_test : (owner == s.number) ≡ false = grind (arith, nat_tests) in
-    ap (λ (test : Bool). cond test (Out port) way) no_test
+leaves_for s near packet port owner other = search (rules, nat_tests)
 
 -- an answer is one of these, where the port has an owner
 exits : (s : SwitchValue) (near : ℕ) (packet : Packet) (port owner : ℕ) (P : Next → Type 0) →
@@ -51,41 +46,23 @@ exits s near packet port owner P here on stuck = by_test (owner == s.number) ref
 not_dropped : (s : SwitchValue) (near : ℕ) (packet : Packet) (port : ℕ) (owner : Option ℕ) →
     leave_by s near packet port owner ≡ Dropped → ⊥
 unfolding leave_by
-not_dropped s near packet port None is = cc
-not_dropped s near packet port (Some owner) is = exits s near packet port owner
-    (λ answer. answer ≡ Dropped → ⊥) (λ here is. cc) (λ tunnel is. cc) (λ cause is. cc) is
+not_dropped s near packet port owner is = search rules
 
 pub next_dropped : (s : SwitchValue) (site : Site) (packet : Packet) (action : Action) →
     (next_of s site packet action ≡ Dropped) ↔ (action ≡ Drop)
 unfolding next_of
-next_dropped s site packet Drop = (λ is. refl, λ is. refl)
-next_dropped s site packet (OutBy port) = (
-  λ is. absurd (not_dropped s site.near packet port (port_owner site.ports port) is),
-  λ is. cc,
-)
+next_dropped s site packet action = search (rules, not_dropped)
 
 out_by_owner : (s : SwitchValue) (near : ℕ) (packet : Packet) (by port : ℕ) (owner : Option ℕ)
     → leave_by s near packet by owner ≡ Out port → (OutBy by ≡ OutBy port) × (owner ≡ Some s.number)
 unfolding leave_by
-out_by_owner s near packet by port None is = cc
-out_by_owner s near packet by port (Some owner) is = exits s near packet by owner
-    (λ answer. answer ≡ Out port → (OutBy by ≡ OutBy port) × (Some owner ≡ Some s.number))
-    (λ here is. (let same : by ≡ port = cc in ap OutBy same, ap Some here))
-    (λ tunnel is. absurd (cc)) (λ cause is. absurd (cc)) is
+out_by_owner s near packet by port owner is = search rules
 
 pub next_out : (s : SwitchValue) (site : Site) (packet : Packet) (action : Action) (port : ℕ)
     → (next_of s site packet action ≡ Out port) ↔
     ((action ≡ OutBy port) × (port_owner site.ports port ≡ Some s.number))
 unfolding next_of
-next_out s site packet Drop port = (λ is. absurd (cc), λ both. absurd (cc (both.0)))
-next_out s site packet (OutBy by) port = (
-  λ is. let out = out_by_owner s site.near packet by port (port_owner site.ports by) is in
-      let same : by ≡ port = cc (out.0) in (out.0, ap (port_owner site.ports) (sym same) ∙ out.1),
-  λ both. let same : by ≡ port = cc (both.0) in
-      ap (λ (p : ℕ). next_of s site packet (OutBy p)) same
-      ∙ ap (leave_by s site.near packet port) both.1
-      ∙ leaves_here s site.near packet port s.number refl,
-)
+next_out s site packet action port = search (rules, out_by_owner, leaves_here)
 
 pub next_exit : (s : SwitchValue) (site : Site) (packet : Packet) (action : Action) (port owner : ℕ)
     → action ≡ OutBy port → port_owner site.ports port ≡ Some owner

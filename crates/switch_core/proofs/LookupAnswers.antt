@@ -1,20 +1,18 @@
 -- What a switch answers to a packet by a lookup, and by a rule of its own.
-use Rattle.std.proofs.Common.{◌==◌, ◌∙◌, ◌≡◌, Bool, Err, IsSomeAnd, IsTrue, List, MatchOption, None, Ok, Option, Result, Some, ap, cond, eq-eqb, eqb-true, false, is_some, ok_or, option_map, refl, slice_get, subst, sym, true, unwrap_or, ℕ}
+use Rattle.std.proofs.Common.{◌==◌, ◌∙◌, ◌≡◌, Err, IsSomeAnd, IsTrue, List, MatchOption, None, Ok, Option, Some, ap, eq-eqb, eqb-true, refl, slice_get, subst, sym, unwrap_or, ℕ, rules}
 use Rattle.base.proofs.Exports.{All-contains, MatchOption-weaker, find-position, find-there, position-Some, slice_get-get_or}
 use Rattle.five_tuple.specs.Exports.{number_of}
 use Rattle.five_tuple.specs.declared.header.Header.{Header}
 use Rattle.policy_rules.specs.Exports.{is_held}
-use Rattle.policy_rules.specs.declared.packet.Cause.{Cause}
 use Rattle.policy_rules.specs.declared.packet.Leg.{Leg}
 use Rattle.policy_rules.specs.declared.packet.Leg.TheVariants.{Seek as SeekLeg}
 use Rattle.policy_rules.specs.declared.rules.Partition.{Partition}
-use Rattle.tunnel.specs.Exports.{TunnelValue}
 use Rattle.switch_table.specs.Exports.{AreSoundTables}
 use Rattle.switch_table.specs.declared.cache.CacheEntry.{CacheEntry}
 use Rattle.switch_table.specs.declared.search.Found.{Found}
 use Rattle.switch_table.specs.declared.search.Found.TheVariants.{Cached, Authority, Redirect}
 use Rattle.switch_table.specs.declared.tables.Tables.{Tables}
-use Rattle.switch_core.specs.Exports.{Answer, Decided, IsDecidedIn, IsFirstHit, IsFound, IsReady, IsRightAnswer, IsSwitch, IsUncached, Seek, Site, Stuck, SwitchValue, admitted, answer_by, by_entry, cause_of, decided_at, held_tables, holds_version, incoming_packet, looked_up, lookup_by_stamp, next_of, no_part, no_rule, no_tables, own_part, part_numbered, route_known, rule_for_cache, rule_in, seek_by, serves, set_out, setting_out, stamp_tables}
+use Rattle.switch_core.specs.Exports.{Answer, Decided, IsDecidedIn, IsFirstHit, IsFound, IsReady, IsRightAnswer, IsSwitch, IsUncached, Seek, Site, Stuck, SwitchValue, admitted, answer_by, by_entry, cause_of, decided_at, held_tables, holds_version, incoming_packet, looked_up, lookup_by_stamp, next_of, no_part, no_rule, own_part, part_numbered, route_known, rule_for_cache, rule_in, seek_by, set_out, setting_out, stamp_tables}
 use Rattle.switch_core.specs.declared.tunnel_calls.Packet.{Packet}
 use Rattle.switch_core.proofs.OwnTables.{lookup_is_found}
 
@@ -22,8 +20,7 @@ use Rattle.switch_core.proofs.OwnTables.{lookup_is_found}
 
 pub version_held : (s : SwitchValue) (version : ℕ) (tables : Tables) →
     held_tables s version ≡ Some tables → tables.version ≡ version
-version_held s version tables is =
-    eqb-true _ _ (find-there (λ (t : Tables). t.version == version) s.tables tables is).1
+version_held s version tables is = search (rules, eqb-true, find-there)
 
 pub sound_held : (s : SwitchValue) (version : ℕ) (tables : Tables) → IsSwitch s →
     held_tables s version ≡ Some tables → AreSoundTables tables
@@ -32,11 +29,7 @@ sound_held s version tables switch is = All-contains AreSoundTables s.tables tab
 
 pub stamp_held : (s : SwitchValue) → IsTrue (holds_version s s.stamp) →
     held_tables s s.stamp ≡ Some (stamp_tables s)
-stamp_held s holds = by_tables (held_tables s s.stamp) holds where
-  by_tables : (tables : Option Tables) → is_some tables ≡ true →
-      tables ≡ Some (unwrap_or tables no_tables)
-  by_tables (Some tables) is = refl
-  by_tables None is = absurd (cc)
+stamp_held s holds = search rules
 
 pub stamp_sound : (s : SwitchValue) → IsSwitch s → IsTrue (holds_version s s.stamp) →
     AreSoundTables (stamp_tables s)
@@ -50,8 +43,7 @@ stamp_version s holds = version_held s s.stamp (stamp_tables s) (stamp_held s ho
 
 own_number : (tables : Tables) (number : ℕ) (part : Partition) →
     own_part tables number ≡ Some part → part.number ≡ number
-own_number tables number part is =
-    eqb-true _ _ (find-there (λ (p : Partition). p.number == number) tables.auth part is).1
+own_number tables number part is = search (rules, eqb-true, find-there)
 
 -- the partition of a number decides, by its first hit
 abbrev pub IsHitIn : SwitchValue → Site → Packet → ℕ → Tables → ℕ → ℕ → Answer → Type 0
@@ -103,14 +95,7 @@ pub sets_out : (s : SwitchValue) (near : ℕ) (packet : Packet) (leg : Leg) (tar
     (set_out s near packet leg targets ≡ Err (cause_of s near packet.down leg targets))
     (λ route. set_out s near packet leg targets ≡ Ok (setting_out packet leg targets route))
 unfolding set_out
-sets_out s near packet leg targets = by_route (route_known s near packet targets) where
-  by_route : (route : Option (List ℕ))
-      → MatchOption route (ok_or (option_map (setting_out packet leg targets) route)
-      (cause_of s near packet.down leg targets) ≡ Err (cause_of s near packet.down leg targets))
-      (λ way. ok_or (option_map (setting_out packet leg targets) route)
-      (cause_of s near packet.down leg targets) ≡ Ok (setting_out packet leg targets way))
-  by_route None = refl
-  by_route (Some way) = refl
+sets_out s near packet leg targets = search rules
 
 -- ---- a lookup
 
@@ -172,22 +157,9 @@ lookup_is s site packet ready = record {
 pub lookup_uncached : (s : SwitchValue) (site : Site) (packet : Packet) →
     packet.ingress ≡ s.number → IsUncached (Some (looked_up s site packet))
 unfolding looked_up answer_by decided_at rule_for_cache
-lookup_uncached s site packet here = by_found (lookup_by_stamp s packet.header) where
-  by_way : (leg : Leg) (way : Result TunnelValue Cause) → IsUncached (Some (seek_by leg way))
-  by_way leg (Ok tunnel) = tt
-  by_way leg (Err cause) = tt
-
-  by_found : (found : Found) → IsUncached (Some (answer_by s site packet (stamp_tables s) found))
-  by_found (Cached cached) = refl
-  by_found (Authority partition place) = rw (eq-eqb packet.ingress s.number here) refl
-  by_found (Redirect partition targets) = by_way (SeekLeg (stamp_tables s).version partition)
-      (set_out s site.near packet (SeekLeg (stamp_tables s).version partition) targets)
+lookup_uncached s site packet here = search (rules, eq-eqb)
 
 pub entry_uncached : (s : SwitchValue) (site : Site) (number : ℕ) (header : Header) →
     IsUncached (admitted s site (incoming_packet s number header))
 unfolding admitted
-entry_uncached s site number header = by_test (serves s) where
-  by_test : (test : Bool) → IsUncached (cond test
-      (Some (looked_up s site (incoming_packet s number header))) None)
-  by_test true = lookup_uncached s site (incoming_packet s number header) refl
-  by_test false = tt
+entry_uncached s site number header = search (rules, lookup_uncached)

@@ -1,25 +1,19 @@
 -- The relations of the laws allow one answer.
-use Rattle.std.proofs.Common.{[], ◌==◌, ◌∙◌, ◌∷◌, ◌≡◌, ◌≢◌, Bool, IsTrue, List, None, Option, Some, ap, cond, eq-eqb, eqb-true, false, is_some, position, refl, slice_get, sym, true, ℕ}
-use Rattle.five_tuple.specs.Exports.{number_of}
+use Rattle.std.proofs.Common.{[], ◌==◌, ◌∙◌, ◌∷◌, ◌≡◌, ◌≢◌, Bool, IsTrue, List, None, Option, Some, ap, eq-eqb, eqb-true, false, is_some, refl, slice_get, sym, true, ℕ, rules}
 use Rattle.five_tuple.specs.declared.header.Header.{Header}
-use Rattle.policy_rules.specs.Exports.{first_rule, is_held}
 use Rattle.policy_rules.specs.declared.packet.Cause.TheVariants.{NoRoute}
 use Rattle.policy_rules.specs.declared.packet.Leg.{Leg}
 use Rattle.policy_rules.specs.declared.packet.Leg.TheVariants.{Seek as SeekLeg, Exit as ExitLeg}
 use Rattle.policy_rules.specs.declared.policy.Action.{Action}
 use Rattle.policy_rules.specs.declared.policy.Action.TheVariants.{Drop, Out as OutBy}
-use Rattle.policy_rules.specs.declared.rules.Partition.{Partition}
-use Rattle.policy_rules.specs.declared.rules.Rule.{Rule}
 use Rattle.net_file.specs.Exports.{port_owner}
 use Rattle.base.specs.Exports.{has}
 use Rattle.base.proofs.Exports.{MatchOption-same}
-use Rattle.cache_maker.specs.Independent.{widen}
 use Rattle.tunnel.specs.Exports.{TunnelValue, next}
 use Rattle.switch_table.specs.declared.search.Found.{Found}
 use Rattle.switch_table.specs.declared.search.Found.TheVariants.{Cached, Authority, Redirect}
 use Rattle.switch_table.specs.declared.tables.Tables.{Tables}
-use Rattle.ctrl_msg.specs.declared.message.Body.TheVariants.{CacheRule}
-use Rattle.switch_core.specs.Exports.{Answer, Decided, IsArrival, IsArriving, IsDecidedIn, IsEntry, IsHop, IsNextOf, IsReady, IsRightAnswer, Moved, OwnRule, Seek, Site, Stuck, SwitchValue, arrive_answer, arrived_with, by_rule, cause_of, down_with, enter_answer, entered_with, held_tables, hop_answer, link_found_down, looked_up, lookup_by_stamp, next_of, own_part, packet_of, route_around, route_known, serves, setting_out, stamp_tables}
+use Rattle.switch_core.specs.Exports.{Answer, IsArrival, IsArriving, IsDecidedIn, IsEntry, IsHop, IsNextOf, IsReady, IsRightAnswer, Moved, OwnRule, Seek, Site, Stuck, SwitchValue, arrive_answer, arrived_with, cause_of, down_with, enter_answer, held_tables, hop_answer, link_found_down, looked_up, lookup_by_stamp, next_of, packet_of, route_around, route_known, serves, setting_out, stamp_tables}
 use Rattle.switch_core.specs.declared.tunnel_calls.Arrived.{Arrived}
 use Rattle.switch_core.specs.declared.tunnel_calls.Entered.{Entered}
 use Rattle.switch_core.specs.declared.tunnel_calls.HopEnd.TheVariants as hop
@@ -36,8 +30,7 @@ use Rattle.switch_core.proofs.SwitchHops.{down_is, hop_arrives, hop_moves, hop_s
 -- one first hit in one partition of a number
 same_part : (tables : Tables) (header : Header) (own other : OwnRule tables header) →
     own.part.number ≡ other.part.number → own.part ≡ other.part
-same_part tables header own other number =
-    let both = sym own.own ∙ ap (own_part tables) number ∙ other.own in cc
+same_part tables header own other number = search rules
 
 -- ---- the answer of a lookup
 
@@ -45,25 +38,7 @@ same_decided : (s : SwitchValue) (site : Site) (packet : Packet) (version partit
     (tables : Tables) (answer other : Answer) →
     IsDecidedIn s site packet version tables partition answer →
     IsDecidedIn s site packet version tables partition other → answer ≡ other
-same_decided s site packet version partition tables answer other one two =
-    let part = same_part tables packet.header one.own two.own (one.numbered ∙ sym two.numbered) in
-    let places : Some one.own.place ≡ Some two.own.place = sym one.own.hit.first
-    ∙ ap (λ (part : Partition). position (is_held (number_of packet.header)) part.rules) part
-    ∙ two.own.hit.first in
-    let place : one.own.place ≡ two.own.place = cc in
-    let rules : Some one.own.rule ≡ Some two.own.rule = sym one.own.first
-    ∙ ap (λ (part : Partition). first_rule part.rules packet.header) part ∙ two.own.first in
-    let rule : one.own.rule ≡ two.own.rule = cc in
-    let by = λ (part : Partition) (place : ℕ) (rule : Rule).
-    Decided (by_rule s.number version part.number rule)
-    (cond (packet.ingress == s.number) None (Some (CacheRule version
-    (widen (number_of packet.header) part.region part.rules place) rule.rule rule.action)))
-    (next_of s site packet rule.action) in
-    one.answered
-    ∙ ap (λ (part : Partition). by part one.own.place one.own.rule) part
-    ∙ ap (λ (place : ℕ). by two.own.part place one.own.rule) place
-    ∙ ap (λ (rule : Rule). by two.own.part two.own.place rule) rule
-    ∙ sym two.answered
+same_decided s site packet version partition tables answer other one two = search (rules, same_part)
 
 same_answer : (s : SwitchValue) (site : Site) (packet : Packet) (answer other : Answer) →
     IsRightAnswer s site packet answer → IsRightAnswer s site packet other → answer ≡ other
@@ -82,22 +57,14 @@ same_answer s site packet answer other one two = by_found (lookup_by_stamp s pac
 
 pub one_answer : (s : SwitchValue) (site : Site) (packet : Packet) (answer : Answer) →
     IsReady s packet.header → IsRightAnswer s site packet answer → answer ≡ looked_up s site packet
-one_answer s site packet answer ready law =
-    same_answer s site packet answer _ law (lookup_is s site packet ready)
+one_answer s site packet answer ready law = search (rules, same_answer, lookup_is)
 
 -- ---- of a packet that enters
 
 pub one_entry : (s : SwitchValue) (site : Site) (packet : Packet) (answer : Entered) →
     (IsTrue (serves s) → IsReady s packet.header) → IsEntry s site packet answer →
     answer ≡ enter_answer s site packet
-one_entry s site packet answer ready law = by_test (serves s) refl where
-  by_test : (test : Bool) → serves s ≡ test → answer ≡ enter_answer s site packet
-  by_test false shut = law.closed.1 shut ∙ sym ((entry_is s site packet).closed.1 shut)
-  by_test true serving =
-      let one = law.answered (ready serving) in
-      let two = (entry_is s site packet).answered (ready serving) in
-      one.1 ∙ ap entered_with (same_answer s site packet one.0 two.0 one.2 two.2)
-      ∙ sym two.1
+one_entry s site packet answer ready law = search (rules, entry_is, same_answer)
 
 -- ---- of a packet that arrives
 

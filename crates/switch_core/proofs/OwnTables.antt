@@ -1,17 +1,16 @@
 -- What a lookup in sound tables finds, and a partition of its own by the number.
-use Rattle.std.proofs.Common.{[], ◌-◌, ◌==◌, ◌∙◌, ◌∷◌, ◌≡◌, ◌≢◌, AllPairs, Bool, Contains, IsSome, IsSomeAnd, IsTrue, List, None, Option, Some, ap, arith, cond, eqb-true, false, find, get_or, inl, inr, option_and_then, position, refl, slice_get, subst, suc, sym, true, unwrap_or, ℕ}
+use Rattle.std.proofs.Common.{[], ◌-◌, ◌==◌, ◌∙◌, ◌∷◌, ◌≡◌, ◌≢◌, AllPairs, Bool, Contains, IsSome, IsSomeAnd, IsTrue, List, None, Option, Some, ap, arith, cond, eqb-true, false, find, get_or, inl, inr, option_and_then, position, refl, subst, suc, sym, true, ℕ, rules}
 use Rattle.base.proofs.Exports.{All-contains, cases_lt, find-position, find-there, nat_tests, option_map_or, same_Some}
 use Rattle.five_tuple.specs.Exports.{IsHeader, number_of}
 use Rattle.five_tuple.specs.declared.header.Header.{Header}
 use Rattle.policy_rules.specs.Exports.{LastCovers, first_rule, is_held, is_in}
 use Rattle.policy_rules.specs.declared.rules.Partition.{Partition}
-use Rattle.policy_rules.specs.declared.rules.Rule.{Rule}
 use Rattle.switch_table.proofs.TableLemmas.{decides_all}
 use Rattle.switch_table.specs.Exports.{AreSoundTables, authority_of, first_entry, lookup_of, redirect_of, table_lookup}
 use Rattle.switch_table.specs.declared.cache.CacheEntry.{CacheEntry}
 use Rattle.switch_table.specs.declared.tables.Tables.{Tables}
 use Rattle.switch_table.specs.declared.search.Found.TheVariants.{Cached}
-use Rattle.switch_core.specs.Exports.{IsFirstHit, IsFound, no_part, own_part, part_numbered, place_of_first}
+use Rattle.switch_core.specs.Exports.{IsFirstHit, IsFound, own_part, part_numbered, place_of_first}
 
 -- ---- a switch's own partitions
 
@@ -55,19 +54,7 @@ find_numbered (first ∷ parts) part distinct there =
 -- where some rule holds the header, the first place is that of the first such rule
 first_hit : (header : Header) (part : Partition) → IsTrue (is_in header part) →
     IsSome (first_rule part.rules header) → IsFirstHit header part (place_of_first header part)
-first_hit header part held some = record {
-  region = held;
-  first = by_case (position (is_held (number_of header)) part.rules)
-      (find-position (is_held (number_of header)) part.rules);
-} where
-  by_case : (place : Option ℕ) →
-      option_and_then (slice_get part.rules) place ≡ first_rule part.rules header →
-      place ≡ Some (unwrap_or place 0)
-  by_case (Some place) leads = refl
-  by_case None leads =
-      let nothing : Option Rule = None in
-      let none : IsSome nothing = subst (λ (r : Option Rule). IsSome r) (sym leads) some in
-      absurd (cc)
+first_hit header part held some = search (rules, find-position)
 
 -- a partition of one's own has a first hit for each header of its region
 pub own_hit : (tables : Tables) (number : ℕ) (part : Partition) (header : Header) →
@@ -112,19 +99,7 @@ pub own_first : (tables : Tables) (number : ℕ) (header : Header) (found : Opti
     IsSomeAnd (own_part tables number) (λ part. IsTrue (is_in header part)) →
     found ≡ option_and_then (λ part. position (is_held (number_of header)) part.rules)
     (own_part tables number) → IsOwnFirst tables number header found
-own_first tables number header found sound is own searched =
-    let both = by_part (own_part tables number) refl own searched in
-    record { place = both.0; first = both.1 }
-  where
-    by_part : (o : Option Partition) → own_part tables number ≡ o →
-        IsSomeAnd o (λ part. IsTrue (is_in header part)) →
-        found ≡ option_and_then (λ part. position (is_held (number_of header)) part.rules) o →
-        (found ≡ Some (place_of_first header (unwrap_or o no_part)))
-        × IsFirstHit header (unwrap_or o no_part) (place_of_first header (unwrap_or o no_part))
-    by_part None none own searched = absurd own
-    by_part (Some part) there held searched =
-        let hit = own_hit tables number part header sound is there held in
-        (searched ∙ hit.first, hit)
+own_first tables number header found sound is own searched = search (rules, own_hit)
 
 pub same_place : (place : ℕ) (found : Option ℕ) (first : ℕ) → found ≡ Some place →
     found ≡ Some first → place ≡ first

@@ -1,5 +1,5 @@
 -- By which rules a switch decides, and what it sends to caches.
-use Rattle.std.proofs.Common.{[], ◌==◌, ◌↔◌, ◌∙◌, ◌∷◌, ◌≡◌, ◌≢◌, All, Bool, IsSome, IsTrue, List, MatchOption, None, Option, Some, ap, cond, eq-eqb, eqb-true, false, filter, find, inl, inr, is_some, map, option_map, refl, subst, sym, true, ℕ}
+use Rattle.std.proofs.Common.{[], ◌==◌, ◌↔◌, ◌∙◌, ◌∷◌, ◌≡◌, ◌≢◌, All, Bool, IsSome, IsTrue, List, MatchOption, None, Option, Some, ap, cond, eq-eqb, eqb-true, false, filter, find, inr, is_some, map, option_map, refl, subst, sym, true, ℕ, rules}
 use Rattle.base.proofs.Exports.{All-cons, All-contains, All-head, All-tail, find-there, option_map_or, ⊤}
 use Rattle.five_tuple.specs.Exports.{IsHeader, number_of}
 use Rattle.five_tuple.specs.declared.header.Header.{Header}
@@ -55,12 +55,7 @@ IsSourced s site packet _ = ⊤
 by_cache : (s : SwitchValue) (site : Site) (packet : Packet) (cached : CacheEntry) →
     first_entry s.stamp (number_of packet.header) s.cache.entries ≡ Some cached →
     IsDecision s site packet (by_entry cached) None (next_of s site packet cached.action)
-by_cache s site packet cached first = record {
-  source = inl (record { entry = cached; first = first; decided = refl });
-  onward = refl;
-  sent = (λ some. absurd (cc), λ both. absurd (let no_test : false ≡ true = both.0 in cc));
-  carried = λ body is. absurd (cc);
-}
+by_cache s site packet cached first = search rules
 
 by_own : (s : SwitchValue) (site : Site) (packet : Packet) (version partition : ℕ)
     (tables : Tables) (answer : Answer) → held_tables s version ≡ Some tables →
@@ -120,21 +115,11 @@ by_lookup s site packet answer ready law = by_found (lookup_by_stamp s packet.he
 told_entry : (answer : Answer) (decision : Decision) (way : Next) →
     entered_with answer ≡ entry.Decided decision way →
     (cache : Option Body) × (answer ≡ Decided decision cache way)
-told_entry (Decided own cache goes) decision way is = let same_own : own ≡ decision = cc in
-    (cache, ap (λ d. Decided d cache goes) same_own ∙ ap (Decided decision cache) cc)
-told_entry (Seek tunnel) decision way is = absurd cc
-told_entry (Stuck cause leg) decision way is = absurd cc
+told_entry answer decision way is = search rules
 
 told_arrival : (answer : Answer) (decision : Decision) (cache : Option Body) (way : Next)
     → arrived_with answer ≡ arrival.Decided decision cache way → answer ≡ Decided decision cache way
-told_arrival (Decided own rule goes) decision cache way is =
-    let same_own : own ≡ decision = cc in
-    let same_rule : rule ≡ cache = cc in
-    let same_way : goes ≡ way = cc in
-    ap (λ d. Decided d rule goes) same_own ∙ ap (λ c. Decided decision c goes) same_rule
-    ∙ ap (Decided decision cache) same_way
-told_arrival (Seek tunnel) decision cache way is = absurd cc
-told_arrival (Stuck cause leg) decision cache way is = absurd cc
+told_arrival answer decision cache way is = search rules
 
 pub decided_on_entry : (s : SwitchValue) (site : Site) (packet : Packet) (decision : Decision)
     (way : Next) → IsReady s packet.header → enter_answer s site packet ≡ entry.Decided decision way

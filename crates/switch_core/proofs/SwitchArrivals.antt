@@ -1,5 +1,5 @@
 -- What a switch answers as a packet enters and as it arrives.
-use Rattle.std.proofs.Common.{◌↔◌, ◌≡◌, Bool, IfSome, IsFalse, IsSomeAnd, IsTrue, None, Option, Some, ap, cond, false, is_some, refl, subst, true, unwrap_or, ℕ}
+use Rattle.std.proofs.Common.{◌↔◌, ◌≡◌, Bool, IfSome, IsFalse, IsSomeAnd, IsTrue, None, Option, Some, ap, cond, false, is_some, refl, subst, true, unwrap_or, ℕ, rules}
 use Rattle.base.proofs.Exports.{option_map_or}
 use Rattle.policy_rules.specs.Exports.{is_in}
 use Rattle.policy_rules.specs.declared.packet.Leg.{Leg}
@@ -7,7 +7,7 @@ use Rattle.policy_rules.specs.declared.packet.Leg.TheVariants.{Seek, Exit}
 use Rattle.policy_rules.specs.declared.rules.Partition.{Partition}
 use Rattle.tunnel.specs.Exports.{TunnelValue}
 use Rattle.switch_table.specs.declared.tables.Tables.{Tables}
-use Rattle.switch_core.specs.Exports.{Answer, Answered, Decided, IsArriving, IsAtAuthority, IsDecidedIn, IsEntry, IsFirstHit, IsRightAnswer, Seek as SeekBy, Site, Stuck, SwitchValue, admitted, arrival_of, arrive_answer, arrived_on, arrived_with, decided_in, enter_answer, entered_with, entry_of, held_tables, holds_version, looked_up, no_part, own_part, packet_of, part_numbered, place_of_first, received, serves}
+use Rattle.switch_core.specs.Exports.{Answer, Answered, IsArriving, IsAtAuthority, IsDecidedIn, IsEntry, IsFirstHit, IsRightAnswer, Site, SwitchValue, admitted, arrival_of, arrive_answer, arrived_on, arrived_with, decided_in, enter_answer, entered_with, entry_of, held_tables, holds_version, looked_up, no_part, own_part, packet_of, part_numbered, place_of_first, received, serves}
 use Rattle.switch_core.specs.declared.tunnel_calls.Arrived.TheVariants as arrival
 use Rattle.switch_core.specs.declared.tunnel_calls.Entered.TheVariants as entry
 use Rattle.switch_core.specs.declared.tunnel_calls.Packet.{Packet}
@@ -23,9 +23,7 @@ entry_by s site packet test is = ap (λ (b : Bool). cond b (Some (looked_up s si
 
 -- a switch that answers isn't closed
 not_closed : (answer : Answer) → entered_with answer ≡ entry.Closed → ⊥
-not_closed (Decided decision cache way) is = cc
-not_closed (SeekBy tunnel) is = cc
-not_closed (Stuck cause leg) is = cc
+not_closed answer is = search rules
 
 pub entry_is : (s : SwitchValue) (site : Site) (packet : Packet) →
     IsEntry s site packet (enter_answer s site packet)
@@ -92,8 +90,7 @@ arrive_held s site t version partition tables arriving leg held = (
 )
 
 pub none_held : (o : Option Tables) → is_some o ≡ false → o ≡ None
-none_held None is = refl
-none_held (Some tables) is = cc
+none_held o is = search rules
 
 pub arrive_anew : (s : SwitchValue) (site : Site) (t : TunnelValue) (version partition : ℕ) →
     IsArriving s t → t.leg ≡ Seek version partition → IsFalse (holds_version s version) →

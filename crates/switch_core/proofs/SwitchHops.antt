@@ -1,10 +1,10 @@
 -- What becomes of a packet on its way, by the next link of its route.
-use Rattle.std.proofs.Common.{[], ◌&&◌, ◌+◌, ◌<◌, ◌↔◌, ◌∙◌, ◌∷◌, ◌≡◌, Bool, IsFalse, IsTrue, List, MatchOption, None, Option, Some, ap, arith, cond, false, get_or-set_same, inl, inr, length, length-set, map, refl, set, slice_get, slice_index, subst, sym, true, ℕ}
-use Rattle.base.proofs.Exports.{cases_lt, get_or_from_slice_get, get_or_past, has-zero}
+use Rattle.std.proofs.Common.{[], ◌&&◌, ◌+◌, ◌<◌, ◌↔◌, ◌∙◌, ◌∷◌, ◌≡◌, Bool, IsFalse, IsTrue, List, MatchOption, None, Option, Some, ap, get_or-set_same, inl, inr, length-set, refl, slice_get, slice_index, sym, true, ℕ, rules}
+use Rattle.base.proofs.Exports.{get_or_from_slice_get, get_or_past, has-zero}
 use Rattle.policy_rules.specs.declared.packet.Cause.{Cause}
 use Rattle.failover.proofs.KnownLinkRows.{has_known}
 use Rattle.failover.proofs.RouteSearch.{known_route_is_route}
-use Rattle.failover.specs.Exports.{IsPath, IsRoute, is_link, known_links, named_links, neighbours_named, route_of}
+use Rattle.failover.specs.Exports.{IsPath, IsRoute, is_link, known_links, named_links, route_of}
 use Rattle.base.specs.Exports.{has}
 use Rattle.failover.specs.declared.advert.Advert.{Advert}
 use Rattle.tunnel.specs.Exports.{TunnelValue, here, marked_down, next, on_route, route_from_here}
@@ -15,23 +15,7 @@ use Rattle.switch_core.specs.declared.tunnel_calls.HopEnd.TheVariants.{Arrive, M
 
 pub down_is : (near : ℕ) (t : TunnelValue) (other : ℕ) →
     (link_found_down near (next t) ≡ Some other) ↔ ((next t ≡ Some other) × IsFalse (has near other))
-down_is near t other = by_next (next t) where
-  by_test : (after : ℕ) (test : Bool) → has near after ≡ test → (cond test None (Some after)
-      ≡ Some other) ↔ ((Some after ≡ Some other) × IsFalse (has near other))
-  by_test after true is = (
-    λ found. absurd (cc),
-    λ both. absurd (let same : after ≡ other = cc (both.0) in
-        let no_test : false ≡ true = sym both.1 ∙ ap (has near) (sym same) ∙ is in cc),
-  )
-  by_test after false is = (
-    λ found. (found, (let same : after ≡ other = cc in ap (has near) (sym same) ∙ is)),
-    λ both. both.0,
-  )
-
-  by_next : (after : Option ℕ) → (link_found_down near after ≡ Some other)
-      ↔ ((after ≡ Some other) × IsFalse (has near other))
-  by_next None = (λ found. absurd (cc), λ both. absurd (cc (both.0)))
-  by_next (Some after) = by_test after (has near after) refl
+down_is near t other = search rules
 
 -- ---- the next link
 
@@ -149,14 +133,7 @@ first_link : (links : List ℕ) (from target : ℕ) (way : List ℕ) (second : �
 unfolding IsPath
 first_link links from target [] second path is = absurd path
 first_link links from target (first ∷ []) second path is = absurd (cc)
-first_link links from target (first ∷ other ∷ rest) second path is =
-    let same : other ≡ second = cc in
-    let leads = path.2 in (
-      subst (λ (n : ℕ). n < 64) path.0 path.1,
-      subst (λ (n : ℕ). n < 64) same leads.0,
-      ap (λ (n : ℕ). has (slice_index links n) second) (sym path.0)
-          ∙ ap (λ (n : ℕ). has (slice_index links first) n) (sym same) ∙ leads.1,
-    )
+first_link links from target (first ∷ other ∷ rest) second path is = search rules
 
 -- a route is a path to some target
 path_of : (links : List ℕ) (from : ℕ) (targets way : List ℕ) →
@@ -172,20 +149,10 @@ path_of links from (target ∷ targets) way route = elim route [
 seen : (adverts : List (Option Advert)) (at near other : ℕ) →
     has (slice_index (named_links adverts at near) at) other ≡ true → IsTrue (has near other)
 unfolding named_links
-seen adverts at near other is = let rows = map neighbours_named adverts in
-    elim (cases_lt at (length rows)) [
-      | inl below ↦ ap (λ (row : ℕ). has row other)
-          (sym (get_or-set_same rows at near 0 below)) ∙ is
-      | inr past ↦ (let len = length-set rows at near in
-          let no_link : false ≡ true = sym (has-zero other) ∙ ap (λ (row : ℕ). has row other)
-          (sym (get_or_past (set rows at near) at 0 (omega (arith, len)))) ∙ is in
-          absurd (cc))
-    ]
+seen adverts at near other is = search (rules, get_or-set_same, length-set, has-zero, get_or_past)
 
 second_of_four : (a b c d : Bool) → (a && b && c && d) ≡ true → b ≡ true
-second_of_four true true c d is = refl
-second_of_four true false c d is = is
-second_of_four false b c d is = absurd (cc)
+second_of_four a b c d is = search rules
 
 -- a way is a path to some target by the links that are known
 way_leads : (adverts : List (Option Advert)) (from near : ℕ) (down targets way : List ℕ) →
@@ -208,39 +175,7 @@ way_is_usable adverts from near down targets way second is next =
 pub hop_usable : (s : SwitchValue) (near : ℕ) (t : TunnelValue) (other : ℕ) →
     (hop_answer s near t).end ≡ Move other → IsTrue (has near other)
 unfolding hop_answer rerouted_here
-hop_usable s near t other = by_found (link_found_down near (next t)) refl where
-  no_switch : Option ℕ
-  no_switch = None
-
-  by_usable : (after : ℕ) → (test : Bool) → has near after ≡ test →
-      cond test None (Some after) ≡ no_switch → after ≡ other → IsTrue (has near other)
-  by_usable after true usable none same = ap (has near) (sym same) ∙ usable
-  by_usable after false usable none same = absurd (cc)
-
-  by_next : (after : Option ℕ) → link_found_down near after ≡ no_switch →
-      (move_answer t after).end ≡ Move other → IsTrue (has near other)
-  by_next None none end = absurd (cc)
-  by_next (Some after) none end =
-      by_usable after (has near after) refl none (let same : after ≡ other = cc in same)
-
-  by_second : (on : TunnelValue) (second : Option ℕ) →
-      ((other : ℕ) → second ≡ Some other → IsTrue (has near other)) →
-      (move_answer on second).end ≡ Move other → IsTrue (has near other)
-  by_second on None usable end = absurd (cc)
-  by_second on (Some second) usable end =
-      let same : second ≡ other = cc in usable other (ap Some same)
-
-  by_way : (from : ℕ) (way : Option (List ℕ)) → route_around s near t from ≡ way →
-      (moved_along s near (marked_down t from) way).end ≡ Move other → IsTrue (has near other)
-  by_way from None is end = absurd (cc)
-  by_way from (Some way) is end = by_second (on_route (marked_down t from) way) (slice_get way 1)
-      (λ second next. way_is_usable s.database (here t) near (down_with t from) t.targets way
-      second is next) end
-
-  by_found : (found : Option ℕ) → link_found_down near (next t) ≡ found →
-      (hopped_to s near t found).end ≡ Move other → IsTrue (has near other)
-  by_found None none end = by_next (next t) none end
-  by_found (Some from) found end = by_way from (route_around s near t from) refl end
+hop_usable s near t other = search (rules, way_is_usable)
 
 -- ---- where it arrives
 
@@ -248,33 +183,11 @@ hop_usable s near t other = by_found (link_found_down near (next t)) refl where
 path_begins : (links : List ℕ) (from target : ℕ) (way : List ℕ) →
     IsPath links from target way → slice_get way 0 ≡ Some from
 unfolding IsPath
-path_begins links from target [] path = absurd path
-path_begins links from target (first ∷ rest) path = ap Some path.0
+path_begins links from target way path = search rules
 
 -- a packet that stands here and arrives still stands here
 pub hop_stays : (s : SwitchValue) (near : ℕ) (t : TunnelValue) → StandsAt s t.route t.place →
     (hop_answer s near t).end ≡ Arrive →
     StandsAt s (hop_answer s near t).tunnel.route (hop_answer s near t).tunnel.place
 unfolding hop_answer rerouted_here
-hop_stays s near t stands = by_found (link_found_down near (next t)) where
-  by_next : (on : TunnelValue) → StandsAt s on.route on.place → (after : Option ℕ) →
-      (move_answer on after).end ≡ Arrive →
-      StandsAt s (move_answer on after).tunnel.route (move_answer on after).tunnel.place
-  by_next on is None end = is
-  by_next on is (Some other) end = absurd (cc)
-
-  by_way : (from : ℕ) (way : Option (List ℕ)) → route_around s near t from ≡ way →
-      (moved_along s near (marked_down t from) way).end ≡ Arrive →
-      StandsAt s (moved_along s near (marked_down t from) way).tunnel.route
-      (moved_along s near (marked_down t from) way).tunnel.place
-  by_way from None is end = absurd (cc)
-  by_way from (Some way) is end =
-      let leads = way_leads s.database (here t) near (down_with t from) t.targets way is in
-      let begins = path_begins (known_links s.database (here t) near (down_with t from)) (here t)
-      leads.0 way leads.1 ∙ ap Some (get_or_from_slice_get t.route t.place s.number 0 stands) in
-      by_next (on_route (marked_down t from) way) begins (slice_get way 1) end
-
-  by_found : (found : Option ℕ) → (hopped_to s near t found).end ≡ Arrive →
-      StandsAt s (hopped_to s near t found).tunnel.route (hopped_to s near t found).tunnel.place
-  by_found None end = by_next t stands (next t) end
-  by_found (Some from) end = by_way from (route_around s near t from) refl end
+hop_stays s near t stands = search (rules, way_leads, path_begins, get_or_from_slice_get)

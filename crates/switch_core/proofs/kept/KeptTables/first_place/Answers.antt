@@ -1,12 +1,11 @@
+use Rattle.std.proofs.Common.{rules}
 use Rattle.switch_core.proofs.OwnTables.{IsOwnFirst, own_first, same_place}
 use Rattle.switch_core.proofs.kept.KeptTables.first_place.Goals as goal
 use Rattle.switch_core.proofs.kept.KeptTables.first_place.Goals.{After-first}
 
 found : (c : After-first) → IsOwnFirst c.args.self.now c.args.partition c.args.header.now
     c.first.result
-found c = rw (← c.self.view_is) (own_first c.self.inside.finder.tables c.args.partition
-    c.args.header.now c.first.result c.first.ensures.sound c.first.ensures.header
-    (rw c.self.view_is c.requires) c.first.ensures.place)
+found c = search (rules, own_first)
 
 pub unwrap-place-requires : goal.unwrap-place-requires
 unwrap-place-requires c = rw ((found c).place)

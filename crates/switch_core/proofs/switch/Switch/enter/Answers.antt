@@ -1,4 +1,4 @@
-use Rattle.std.proofs.Common.{◌≡◌, None, Option, Some, ap, option_map, refl}
+use Rattle.std.proofs.Common.{◌≡◌, None, Option, ap, option_map, rules}
 use Rattle.switch_core.specs.Exports.{Answer, Answered, SwitchValue, admitted, around, entry_of, incoming_packet}
 use Rattle.switch_core.proofs.AdmittedPackets.{answered, by_lookup}
 use Rattle.switch_core.proofs.LookupAnswers.{entry_uncached}
@@ -7,8 +7,7 @@ use Rattle.switch_core.proofs.switch.Switch.enter.Goals as goal
 -- a packet that isn't looked up finds the switch closed
 closed : (answer : Option Answer) → None ≡ option_map Answered answer
     → entry_of None ≡ entry_of answer
-closed None is = refl
-closed (Some answer) is = absurd cc
+closed answer is = search rules
 
 pub answer_entry-requires : goal.answer_entry-requires
 answer_entry-requires c = let site = around c.args.near c.args.ports.now in
