@@ -1,11 +1,11 @@
 -- Where a finder's tree leads.
-use Rattle.std.proofs.Common.{[], ◌+◌, ◌<◌, ◌==◌, ◌^◌, ◌∙◌, ◌∷◌, ◌≡◌, Bool, IfSome, IsSome, IsSomeAnd, IsTrue, List, None, Option, Some, ap, arith, count_by, eq-eqb, eqb-true, false, find, get_or, inl, inr, length, map, option_and_then, option_map, position, refl, slice_get, subst, sym, true, unwrap_or, ℕ}
+use Rattle.std.proofs.Common.{[], ◌+◌, ◌<◌, ◌==◌, ◌∙◌, ◌∷◌, ◌≡◌, Bool, IsSome, IsSomeAnd, IsTrue, List, None, Option, Some, ap, arith, count_by, eq-eqb, eqb-true, false, find, get_or, inl, inr, length, map, option_and_then, option_map, position, refl, slice_get, subst, sym, true, unwrap_or, ℕ, rules}
 use Rattle.std.specs.List.{position_from}
 use Rattle.std.proofs.lemmas.Iterator.Adapters.{position_from-zero}
 use Rattle.std.specs.Option.{option_map_or}
 use Rattle.std.proofs.lemmas.Bool.{cases_Bool, both_ways}
 use Rattle.std.proofs.lemmas.List.{length-map}
-use Rattle.std.proofs.lemmas.List.Elements.{All-nil, All-cons, All-contains, All-weaker}
+use Rattle.std.proofs.lemmas.List.Elements.{All-weaker}
 use Rattle.std.proofs.lemmas.List.Quantifiers.{position-Some}
 use Rattle.std.proofs.lemmas.Option.{same_Some, slice_get-get_or, slice_get-map}
 use Rattle.std.proofs.lemmas.Bool.Decides.{same_from_decides}
@@ -37,12 +37,7 @@ pub end_is : (candidates : List Candidate) (candidate : Candidate) (place : ℕ)
     ≡ 1
     → candidate ≡ get_or candidates 0 candidate → place ≡ candidate.place → IsEnd candidates place
 end_is [] candidate place one is same = absurd (omega (arith, one))
-end_is (first ∷ []) candidate place one is same = record {
-  one = one;
-  there = All-cons (λ (s : Candidate). s.place ≡ place) first []
-      (sym (same ∙ ap (λ (s : Candidate). s.place) is))
-      (All-nil (λ (s : Candidate). s.place ≡ place));
-}
+end_is (first ∷ []) candidate place one is same = search rules
 end_is (first ∷ second ∷ rest) candidate place one is same = absurd (omega (arith, one))
 
 -- a tree that is grown of regions that meet a region of the header space is theirs
@@ -66,9 +61,8 @@ grown_tree holds_laws meet_laws (Sides bit low high) candidates region node is =
 pub finder_tree : HeaderLaws → HoldsLaws → MeetLaws → (tables : Tables) (trees : Trees)
     → AreSoundTables tables → AreTreesOf tables.parts tables.auth trees
     → IsFinderTree tables.parts (candidate_shape_of trees.tree)
-finder_tree header_laws holds_laws meet_laws tables trees sound are = grown_tree holds_laws
-    meet_laws (candidate_shape_of trees.tree) (candidates_of tables.parts) any_word
-    (root_node header_laws tables.parts sound.one are.words) are.tree
+finder_tree header_laws holds_laws meet_laws tables trees sound are =
+    search (rules, grown_tree, root_node)
 
 -- ---- down the tree
 
@@ -77,9 +71,7 @@ pub leads : (tree : LookupTree ℕ) (candidates : List Candidate) (region : Word
     (candidate : Candidate)
     → IsCandidateTreeOf candidates region tree → IsTrue (holds region number)
     → find (has_number number) candidates ≡ Some candidate → leaf_at number tree ≡ candidate.place
-leads (Leaf place) candidates region number candidate is held found =
-    sym (All-contains (λ (s : Candidate). s.place ≡ place) candidates candidate is.there
-    (find-there (has_number number) candidates candidate found).0)
+leads (Leaf place) candidates region number candidate is held found = search (rules, find-there)
 leads (Sides bit low high) candidates region number candidate is held found =
     down (λ place. place ≡ candidate.place) region bit number low high
     (cut_is_free candidates region bit is.1).free held
@@ -95,10 +87,8 @@ found_place : (number place : ℕ) (rows : List PartRow) → option_map (λ (s :
     (find (has_number number) (candidates_from place rows))
     ≡ position_from (λ (row : PartRow). holds row.region number) place rows
 found_place number place [] = refl
-found_place number place (row ∷ rows) = elim (cases_Bool (holds row.region number)) [
-  | inl held ↦ rw held refl
-  | inr past ↦ rw past (found_place number (place + 1) rows)
-]
+found_place number place (row ∷ rows) =
+    search (rules, cases_Bool, found_place number (place + 1) rows)
 
 -- the tree of the rows leads each header to the first row that holds it
 pub leads_to_row : (rows : List PartRow) (tree : LookupTree ℕ) (header : Header)
@@ -259,23 +249,16 @@ own_decides tables header place own first sound is at there first_is =
     ∙ sym (ap (λ own. option_map_or (authority_of header) own (redirect_of header tables.parts))
     (own_numbered tables header place sound is at ∙ own_part.2))
 
-pub small_place : (first : Option ℕ) → IfSome first (λ place. place < 2 ^ 32)
-    → unwrap_or first 0 < 2 ^ 32
-small_place None small = omega arith
-small_place (Some place) small = small
-
 -- no partition has the number
 pub none_there : (parts : List Partition) (number : ℕ)
     → None ≡ position (λ part. part.number == number) parts
     → None ≡ find (λ part. part.number == number) parts
-none_there parts number none = ap (option_and_then (slice_get parts)) none
-    ∙ find-position (λ (p : Partition). p.number == number) parts
+none_there parts number none = search (rules, find-position)
 
 pub one_read : (parts auth : List Partition) (number own : ℕ) → parts ≡ auth
     → Some own ≡ position (λ part. part.number == number) parts
     → slice_get auth own ≡ find (λ part. part.number == number) auth
-one_read parts auth number own same there = rw same at (ap (option_and_then (slice_get parts)) there
-    ∙ find-position (λ (p : Partition). p.number == number) parts)
+one_read parts auth number own same there = search (rules, find-position)
 
 -- where there is none, its targets do
 pub row_decides : (tables : Tables) (header : Header) (place : ℕ) (d : PartRow)
@@ -296,12 +279,8 @@ pub place_is : (tables : Tables) (trees read : Trees) (header : Header) (number 
     → place ≡ leaf_at number (candidate_shape_of read.tree)
     → position (row_has header) tables.parts ≡ Some place
 place_is tables trees read header number place sound is there header_is same at =
-    leads_to_row tables.parts (candidate_shape_of trees.tree) header is (sound.one header header_is)
-    ∙ ap (λ n. Some (leaf_at n (candidate_shape_of trees.tree))) (sym same)
-    ∙ ap (λ (t : Trees). Some (leaf_at number (candidate_shape_of t.tree))) (sym there)
-    ∙ ap Some (sym at)
+    search (rules, leads_to_row)
 
 pub place_within : (header : Header) (rows : List PartRow) (place : ℕ)
     → position (row_has header) rows ≡ Some place → place < length rows
-place_within header rows place at =
-    (row_at header rows place (record { region = any_word; targets = [] }) at).within
+place_within header rows place at = search rules

@@ -1,5 +1,5 @@
 -- Down a tree of bits.
-use Rattle.std.proofs.Common.{◌==◌, ◌≡◌, Bool, IsFalse, IsTrue, arith, eq-eqb, eqb-true, false, inl, inr, refl, true, ℕ}
+use Rattle.std.proofs.Common.{◌==◌, ◌≡◌, Bool, IsFalse, IsTrue, arith, eq-eqb, eqb-true, false, inl, inr, refl, true, ℕ, rules}
 use Rattle.std.specs.Int.{bit_at, from_bool}
 use Rattle.std.proofs.lemmas.Bool.{cases_Bool}
 use Rattle.std.proofs.lemmas.Bool.Decides.{nat_tests}
@@ -13,8 +13,7 @@ use Rattle.table_tree.specs.declared.bit_tree.BitTree.{BitTree, End, Cut'}
 in_half : (region : WordValue) (bit number : ℕ) (one : Bool) → IsFalse (is_fixed_of region bit)
     → IsTrue (holds region number) → bit_at number bit ≡ from_bool one
     → IsTrue (holds (fix_of region bit one) number)
-in_half region bit number one free held is =
-    cc (fix_holds region bit one free number, held, eq-eqb (bit_at number bit) (from_bool one) is)
+in_half region bit number one free held is = search (rules, fix_holds, eq-eqb)
 
 -- what is true of the side that has a header of the region is true of the cut
 pub down : {A : Type 0} (P : A → Type 0) (region : WordValue) (bit number : ℕ)
@@ -35,7 +34,5 @@ down P region bit number low high free held lower upper =
 pub seen_at : {L A : Type 0} (seen : L → A) (number : ℕ) (tree : BitTree L)
     → seen (leaf_at number (lookup_tree_of (λ x. x) tree)) ≡ leaf_at number (lookup_tree_of seen tree)
 seen_at seen number (End end) = refl
-seen_at seen number (Cut' bit p low q high) = elim (cases_Bool (bit_at number bit == 1)) [
-  | inl set ↦ rw set (seen_at seen number high)
-  | inr unset ↦ rw unset (seen_at seen number low)
-]
+seen_at seen number (Cut' bit p low q high) =
+    search (rules, cases_Bool, seen_at seen number high, seen_at seen number low)

@@ -1,9 +1,9 @@
 -- The regions at a node.
-use Rattle.std.proofs.Common.{[], ◌++◌, ◌+◌, ◌<◌, ◌==◌, ◌^◌, ◌||◌, ◌∙◌, ◌∷◌, ◌≡◌, All, Bool, IsFalse, IsSome, IsTrue, List, None, Option, Some, ap, append_assoc, arith, cond, count_by, drop, eqb-true, false, filter, find, get_or, inl, inr, is_some, length, refl, sym, true, ℕ}
+use Rattle.std.proofs.Common.{[], ◌++◌, ◌+◌, ◌<◌, ◌==◌, ◌^◌, ◌||◌, ◌∙◌, ◌∷◌, ◌≡◌, All, Bool, IsFalse, IsSome, IsTrue, List, None, Option, Some, ap, append_assoc, arith, cond, count_by, drop, eqb-true, false, filter, find, get_or, inl, inr, is_some, length, refl, sym, true, ℕ, rules}
 use Rattle.std.specs.Int.{bit_at}
 use Rattle.std.proofs.lemmas.Bool.{cases_eq, cases_lt, cases_Bool, both_ways, and_parts}
 use Rattle.policy_rules.proofs.CallerLemmas.{count_by-cons, count-filter-le, at_item, find_kept, found_from_count}
-use Rattle.std.proofs.lemmas.List.Elements.{All-nil, All-cons, All-head, All-tail, All-filter, filter_passes}
+use Rattle.std.proofs.lemmas.List.Elements.{All-head, All-tail, All-filter, filter_passes}
 use Rattle.std.proofs.lemmas.Nat.Bits.{bit_at_above}
 use Rattle.five_tuple.specs.Exports.{HeaderLaws, IsHeader, header_numbered}
 use Rattle.five_tuple.specs.declared.header.Header.{Header}
@@ -40,10 +40,7 @@ candidates_count place number (row ∷ rows) = omega (
 
 pub any_meets : (candidates : List Candidate) → All
     (λ candidate. IsTrue (candidate_meets any_word candidate)) candidates
-any_meets [] = All-nil (λ (candidate : Candidate). IsTrue (candidate_meets any_word candidate))
-any_meets (candidate ∷ candidates) =
-    All-cons (λ (s : Candidate). IsTrue (candidate_meets any_word s)) candidate candidates
-    (meets_cover any_word candidate.region (any_covers candidate.region)) (any_meets candidates)
+any_meets candidates = search (rules, meets_cover, any_covers)
 
 pub root_node : HeaderLaws → (rows : List PartRow)
     → ((header : Header) → IsHeader header → count_by (row_has header) rows ≡ 1)
@@ -69,17 +66,14 @@ root_node laws rows one words =
 pub half_holds : (region : WordValue) (bit number : ℕ) (one : Bool) → IsFalse
     (is_fixed_of region bit) → IsTrue (holds (fix_of region bit one) number)
     → IsTrue (holds region number)
-half_holds region bit number one free held =
-    (and_parts _ _ (sym (fix_holds region bit one free number) ∙ held)).0
+half_holds region bit number one free held = search (rules, fix_holds)
 
 -- on a side, the one that has a header of the half is that of the node
 pub side_finds : (candidates : List Candidate) (region : WordValue) (bit number : ℕ) (one : Bool)
     → IsTrue (holds (fix_of region bit one) number)
     → find (has_number number) (candidates_of_side candidates region bit one)
     ≡ find (has_number number) candidates
-side_finds candidates region bit number one held =
-    find_kept (has_number number) (candidate_meets (fix_of region bit one)) candidates
-    (λ candidate has_it. held_meets candidate.region (fix_of region bit one) number has_it held)
+side_finds candidates region bit number one held = search (rules, find_kept, held_meets)
 
 pub half_node : (candidates : List Candidate) (region : WordValue) (bit : ℕ) (one : Bool)
     → AreNodeCandidates candidates region → IsFreeBit region bit
@@ -173,8 +167,7 @@ several_candidates laws candidates region node not_one =
 
 pub cut_is_free : (candidates : List Candidate) (region : WordValue) (bit : ℕ) → IsCutBit candidates
     region bit → IsFreeBit region bit
-cut_is_free candidates region bit (inl least) = least.free
-cut_is_free candidates region bit (inr least) = least.1.free
+cut_is_free candidates region bit h3 = search rules
 
 -- fewer bits are free in a half
 pub half_smaller : (region half : WordValue) (bit : ℕ) (one : Bool) → IsFreeBit region bit

@@ -1,5 +1,5 @@
 -- Where a rule tree leads.
-use Rattle.std.proofs.Common.{[], ◌&&◌, ◌*◌, ◌+◌, ◌-◌, ◌<◌, ◌∙◌, ◌∷◌, ◌≡◌, ◌≤◌, All, Bool, Global, IsTrue, List, None, Option, Some, Vec, ap, arith, cond, false, find, inl, inr, le-ltb, length, map, option_map, position, refl, slice_get, subst, suc, sym, true, zero, ℕ}
+use Rattle.std.proofs.Common.{[], ◌&&◌, ◌*◌, ◌+◌, ◌-◌, ◌<◌, ◌∙◌, ◌∷◌, ◌≡◌, ◌≤◌, All, Bool, Global, IsTrue, List, None, Option, Some, Vec, ap, arith, cond, false, find, inl, inr, le-ltb, length, map, option_map, position, refl, slice_get, subst, suc, sym, true, zero, ℕ, rules}
 use Rattle.std.specs.List.{position_from}
 use Rattle.std.proofs.lemmas.Iterator.Adapters.{position_from-zero}
 use Rattle.std.specs.Option.{option_map_or}
@@ -42,8 +42,7 @@ pub within_cut : (cuts : ℕ) (rules : List Rule) (region : WordValue) (cost : C
     → b ≡ rule_tree_within (cuts - 1) high higher
     → Sides cost.bit a b ≡ rule_tree_within cuts rules region
 unfolding rule_tree_within
-within_cut zero rules region cost low high lower higher a b some is l lr h hr p q =
-    absurd (omega arith)
+within_cut zero rules region cost low high lower higher a b some is l lr h hr p q = search rules
 within_cut (suc cuts) rules region cost low high lower higher a b some is l lr h hr p q =
     let less : suc cuts - 1 ≡ cuts = omega arith in
     rw (p, q, less, l, lr, h, hr) (ap (tree_by_cut (rule_tree_within cuts) rules region) is)
@@ -52,8 +51,7 @@ within_cut (suc cuts) rules region cost low high lower higher a b some is l lr h
 
 pub none_left : (cuts : ℕ) (rules : List Rule) (region : WordValue) → cuts ≡ 0
     → None ≡ paying_cut cuts rules region
-none_left zero rules region none = refl
-none_left (suc cuts) rules region none = absurd (omega arith)
+none_left cuts rules region none = search rules
 
 pub few_stay : (cuts : ℕ) (rules : List Rule) (region : WordValue) → length rules ≤ 16
     → None ≡ paying_cut cuts rules region
@@ -135,21 +133,18 @@ narrowed_agrees list region number rule inside meet agrees = agrees ∙ sym (mee
 side_agrees : (list rules : List Rule) (region : WordValue) (number : ℕ)
     → IsTrue (holds region number) → All (Agrees list number) rules
     → All (Agrees list number) (narrow rules region)
-side_agrees list rules region number inside all = narrow_keeps (Agrees list number) rules region
-    (λ rule meet agrees. narrowed_agrees list region number rule inside meet agrees) all
+side_agrees list rules region number inside all = search (rules, narrow_keeps, narrowed_agrees)
 
 rank_kept : (region : WordValue) (found : Option Rule)
     → option_map rank_of (option_map (narrowed_rule region) found) ≡ option_map rank_of found
 unfolding narrowed_rule
-rank_kept region None = refl
-rank_kept region (Some rule) = refl
+rank_kept region found = search rules
 
 -- narrowing keeps the place of the first rule that holds a header of the region
 first_kept : (rules : List Rule) (region : WordValue) (number : ℕ) → IsTrue (holds region number)
     → option_map rank_of (find (is_held number) (narrow rules region))
     ≡ option_map rank_of (find (is_held number) rules)
-first_kept rules region number inside =
-    cc (narrow_first rules region number inside, rank_kept region (find (is_held number) rules))
+first_kept rules region number inside = search (rules, narrow_first, rank_kept)
 
 -- ---- down the tree
 

@@ -1,5 +1,5 @@
 -- Masks as sets of bits.
-use Rattle.std.proofs.Common.{◌&&◌, ◌+◌, ◌-◌, ◌<◌, ◌==◌, ◌^◌, ◌||◌, ◌↔◌, ◌∙◌, ◌≡◌, Bool, List, ap, arith, bit_and, bit_or, eqb-true, false, get_or, inl, inr, length, max, min, sym, take, true, ℕ}
+use Rattle.std.proofs.Common.{◌&&◌, ◌+◌, ◌-◌, ◌<◌, ◌==◌, ◌^◌, ◌||◌, ◌↔◌, ◌∙◌, ◌≡◌, Bool, List, ap, arith, bit_and, bit_or, eqb-true, false, get_or, inl, inr, length, max, min, sym, take, true, ℕ, rules}
 use Rattle.std.specs.Int.{w128, bit_at, trailing_zeros}
 use Rattle.std.proofs.lemmas.Bool.{cases_lt, cases_Bool}
 use Rattle.std.proofs.lemmas.Bool.Decides.{nat_tests}
@@ -21,12 +21,10 @@ max_digit : (a b : ℕ) → a < 2 → b < 2 → (max a b == 1) ≡ ((a == 1) || 
 max_digit a b p q = grind (arith, nat_tests)
 
 and_bit : (a b k : ℕ) → (bit_at (bit_and a b) k == 1) ≡ ((bit_at a k == 1) && (bit_at b k == 1))
-and_bit a b k = ap (λ n. n == 1) (bit_at_and a b k)
-    ∙ min_digit (bit_at a k) (bit_at b k) (bit_at-lt a k) (bit_at-lt b k)
+and_bit a b k = search (rules, bit_at_and, min_digit, bit_at-lt)
 
 or_bit : (a b k : ℕ) → (bit_at (bit_or a b) k == 1) ≡ ((bit_at a k == 1) || (bit_at b k == 1))
-or_bit a b k = ap (λ n. n == 1) (bit_at_or a b k)
-    ∙ max_digit (bit_at a k) (bit_at b k) (bit_at-lt a k) (bit_at-lt b k)
+or_bit a b k = search (rules, bit_at_or, max_digit, bit_at-lt)
 
 -- ---- the bits that regions fix
 
