@@ -87,11 +87,6 @@ retargeted_leads rows plan targets len is some version switch header sound =
     let same = ap (λ (h : Hosted). h.1) (get_or-zip parts targets k d here there) in
     omega (arith, some k d.1 there, ap length same)) sound
 
-pub small_rules : (most : ℕ) (parts : List Partition) → most ≤ 8192
-    → All (λ part. length part.rules ≤ most) parts → All (λ part. length part.rules < 2 ^ 32) parts
-small_rules most parts few = All-weaker (λ part. length part.rules ≤ most)
-    (λ part. length part.rules < 2 ^ 32) (λ part small. omega (arith, small, few)) parts
-
 -- ---- the refusals of the way are those of the plan
 
 pub rules_refused : (rows : List Row) (net : Net) (error : Failure TooManyWords)

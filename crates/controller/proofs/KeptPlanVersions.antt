@@ -9,9 +9,6 @@ use Rattle.controller.specs.Exports.{ControllerValue, IsController, IsSoundPlan,
 test_le : (a b : ℕ) → a ≤ b → leb a b ≡ true
 test_le a b le = grind (arith, nat_tests)
 
-test_gt : (a b : ℕ) → b < a → leb a b ≡ false
-test_gt a b gt = grind (arith, nat_tests)
-
 -- all numbers pass
 all_from : (to a n : ℕ) → to ≤ a → filter (leb to) (range_with_len a n) ≡ range_with_len a n
 all_from to a zero le = refl

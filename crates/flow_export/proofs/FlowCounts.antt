@@ -1,7 +1,7 @@
 -- The counts of a list of leavings with one more: its header is counted once more, at its place, or
 -- behind the others as a new one.
 use Rattle.std.proofs.Common.{[], ◌&&◌, ◌++◌, ◌+◌, ◌||◌, ◌∙◌, ◌∷◌, ◌≡◌, ◌≤◌, Bool, List, Option, Some, ap, append-nil, arith, cond, eq-eqb, eqb, eqb-true, false, filter, length, map, not, refl, subst, sym, true, unwrap_or, ℕ}
-use Rattle.base.proofs.Exports.{and_from, and_parts, count_by-le-length, false_from_ne_true, false≢true, filter-append, length-map, list_any, lookup, or_parts, sum_by-cons, sum_by_push}
+use Rattle.base.proofs.Exports.{and_from, and_parts, count_by-le-length, false_from_ne_true, false≢true, filter-append, list_any, lookup, or_parts, sum_by-cons, sum_by_push}
 use Rattle.five_tuple.specs.Exports.{header_eq}
 use Rattle.five_tuple.specs.declared.header.Header.{Header}
 use Rattle.indexmap.specs.IndexMap.{insert_entry}
@@ -237,9 +237,6 @@ counts_on held one =
     ∙ ap (λ b. packets_of held h + cond b 1 0) (itself h)) stays (headers_of held)
     (headers_differ held)
     ∙ ap (counted (packets_of (held ++ one ∷ []))) (sym (headers_on held one))
-
-pub counts_long : (held : List Leaving) → length (packet_counts held) ≡ length (headers_of held)
-counts_long held = length-map (headers_of held) (λ h. (h, packets_of held h))
 
 -- the records that the counts are
 abbrev pub record_at : ℕ → Header × ℕ → FlowRecord

@@ -1,10 +1,9 @@
 -- What is counted of one more item.
-use Rattle.std.proofs.Common.{[], ◌++◌, ◌+◌, ◌<◌, ◌^◌, ◌∙◌, ◌∷◌, ◌≡◌, Bool, List, None, Option, Some, ap, arith, false, length, refl, true, unwrap_or, ℕ}
+use Rattle.std.proofs.Common.{[], ◌++◌, ◌+◌, ◌∙◌, ◌∷◌, ◌≡◌, Bool, List, None, Option, Some, ap, arith, false, refl, true, unwrap_or, ℕ}
 use Rattle.std.specs.Option.{option_or}
-use Rattle.std.proofs.lemmas.List.Sums.{count_by-le-length}
 use Rattle.update_machine.specs.Exports.{Item, count_of, current_mark, gives_current, gives_retired, is_packet, last_given, retired_mark}
 use Rattle.update_machine.proofs.Exports.{count_of_append, last_given_append}
-use Rattle.journal_reports.specs.Exports.{CountsHaveRoom, counted_with, is_cached, is_closed, is_dropped, is_entered, is_left, is_lost, is_sent, is_stuck, item_counts, one_more}
+use Rattle.journal_reports.specs.Exports.{counted_with, is_cached, is_closed, is_dropped, is_entered, is_left, is_lost, is_sent, is_stuck, item_counts, one_more}
 
 count_more : (test : Item → Bool) (before : List Item) (item : Item)
     → count_of test (before ++ item ∷ []) ≡ one_more (test item) (count_of test before)
@@ -57,16 +56,3 @@ pub counts_start : item_counts [] ≡ record {
 }
 unfolding current_mark retired_mark
 counts_start = refl
-
-pub counts_room : (items : List Item) → length items + 1 < 2 ^ 64 → CountsHaveRoom (item_counts items)
-counts_room items room = record {
-  packets = omega (arith, count_by-le-length is_packet items, room);
-  closed = omega (arith, count_by-le-length is_closed items, room);
-  delivered = omega (arith, count_by-le-length is_left items, room);
-  dropped = omega (arith, count_by-le-length is_dropped items, room);
-  lost = omega (arith, count_by-le-length is_lost items, room);
-  stuck = omega (arith, count_by-le-length is_stuck items, room);
-  travelling = omega (arith, count_by-le-length is_entered items, room);
-  cached = omega (arith, count_by-le-length is_cached items, room);
-  messages = omega (arith, count_by-le-length is_sent items, room);
-}

@@ -1,7 +1,7 @@
 -- What switches carry under a placement: the bound holds of each placement that fits, and running
 -- sums come to the traffic.
-use Rattle.std.proofs.Common.{[], ◌*◌, ◌+◌, ◌<◌, ◌||◌, ◌∙◌, ◌∷◌, ◌≡◌, ◌≢◌, ◌≤◌, All, Bool, List, ap, arith, cond, eq-eqb, eqb, false, fold, get_or, get_or-set_other, get_or-set_same, inl, inr, length, map, max, ne_eqb, not, refl, set, suc, sum, sum_by, sym, take, true, true≢false, zero, zero-add, ℕ}
-use Rattle.base.proofs.Exports.{AllByRecursion, cases_eq, div_ceil, div_ceil_times, fun_ext, get_or-map-range_with_len, get_or_default, length-map-range_with_len, list_any, or_left, range_more, range_with_len, same_lists, sum_by-le-sum_by, sum_by_push}
+use Rattle.std.proofs.Common.{[], ◌*◌, ◌+◌, ◌<◌, ◌||◌, ◌∙◌, ◌∷◌, ◌≡◌, ◌≤◌, All, Bool, List, ap, arith, cond, eq-eqb, eqb, false, fold, get_or, length, map, max, ne_eqb, not, refl, suc, sum, sum_by, sym, take, true, true≢false, zero, zero-add, ℕ}
+use Rattle.base.proofs.Exports.{AllByRecursion, div_ceil, div_ceil_times, fun_ext, get_or-map-range_with_len, get_or_default, length-map-range_with_len, list_any, or_left, range_more, range_with_len, same_lists, sum_by-le-sum_by, sum_by_push}
 use Rattle.placement.specs.Placement.{is_target, targets_at}
 use Rattle.placement.proofs.CallerLemmas.{each_by_count, range-within, sum-filter, sum_none}
 use Rattle.rebalance.specs.Loads.{Fits, bound, greatest, greatest_traffic, is_primary, traffic, usable_rooms}
@@ -194,42 +194,6 @@ bound-le n sizes weights rooms backups P settled = by_case (eqb (usable_rooms ro
       (weight-le n sizes weights rooms backups P settled)) even
 
 -- ---- running sums
-
-front-is : (xs : List ℕ) (s : ℕ) → 0 < length xs
-    → list_any (eqb s) (take 1 xs) ≡ eqb s (get_or xs 0 0)
-front-is [] s some = absurd (omega arith)
-front-is (x ∷ xs) s some = by_case (eqb s x) where
-  by_case : (b : Bool) → (b || false) ≡ b
-  by_case true = refl
-  by_case false = refl
-
--- the first target takes the weight
-pub first-takes : (old targets : List ℕ) (more s : ℕ) → 0 < length targets
-    → get_or targets 0 0 < length old
-    → get_or (set old (get_or targets 0 0) (get_or old (get_or targets 0 0) 0 + more)) s 0
-    ≡ get_or old s 0 + cond (list_any (eqb s) (take 1 targets)) more 0
-first-takes old targets more s some there = let first = get_or targets 0 0 in
-    rw (front-is targets s some)
-    (elim (cases_eq s first) [
-      | inl same ↦ let new = set old first (get_or old first 0 + more) in
-          rw (eq-eqb s first same)
-          (omega (
-            arith,
-            ap (λ z. get_or new z 0) same,
-            get_or-set_same old first (get_or old first 0 + more) 0 there,
-            ap (λ z. get_or old z 0) same,
-          ))
-      | inr other ↦ rw (ne_eqb s first other)
-          (omega (arith, get_or-set_other old first s (get_or old first 0 + more) 0 other))
-    ])
-
--- a first target that isn't there takes nothing
-pub none-takes : (old targets : List ℕ) (more s : ℕ) → 0 < length targets
-    → length old ≤ get_or targets 0 0 → s < length old
-    → get_or old s 0 ≡ get_or old s 0 + cond (list_any (eqb s) (take 1 targets)) more 0
-none-takes old targets more s some past within =
-    let other : s ≢ get_or targets 0 0 = λ same. absurd (omega (arith, same)) in
-    rw (front-is targets s some, ne_eqb s (get_or targets 0 0) other) (omega arith)
 
 -- one more partition
 pub carried-more : (weights : List ℕ) (P : List (List ℕ)) (s k : ℕ)

@@ -1,6 +1,6 @@
 -- An index of a policy's rows: how it grows, and that what it finds is the first match.
-use Rattle.std.proofs.Common.{[], ◌&&◌, ◌*◌, ◌++◌, ◌+◌, ◌-◌, ◌/◌, ◌<◌, ◌==◌, ◌^◌, ◌∙◌, ◌∷◌, ◌≡◌, ◌≢◌, ◌≤◌, All, Bool, Contains, List, MatchOption, None, Option, Some, ap, arith, cond, eq-eqb, eqb-true, false, filter, get_or, inl, inr, length, length-set, ltb, ltb-false, ltb-true, not, refl, replicate, set, slice_get, subst, suc, sym, take, true, true≢false, zero, ℕ}
-use Rattle.base.proofs.Exports.{All-filter, All-head, All-push, Contains-append_right, and_cases, and_parts, both_ways, cases_eq, cases_lt, cond_both, contains_at, false≢true, filter_passes, get_or_from_slice_get, get_push_at, get_push_left, get_replicate, get_set_other, get_set_same, length-replicate, length_push, one_item, option_map_or, passes_at_first, position_or_len, position_or_len_push, prefix_len-le-length, same_Some, shr_split, slice_get-get_or, slice_get_read, slice_get_within, take_more}
+use Rattle.std.proofs.Common.{[], ◌&&◌, ◌*◌, ◌++◌, ◌+◌, ◌-◌, ◌/◌, ◌<◌, ◌==◌, ◌^◌, ◌∙◌, ◌∷◌, ◌≡◌, ◌≢◌, ◌≤◌, All, Bool, Contains, List, MatchOption, None, Option, Some, ap, arith, cond, eq-eqb, eqb-true, false, filter, get_or, inl, inr, length, length-set, ltb, ltb-false, ltb-true, not, refl, replicate, set, slice_get, subst, suc, sym, true, true≢false, zero, ℕ}
+use Rattle.base.proofs.Exports.{All-filter, All-head, All-push, Contains-append_right, and_cases, and_parts, both_ways, cases_eq, cases_lt, cond_both, contains_at, false≢true, filter_passes, get_or_from_slice_get, get_push_at, get_push_left, get_replicate, get_set_other, get_set_same, length-replicate, length_push, one_item, option_map_or, passes_at_first, position_or_len, position_or_len_push, prefix_len-le-length, same_Some, shr_split, slice_get-get_or, slice_get_read, slice_get_within}
 use Rattle.five_tuple.specs.Exports.{AddressBlock, IsAddressBlock, block_round, fields_of, prefix_matches, proto_matches, range_matches}
 use Rattle.update_machine.specs.Exports.{Action, Fields, Header, Hit, Row}
 use Rattle.policy_rules.specs.Exports.{IsFirstMatch, IsPolicy, IsSoundRow, hit_of, row_matches}
@@ -83,27 +83,6 @@ module _ (shapes : List Shape) (shape : Shape) where
     kept = kept_pushed;
     sound = λ one all. All-push IsSoundShape shapes shape all one;
   }
-
-shape_sound : (row : Row) → IsSoundRow row → IsSoundShape (shape_of_row row)
-shape_sound row sound = record { src = sound.src.len; dst = sound.dst.len }
-
-pub shapes_none : (rows : List Row) (shapes : List Shape) → shapes ≡ [] → AreShapesOf [] shapes
-shapes_none rows shapes none = record {
-  sound = subst (All IsSoundShape) (sym none) (λ k d within. absurd (omega (arith, within)));
-  there = λ k d within. absurd (omega (arith, within));
-}
-
--- one more row, whose shape was noted
-pub shapes_more : (rows : List Row) (i : ℕ) (row : Row) (before after : List Shape) → IsPolicy rows
-    → i < length rows → slice_get rows i ≡ Some row → Notes before (shape_of_row row) after
-    → AreShapesOf (take i rows) before → AreShapesOf (take (i + 1) rows) after
-shapes_more rows i row before after policy within there notes are = record {
-  sound = notes.sound (shape_sound row (sound_row rows i row policy there)) are.sound;
-  there = subst (All (HasShape after)) (sym (take_more rows i row within))
-      (All-push (HasShape after) (take i rows) (get_or rows i row)
-      (λ k d inside. notes.kept (get_or (take i rows) k d) (are.there k d inside))
-      (subst (HasShape after) (sym (get_or_from_slice_get rows i row row there)) notes.there));
-}
 
 -- a header is sought in the slot of each row that matches it
 slot_same : (shapes : List Shape) (row : Row) (fields : Fields) (shape : Shape) (src dst : ℕ)
@@ -274,17 +253,6 @@ abbrev pub places_left : Option ℕ → ℕ
 places_left None = 0
 places_left (Some place) = place + 1
 
-pub walk_begins : (rows : List Row) (slot : ℕ) (fields : Fields) (hit : Hit) (at : Option ℕ)
-    (index : Index) → IsIndexOf rows index → slice_get index.last.items slot ≡ Some at
-    → IsWalked index.shapes.items rows slot fields hit hit at
-walk_begins rows slot fields hit at index is there = record {
-  bound = length rows;
-  last = is.last slot at there;
-  matching = λ m. m;
-  kept = λ row reached. reached;
-  reached = λ k row above got same matches. absurd (omega (arith, above, slice_get_within));
-}
-
 falls : (shapes : List Shape) (rows : List Row) (slot place : ℕ) (next : Option ℕ) → IsLastBefore shapes rows slot place next
     → places_left next < places_left (Some place)
 falls shapes rows slot place None is = omega arith
@@ -361,13 +329,6 @@ pub record IsSought (shapes : List Shape) (rows : List Row) (fields : Fields) (p
   pub matching : IsMatchIn rows fields hit
   pub reached : (k : ℕ) (row : Row) → slice_get rows k ≡ Some row
       → shape_place shapes row < place → row_matches row fields ≡ true → IsNoHigher hit row
-
-pub sought_none : (shapes : List Shape) (rows : List Row) (fields : Fields)
-    → IsSought shapes rows fields 0 (hit_of None)
-sought_none shapes rows fields = record {
-  matching = refl;
-  reached = λ k row got before matches. absurd (omega (arith, before));
-}
 
 pub sought_more : (shapes : List Shape) (rows : List Row) (fields : Fields) (place : ℕ)
     (shape : Shape) (src dst : ℕ) (hit better : Hit) → IsPolicy rows

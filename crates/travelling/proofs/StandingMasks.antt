@@ -1,5 +1,5 @@
 -- The masks of where packets stand.
-use Rattle.std.proofs.Common.{[], ◌%◌, ◌&&◌, ◌*◌, ◌++◌, ◌+◌, ◌-◌, ◌/◌, ◌<◌, ◌==◌, ◌^◌, ◌∙◌, ◌∷◌, ◌≡◌, ◌≢◌, ◌≤◌, ◌⊎◌, Bool, IsSomeAnd, List, None, ap, arith, bit_xor, eq-eqb, eqb-true, false, get_or, get_or-set_other, get_or-set_same, inl, inr, is_some, length, max, not, refl, set, shr-shr, subst, suc, sym, true, zero, ℕ}
+use Rattle.std.proofs.Common.{[], ◌%◌, ◌&&◌, ◌*◌, ◌+◌, ◌-◌, ◌/◌, ◌<◌, ◌==◌, ◌^◌, ◌∙◌, ◌≡◌, ◌≢◌, ◌≤◌, ◌⊎◌, Bool, IsSomeAnd, List, None, ap, arith, bit_xor, eq-eqb, eqb-true, false, get_or, get_or-set_other, get_or-set_same, inl, inr, is_some, length, max, not, refl, set, shr-shr, subst, sym, true, ℕ}
 use mathlib.Core.Bool.{beq}
 use Rattle.base.proofs.Exports.{bit_at, bit_at-lt, bit_at-pow_same, bit_at_xor, cases_lt, get_or_past, has-xor_other, has-zero, has_above, has_least, least_below, nat_tests, shr_le}
 use Rattle.base.specs.Exports.{has, least_in}
@@ -10,12 +10,6 @@ use Rattle.travelling.specs.Travelling.{Flight, AreMarked, Flights, stands_at, f
 
 pub none_marked : (i s : ℕ) → is_marked [] i s ≡ false
 none_marked i s = has-zero (i % 64)
-
-pub pushed_zero : (masks : List ℕ) (j : ℕ) → get_or (masks ++ 0 ∷ []) j 0 ≡ get_or masks j 0
-pushed_zero [] zero = refl
-pushed_zero [] (suc j) = refl
-pushed_zero (m ∷ masks) zero = refl
-pushed_zero (m ∷ masks) (suc j) = pushed_zero masks j
 
 -- the same masks mark the same packets
 pub marked_on : (before after : Flights) (masks more : List ℕ) → AreMarked before masks

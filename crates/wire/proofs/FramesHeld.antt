@@ -210,10 +210,6 @@ agree_first (f ∷ fs) g count false together e is =
     let at : held_at (f ∷ fs) (place_in_frame f) ≡ Some f = rw (same_place (place_in_frame f)) refl in
     (place_in_frame f, f, at, λ one. absurd (cc (is ∙ ap (λ n. eqb n count) (ap count_in_frame (sym same) ∙ one) ∙ same_place count)))
 
-pub agree_none : (fs : List (List ℕ)) (count : ℕ) → slice_get fs 0 ≡ None → Agree fs count true
-agree_none [] count e = tt
-agree_none (f ∷ fs) count e = absurd (none_is_not f (sym e))
-
 -- ---- where a frame belongs
 
 pub of_its_count : (f : List ℕ) → 9 ≤ length f → AreBytes f → place_in_frame f < count_in_frame f → IsOfCount (count_in_frame f) f
