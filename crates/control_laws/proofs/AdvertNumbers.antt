@@ -6,23 +6,19 @@ use Rattle.failover.specs.Exports.{held_advert}
 use Rattle.base.specs.Exports.{has, least_in, switches}
 use Rattle.net_file.specs.Exports.{IsNet, are_linked}
 use Rattle.net_file.proofs.RowPlaces.{links}
-use Rattle.journal.specs.declared.item.Item.TheVariants as item
 use Rattle.update_machine.proofs.Exports.{count_of_append, folded_append, have_append, known_link_laws, links_keep, start_laws}
 use Rattle.control_laws.specs.Exports.{HasItemCause}
-use Rattle.control_laws.proofs.BootsKnown.{boot_rises}
-use Rattle.control_laws.proofs.ItemFacts.{AreKept, FromCauses, from_causes}
-use Rattle.control_laws.proofs.FactsGrown.{boot_more, up_more}
+use Rattle.control_laws.proofs.FactsGrown.{AreKept, FromCauses, boot_more, boot_rises, from_causes, up_more}
 use Rattle.control_laws.proofs.PieceCauses.{pieces_have}
-use Rattle.control_laws.proofs.LinkCauses.{ChangedNoLinks}
+use Rattle.control_laws.proofs.ToldToController.{ChangedNoLinks}
 use Rattle.control_laws.proofs.NetLinks.{near_linked}
 use Rattle.control_laws.proofs.OwnAdverts.{AdvertGoesOn, IsNextAdvert, advert_on, same_boot, same_near, same_seq, seq_is}
-use Rattle.control_laws.proofs.BlocksWithoutLinks.{sends_silent}
-use Rattle.control_laws.proofs.AdvertStepCauses.{row_first}
+use Rattle.control_laws.proofs.StampingSwitches.{sends_silent}
+use Rattle.control_laws.proofs.AllAdverts.{row_first}
 use Rattle.control_laws.proofs.MessageCounts.{sent}
 use Rattle.control_laws.proofs.LinkPieces.{IsLinkPiece, OwnAfter}
-use Rattle.control_laws.proofs.LinkSends.{all_adverts_sent}
+use Rattle.control_laws.proofs.LinkSends.{all_adverts_sent, once}
 use Rattle.control_laws.proofs.PieceKinds.{IsBootPiece, IsQuietPiece, PieceKind, link_changes_few, piece_kind}
-use Rattle.control_laws.proofs.PairSums.{once}
 
 -- ---- steps began in past boots
 
@@ -44,9 +40,9 @@ began_with s boot (newest ∷ steps) next began =
 
 began_more : (s boot : ℕ) (before : List Item) (steps : List StepItems) (next : Item)
     → boot_of before s ≤ boot → Began s boot steps → Began s boot (changes_steps before steps next)
-began_more s boot before steps (item.Row row step) now began =
+began_more s boot before steps (Item.Row row step) now began =
     All-cons (λ (one : StepItems). boot_of one.before s ≤ boot)
-    (record { before = before; items = item.Row row step ∷ [] }) steps now began
+    (record { before = before; items = Item.Row row step ∷ [] }) steps now began
 began_more s boot before steps next now began = began_with s boot steps next began
 
 pub began_on : (s boot : ℕ) (before : List Item) (next : Item) → boot_of before s ≤ boot
@@ -300,8 +296,8 @@ one_if true = omega arith
 one_if false = omega arith
 
 booted_boot : (here : List Item) (s t boot : ℕ) → boot ≡ boot_of here t + 1
-    → boot_of (here ++ item.Booted t boot ∷ []) s ≤ boot_of here s + 1
-booted_boot here s t boot next = rw (boot_more here (item.Booted t boot) s) (by_test (t == s) refl)
+    → boot_of (here ++ Item.Booted t boot ∷ []) s ≤ boot_of here s + 1
+booted_boot here s t boot next = rw (boot_more here (Item.Booted t boot) s) (by_test (t == s) refl)
   where
     by_test : (b : Bool) → (t == s) ≡ b
         → unwrap_or (if b then Some boot else None) (boot_of here s) ≤ boot_of here s + 1
@@ -311,33 +307,33 @@ booted_boot here s t boot next = rw (boot_more here (item.Booted t boot) s) (by_
 -- in its new boot a switch told nothing yet; of another one at most the links changed
 booted_seq : (setting : Setting) (here : List Item) (s t boot : ℕ) → ChangedNoLinks here
     → StepsArePast here → boot ≡ boot_of here t + 1
-    → own_seq setting (here ++ item.Booted t boot ∷ []) s ≤ own_seq setting here s + 1
+    → own_seq setting (here ++ Item.Booted t boot ∷ []) s ≤ own_seq setting here s + 1
 booted_seq setting here s t boot first past next = by_up (is_up booted s) refl where
   booted : List Item
-  booted = here ++ item.Booted t boot ∷ []
+  booted = here ++ Item.Booted t boot ∷ []
 
   new : is_up booted s ≡ true → (t == s) ≡ true
       → own_seq setting booted s ≤ own_seq setting here s + 1
   new up e =
-      let own = boot_more here (item.Booted t boot) s
+      let own = boot_more here (Item.Booted t boot) s
       ∙ ap (λ (b : Bool). unwrap_or (if b then Some boot else None) (boot_of here s)) e in
       omega (
         arith,
         seq_is setting booted s up,
         none_counted setting s (boot_of here s) (boot_of booted s) (steps_in booted)
             (omega (arith, own, next, ap (boot_of here) (eqb-true t s e)))
-            (began_on s (boot_of here s) here (item.Booted t boot) (omega arith) (past.past s)),
+            (began_on s (boot_of here s) here (Item.Booted t boot) (omega arith) (past.past s)),
         one_if (boot_of booted s == 1),
       )
 
   other : is_up booted s ≡ true → (t == s) ≡ false
       → own_seq setting booted s ≤ own_seq setting here s + 1
   other up e =
-      let was_up = sym (up_more here (item.Booted t boot) s
+      let was_up = sym (up_more here (Item.Booted t boot) s
       ∙ ap (λ (b : Bool). unwrap_or (if b then Some true else None) (is_up here s)) e) ∙ up in
-      let same = boot_more here (item.Booted t boot) s
+      let same = boot_more here (Item.Booted t boot) s
       ∙ ap (λ (b : Bool). unwrap_or (if b then Some boot else None) (boot_of here s)) e in
-      elim (advert_on setting here (item.Booted t boot) s first was_up up same) [
+      elim (advert_on setting here (Item.Booted t boot) s first was_up up same) [
         | inl stays ↦ omega (arith, same_seq setting booted here s stays)
         | inr more ↦ omega (arith, more.seq)
       ]
@@ -376,10 +372,10 @@ boots_few setting before items have piece few = subst (FewNumbers setting) (sym 
 })
   where
     row : Item
-    row = item.Row piece.row piece.step
+    row = Item.Row piece.row piece.step
 
     next : Item
-    next = item.Booted piece.switch piece.boot
+    next = Item.Booted piece.switch piece.boot
 
     here : List Item
     here = before ++ row ∷ []

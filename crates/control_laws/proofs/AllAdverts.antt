@@ -1,21 +1,182 @@
 -- What each own advert that is told has, and each first one, and items keep, all adverts have.
-use Rattle.std.proofs.Common.{[], if◌then◌else◌, ◌++◌, ◌<◌, ◌==◌, ◌∙◌, ◌∷◌, ◌≡◌, ◌≢◌, All, Bool, IsTrue, List, None, Option, Some, ap, arith, false, filter_map, inl, inr, length, map, nat_lt, option_to_list, refl, slice_index, subst, sym, true, ℕ}
-use Rattle.base.proofs.Exports.{All-append, All-cons, All-nil, All-same, All-weaker, AllByRecursion, cases_eq, each_append, filter_map-append, get_or-map-range_with_len, get_or-replicate, nat_tests, option_map_or, recursion_from_All, ⊤}
-use Rattle.update_machine.specs.Exports.{Advert, Advertise, Body, HaveCauses, Item, Message, Setting, advert_known, advert_to, adverts_begun, adverts_heard, body_to_switch, heard, is_in_first_boot, message_of, near, other_advert, own_advert, own_if_sent, switches_of, to_switch}
+use Rattle.std.proofs.Common.{[], ◌&&◌, ◌++◌, ◌<◌, ◌==◌, ◌∙◌, ◌∷◌, ◌≡◌, ◌≢◌, All, Bool, IsFalse, IsTrue, List, None, Option, Some, ap, append_assoc, arith, false, filter_map, if◌then◌else◌, inl, inr, length, map, nat_lt, not, option_to_list, refl, slice_index, subst, sym, true, ℕ}
+use Rattle.base.proofs.Exports.{⊤, All-append, All-cons, All-nil, All-same, All-weaker, AllByRecursion, cases_eq, each_append, filter_map-append, get_or-map-range_with_len, get_or-replicate, nat_tests, option_map_or, recursion_from_All}
+use Rattle.update_machine.specs.Exports.{Advert, Advertise, Body, Confirm, Crash, Deliver, HaveCauses, Item, LinkDown, LinkUp, Message, Packet, Resend, Restart, Setting, Step, Update, advert_known, advert_to, adverts_begun, adverts_heard, body_to_switch, changes_steps, concerns_links, crash_items, deliver_items, heard, is_advert, is_in_first_boot, items_then, link_changes, link_items, message_of, near, next_packet, other_advert, own_advert, own_if_sent, piece, restart_items, sent_from, stamp_of, step_items, steps_in, switch_items, switches_of, to_switch}
+use Rattle.update_machine.proofs.Exports.{PiecesHave, folded_append, have_append, have_first, have_put, known_link_laws, start_laws}
+use Rattle.control_laws.proofs.ControllerCommands.{changes_controller_heard, confirm_control, controller_control, last_heard, passed_told, resend_caused, sends_told, update_has}
+use Rattle.control_laws.proofs.StampingSwitches.{ArePlain, IsPlain, behind_items, control_is_plain, control_plain, losts_have, packet_plain, step_plain}
+use Rattle.control_laws.proofs.PieceCauses.{deliver_has, pieces_have, said_parts, said_row}
+use Rattle.control_laws.proofs.FactsGrown.{AreKept, Both, by_number, fact_on, have_both, have_weaker, heard_more, piece_has}
+use Rattle.control_laws.proofs.ToldToController.{ChangedNoLinks, HasLinkCause, HaveLinkCauses, IsTold, IsToldIn, switch_cases}
+use Rattle.control_laws.specs.Exports.{AllAdverts, HasItemCause, HoldsBehindItems}
 use Rattle.failover.specs.Exports.{IsNewest, first_advert, first_adverts, held_advert, no_adverts}
 use Rattle.base.specs.Exports.{has}
 use Rattle.failover.proofs.HeldAdverts.{held-first}
 use Rattle.net_file.specs.Exports.{links_of}
 use Rattle.steps.specs.Exports.{HasSwitch}
-use Rattle.journal.specs.declared.item.Item.TheVariants as item
-use Rattle.update_machine.proofs.Exports.{known_link_laws, start_laws}
-use Rattle.control_laws.proofs.BootsKnown.{by_number}
-use Rattle.control_laws.proofs.ItemFacts.{AreKept, fact_on}
-use Rattle.control_laws.proofs.FactsGrown.{heard_more}
-use Rattle.control_laws.proofs.SwitchBlocks.{said_parts}
-use Rattle.control_laws.specs.Exports.{AllAdverts}
-use Rattle.control_laws.proofs.BothCauses.{HasBothCauses}
-use Rattle.control_laws.proofs.LinkCauses.{IsTold, IsToldIn}
+
+-- ---- each piece has its causes: of each advert that is sent, and of each change of links
+
+-- ---- plain items have their causes
+
+plain_body : (setting : Setting) (before : List Item) (body : Body) → IsFalse (is_advert body)
+    → IsToldIn setting before body
+plain_body setting before (Advertise advert) plain = absurd cc
+plain_body setting before _ plain = tt
+
+plain_caused : (setting : Setting) (before : List Item) (next : Item) → IsPlain before next
+    → HasLinkCause setting before next
+plain_caused setting before (Item.Sent number message) plain =
+    plain_body setting before message.body plain
+plain_caused setting before (Item.Down s) plain = absurd plain
+plain_caused setting before (Item.Booted s boot) plain = absurd plain
+plain_caused setting before (Item.Opened s version) plain = absurd plain
+plain_caused setting before (Item.LinkIs one two up) plain = absurd plain
+plain_caused setting before _ plain = tt
+
+are_caused : (setting : Setting) (before items : List Item) → ArePlain before items
+    → HaveLinkCauses setting before items
+are_caused setting before items plain =
+    have_weaker IsPlain (HasLinkCause setting) (plain_caused setting) before items plain
+
+-- ---- links haven't changed yet
+
+pub row_first : (before : List Item) (row : ℕ) (step : Step)
+    → ChangedNoLinks (before ++ Item.Row row step ∷ [])
+unfolding steps_in
+row_first before row step = record {
+  newest = record { before = before; items = Item.Row row step ∷ [] };
+  earlier = steps_in before;
+  steps = folded_append changes_steps [] before (Item.Row row step ∷ []);
+  ends = refl;
+  none = (refl, tt);
+}
+
+pub delivered_first : (before : List Item) (number : ℕ) → ChangedNoLinks before
+    → ChangedNoLinks (before ++ Item.Delivered number ∷ [])
+unfolding steps_in
+delivered_first before number is = let next : List Item = Item.Delivered number ∷ [] in record {
+  newest = record { before = is.newest.before; items = is.newest.items ++ next };
+  earlier = is.earlier;
+  steps = cc (folded_append changes_steps [] before next, is.steps);
+  ends = cc (append_assoc is.newest.before is.newest.items next, is.ends);
+  none = have_append (λ journal other. IsFalse (concerns_links journal other))
+      is.newest.before is.newest.items next is.none (refl, tt);
+}
+
+-- ---- a delivery
+
+-- what is said to a switch it has heard last, once it is delivered
+heard_now : (before : List Item) (row s number : ℕ) (step : Step) (body : Body)
+    → body_to_switch before s number ≡ Some body → let here = before ++ Item.Row row step ∷ [] in
+    heard (here ++ Item.Delivered number ∷ []) s ≡ heard here s ++ body ∷ []
+heard_now before row s number step body said =
+    let here : List Item = before ++ Item.Row row step ∷ [] in
+    heard_more here (Item.Delivered number) s
+    ∙ ap (λ o. option_map_or (λ b. heard here s ++ b ∷ []) o (heard here s))
+    (said_row before row s number step ∙ said)
+
+news_of_other : (origin s : ℕ) (news : Bool) → (not (origin == s) && news) ≡ true
+    → (origin == s) ≡ false
+news_of_other origin s news is = by_test (origin == s) is where
+  by_test : (b : Bool) → (not b && news) ≡ true → b ≡ false
+  by_test true is = absurd cc
+  by_test false is = refl
+
+switch_caused : (setting : Setting) (before now : List Item) (s : ℕ) (bodies : List Body)
+    (body : Body) → ChangedNoLinks now → heard now s ≡ bodies ++ body ∷ []
+    → HaveLinkCauses setting now (switch_items setting before s body now)
+switch_caused setting before now s bodies body first heard =
+    switch_cases (HaveLinkCauses setting now) setting before s body now
+    (λ boot version. sends_told setting now _ (tt, tt))
+    (λ boot version. sends_told setting now _ (tt, tt))
+    (λ boot version is. have_first (HasLinkCause setting) (Item.Opened s (stamp_of now s))
+    (link_changes setting before) now first (changes_controller_heard setting before _))
+    (λ advert is news. passed_told setting now s advert (last_heard before now s bodies advert
+    (heard ∙ ap (λ b. bodies ++ b ∷ []) is) (news_of_other advert.origin s _ news))) tt
+
+deliver_caused : (setting : Setting) (before : List Item) (row number : ℕ) (step : Step)
+    → let here = before ++ Item.Row row step ∷ [] in
+    HaveLinkCauses setting here (deliver_items setting before number here)
+deliver_caused setting before row number step = deliver_has (HasLinkCause setting) setting before
+    number _ tt tt (λ body sent. are_caused setting _ _
+    (control_plain _ _ (controller_control setting before body _))) (λ s body said. switch_caused
+    setting before _ s _ body (delivered_first _ number (row_first before row step))
+    (heard_now before row s number step body said))
+
+-- ---- links, switches
+
+link_caused : (setting : Setting) (before : List Item) (one two : ℕ) (up : Bool)
+    (journal : List Item) → ChangedNoLinks journal
+    → HaveLinkCauses setting journal (link_items setting before one two up journal)
+unfolding link_items
+link_caused setting before one two up journal first = grind
+    (arith, have_first, changes_controller_heard)
+
+down_caused : (setting : Setting) (before : List Item) (s : ℕ) (packets : List ℕ)
+    (journal : List Item) → ChangedNoLinks journal → HaveLinkCauses setting journal
+    (items_then (Item.Down s ∷ map Item.Lost packets) (link_changes setting before) journal)
+down_caused setting before s packets journal first =
+    let down : List Item = Item.Down s ∷ map Item.Lost packets in
+    have_put (HasLinkCause setting) down (link_changes setting before) journal
+    (first, losts_have (HasLinkCause setting) (λ now i. tt) packets (journal ++ Item.Down s ∷ []))
+    (changes_controller_heard setting before (journal ++ down))
+
+crash_caused : (setting : Setting) (before : List Item) (s : ℕ) (journal : List Item)
+    → ChangedNoLinks journal → HaveLinkCauses setting journal (crash_items setting before s journal)
+unfolding crash_items
+crash_caused setting before s journal first = grind (arith, down_caused)
+
+restart_caused : (setting : Setting) (s : ℕ) (journal : List Item) → ChangedNoLinks journal
+    → HaveLinkCauses setting journal (restart_items s journal)
+unfolding restart_items sent_from
+restart_caused setting s journal first = grind arith
+
+-- ---- all steps
+
+step_caused : (setting : Setting) (before : List Item) (row : ℕ) (step : Step)
+    → let here = before ++ Item.Row row step ∷ [] in
+    HaveLinkCauses setting here (step_items setting before step here)
+step_caused setting before row (Packet s header) =
+    are_caused setting _ _ (packet_plain setting (next_packet before) s header _)
+step_caused setting before row (Deliver message) =
+    deliver_caused setting before row message (Deliver message)
+step_caused setting before row (Update file) =
+    are_caused setting _ _ (update_has IsPlain control_is_plain setting file _ (λ version. tt))
+step_caused setting before row (LinkDown one two) =
+    link_caused setting before one two false _ (row_first before row (LinkDown one two))
+step_caused setting before row (LinkUp one two) =
+    link_caused setting before one two true _ (row_first before row (LinkUp one two))
+step_caused setting before row (Crash s) =
+    crash_caused setting before s _ (row_first before row (Crash s))
+step_caused setting before row (Restart s) =
+    restart_caused setting s _ (row_first before row (Restart s))
+step_caused setting before row (Confirm s) =
+    are_caused setting _ _ (control_plain _ _ (confirm_control setting s _))
+step_caused setting before row (Resend s) = resend_caused setting s _
+step_caused setting before row step = are_caused setting _ _ (step_plain setting before step _ tt)
+
+pub pieces_caused : (setting : Setting) → PiecesHave (HasLinkCause setting) setting
+pieces_caused setting journal row step =
+    piece_has (HasLinkCause setting) setting journal row step tt (step_caused setting journal _ _)
+
+-- ---- each item of any steps has both its causes
+
+abbrev pub HasBothCauses : Setting → List Item → Item → Type 0
+HasBothCauses setting = Both (HasItemCause setting) (HasLinkCause setting)
+
+pieces_have_both : (setting : Setting) → PiecesHave (HasBothCauses setting) setting
+pieces_have_both setting journal row step = have_both (HasItemCause setting) (HasLinkCause setting)
+    journal (piece setting journal row step) (pieces_have setting journal row step)
+    (pieces_caused setting journal row step)
+
+-- so a fact that holds where items have both causes holds behind each item
+pub behind_both : (Holds : Setting → List Item → Type 0)
+    → ((setting : Setting) (journal : List Item) → HaveCauses (HasBothCauses setting) [] journal
+    → Holds setting journal) → HoldsBehindItems Holds
+behind_both Holds caused = behind_items Holds HasBothCauses pieces_have_both caused
+
+-- ---- all adverts
 
 -- ---- facts of adverts
 
@@ -172,20 +333,20 @@ heard_such : (Q : Advert → Type 0) (before : List Item) (next : Item) (s : ℕ
     (adverts_heard before s)
     → ((n : ℕ) (message : Message) → message_of before n ≡ Some message → IfAdvert Q message.body)
     → All Q (adverts_heard (before ++ next ∷ []) s)
-heard_such Q before (item.Down t) s old sent = rw (heard_more before (item.Down t) s)
+heard_such Q before (Item.Down t) s old sent = rw (heard_more before (Item.Down t) s)
     (by_test (t == s))
   where
     by_test : (b : Bool) → All Q (filter_map (other_advert s) (if b then [] else heard before s))
     by_test true = All-nil Q
     by_test false = old
-heard_such Q before (item.Booted t boot) s old sent = rw (heard_more before (item.Booted t boot) s)
+heard_such Q before (Item.Booted t boot) s old sent = rw (heard_more before (Item.Booted t boot) s)
     (by_test (t == s))
   where
     by_test : (b : Bool) → All Q (filter_map (other_advert s) (if b then [] else heard before s))
     by_test true = All-nil Q
     by_test false = old
-heard_such Q before (item.Delivered number) s old sent =
-    rw (heard_more before (item.Delivered number) s) (by_said (body_to_switch before s number) refl)
+heard_such Q before (Item.Delivered number) s old sent =
+    rw (heard_more before (Item.Delivered number) s) (by_said (body_to_switch before s number) refl)
   where
     by_said : (said : Option Body) → body_to_switch before s number ≡ said
         → All Q (filter_map (other_advert s)

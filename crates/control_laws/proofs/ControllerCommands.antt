@@ -1,15 +1,63 @@
 -- What the controller writes: versions, marks, and commands to switches.
-use Rattle.std.proofs.Common.{[], ◌++◌, ◌+◌, ◌∙◌, ◌∷◌, ◌≡◌, IsTrue, List, None, Option, Some, arith, is_some, map, refl, ℕ}
-use Rattle.base.proofs.Exports.{AllByRecursion, each_always, each_map, ⊤}
-use Rattle.update_machine.specs.Exports.{Body, Collect, HaveCauses, Hello, Install, Item, Message, OpenAt, Setting, Stamp, after_hello, confirm_items, controller_heard, controller_items, has_acked, install_for, installs_to, installs_to_all, is_member, is_over, items_then, known_boot, opened_at, send_items, settling, submitted_items, update_code, update_items, version_count}
-use Rattle.journal.specs.declared.item.Item.TheVariants as item
-use Rattle.update_machine.proofs.Exports.{have_first, have_in_turn}
-use Rattle.control_laws.proofs.ItemFacts.{fact_on, have_weaker}
-use Rattle.control_laws.proofs.FactsGrown.{count_more, known_more, over_more, told_more}
-use Rattle.control_laws.proofs.SwitchOpenings.{member_on, still_opened}
-use Rattle.control_laws.proofs.MessageSends.{acked_same}
-use Rattle.control_laws.proofs.SettlingCauses.{PartsHave, parts_have, settling_has}
-use Rattle.control_laws.proofs.ResentBySwitches.{sends_each}
+use Rattle.std.proofs.Common.{[], ◌++◌, ◌+◌, ◌==◌, ◌∙◌, ◌∷◌, ◌≡◌, Bool, IsTrue, List, None, Option, Some, ap, arith, false, filter, filter_map, flat_map, inl, inr, is_some, map, not, refl, sym, true, ℕ}
+use Rattle.base.proofs.Exports.{⊤, AllByRecursion, each_always, each_filter, each_flat_map, each_flat_map_in, each_given, each_map, filter_map-append}
+use Rattle.update_machine.specs.Exports.{Advert, Advertise, Body, Collect, HaveCauses, Hello, Install, Item, KnownKeeps, LinksKeep, Message, OpenAt, Setting, Stamp, SwitchKeeps, advert_to, adverts_known, after_hello, confirm_items, controller_heard, controller_items, has_acked, has_changed, heard, held_adverts, hello_of, install_for, installs_to, installs_to_all, is_member, is_over, is_up, items_then, known_boot, link_changes, messages_of, messages_over, near, opened_at, other_advert, own_advert, passed_on, resend_items, resent_by_switch, send_items, sends_or_nothing, settling, submitted_items, switches_in, switches_of, unacked_installs, update_code, update_items, version_count, versions_from_current}
+use Rattle.control_laws.proofs.MessageSends.{PartsHave, acked_same, parts_have, sends_kept, settling_has}
+use Rattle.update_machine.proofs.Exports.{have_first, have_in_turn, known_keeps, links_keep, switch_keeps}
+use Rattle.control_laws.proofs.FactsGrown.{count_more, fact_on, have_weaker, known_more, over_more, told_more}
+use Rattle.control_laws.proofs.SwitchOpenings.{each_by_controller, each_to_member, later_versions, member_on, resent_has, still_opened}
+use Rattle.failover.specs.Exports.{held_advert}
+use Rattle.base.specs.Exports.{has, switches}
+use Rattle.control_laws.proofs.ToldToController.{HasLinkCause, HaveLinkCauses, IsHeard, IsHeld, IsTold, IsToldIn}
+
+-- ---- messages that are sent one after another
+
+-- each has the cause that follows from a property of messages
+pub sends_each : (cause : List Item → Item → Type 0) (P : Message → Type 0)
+    → ((before : List Item) (n : ℕ) (message : Message) → P message
+    → cause before (Item.Sent n message)) → (journal : List Item) (messages : List Message)
+    → AllByRecursion P messages → HaveCauses cause journal (send_items journal messages)
+sends_each cause P has = sends_kept cause (λ before. P) has (λ before n message other new is. is)
+
+-- where any message has it
+pub sends_any : (cause : List Item → Item → Type 0) →
+    ((before : List Item) (n : ℕ) (message : Message) → cause before (Item.Sent n message)) →
+    (journal : List Item) (messages : List Message)
+    → HaveCauses cause journal (send_items journal messages)
+sends_any cause has journal messages =
+    sends_each cause (λ message. ⊤) (λ before n message any. has before n message) journal messages
+    (each_always (λ message. ⊤) (λ message. tt) messages)
+
+-- and the same of what is sent again
+pub resends_any : (cause : List Item → Item → Type 0) →
+    ((before : List Item) (n : ℕ) (message : Message) → cause before (Item.Sent n message)) →
+    (setting : Setting) (s : ℕ) (journal : List Item) → cause journal Item.Nothing
+    → HaveCauses cause journal (resend_items setting s journal)
+unfolding resend_items
+resends_any cause has setting s journal none = by_messages _ where
+  by_messages : (messages : List Message)
+      → HaveCauses cause journal (sends_or_nothing journal messages)
+  by_messages [] = (none, tt)
+  by_messages (message ∷ messages) = sends_any cause has journal (message ∷ messages)
+
+-- ---- what a switch sends again: its hello, and to each neighbour the adverts that it holds
+
+pub each_by_switch : (P : Message → Type 0) (setting : Setting) (journal : List Item) (s : ℕ)
+    → (is_up journal s ≡ true → P (hello_of journal s)) → AllByRecursion P
+    (flat_map (λ neighbour. map (advert_to neighbour) (held_adverts setting journal s))
+    (switches_in setting (near setting journal s)))
+    → AllByRecursion P (resent_by_switch setting journal s)
+each_by_switch P setting journal s hello adverts = by_up (is_up journal s) refl where
+  by_up : (up : Bool) → is_up journal s ≡ up → AllByRecursion P (elim up [
+    | false ↦ []
+    | true ↦ hello_of journal s
+        ∷ flat_map (λ neighbour. map (advert_to neighbour) (held_adverts setting journal s))
+        (switches_in setting (near setting journal s))
+  ])
+  by_up false e = tt
+  by_up true e = (hello e, adverts)
+
+-- ---- controller commands
 
 -- what the controller tells switches
 abbrev pub IsCommand : Body → Type 0
@@ -32,9 +80,9 @@ each_command to commands xs = each_map (λ message. IsCommand message.body) to x
 
 -- an item that settling writes
 abbrev pub IsOfSettling : List Item → Item → Type 0
-IsOfSettling before (item.Current version) = ⊤
-IsOfSettling before (item.Retired version) = ⊤
-IsOfSettling before (item.Sent number message) = IsCommand message.body
+IsOfSettling before (Item.Current version) = ⊤
+IsOfSettling before (Item.Retired version) = ⊤
+IsOfSettling before (Item.Sent number message) = IsCommand message.body
 IsOfSettling before _ = ⊥
 
 pub parts_settle : (setting : Setting) → PartsHave IsOfSettling setting
@@ -79,13 +127,13 @@ grows_by before next count heard known over = record {
 
 grows_one : (before : List Item) (next : Item) → IsOfSettling before next
     → Grows before (before ++ next ∷ [])
-grows_one before (item.Current version) of = let next : Item = item.Current version in
+grows_one before (Item.Current version) of = let next : Item = Item.Current version in
     grows_by before next (count_more before next) (told_more before next) (known_more before next)
     (over_more before next)
-grows_one before (item.Retired version) of = let next : Item = item.Retired version in
+grows_one before (Item.Retired version) of = let next : Item = Item.Retired version in
     grows_by before next (count_more before next) (told_more before next) (known_more before next)
     (over_more before next)
-grows_one before (item.Sent n message) of = let next : Item = item.Sent n message in
+grows_one before (Item.Sent n message) of = let next : Item = Item.Sent n message in
     grows_by before next (count_more before next) (told_more before next) (known_more before next)
     (over_more before next)
 grows_one before _ of = absurd of
@@ -119,18 +167,18 @@ grows before items have = fact_on IsOfSettling (Grows before)
 -- ---- all that the controller writes, but for a version that is submitted
 
 abbrev pub IsControl : List Item → Item → Type 0
-IsControl before (item.Refused file code) = ⊤
-IsControl before (item.OverNow s) = ⊤
-IsControl before item.Nothing = ⊤
+IsControl before (Item.Refused file code) = ⊤
+IsControl before (Item.OverNow s) = ⊤
+IsControl before Item.Nothing = ⊤
 IsControl before next = IsOfSettling before next
 
 abbrev pub Control : List Item → List Item → Type 0
 Control journal items = HaveCauses IsControl journal items
 
 settling_is : (before : List Item) (next : Item) → IsOfSettling before next → IsControl before next
-settling_is before (item.Current version) of = tt
-settling_is before (item.Retired version) of = tt
-settling_is before (item.Sent number message) of = of
+settling_is before (Item.Current version) of = tt
+settling_is before (Item.Retired version) of = tt
+settling_is before (Item.Sent number message) of = of
 settling_is before _ of = absurd of
 
 pub settling_control : (setting : Setting) (journal : List Item)
@@ -163,19 +211,19 @@ submitted_control setting journal = have_in_turn IsControl (installs_to_all sett
 pub update_has : (cause : List Item → Item → Type 0)
     → ((before : List Item) (next : Item) → IsControl before next → cause before next)
     → (setting : Setting) (file : ℕ) (journal : List Item)
-    → ((version : ℕ) → cause journal (item.Submitted file version))
+    → ((version : ℕ) → cause journal (Item.Submitted file version))
     → HaveCauses cause journal (update_items setting file journal)
 unfolding update_items
 update_has cause weaker setting file journal submits = by_code (update_code setting journal file)
   where
     by_code : (o : Option ℕ) → HaveCauses cause journal (elim o [
-      | Some code ↦ item.Refused file code ∷ []
+      | Some code ↦ Item.Refused file code ∷ []
       | None ↦ items_then
-          (item.Submitted file (version_count journal + 1) ∷ []) (submitted_items setting) journal
+          (Item.Submitted file (version_count journal + 1) ∷ []) (submitted_items setting) journal
     ])
-    by_code (Some code) = (weaker journal (item.Refused file code) tt, tt)
+    by_code (Some code) = (weaker journal (Item.Refused file code) tt, tt)
     by_code None =
-        have_first cause (item.Submitted file (version_count journal + 1)) (submitted_items setting)
+        have_first cause (Item.Submitted file (version_count journal + 1)) (submitted_items setting)
         journal (submits (version_count journal + 1))
         (have_weaker IsControl cause weaker _ _ (submitted_control setting _))
 
@@ -195,3 +243,166 @@ unfolding controller_items
 controller_control setting before body journal =
     have_in_turn IsControl (settling setting ∷ after_hello setting before body ∷ [])
     (settling_control setting, (hello_control setting before body, tt)) journal
+
+-- ---- the blocks of a piece in which adverts are sent have their causes
+
+-- ---- what is told stays so while other messages are sent
+
+held_sent : (setting : Setting) (before : List Item) (n s : ℕ) (message : Message) (advert : Advert)
+    → IsHeld setting before s advert → IsHeld setting (before ++ Item.Sent n message ∷ []) s advert
+held_sent setting before n s message advert is = record {
+  origin = is.origin;
+  small = is.small;
+  held = cc ((known_keeps setting s before (Item.Sent n message ∷ []) (refl, tt)).known, is.held);
+}
+
+heard_sent : (setting : Setting) (before : List Item) (n s : ℕ) (message : Message)
+    (advert : Advert) → IsHeard before s advert
+    → IsHeard (before ++ Item.Sent n message ∷ []) s advert
+heard_sent setting before n s message advert is = record {
+  earlier = is.earlier;
+  heard = ap (filter_map (other_advert s))
+      (switch_keeps setting s before (Item.Sent n message ∷ []) (refl, tt)).heard ∙ is.heard;
+}
+
+told_sent : (setting : Setting) (before : List Item) (n : ℕ) (message : Message) (advert : Advert)
+    → IsTold setting before advert → IsTold setting (before ++ Item.Sent n message ∷ []) advert
+told_sent setting before n message advert is =
+    let same = links_keep setting before (Item.Sent n message ∷ []) (refl, tt) in record {
+      switch = is.switch;
+      neighbour = is.neighbour;
+      near = rw (same.near is.switch) is.near;
+      which = elim is.which [
+        | inl own ↦ inl (own ∙ sym (same.advert is.switch))
+        | inr other ↦ elim other [
+          | inl held ↦ inr (inl (held_sent setting before n is.switch message advert held))
+          | inr last ↦ inr (inr (heard_sent setting before n is.switch message advert last))
+        ]
+      ];
+    }
+
+told_in_sent : (setting : Setting) (before : List Item) (n : ℕ) (message : Message) (body : Body)
+    → IsToldIn setting before body → IsToldIn setting (before ++ Item.Sent n message ∷ []) body
+told_in_sent setting before n message (Advertise advert) is =
+    told_sent setting before n message advert is
+told_in_sent setting before n message _ is = tt
+
+-- ---- messages that are sent one after another
+
+abbrev pub Tells : Setting → List Item → Message → Type 0
+Tells setting before message = IsToldIn setting before message.body
+
+pub sends_told : (setting : Setting) (journal : List Item) (messages : List Message)
+    → AllByRecursion (Tells setting journal) messages
+    → HaveLinkCauses setting journal (send_items journal messages)
+sends_told setting =
+    sends_kept (HasLinkCause setting) (Tells setting) (λ before n message told. told)
+    (λ before n message other new told. told_in_sent setting before n message other.body told)
+
+-- ---- what a switch holds
+
+-- each advert that it holds is told by it, where it has a neighbour
+each_held : (setting : Setting) (journal : List Item) (s neighbour : ℕ)
+    → IsTrue (has (near setting journal s) neighbour)
+    → AllByRecursion (IsTold setting journal) (held_adverts setting journal s)
+unfolding held_adverts switches
+each_held setting journal s neighbour linked =
+    each_given (IsTold setting journal) (held_advert (adverts_known setting journal s)) 0 64
+    (λ origin above small advert holds. record {
+      switch = s;
+      neighbour = neighbour;
+      near = linked;
+      which = inr (inl (record { origin = origin; small = small; held = holds }));
+    })
+
+pub held_told : (setting : Setting) (journal : List Item) (s neighbour : ℕ)
+    → IsTrue (has (near setting journal s) neighbour) → AllByRecursion (Tells setting journal)
+    (map (advert_to neighbour) (held_adverts setting journal s))
+held_told setting journal s neighbour linked =
+    each_map (Tells setting journal) (advert_to neighbour) (held_adverts setting journal s)
+    (each_held setting journal s neighbour linked)
+
+-- what a switch tells each of its neighbours
+pub each_neighbour : (setting : Setting) (journal : List Item) (s : ℕ) (told : ℕ → List Message)
+    → ((neighbour : ℕ) → IsTrue (has (near setting journal s) neighbour)
+    → AllByRecursion (Tells setting journal) (told neighbour))
+    → AllByRecursion (Tells setting journal)
+    (flat_map told (switches_in setting (near setting journal s)))
+each_neighbour setting journal s told all =
+    each_flat_map_in (Tells setting journal) told (switches_in setting (near setting journal s))
+    (each_filter (λ neighbour. AllByRecursion (Tells setting journal) (told neighbour))
+    (has (near setting journal s)) all (switches_of setting))
+
+-- ---- changed links
+
+own_told : (setting : Setting) (journal : List Item) (s neighbour : ℕ)
+    → IsTrue (has (near setting journal s) neighbour)
+    → IsTold setting journal (own_advert setting journal s)
+own_told setting journal s neighbour linked =
+    record { switch = s; neighbour = neighbour; near = linked; which = inl refl }
+
+over_told : (setting : Setting) (before journal : List Item) (s neighbour : ℕ)
+    → IsTrue (has (near setting journal s) neighbour)
+    → AllByRecursion (Tells setting journal) (messages_over setting before journal s neighbour)
+over_told setting before journal s neighbour linked =
+    by_link (has (near setting before s) neighbour)
+  where
+    by_link : (old : Bool) → AllByRecursion (Tells setting journal) (elim old [
+      | true ↦ advert_to neighbour (own_advert setting journal s) ∷ []
+      | false ↦ map (advert_to neighbour) (held_adverts setting journal s)
+    ])
+    by_link true = (own_told setting journal s neighbour linked, tt)
+    by_link false = held_told setting journal s neighbour linked
+
+pub changes_controller_heard : (setting : Setting) (before journal : List Item)
+    → HaveLinkCauses setting journal (link_changes setting before journal)
+unfolding link_changes
+changes_controller_heard setting before journal = sends_told setting journal _
+    (each_flat_map (Tells setting journal) (messages_of setting before journal) (λ s. each_neighbour
+    setting journal s (messages_over setting before journal s) (over_told setting before journal s))
+    (filter (has_changed setting before journal) (switches_of setting)))
+
+-- ---- adverts that are passed on
+
+pub passed_told : (setting : Setting) (journal : List Item) (s : ℕ) (advert : Advert)
+    → IsHeard journal s advert
+    → HaveLinkCauses setting journal (send_items journal (passed_on setting journal s advert))
+passed_told setting journal s advert last = sends_told setting journal
+    (passed_on setting journal s advert) (each_map (Tells setting journal)
+    (λ neighbour. advert_to neighbour advert) (switches_in setting (near setting journal s))
+    (each_filter (λ neighbour. Tells setting journal (advert_to neighbour advert))
+    (has (near setting journal s)) (λ neighbour linked. record
+    { switch = s; neighbour = neighbour; near = linked; which = inr (inr last) })
+    (switches_of setting)))
+
+-- an advert of another switch is the last that is heard once it is delivered
+pub last_heard : (before now : List Item) (s : ℕ) (bodies : List Body) (advert : Advert)
+    → heard now s ≡ bodies ++ Advertise advert ∷ [] → (advert.origin == s) ≡ false
+    → IsHeard now s advert
+last_heard before now s bodies advert heard other = record {
+  earlier = filter_map (other_advert s) bodies;
+  heard = cc (heard, filter_map-append (other_advert s) bodies (Advertise advert ∷ []), told);
+} where
+  told : filter_map (other_advert s) (Advertise advert ∷ []) ≡ advert ∷ []
+  told = rw other refl
+
+-- ---- what is sent again has its causes: a switch tells what it holds, the controller no advert
+
+unacked_told : (setting : Setting) (journal : List Item) (s : ℕ) (versions : List ℕ)
+    → AllByRecursion (Tells setting journal) (unacked_installs setting journal s versions)
+unacked_told setting journal s versions =
+    each_map (Tells setting journal) (λ version. install_for setting journal version s)
+    (filter (λ version. not (has_acked journal s version)) versions)
+    (each_always (λ version. Tells setting journal (install_for setting journal version s))
+    (λ version. tt) (filter (λ version. not (has_acked journal s version)) versions))
+
+pub resend_caused : (setting : Setting) (s : ℕ) (journal : List Item)
+    → HaveLinkCauses setting journal (resend_items setting s journal)
+resend_caused setting s journal = resent_has (HasLinkCause setting) (Tells setting journal) setting
+    s journal tt (sends_told setting journal) (each_by_switch (Tells setting journal) setting
+    journal s (λ up. tt) (each_neighbour setting journal s (λ neighbour. map (advert_to neighbour)
+    (held_adverts setting journal s)) (held_told setting journal s)))
+    (each_by_controller (Tells setting journal) setting journal s
+    (λ none member. each_to_member (Tells setting journal) setting journal s tt
+    (unacked_told setting journal s (later_versions journal)) tt (λ some. tt))
+    (λ none. unacked_told setting journal s (versions_from_current journal)))

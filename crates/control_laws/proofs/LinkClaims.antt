@@ -1,24 +1,19 @@
 -- What a switch holds of another one is what it heard claimed of it: the newest advert of the other
 -- one, and its newest claim, change together item by item.
-use Rattle.std.proofs.Common.{[], if◌then◌else◌, ◌&&◌, ◌++◌, ◌<◌, ◌==◌, ◌||◌, ◌∙◌, ◌∷◌, ◌≡◌, ◌≢◌, ◌≤◌, Bool, IsTrue, List, None, Option, Some, ap, arith, eq-eqb, false, filter_map, inl, inr, length, lt-ltb, map, nat_lt, ne_eqb, option_and_then, refl, slice_index, subst, sym, true, ℕ}
+use Rattle.std.proofs.Common.{[], if◌then◌else◌, ◌&&◌, ◌++◌, ◌<◌, ◌==◌, ◌||◌, ◌∙◌, ◌∷◌, ◌≡◌, ◌≢◌, ◌≤◌, Bool, IsTrue, List, None, Option, Some, ap, arith, eq-eqb, false, filter_map, length, lt-ltb, map, nat_lt, ne_eqb, option_and_then, refl, subst, sym, true, ℕ, rules}
 use Rattle.base.proofs.Exports.{and_right, bit_at, cases_eq, filter_map-append, fold-append, get_or-map-range_with_len, has_mask, nat_tests, option_map_or, ⊤}
-use Rattle.update_machine.specs.Exports.{Advert, Advertise, Body, Claim, HaveCauses, Item, Message, Net, Place, Setting, adverts_begun, adverts_of_others, boot_of, can_use, changes_claim, changes_heard, claim_by, claim_in, claim_of, first_claim, heard, is_end, is_for_boot, is_in_first_boot, is_to_switch, is_up, message_of, near, newer_of, other_advert, serves, switches_of}
-use Rattle.ctrl_msg.specs.declared.message.Place.TheVariants as receiver
-use Rattle.failover.specs.Exports.{AreByOrigin, after_hearing, after_hearing_all, first_advert, first_adverts, held_advert, is_newer, is_news, names_neighbour, neighbours_named, no_adverts}
+use Rattle.update_machine.specs.Exports.{Advert, Advertise, Body, Claim, HaveCauses, Item, Message, Net, Place, Setting, adverts_begun, adverts_of_others, boot_of, changes_claim, changes_heard, claim_by, claim_in, claim_of, heard, is_end, is_for_boot, is_in_first_boot, is_to_switch, is_up, message_of, near, newer_of, other_advert, serves, switches_of}
+use Rattle.failover.specs.Exports.{AreByOrigin, after_hearing, after_hearing_all, first_adverts, held_advert, is_newer, is_news, names_neighbour, neighbours_named, no_adverts}
 use Rattle.failover.proofs.HeldAdverts.{after_no_news, held-first, held_heard, held_others}
 use Rattle.base.specs.Exports.{has}
-use Rattle.net_file.specs.Exports.{IsNet, are_linked, links_of}
+use Rattle.net_file.specs.Exports.{IsNet, links_of}
 use Rattle.net_file.proofs.RowPlaces.{links}
 use Rattle.steps.specs.Exports.{HasLink, HasSwitch}
-use Rattle.journal.specs.declared.item.Item.TheVariants as item
 use Rattle.update_machine.proofs.Exports.{folded_append, heard_by_origin, near_usable, start_laws, usable_linked}
 use Rattle.control_laws.specs.Exports.{HasItemCause, NamesLinks}
-use Rattle.control_laws.proofs.BootsKnown.{boot_rises}
-use Rattle.control_laws.proofs.ItemFacts.{AreKept, fact_on, have_weaker}
-use Rattle.control_laws.proofs.FactsGrown.{boot_more, heard_more, up_more}
+use Rattle.control_laws.proofs.FactsGrown.{AreKept, boot_more, boot_rises, fact_on, have_weaker, heard_more, up_more}
 use Rattle.control_laws.proofs.SwitchOpenings.{caused_known}
-use Rattle.control_laws.proofs.AllAdverts.{AreSuch, IfAdvert, none_held, such_at_first, such_kept}
-use Rattle.control_laws.proofs.BothCauses.{HasBothCauses}
+use Rattle.control_laws.proofs.AllAdverts.{AreSuch, HasBothCauses, IfAdvert, none_held, such_at_first, such_kept}
 use Rattle.control_laws.proofs.NetLinks.{names_fact}
 
 -- the claim says of links to switches what the advert says
@@ -37,8 +32,7 @@ pub claim_more : (setting : Setting) (before : List Item) (next : Item) (s one :
     → claim_of setting (before ++ next ∷ []) s one
     ≡ changes_claim s one before (claim_of setting before s one) next
 unfolding claim_of
-claim_more setting before next s one =
-    folded_append (changes_claim s one) (Some (first_claim setting one)) before (next ∷ [])
+claim_more setting before next s one = search (rules, folded_append)
 
 -- ---- one advert that is heard
 
@@ -55,14 +49,12 @@ unfolding has
 from_advert advert = record { boot = refl; seq = refl; links = λ k small. refl }
 
 newer_none : (claim : Option Claim) → newer_of claim None ≡ claim
-newer_none None = refl
-newer_none (Some claim) = refl
+newer_none claim = search rules
 
 -- the advert is news where it is the newer claim
 newer_same : (advert old : Advert) (claim : Claim) → IsClaimOf old claim → is_newer advert old
     ≡ (nat_lt claim.boot advert.boot || (claim.boot == advert.boot && nat_lt claim.seq advert.seq))
-newer_same advert old claim same =
-    let boot = same.boot in let seq = same.seq in grind (arith, nat_tests)
+newer_same advert old claim same = search (rules, nat_tests)
 
 news_if : (adverts : List (Option Advert)) (advert : Advert) (found : Option Advert) (b : Bool)
     → advert.origin < 64 → held_advert adverts advert.origin ≡ found
@@ -97,8 +89,7 @@ own_heard adverts advert claim by small same =
           (if test then Some (claim_from advert) else Some old)
       by_test true f = let newer : test ≡ true = sym (newer_same advert found old so) ∙ f in
           rw newer (is_heard (news_if adverts advert (Some found) true small e f))
-      by_test false f =
-          rw (sym (newer_same advert found old so) ∙ f) (subst (λ o. AreSame o (Some old))
+      by_test false f = rw (sym (newer_same advert _ old so) ∙ f) (subst (λ o. AreSame o (Some old))
           (sym (ap (λ (all : List (Option Advert)). held_advert all advert.origin) (after_no_news
           adverts advert (news_if adverts advert (Some found) false small e f)) ∙ e)) so)
 
@@ -106,13 +97,8 @@ advert_heard : (adverts : List (Option Advert)) (advert : Advert) (one : ℕ) (c
     → AreByOrigin adverts → one < 64 → AreSame (held_advert adverts one) claim
     → AreSame (held_advert (after_hearing adverts advert) one)
     (newer_of claim (if advert.origin == one then Some (claim_from advert) else None))
-advert_heard adverts advert one claim by small same = elim (cases_eq advert.origin one) [
-  | inl here ↦ rw eq-eqb (subst (λ n. AreSame (held_advert (after_hearing adverts advert) n)
-      (newer_of claim (Some (claim_from advert)))) here (own_heard adverts advert claim by
-      (omega arith) (subst (λ n. AreSame (held_advert adverts n) claim) (sym here) same)))
-  | inr apart ↦ rw (ne_eqb advert.origin one apart, newer_none claim) (subst (λ o. AreSame o claim)
-      (sym (held_others adverts advert one (λ e. apart (sym e)))) same)
-]
+advert_heard adverts advert one claim by small same =
+    search (rules, cases_eq, eq-eqb, own_heard, ne_eqb, newer_none, held_others)
 
 -- ---- one item
 
@@ -120,9 +106,7 @@ others_more : (adverts : List (Option Advert)) (s : ℕ) (bodies : List Body) (b
     → after_hearing_all adverts (filter_map (other_advert s) (bodies ++ body ∷ []))
     ≡ after_hearing_all (after_hearing_all adverts (filter_map (other_advert s) bodies))
     (filter_map (other_advert s) (body ∷ []))
-others_more adverts s bodies body = ap (after_hearing_all adverts)
-    (filter_map-append (other_advert s) bodies (body ∷ [])) ∙ fold-append after_hearing adverts
-    (filter_map (other_advert s) bodies) (filter_map (other_advert s) (body ∷ []))
+others_more adverts s bodies body = search (rules, filter_map-append, fold-append)
 
 -- a body that a switch heard, or that wasn't for it
 body_heard : (adverts : List (Option Advert)) (bodies : List Body)
@@ -133,21 +117,20 @@ body_heard : (adverts : List (Option Advert)) (bodies : List Body)
     → AreSame
     (held_advert (after_hearing_all adverts (filter_map (other_advert s) (option_map_or (λ b. bodies
     ++ b ∷ []) (if (t == s) && up && is_for_boot boot body then Some body else None) bodies))) one)
-    (newer_of claim (claim_by s one (receiver.Switch t) body))
+    (newer_of claim (claim_by s one (Place.Switch t) body))
 body_heard adverts bodies s one t boot up (Advertise advert) claim is by apart small same =
     by_tests (t == s) (advert.origin == s) refl refl
   where
     by_tests : (b c : Bool) → (t == s) ≡ b → (advert.origin == s) ≡ c → AreSame (held_advert
         (after_hearing_all adverts (filter_map (other_advert s) (option_map_or (λ b. bodies
         ++ b ∷ []) (if (t == s) && up && true then Some (Advertise advert) else None) bodies))) one)
-        (newer_of claim (claim_by s one (receiver.Switch t) (Advertise advert)))
+        (newer_of claim (claim_by s one (Place.Switch t) (Advertise advert)))
     by_tests false c e f = rw (e, newer_none claim) same
     by_tests true true e f =
         let other : (advert.origin == one) ≡ false = grind (arith, nat_tests) in
         rw (e, is, others_more adverts s bodies (Advertise advert), f, other, newer_none claim) same
     by_tests true false e f = rw (e, is, others_more adverts s bodies (Advertise advert), f)
-        (advert_heard (after_hearing_all adverts (filter_map (other_advert s) bodies)) advert one
-        claim by small same)
+        (advert_heard _ advert one claim by small same)
 body_heard adverts bodies s one t boot up body claim is by apart small same =
     rw (newer_none claim) (by_test ((t == s) && up && is_for_boot boot body))
   where
@@ -184,32 +167,19 @@ unchanged : (setting : Setting) (before now : List Item) (s one : ℕ)
     → claim_of setting now s one ≡ claim_of setting before s one
     → AreSame (held_advert (adverts_of_others setting before s) one) (claim_of setting before s one)
     → AreSame (held_advert (adverts_of_others setting now s) one) (claim_of setting now s one)
-unchanged setting before now s one first bodies claim same = rw claim
-    (rw (ap (λ b. held_by setting s one b (heard before s)) (sym first)
-    ∙ ap (held_by setting s one (is_in_first_boot now s)) (sym bodies)) at same)
+unchanged setting before now s one first bodies claim same = search rules
 
 same_on : (setting : Setting) (one : ℕ) (before : List Item) (next : Item) → one < 64
     → HasItemCause setting before next → AreHeld setting one before
     → (s : ℕ) → one ≢ s → IsTrue (is_up (before ++ next ∷ []) s)
     → AreSame (held_advert (adverts_of_others setting (before ++ next ∷ []) s) one)
     (claim_of setting (before ++ next ∷ []) s one)
-same_on setting one before (item.Down t) small cause kept s apart up =
-    let other : (t == s) ≡ false = down_apart (t == s) refl in
-    unchanged setting before (before ++ item.Down t ∷ []) s one
-    (rw (up_more before (item.Down t) s, boot_more before (item.Down t) s, other) refl)
-    (rw (heard_more before (item.Down t) s, other) refl)
-    (rw (claim_more setting before (item.Down t) s one, other) refl)
-    (kept.same s apart (rw (up_more before (item.Down t) s, other) at up))
-  where
-    down_apart : (b : Bool) → (t == s) ≡ b → (t == s) ≡ false
-    down_apart false e = e
-    down_apart true e =
-        let down : is_up (before ++ item.Down t ∷ []) s ≡ false =
-        rw (up_more before (item.Down t) s, e) refl in absurd cc
-same_on setting one before (item.Booted t boot) small cause kept s apart up = by_test (t == s) refl
+same_on setting one before (Item.Down t) small cause kept s apart up =
+    search (rules, up_more, boot_more, heard_more, claim_more)
+same_on setting one before (Item.Booted t boot) small cause kept s apart up = by_test (t == s) refl
   where
     now : List Item
-    now = before ++ item.Booted t boot ∷ []
+    now = before ++ Item.Booted t boot ∷ []
 
     by_test : (b : Bool) → (t == s) ≡ b
         → AreSame (held_advert (adverts_of_others setting now s) one) (claim_of setting now s one)
@@ -218,9 +188,8 @@ same_on setting one before (item.Booted t boot) small cause kept s apart up = by
         let counted = kept.boots t in
         let next = cause.next in
         let later : (boot_of now s == 1) ≡ false = rw (boot_more, e) (grind (arith, nat_tests)) in
-        let none : heard now s ≡ [] = rw (heard_more before (item.Booted t boot) s, e) refl in
-        let claim : claim_of setting now s one ≡ None =
-        rw (claim_more setting before (item.Booted t boot) s one, e) refl in
+        let none : heard now s ≡ [] = rw (heard_more before (Item.Booted t boot) s, e) refl in
+        let claim : claim_of setting now s one ≡ None = rw (claim_more _ before _ s one, e) refl in
         let empty : held_advert (adverts_of_others setting now s) one ≡ None =
         ap (λ b. held_by setting s one b (heard now s))
         (ap (λ b. is_up now s && b) later ∙ and_right (is_up now s) false refl)
@@ -228,27 +197,22 @@ same_on setting one before (item.Booted t boot) small cause kept s apart up = by
         subst (AreSame (held_advert (adverts_of_others setting now s) one)) (sym claim)
         (subst (λ o. AreSame o None) (sym empty) tt)
     by_test false e =
-        let was : IsTrue (is_up before s) = rw (up_more before (item.Booted t boot) s, e) at up in
+        let was : IsTrue (is_up before s) = rw (up_more before (Item.Booted t boot) s, e) at up in
         unchanged setting before now s one
-        (rw (up_more before (item.Booted t boot) s, boot_more before (item.Booted t boot) s, e)
-        refl)
-        (rw (heard_more before (item.Booted t boot) s, e) refl)
-        (rw (claim_more setting before (item.Booted t boot) s one, e) refl)
+        (rw (up_more before _ s, boot_more before (Item.Booted t boot) s, e) refl)
+        (rw (heard_more before (Item.Booted t boot) s, e) refl)
+        (rw (claim_more setting before (Item.Booted t boot) s one, e) refl)
         (kept.same s apart was)
-same_on setting one before (item.Delivered number) small cause kept s apart up =
-    rw (claim_more setting before (item.Delivered number) s one)
+same_on setting one before (Item.Delivered number) small cause kept s apart up =
+    let now : List Item = before ++ Item.Delivered number ∷ [] in
+    let first : is_in_first_boot now s ≡ is_in_first_boot before s = rw (up_more, boot_more) refl in
+    rw (claim_more setting before (Item.Delivered number) s one)
     (rw (ap (λ b. held_by setting s one b (changes_heard s before (heard before s)
-    (item.Delivered number))) (sym first) ∙ ap (held_by setting s one (is_in_first_boot now s))
-    (sym (heard_more before (item.Delivered number) s))) at (by_message (message_of before number)))
+    (Item.Delivered number))) (sym first) ∙ ap (held_by setting s one (is_in_first_boot now s))
+    (sym (heard_more before (Item.Delivered number) s))) at (by_message (message_of before number)))
   where
-    now : List Item
-    now = before ++ item.Delivered number ∷ []
-
     was : IsTrue (is_up before s)
-    was = sym (up_more before (item.Delivered number) s) ∙ up
-
-    first : is_in_first_boot now s ≡ is_in_first_boot before s
-    first = rw (up_more, boot_more) refl
+    was = sym (up_more before (Item.Delivered number) s) ∙ up
 
     same : AreSame (held_advert (adverts_of_others setting before s) one)
         (claim_of setting before s one)
@@ -259,10 +223,10 @@ same_on setting one before (item.Delivered number) small cause kept s apart up =
         (λ heard_body. heard before s ++ heard_body ∷ []) (if is_to_switch s to && is_up before s
         && is_for_boot (boot_of before s) body then Some body else None) (heard before s)))
         (newer_of (claim_of setting before s one) (claim_by s one to body))
-    by_receiver (receiver.Switch t) body = body_heard (adverts_begun setting before s)
+    by_receiver (Place.Switch t) body = body_heard (adverts_begun setting before s)
         (heard before s) s one t (boot_of before s) (is_up before s) body
         (claim_of setting before s one) was (heard_by_origin setting before s) apart small same
-    by_receiver receiver.Controller body = rw (newer_none (claim_of setting before s one)) same
+    by_receiver Place.Controller body = rw (newer_none (claim_of setting before s one)) same
 
     by_message : (message : Option Message)
         → AreSame (held_by setting s one (is_in_first_boot before s) (option_map_or
@@ -270,10 +234,8 @@ same_on setting one before (item.Delivered number) small cause kept s apart up =
         (newer_of (claim_of setting before s one) (option_and_then (claim_in s one) message))
     by_message None = rw (newer_none (claim_of setting before s one)) same
     by_message (Some message) = by_receiver message.to message.body
-same_on setting one before next small cause kept s apart up = unchanged setting before
-    (before ++ next ∷ []) s one (rw (up_more before next s, boot_more before next s) refl)
-    (heard_more before next s) (claim_more setting before next s one)
-    (kept.same s apart (sym (up_more before next s) ∙ up))
+same_on setting one before next small cause kept s apart up =
+    search (rules, up_more, boot_more, heard_more, claim_more)
 
 held_kept : (setting : Setting) (one : ℕ) → one < 64
     → AreKept (HasItemCause setting) (AreHeld setting one)
@@ -287,27 +249,8 @@ held_kept setting one small before next cause kept = record {
 held_at_first : (setting : Setting) (one : ℕ) → one < 64 → HasSwitch setting.net one
     → AreHeld setting one []
 unfolding claim_of
-held_at_first setting one small there = record {
-  boots = λ s. omega (arith, start_laws.boot s);
-  same = λ s apart up.
-      let first : is_in_first_boot [] s ≡ true = rw ((start_laws.up s), start_laws.boot s) refl in
-      subst (λ o. AreSame o (Some (first_claim setting one)))
-      (sym (ap (λ b. held_by setting s one b (heard [] s)) first ∙ ap (held_by setting s one true)
-      (start_laws.heard s) ∙ held-first near_all (length setting.net.switches) one small
-      ∙ ap (λ b. if b then Some (first_advert one (slice_index near_all one)) else None) (lt-ltb one
-      (length setting.net.switches) there) ∙ ap (λ up. Some (first_advert one up)) near_one))
-      (record {
-        boot = refl;
-        seq = refl;
-        links = λ k below. has_mask (are_linked setting.net.links one) k below;
-      });
-} where
-  near_all : List ℕ
-  near_all = map (links_of setting.net.links) (switches_of setting)
-
-  near_one : slice_index near_all one ≡ links_of setting.net.links one
-  near_one = get_or-map-range_with_len (links_of setting.net.links) 0
-      (length setting.net.switches) one one 0 there (omega arith)
+held_at_first setting one small there =
+    search (rules, start_laws, held-first, lt-ltb, has_mask, get_or-map-range_with_len)
 
 -- of another switch of the network, what a switch that is up holds is what it heard claimed
 pub claims_held : (setting : Setting) (journal : List Item)
@@ -315,9 +258,8 @@ pub claims_held : (setting : Setting) (journal : List Item)
     → HasSwitch setting.net one → IsTrue (is_up journal s)
     → AreSame (held_advert (adverts_of_others setting journal s) one)
     (claim_of setting journal s one)
-claims_held setting journal have s one apart small there up =
-    (fact_on (HasItemCause setting) (AreHeld setting one) (held_kept setting one small) [] journal
-    have (held_at_first setting one small there)).same s apart up
+claims_held setting journal have s one apart small there up = (fact_on _ (AreHeld setting one)
+    (held_kept setting one small) [] _ have (held_at_first setting one small there)).same s apart up
 
 -- ---- claims name links of the network
 
@@ -328,27 +270,12 @@ ClaimsLinks net one (Some claim) = (k : ℕ) → IsTrue (claim.links k) → HasL
 
 newer_links : (net : Net) (one : ℕ) (old new : Option Claim) → ClaimsLinks net one old
     → ClaimsLinks net one new → ClaimsLinks net one (newer_of old new)
-newer_links net one None None olds news = tt
-newer_links net one (Some old) None olds news = olds
-newer_links net one None (Some new) olds news = news
-newer_links net one (Some old) (Some new) olds news =
-    by_test (nat_lt old.boot new.boot || (old.boot == new.boot && nat_lt old.seq new.seq))
-  where
-    by_test : (b : Bool) → ClaimsLinks net one (if b then Some new else Some old)
-    by_test true = news
-    by_test false = olds
+newer_links net one old new olds news = search rules
 
 claimed_links : (net : Net) (s one : ℕ) (to : Place) (body : Body)
     → IfAdvert (NamesLinks net) body → ClaimsLinks net one (claim_by s one to body)
 unfolding has
-claimed_links net s one (receiver.Switch t) (Advertise advert) such =
-    by_tests ((t == s) && (advert.origin == one)) refl
-  where
-    by_tests : (b : Bool) → ((t == s) && (advert.origin == one)) ≡ b
-        → ClaimsLinks net one (if b then Some (claim_from advert) else None)
-    by_tests false e = tt
-    by_tests true e = λ k is. subst (λ n. HasLink net n k) (grind (arith, nat_tests)) (such k is)
-claimed_links net s one to body such = tt
+claimed_links net s one to body such = search (rules, nat_tests)
 
 -- what is kept of it, item by item
 record ClaimLinks (setting : Setting) (journal : List Item) : Type 0 where
@@ -358,18 +285,9 @@ record ClaimLinks (setting : Setting) (journal : List Item) : Type 0 where
 claims_on : (setting : Setting) (before : List Item) (next : Item) (s one : ℕ) → ClaimLinks setting
     before
     → ClaimsLinks setting.net one (changes_claim s one before (claim_of setting before s one) next)
-claims_on setting before (item.Down t) s one kept = by_test (t == s) where
-  by_test : (b : Bool)
-      → ClaimsLinks setting.net one (if b then None else claim_of setting before s one)
-  by_test true = tt
-  by_test false = kept.claims s one
-claims_on setting before (item.Booted t boot) s one kept = by_test (t == s) where
-  by_test : (b : Bool)
-      → ClaimsLinks setting.net one (if b then None else claim_of setting before s one)
-  by_test true = tt
-  by_test false = kept.claims s one
-claims_on setting before (item.Delivered number) s one kept = newer_links setting.net one
-    (claim_of setting before s one) (option_and_then (claim_in s one) (message_of before number))
+claims_on setting before (Item.Down t) s one kept = search rules
+claims_on setting before (Item.Booted t boot) s one kept = search rules
+claims_on setting before (Item.Delivered number) s one kept = newer_links setting.net one _ _
     (kept.claims s one) (by_message (message_of before number) refl)
   where
     by_message : (message : Option Message) → message_of before number ≡ message
@@ -381,18 +299,14 @@ claims_on setting before next s one kept = kept.claims s one
 
 links_kept : (setting : Setting) → AreKept (HasBothCauses setting) (ClaimLinks setting)
 links_kept setting before next both kept = record {
-  such = such_kept setting (λ js. NamesLinks setting.net) (names_fact setting) before next both
-      kept.such;
+  such = such_kept setting _ (names_fact setting) before next both kept.such;
   claims = λ s one. subst (ClaimsLinks setting.net one)
       (sym (claim_more setting before next s one)) (claims_on setting before next s one kept);
 }
 
 links_at_first : (setting : Setting) → ClaimLinks setting []
 unfolding claim_of
-links_at_first setting = record {
-  such = such_at_first setting (λ js. NamesLinks setting.net) (names_fact setting);
-  claims = λ s one k is. is;
-}
+links_at_first setting = search (rules, such_at_first, names_fact)
 
 -- whatever is claimed to whomever are links of the network
 pub claims_linked : (setting : Setting) (journal : List Item)
@@ -427,8 +341,7 @@ names_end setting journal have net s one two apart serving is =
     by_claim (claim_of setting journal s one) refl (rw (ne_eqb one s apart) at is)
   where
     caused : HaveCauses (HasItemCause setting) [] journal
-    caused = have_weaker (HasBothCauses setting) (HasItemCause setting)
-        (λ before next both. both.first) [] journal have
+    caused = have_weaker _ (HasItemCause setting) (λ before next both. both.first) [] journal have
 
     up : IsTrue (is_up journal s)
     up = ((caused_known setting journal caused).serving s).up serving
@@ -453,8 +366,7 @@ names_end setting journal have net s one two apart serving is =
           one_small = one_small;
           two_small = two_small;
           named = by_held claim (held_advert (adverts_of_others setting journal s) one) refl
-              two_small linked
-              (rw e at (claims_held setting journal caused s one apart one_small there.0 up));
+              two_small linked (rw e at (claims_held _ _ caused s one apart one_small there.0 up));
         }
 
 -- a switch's own ends are those of the links that it can use
@@ -462,11 +374,4 @@ pub own_end : (setting : Setting) (journal : List Item) → IsNet setting.net �
     → IsTrue (is_end setting journal s s two)
     → IsNamed s two (IsTrue (has (near setting journal s) two))
 own_end setting journal net s two is =
-    let usable : IsTrue (can_use setting journal s two) = rw (eq-eqb s s refl) at is in
-    let there = linked_small setting.net s two net (usable_linked setting journal s two usable) in
-    let few = net.few_switches in
-    let two_small : two < 64 = omega (arith, there.1, few) in record {
-      one_small = omega (arith, there.0, few);
-      two_small = two_small;
-      named = near_usable setting journal s two two_small ∙ usable;
-    }
+    search (rules, eq-eqb, linked_small, usable_linked, near_usable)

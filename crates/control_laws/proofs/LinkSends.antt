@@ -1,12 +1,118 @@
 -- How many adverts are sent where the links of one switch change.
-use Rattle.std.proofs.Common.{[], ◌&&◌, ◌*◌, ◌+◌, ◌==◌, ◌||◌, ◌∙◌, ◌∷◌, ◌≡◌, ◌≢◌, ◌≤◌, ◌⊎◌, Bool, IsTrue, List, ap, arith, cond, eq-eqb, eqb-true, false, filter, flat_map, inl, inr, length, map, mul-le-mul_right, not, refl, sum_by, sym, true, ℕ}
-use Rattle.base.proofs.Exports.{and_parts, cases_eq, cases_lt, length-filter_map, length-flat_map, length-map, length-range_with_len, length_filter_less, list_any, mask_of_lt, sum_by-le-sum_by, sum_each, sum_filter, sum_some}
+use Rattle.std.proofs.Common.{[], ◌&&◌, ◌*◌, ◌+◌, ◌<◌, ◌==◌, ◌||◌, ◌∙◌, ◌∷◌, ◌≡◌, ◌≢◌, ◌≤◌, ◌⊎◌, Bool, IsTrue, List, ap, arith, cond, eq-eqb, eqb-true, false, filter, flat_map, inl, inr, length, map, mul-add, mul-le-mul_right, ne_eqb, not, refl, suc, sum_by, sym, true, zero, ℕ, rules}
+use Rattle.base.proofs.Exports.{cases_eq, length-filter_map, length-flat_map, length-map, length-range_with_len, length_filter_less, list_any, mask_of_lt, range_with_len, sum_by-cons, sum_by-le-sum_by, sum_each, sum_filter, sum_some}
+use Rattle.net_file.specs.Exports.{IsNet, are_linked, joins, links_of}
 use Rattle.update_machine.specs.Exports.{Item, LinkRow, Message, Setting, advert_to, has_changed, held_adverts, is_usable, messages_of, messages_over, near, own_advert, switches_of, usable_links}
 use Rattle.base.specs.Exports.{has, switches}
-use Rattle.net_file.specs.Exports.{IsNet, are_linked, joins, links_of}
 use Rattle.net_file.proofs.MaskBits.{in_mask_of, in_mask_past}
 use Rattle.control_laws.proofs.NetLinks.{linked_by_mask}
-use Rattle.control_laws.proofs.PairSums.{met_once, once, pairs_few, sum_plus, sum_times}
+
+-- ---- sums over switches, and how many pairs of switches links join
+
+-- 1 where the test holds
+abbrev pub once : Bool → ℕ
+once b = cond b 1 0
+
+-- ---- sums
+
+pub sum_plus : (f g : ℕ → ℕ) (xs : List ℕ) → sum_by (λ x. f x + g x) xs ≡ sum_by f xs + sum_by g xs
+sum_plus f g [] = refl
+sum_plus f g (x ∷ xs) =
+    omega (arith, sum_by-cons, sum_by-cons f x xs, sum_by-cons g x xs, sum_plus f g xs)
+
+pub sum_times : (c : ℕ) (f : ℕ → ℕ) (xs : List ℕ) → sum_by (λ x. c * f x) xs ≡ c * sum_by f xs
+sum_times c f [] = omega arith
+sum_times c f (x ∷ xs) = search (rules, sum_by-cons, mul-add, sum_times c f xs)
+
+-- ---- one place
+
+-- a number is met at most once
+none_before : (k low n : ℕ) → k < low → sum_by (λ x. once (k == x)) (range_with_len low n) ≡ 0
+none_before k low zero below = refl
+none_before k low (suc n) below = omega (
+  arith,
+  sum_by-cons (λ x. once (k == x)) low (range_with_len (low + 1) n),
+  (ap once (ne_eqb k low (λ e. omega (arith, e, below)))),
+  none_before k (low + 1) n (omega (arith, below)),
+)
+
+pub met_once : (k low n : ℕ) → sum_by (λ x. once (k == x)) (range_with_len low n) ≤ 1
+met_once k low zero = omega arith
+met_once k low (suc n) =
+    let split = sum_by-cons (λ x. once (k == x)) low (range_with_len (low + 1) n) in
+    elim (cases_eq k low) [
+      | inl same ↦ let here : once (k == low) ≡ 1 = ap once (eq-eqb k low same) in
+          omega (arith, split, here, none_before k (low + 1) n (omega (arith, same)))
+      | inr apart ↦ omega (arith, split, ap once (ne_eqb k low apart), met_once k (low + 1) n)
+    ]
+
+-- ---- pairs that are joined
+
+either : (b c : Bool) → once (b || c) ≤ once b + once c
+either b c = search rules
+
+turned : (b c : Bool) → once (b && c) ≤ once (c && b)
+turned b c = search rules
+
+half : (d : Bool) (k low n : ℕ) → sum_by (λ x. once (d && k == x)) (range_with_len low n) ≤ once d
+half true k low n = met_once k low n
+half false k low n = omega (arith, sum_each (λ x. 0) 0 (range_with_len low n) (λ x. omega arith))
+
+-- the link joins one switch to at most one other
+ends_few : (b c : Bool) (one two low n : ℕ)
+    → sum_by (λ x. once ((b && two == x) || (one == x && c))) (range_with_len low n)
+    ≤ once b + once c
+ends_few b c one two low n = let all : List ℕ = range_with_len low n in
+    omega (
+      arith,
+      sum_by-le-sum_by (λ x. once ((b && two == x) || (one == x && c))) (λ x. once (b && two == x)
+          + once (one == x && c)) all (λ x. either (b && two == x) (one == x && c)),
+      sum_plus (λ x. once (b && two == x)) (λ x. once (one == x && c)) all,
+      sum_by-le-sum_by (λ x. once (one == x && c)) (λ x. once (c && one == x)) all
+          (λ x. turned (one == x) c),
+      half b two low n,
+      half c one low n,
+    )
+
+-- how many pairs the links join
+abbrev pub pairs : List LinkRow → ℕ → ℕ → ℕ
+pairs links n m = sum_by (λ s. sum_by (λ x. once (are_linked links s x)) (range_with_len 0 m))
+    (range_with_len 0 n)
+
+sum_more : (link : LinkRow) (links : List LinkRow) (s m : ℕ)
+    → sum_by (λ x. once (are_linked (link ∷ links) s x)) (range_with_len 0 m) ≤ once (link.one == s)
+    + once (link.two == s) + sum_by (λ x. once (are_linked links s x)) (range_with_len 0 m)
+sum_more link links s m = omega (
+  arith,
+  sum_by-le-sum_by (λ x. once (are_linked (link ∷ links) s x))
+      (λ x. once (joins s x link) + once (are_linked links s x)) (range_with_len 0 m)
+      (λ x. either (joins s x link) (are_linked links s x)),
+  sum_plus (λ x. once (joins s x link)) (λ x. once (are_linked links s x)) (range_with_len 0 m),
+  ends_few (link.one == s) (link.two == s) link.one link.two 0 m,
+)
+
+-- at most two for each link
+pub pairs_few : (links : List LinkRow) (n m : ℕ) → pairs links n m ≤ 2 * length links
+pairs_few [] n m = omega (
+  arith,
+  sum_each (λ s. sum_by (λ x. once (are_linked [] s x)) (range_with_len 0 m)) 0 (range_with_len 0 n)
+      (λ s. omega (arith, sum_each (λ x. 0) 0 (range_with_len 0 m) (λ x. omega arith))),
+)
+pairs_few (link ∷ links) n m =
+    let joined : ℕ → ℕ = λ s. sum_by (λ x. once (are_linked links s x)) (range_with_len 0 m) in
+    omega (
+      arith,
+      sum_by-le-sum_by (λ s. sum_by (λ x. once (are_linked (link ∷ links) s x))
+          (range_with_len 0 m)) (λ s. once (link.one == s) + once (link.two == s) + joined s)
+          (range_with_len 0 n) (λ s. sum_more link links s m),
+      sum_plus (λ s. once (link.one == s) + once (link.two == s)) joined (range_with_len 0 n),
+      sum_plus (λ s. once (link.one == s)) (λ s. once (link.two == s)) (range_with_len 0 n),
+      met_once link.one 0 n,
+      met_once link.two 0 n,
+      pairs_few links n m,
+    )
+
+-- ---- link sends
 
 -- ---- which links change
 
@@ -18,18 +124,10 @@ pub record ChangesAt (before now : List Item) (t : ℕ) : Type 0 where
 -- each end of a link that joins two switches is one of them
 joined_ends : (x y : ℕ) (link : LinkRow) → joins x y link ≡ true
     → ((link.one ≡ x) ⊎ (link.one ≡ y)) × ((link.two ≡ x) ⊎ (link.two ≡ y))
-joined_ends x y link joined = by_order (link.one == x && link.two == y) refl joined where
-  by_order : (b : Bool) → (link.one == x && link.two == y) ≡ b
-      → (b || (link.one == y && link.two == x)) ≡ true
-      → ((link.one ≡ x) ⊎ (link.one ≡ y)) × ((link.two ≡ x) ⊎ (link.two ≡ y))
-  by_order true e is = let parts = and_parts (link.one == x) (link.two == y) e in
-      (inl (eqb-true link.one x parts.0), inr (eqb-true link.two y parts.1))
-  by_order false e is = let parts = and_parts (link.one == y) (link.two == x) is in
-      (inr (eqb-true link.one y parts.0), inl (eqb-true link.two x parts.1))
+joined_ends x y link joined = search (rules, eqb-true)
 
 away : (x y z end : ℕ) → x ≢ z → y ≢ z → (end ≡ x) ⊎ (end ≡ y) → end ≢ z
-away x y z end one two (inl e) = λ same. one (sym e ∙ same)
-away x y z end one two (inr e) = λ same. two (sym e ∙ same)
+away x y z end one two h6 = search rules
 
 -- links of other switches join as before
 linked_same : (before now : List Item) (t s k : ℕ) → ChangesAt before now t
@@ -49,8 +147,7 @@ linked_same before now t s k changes other far (link ∷ links) =
         → list_any (joins s k) (cond (is_usable now link) (link ∷ filter (is_usable now) links)
         (filter (is_usable now) links)) ≡ list_any (joins s k) (cond (is_usable before link)
         (link ∷ filter (is_usable before) links) (filter (is_usable before) links))
-    by_joins false e rest = skipped (is_usable now link) (filter (is_usable now) links) e
-        ∙ rest ∙ sym (skipped (is_usable before link) (filter (is_usable before) links) e)
+    by_joins false e rest = skipped (is_usable now link) _ e ∙ rest ∙ sym (skipped _ _ e)
     by_joins true e rest = let ends = joined_ends s k link e in
         rw (changes.others link (away s k t link.one other far ends.0)
         (away s k t link.two other far ends.1)) (by_usable (is_usable before link))
@@ -65,19 +162,13 @@ linked_same before now t s k changes other far (link ∷ links) =
 same_bits : (one other : List LinkRow) (s k : ℕ) → are_linked one s k ≡ are_linked other s k
     → has (links_of one s) k ≡ has (links_of other s) k
 unfolding has
-same_bits one other s k same = elim (cases_lt k 64) [
-  | inl small ↦ in_mask_of (are_linked one s) k small ∙ same
-      ∙ sym (in_mask_of (are_linked other s) k small)
-  | inr past ↦ in_mask_past (links_of one s) k (mask_of_lt (are_linked one s)) past
-      ∙ sym (in_mask_past (links_of other s) k (mask_of_lt (are_linked other s)) past)
-]
+same_bits one other s k same = search (rules, in_mask_of, in_mask_past, mask_of_lt)
 
 same_neighbour : (setting : Setting) (before now : List Item) (t s k : ℕ) → ChangesAt before now t
     → s ≢ t → k ≢ t → has (near setting now s) k ≡ has (near setting before s) k
 unfolding near
-same_neighbour setting before now t s k changes other far =
-    same_bits (usable_links setting now) (usable_links setting before) s k
-    (linked_same before now t s k changes other far setting.net.links)
+same_neighbour setting before now t s k changes other far = same_bits (usable_links setting now) _ s
+    k (linked_same before now t s k changes other far setting.net.links)
 
 -- a link became usable
 abbrev is_new : Setting → List Item → List Item → ℕ → ℕ → Bool
@@ -85,27 +176,7 @@ is_new setting before now s k = has (near setting now s) k && not (has (near set
 
 new_at : (setting : Setting) (before now : List Item) (t s k : ℕ) → ChangesAt before now t
     → once (is_new setting before now s k) ≤ once (t == s) + once (t == k)
-new_at setting before now t s k changes = elim (cases_eq s t) [
-  | inl same ↦
-      omega (arith, ap once (eq-eqb t s (sym same)), at_most_one (is_new setting before now s k))
-  | inr other ↦ elim (cases_eq k t) [
-    | inl same ↦
-        omega (arith, ap once (eq-eqb t k (sym same)), at_most_one (is_new setting before now s k))
-    | inr far ↦ omega (
-      arith,
-      none_new (has (near setting now s) k) (has (near setting before s) k)
-          (same_neighbour setting before now t s k changes other far),
-    )
-  ]
-] where
-  at_most_one : (b : Bool) → once b ≤ 1
-  at_most_one true = omega arith
-  at_most_one false = omega arith
-
-  none_new : (b c : Bool) → b ≡ c → once (b && not c) ≡ 0
-  none_new true true e = refl
-  none_new true false e = absurd cc
-  none_new false c e = refl
+new_at setting before now t s k changes = search (rules, cases_eq, eq-eqb, same_neighbour)
 
 -- ---- what a switch tells a neighbour
 
@@ -117,8 +188,7 @@ held_few setting journal s = omega (arith, length-filter_map, length-range_with_
 over_few : (setting : Setting) (before now : List Item) (s k : ℕ)
     → cond (has (near setting now s) k) (length (messages_over setting before now s k)) 0
     ≤ once (has (near setting now s) k) + 63 * once (is_new setting before now s k)
-over_few setting before now s k =
-    by_links (has (near setting now s) k) (has (near setting before s) k)
+over_few setting before now s k = by_links (has (near setting now s) k) _
   where
     by_links : (b c : Bool) → cond b (length {A = Message} (elim c [
       | true ↦ advert_to k (own_advert setting now s) ∷ []
@@ -155,10 +225,9 @@ by_few setting before now t s net changes =
       arith,
       length-flat_map (messages_over setting before now s) (filter (has (near setting now s)) all),
       sum_filter (λ k. length (messages_over setting before now s k)) (has (near setting now s)) all,
-      sum_by-le-sum_by
-          (λ k. cond (has (near setting now s) k) (length (messages_over setting before now s k)) 0)
-          (λ k. once (has (near setting now s) k) + 63 * fresh k) all
-          (λ k. over_few setting before now s k),
+      sum_by-le-sum_by (λ k. cond (has (near setting now s) k)
+          (length (messages_over setting before now s k)) 0)
+          (λ k. once (has (near setting now s) k) + 63 * fresh k) all (λ k. over_few _ _ now s k),
       sum_plus (λ k. once (has (near setting now s) k)) (λ k. 63 * fresh k) all,
       sum_times 63 fresh all,
       sum_by-le-sum_by fresh (λ k. once (t == s) + once (t == k)) all

@@ -1,15 +1,13 @@
 -- How many messages each block of a piece sends.
-use Rattle.std.proofs.Common.{[], if◌then◌else◌, ◌++◌, ◌+◌, ◌-◌, ◌==◌, ◌∷◌, ◌≡◌, ◌≤◌, Bool, IsFalse, List, None, Option, Some, arith, cond, false, filter, flat_map, length, length-append, map, nat_lt, not, refl, true, ℕ}
+use Rattle.std.proofs.Common.{[], if◌then◌else◌, ◌++◌, ◌+◌, ◌∷◌, ◌≡◌, ◌≤◌, Bool, IsFalse, List, Option, arith, cond, false, filter, flat_map, length, length-append, map, not, refl, true, ℕ, rules}
 use Rattle.base.proofs.Exports.{length-flat_map, length-map, length-range_with_len, length_filter_less, range_with_len, sum_by-cons, sum_each}
-use Rattle.update_machine.specs.Exports.{Action, Advert, AuthorityRule, Body, Found, Header, Hello, Item, Leg, Message, NoneConcern, Setting, Step, acked_stamp, advert_to, after_hello, arrive_items, authority_items, cache_items, collect_for, concerns_policies, confirm_items, controller_items, count_of, current_items, current_mark, end_items, expire_items, forget_items, found_items, has_acked, header_at, held_adverts, hello_of, hop_items, in_turn, install_for, installs_to, installs_to_all, is_member, is_new_boot, is_over, is_sending, is_up, items_then, leg_items, lookup_at, lookup_items, lose_items, members, move_items, near, next_message, nothing, open_items, packet_items, passed_on, reroute_items, resend_items, resent_by_controller, resent_by_switch, resent_to_member, retired_items, retired_mark, send_items, sends_or_nothing, sent_from, settling, stamp_for, step_items, submitted_items, switches_in, switches_of, unacked_installs, update_code, update_items, version_count, versions_from_current}
+use Rattle.update_machine.specs.Exports.{Action, Advert, AuthorityRule, Body, Found, Header, Item, Leg, Message, NoneConcern, Setting, Step, advert_to, after_hello, arrive_items, authority_items, cache_items, concerns_policies, confirm_items, controller_items, count_of, current_items, end_items, expire_items, forget_items, found_items, has_acked, held_adverts, hello_of, hop_items, in_turn, install_for, installs_to, installs_to_all, is_member, is_sending, is_up, items_then, leg_items, lookup_items, lose_items, members, move_items, near, next_message, nothing, open_items, packet_items, passed_on, reroute_items, resend_items, resent_by_controller, resent_by_switch, resent_to_member, retired_items, send_items, sends_or_nothing, sent_from, settling, step_items, submitted_items, switches_in, switches_of, unacked_installs, update_items, version_count}
 use Rattle.base.specs.Exports.{has}
 use Rattle.net_file.specs.Exports.{IsNet}
-use Rattle.policy_rules.specs.declared.policy.Action.TheVariants as action
-use Rattle.journal.specs.declared.item.Item.TheVariants as item
 use Rattle.update_machine.proofs.Exports.{count_of_append, policies_keep}
 use Rattle.control_laws.proofs.ControllerCommands.{IsOfSettling, settling_settles}
-use Rattle.control_laws.proofs.ItemFacts.{have_weaker}
-use Rattle.control_laws.proofs.TrafficItems.{IsWorkStep, work_cases}
+use Rattle.control_laws.proofs.FactsGrown.{have_weaker}
+use Rattle.control_laws.proofs.TrafficItems.{IsWorkStep}
 use Rattle.control_laws.proofs.LinkSends.{held_few}
 
 abbrev pub sent : List Item → ℕ
@@ -44,8 +42,7 @@ leg_few setting journal i s leg = grind arith
 end_few : (setting : Setting) (i s : ℕ) (act : Action) (journal : List Item)
     → sent (end_items setting i s act journal) ≡ 0
 unfolding end_items
-end_few setting i s action.Drop journal = refl
-end_few setting i s (action.Out port) journal = grind (arith, leg_few)
+end_few setting i s act journal = search (rules, leg_few)
 
 cache_few : (setting : Setting) (i s : ℕ) (rule : AuthorityRule) (journal : List Item)
     → sent (cache_items setting i s rule journal) ≤ 1
@@ -55,9 +52,8 @@ cache_few setting i s rule journal = grind (arith, sends_count)
 authority_few : (setting : Setting) (i s : ℕ) (rule : Option AuthorityRule) (journal : List Item)
     → sent (authority_items setting i s rule journal) ≤ 1
 unfolding authority_items
-authority_few setting i s None journal = omega arith
-authority_few setting i s (Some rule) journal =
-    grind (arith, sent_more, put_few, count_of_append, cache_few, end_few)
+authority_few setting i s rule journal =
+    search (rules, sent_more, put_few, count_of_append, cache_few, end_few)
 
 found_few : (setting : Setting) (i s : ℕ) (what : Found) (journal : List Item)
     → sent (found_items setting i s what journal) ≤ 1
@@ -66,8 +62,7 @@ found_few setting i s what journal = grind (arith, sent_more, end_few, authority
 lookup_few : (setting : Setting) (i s : ℕ) (journal : List Item)
     → sent (lookup_items setting i s journal) ≤ 1
 unfolding lookup_items
-lookup_few setting i s journal =
-    found_few setting i s (lookup_at setting journal s (header_at journal i)) journal
+lookup_few setting i s journal = search (rules, found_few)
 
 arrive_few : (setting : Setting) (i s : ℕ) (journal : List Item)
     → sent (arrive_items setting i s journal) ≤ 1
@@ -93,16 +88,13 @@ packet_few setting i s header journal = grind (arith, sent_more, lookup_few)
 pub step_few : (setting : Setting) (before : List Item) (step : Step) (here : List Item)
     → IsWorkStep step → sent (step_items setting before step here) ≤ 1
 unfolding hop_items lose_items forget_items expire_items
-step_few setting before step here = work_cases (λ step. sent (step_items setting before step here)
-    ≤ 1) (λ packet. grind (arith, move_few)) (λ packet. grind arith) (λ message. grind arith)
-    (λ s place. grind arith) step
+step_few setting before step here = search (rules, move_few)
 
 -- ---- settling
 
 switches_few : (setting : Setting) → IsNet setting.net → (test : ℕ → Bool)
     → length (filter test (switches_of setting)) ≤ 64
-switches_few setting net test =
-    omega (arith, length_filter_less, length-range_with_len, net.few_switches)
+switches_few setting net test = search (rules, length_filter_less, length-range_with_len)
 
 -- the same message to each of these switches
 each_few : (setting : Setting) → IsNet setting.net → (journal : List Item) (to : ℕ → Message)
@@ -128,7 +120,7 @@ mark_few setting net journal next none to true = let alone : sent (next ∷ []) 
 current_few : (setting : Setting) → IsNet setting.net → (journal : List Item)
     → sent (current_items setting journal) ≤ 64
 unfolding current_items
-current_few setting net journal = mark_few setting net journal (item.Current _) refl _ _
+current_few setting net journal = mark_few setting net journal (Item.Current _) refl _ _
 
 open_few : (setting : Setting) → IsNet setting.net → (journal : List Item)
     → sent (open_items setting journal) ≤ 64
@@ -138,7 +130,7 @@ open_few setting net journal = each_few setting net journal _ _
 retired_few : (setting : Setting) → IsNet setting.net → (journal : List Item)
     → sent (retired_items setting journal) ≤ 64
 unfolding retired_items
-retired_few setting net journal = mark_few setting net journal (item.Retired _) refl _ _
+retired_few setting net journal = mark_few setting net journal (Item.Retired _) refl _ _
 
 pub settling_few : (setting : Setting) → IsNet setting.net → (journal : List Item)
     → sent (settling setting journal) ≤ 192
@@ -181,15 +173,7 @@ all_installs_few setting net journal = each_few setting net journal _ _
 
 pub submitted_few : (setting : Setting) → IsNet setting.net → (journal : List Item)
     → sent (submitted_items setting journal) ≤ 256
-submitted_few setting net journal =
-    let installed : List Item = journal ++ installs_to_all setting journal in
-    omega (
-      arith,
-      put_few (installs_to_all setting journal) (in_turn (settling setting ∷ [])) journal,
-      put_few (settling setting installed) (in_turn []) installed,
-      all_installs_few setting net journal,
-      settling_few setting net installed,
-    )
+submitted_few setting net journal = search (rules, put_few, all_installs_few, settling_few)
 
 -- ---- what is sent again
 
@@ -206,52 +190,19 @@ unacked_few setting journal s low n =
     )
 
 one_if : (b : Bool) (message : Message) → length (if b then message ∷ [] else []) ≤ 1
-one_if true message = omega arith
-one_if false message = omega arith
+one_if b message = search rules
 
 none_if : (b : Bool) (message : Message) → length (if b then [] else message ∷ []) ≤ 1
-none_if true message = omega arith
-none_if false message = omega arith
+none_if b message = search rules
 
 member_few : (setting : Setting) (journal : List Item) (s : ℕ)
     → length (resent_to_member setting journal s) ≤ version_count journal + 3
-member_few setting journal s =
-    let later : ℕ = version_count journal - current_mark journal in
-    let tables : List Message =
-    unacked_installs setting journal s (range_with_len (current_mark journal + 1) later) in
-    let stamp : List Message = if nat_lt (acked_stamp journal s) (current_mark journal)
-    then stamp_for setting journal (current_mark journal) s ∷ [] else [] in
-    omega (
-      arith,
-      length-append (tables ++ stamp) (if retired_mark journal == 0
-          then [] else collect_for journal (retired_mark journal) s ∷ []),
-      length-append tables stamp,
-      unacked_few setting journal s (current_mark journal + 1) later,
-      one_if (nat_lt (acked_stamp journal s) (current_mark journal))
-          (stamp_for setting journal (current_mark journal) s),
-      none_if (retired_mark journal == 0) (collect_for journal (retired_mark journal) s),
-    )
+member_few setting journal s = search (rules, length-append, unacked_few, none_if)
 
 controller_resent_few : (setting : Setting) (journal : List Item) (s : ℕ)
     → length (resent_by_controller setting journal s) ≤ version_count journal + 3
 unfolding resent_by_controller
-controller_resent_few setting journal s = by_over (is_over journal s) where
-  by_member : (member : Bool) → length {A = Message} (elim member [
-    | true ↦ resent_to_member setting journal s
-    | false ↦ unacked_installs setting journal s (versions_from_current journal)
-  ]) ≤ version_count journal + 3
-  by_member true = member_few setting journal s
-  by_member false = omega (arith, unacked_few)
-
-  by_over : (over : Bool) → length {A = Message} (elim over [
-    | true ↦ []
-    | false ↦ elim (is_member journal s) [
-      | true ↦ resent_to_member setting journal s
-      | false ↦ unacked_installs setting journal s (versions_from_current journal)
-    ]
-  ]) ≤ version_count journal + 3
-  by_over true = omega arith
-  by_over false = by_member (is_member journal s)
+controller_resent_few setting journal s = search (rules, member_few, unacked_few)
 
 -- all adverts that are held, to each neighbour
 switch_resent_few : (setting : Setting) → IsNet setting.net → (journal : List Item) (s : ℕ)
@@ -280,14 +231,12 @@ switch_resent_few setting net journal s = by_up (is_up journal s) where
 pub resend_few : (setting : Setting) → IsNet setting.net → (s : ℕ) (journal : List Item)
     → sent (resend_items setting s journal) ≤ 4100 + version_count journal
 unfolding resend_items
-resend_few setting net s journal =
-    by_messages (resent_by_switch setting journal s ++ resent_by_controller setting journal s)
-    (omega (
-      arith,
-      length-append (resent_by_switch setting journal s) (resent_by_controller setting journal s),
-      switch_resent_few setting net journal s,
-      controller_resent_few setting journal s,
-    ))
+resend_few setting net s journal = by_messages _ (omega (
+  arith,
+  length-append (resent_by_switch setting journal s) (resent_by_controller setting journal s),
+  switch_resent_few setting net journal s,
+  controller_resent_few setting journal s,
+))
   where
     by_messages : (messages : List Message) → length messages ≤ 4100 + version_count journal
         → sent (sends_or_nothing journal messages) ≤ 4100 + version_count journal
@@ -299,36 +248,12 @@ resend_few setting net s journal =
 pub update_few : (setting : Setting) → IsNet setting.net → (file : ℕ) (journal : List Item)
     → sent (update_items setting file journal) ≤ 256
 unfolding update_items
-update_few setting net file journal = by_code (update_code setting journal file) where
-  next : Item
-  next = item.Submitted file (version_count journal + 1)
-
-  by_code : (code : Option ℕ) → sent (elim code [
-    | Some refused ↦ item.Refused file refused ∷ []
-    | None ↦ items_then (item.Submitted file (version_count journal + 1) ∷ [])
-        (submitted_items setting) journal
-  ]) ≤ 256
-  by_code (Some refused) = omega arith
-  by_code None = omega (
-    arith,
-    sent_more next (submitted_items setting (journal ++ next ∷ [])),
-    submitted_few setting net (journal ++ next ∷ []),
-  )
+update_few setting net file journal = search (rules, sent_more, submitted_few)
 
 pub confirm_few : (setting : Setting) → IsNet setting.net → (s : ℕ) (journal : List Item)
     → sent (confirm_items setting s journal) ≤ 192
 unfolding confirm_items
-confirm_few setting net s journal = by_up (is_up journal s) where
-  by_up : (up : Bool) → sent (elim up [
-    | true ↦ nothing
-    | false ↦ items_then (item.OverNow s ∷ []) (settling setting) journal
-  ]) ≤ 192
-  by_up true = omega arith
-  by_up false = omega (
-    arith,
-    sent_more (item.OverNow s) (settling setting (journal ++ item.OverNow s ∷ [])),
-    settling_few setting net (journal ++ item.OverNow s ∷ []),
-  )
+confirm_few setting net s journal = search (rules, sent_more, settling_few)
 
 pub passed_few : (setting : Setting) → IsNet setting.net → (journal : List Item) (s : ℕ)
     (advert : Advert) → length (passed_on setting journal s advert) ≤ 64
@@ -343,25 +268,16 @@ passed_few setting net journal s advert = omega (
 
 settling_submits_none : (before : List Item) (next : Item) → IsOfSettling before next
     → IsFalse (concerns_policies before next)
-settling_submits_none before (item.Submitted file version) of = absurd of
-settling_submits_none before _ of = refl
+settling_submits_none before next of = search rules
 
 settling_submitless : (setting : Setting) (journal : List Item)
     → NoneConcern concerns_policies journal (settling setting journal)
-settling_submitless setting journal =
-    have_weaker IsOfSettling (λ before next. IsFalse (concerns_policies before next))
-    settling_submits_none journal _ (settling_settles setting journal)
+settling_submitless setting journal = have_weaker IsOfSettling _ settling_submits_none journal _
+    (settling_settles setting journal)
 
 hello_few : (setting : Setting) (before : List Item) (body : Body) (journal : List Item)
     → sent (after_hello setting before body journal) ≤ version_count journal + 1
-hello_few setting before (Hello s boot) journal = by_new (is_new_boot before s boot) where
-  by_new : (new : Bool) → sent (elim new [
-    | true ↦ installs_to setting s journal
-    | false ↦ []
-  ]) ≤ version_count journal + 1
-  by_new true = installs_few setting s journal
-  by_new false = omega arith
-hello_few setting before _ journal = omega arith
+hello_few setting before body journal = search (rules, installs_few)
 
 pub controller_few : (setting : Setting) → IsNet setting.net → (before : List Item) (body : Body)
     (journal : List Item)

@@ -1,23 +1,17 @@
 -- What messages name is there.
-use Rattle.std.proofs.Common.{[], if◌then◌else◌, ◌++◌, ◌<◌, ◌==◌, ◌∙◌, ◌∷◌, ◌≡◌, ◌≤◌, Bool, List, None, Option, Some, arith, false, inl, inr, length, option_and_then, option_to_list, refl, subst, sym, true, unwrap_or, ℕ}
-use Rattle.base.proofs.Exports.{All-from_recursion, AllByRecursion, IfSome_then, each_append, each_option, option_or}
+use Rattle.std.proofs.Common.{[], ◌&&◌, ◌++◌, ◌<◌, ◌==◌, ◌∙◌, ◌∷◌, ◌≡◌, ◌≤◌, Bool, List, None, Option, Some, arith, eqb-true, false, if◌then◌else◌, inl, inr, length, option_and_then, option_to_list, refl, subst, sym, true, ℕ, rules}
+use Rattle.base.proofs.Exports.{All-from_recursion, AllByRecursion, IfSome_then, each_append, each_option, option_map_or, option_or}
 use Rattle.ctrl_msg.specs.Exports.{body_version, to_controller}
-use Rattle.update_machine.specs.Exports.{Advertise, Body, CacheRule, Collect, HaveCauses, Hello, Install, Installed, Item, Message, OpenAt, Place, Setting, Stamp, Stamped, body_to_controller, controller_heard, first_number, gives_ingress, heard, hello_boot, ingress_of, known_boot, message_of, open_sent, to_switch, version_count}
-use Rattle.ctrl_msg.specs.declared.message.Place.TheVariants as receiver
+use Rattle.update_machine.specs.Exports.{Advertise, Body, CacheRule, Collect, HaveCauses, Hello, Install, Installed, Item, Message, OpenAt, Place, Setting, Stamp, Stamped, body_to_controller, boot_of, controller_heard, first_number, gives_ingress, heard, hello_boot, ingress_of, is_up, known_boot, message_of, open_sent, to_switch, version_count}
 use Rattle.net_file.specs.Exports.{IsNet}
-use Rattle.journal.specs.declared.item.Item.TheVariants as item
-use Rattle.update_machine.proofs.Exports.{last_given_append, start_laws}
-use Rattle.control_laws.specs.Exports.{BodiesNameThere, HasItemCause, HoldsReached, IsRightMessage, IsRightOpening, NamesOnlyThere}
-use Rattle.control_laws.proofs.BootsKnown.{by_number, hello_sent, said_sent}
-use Rattle.control_laws.proofs.ItemFacts.{Both, fact_on, have_both}
-use Rattle.control_laws.proofs.FactsGrown.{known_more, opened_in, opened_is, opened_more, opens_by, raised, told_more}
+use Rattle.update_machine.proofs.Exports.{last_given_append, open_net, start_laws}
+use Rattle.control_laws.specs.Exports.{BodiesNameThere, HasItemCause, HoldsReached, IsAddressed, IsRightMessage, IsRightOpening, NamesOnlyThere}
+use Rattle.control_laws.proofs.FactsGrown.{Both, by_number, fact_on, have_both, hello_sent, known_more, opened_in, opened_is, opened_more, opens_by, raised, said_sent, told_more}
 use Rattle.control_laws.proofs.PieceCauses.{pieces_have}
-use Rattle.control_laws.proofs.ReachedCauses.{reached}
+use Rattle.control_laws.proofs.MarksAtEnds.{reached}
 use Rattle.control_laws.proofs.TrafficItems.{IsIngress}
-use Rattle.control_laws.proofs.CurrentVersions.{StampsAreCurrent, current_at_first, current_kept, first_opened, right_current}
-use Rattle.control_laws.proofs.BoundedVersions.{count_rises, right_planned}
+use Rattle.control_laws.proofs.CurrentVersions.{StampsAreCurrent, count_rises, current_kept, first_opened, heard_on, right_current, right_planned}
 use Rattle.control_laws.proofs.ToldToController.{each_weaker}
-use Rattle.control_laws.proofs.HeardAsSaid.{heard_on}
 use Rattle.control_laws.proofs.PlannedTables.{IsPlanned, all_at_first, all_kept, own_tables}
 use Rattle.control_laws.proofs.NamedThings.{IsKnownSwitch, NamesRightly, SaysThere, pieces_name}
 
@@ -51,75 +45,63 @@ Named setting = Both (HasItemCause setting) (NamesRightly setting)
 
 known_there : (setting : Setting) (before : List Item) (s : ℕ) → AreNamed setting before
     → IsKnownSwitch setting before s → s < length setting.net.switches
-known_there setting before s are known = elim known [
-  | inl there ↦ there
-  | inr above ↦ are.known s above
-]
+known_there setting before s are known = search rules
 
 ingress_there : (setting : Setting) (before : List Item) (s : ℕ) → 1 ≤ length setting.net.switches
     → AreNamed setting before → IsIngress before s → s < length setting.net.switches
-ingress_there setting before s some are is =
-    by_ingress (ingress_of before is.packet) refl is.ingress
-  where
-    by_ingress : (o : Option ℕ) → ingress_of before is.packet ≡ o → s ≡ unwrap_or o 0
-        → s < length setting.net.switches
-    by_ingress None e own = omega (arith, some, own)
-    by_ingress (Some t) e own = omega (arith, are.ingress is.packet t e, own)
+ingress_there setting before s some are is = search rules
 
 -- ---- versions
 
 opening_above : (setting : Setting) (before : List Item) (s boot version : ℕ)
     → AreNamed setting before → IsRightOpening before s boot version → 1 ≤ version
-opening_above setting before s boot version are right = elim right.opens [
-  | inl first ↦ omega (arith, first.current, are.current.marks.first)
-  | inr same ↦ are.opened s (known_boot before s) version (sym (opened_is before s) ∙ same)
-]
+opening_above setting before s boot version are right = search (rules, opened_is)
 
 names_there : (setting : Setting) (before : List Item) (to : Place) (body : Body)
     → 1 ≤ length setting.net.switches → AreNamed setting before
     → IsRightMessage setting before to body → SaysThere setting before to body
     → NamesOnlyThere setting before (record { to = to; body = body })
-names_there setting before (receiver.Switch s) (Install boot tables) some are right says =
+names_there setting before (Place.Switch s) (Install boot tables) some are right says =
     let own = own_tables setting before s tables are.planned.so_far.versions
     (right_planned setting before s boot tables are.planned.so_far.marks right) in record {
       addressed = (known_there setting before s are says.1, refl);
       version = (own.first, own.last);
     }
-names_there setting before (receiver.Switch s) (OpenAt boot version) some are right says = record {
+names_there setting before (Place.Switch s) (OpenAt boot version) some are right says = record {
   addressed = (known_there setting before s are says.1, refl);
   version = (
     opening_above setting before s boot version are right,
     omega (arith, right_current before s boot version are.current right, are.current.marks.there),
   );
 }
-names_there setting before (receiver.Switch s) (Stamp boot version touched) some are right says =
+names_there setting before (Place.Switch s) (Stamp boot version touched) some are right says =
     let current = right.current in
     let marks = are.current.marks in record {
       addressed = (known_there setting before s are says.1, refl);
       version = (omega (arith, current, marks.first), omega (arith, current, marks.there));
     }
-names_there setting before (receiver.Switch s) (Collect boot version) some are right says =
+names_there setting before (Place.Switch s) (Collect boot version) some are right says =
     let retired = right.retired in record {
       addressed = (known_there setting before s are says.1, refl);
       version = (says.0, omega (arith, retired, are.current.retired, are.current.marks.there));
     }
-names_there setting before (receiver.Switch s) (CacheRule version word rule action) some are right
+names_there setting before (Place.Switch s) (CacheRule version word rule action) some are right
     says = record {
       addressed = (ingress_there setting before s some are says.1, refl);
       version = (are.planned.so_far.versions version).0 says.0;
     }
-names_there setting before (receiver.Switch s) (Advertise advert) some are right says =
+names_there setting before (Place.Switch s) (Advertise advert) some are right says =
     record { addressed = (says, refl); version = tt }
-names_there setting before receiver.Controller (Hello s boot) some are right says =
+names_there setting before Place.Controller (Hello s boot) some are right says =
     record { addressed = says; version = tt }
-names_there setting before receiver.Controller (Installed s boot version) some are right says =
+names_there setting before Place.Controller (Installed s boot version) some are right says =
     let names = are.sent says.answers.number _ says.answers.sent in
     record { addressed = names.addressed.0; version = subst (IsThere before) says.own names.version }
-names_there setting before receiver.Controller (Stamped s boot version) some are right says =
+names_there setting before Place.Controller (Stamped s boot version) some are right says =
     let names = are.sent says.answers.number _ says.answers.sent in
     record { addressed = names.addressed.0; version = names.version }
-names_there setting before (receiver.Switch s) body some are right says = absurd right
-names_there setting before receiver.Controller body some are right says = absurd says
+names_there setting before (Place.Switch s) body some are right says = absurd right
+names_there setting before Place.Controller body some are right says = absurd says
 
 -- ---- items
 
@@ -135,13 +117,12 @@ sent_named : (setting : Setting) (before : List Item) (next : Item) (n : ℕ) (m
     → 1 ≤ length setting.net.switches → Named setting before next → AreNamed setting before
     → message_of (before ++ next ∷ []) n ≡ Some message
     → NamesOnlyThere setting (before ++ next ∷ []) message
-sent_named setting before next n message some cause are is = elim
-    (by_number before next n message is) [
-      | inl new ↦ let own = subst (Named setting before) new cause in
-          names_on setting before next message
-          (names_there setting before message.to message.body some are own.first own.second)
-      | inr old ↦ names_on setting before next message (are.sent n message old)
-    ]
+sent_named setting before next n message some cause are is = elim (by_number _ next n message is) [
+  | inl new ↦ let own = subst (Named setting before) new cause in
+      names_on setting before next message
+      (names_there setting before message.to message.body some are own.first own.second)
+  | inr old ↦ names_on setting before next message (are.sent n message old)
+]
 
 opened_named : (setting : Setting) (before : List Item) (next : Item) (s boot version : ℕ)
     → HasItemCause setting before next → AreNamed setting before
@@ -163,22 +144,13 @@ ingress_more before next i = last_given_append (gives_ingress i) before (next �
 ingress_named : (setting : Setting) (before : List Item) (next : Item) (i s : ℕ)
     → NamesRightly setting before next → AreNamed setting before
     → ingress_of (before ++ next ∷ []) i ≡ Some s → s < length setting.net.switches
-ingress_named setting before (item.Entered packet t header) i s there are is =
-    by_test (packet == i) (sym (ingress_more before (item.Entered packet t header) i) ∙ is)
-  where
-    by_test : (b : Bool) → option_or (if b then Some t else None) (ingress_of before i) ≡ Some s
-        → s < length setting.net.switches
-    by_test true own = let same : t ≡ s = cc in omega (arith, there, same)
-    by_test false old = are.ingress i s old
-ingress_named setting before next i s there are is =
-    are.ingress i s (sym (ingress_more before next i) ∙ is)
+ingress_named setting before next i s there are is = search (rules, ingress_more)
 
 known_named : (setting : Setting) (before : List Item) (next : Item) (s : ℕ)
     → AreNamed setting before → 1 < known_boot (before ++ next ∷ []) s
     → s < length setting.net.switches
-known_named setting before (item.Delivered number) s are above =
-    by_hello (option_and_then (hello_boot s) (body_to_controller before number)) refl
-    (subst (λ boot. 1 < boot) (known_more before (item.Delivered number) s) above)
+known_named setting before (Item.Delivered number) s are above = by_hello _ refl
+    (subst (λ boot. 1 < boot) (known_more before (Item.Delivered number) s) above)
   where
     by_hello : (o : Option ℕ) → option_and_then (hello_boot s) (body_to_controller before number)
         ≡ o → 1 < raised (known_boot before s) o → s < length setting.net.switches
@@ -190,21 +162,18 @@ known_named setting before next s are above = are.known s (rw (known_more before
 told_on : (setting : Setting) (before : List Item) (next : Item) (bodies : List Body)
     → AllByRecursion (IsTold setting before) bodies
     → AllByRecursion (IsTold setting (before ++ next ∷ [])) bodies
-told_on setting before next bodies told =
-    each_weaker (IsTold setting before) (IsTold setting (before ++ next ∷ []))
+told_on setting before next bodies told = each_weaker (IsTold setting before) _
     (λ body names. names_on setting before next (to_controller body) names) bodies told
 
 told_named : (setting : Setting) (before : List Item) (next : Item) → AreNamed setting before
     → AllByRecursion (IsTold setting (before ++ next ∷ [])) (controller_heard (before ++ next ∷ []))
-told_named setting before (item.Delivered number) are = let next : Item = item.Delivered number in
+told_named setting before (Item.Delivered number) are = let next : Item = Item.Delivered number in
     subst (AllByRecursion (IsTold setting (before ++ next ∷ []))) (sym (told_more before next))
-    (told_on setting before next (controller_heard before
-    ++ option_to_list (body_to_controller before number)) (each_append (IsTold setting before)
-    (controller_heard before) (option_to_list (body_to_controller before number)) are.told
+    (told_on setting before next _ (each_append (IsTold setting before) (controller_heard before)
+    (option_to_list (body_to_controller before number)) are.told
     (each_option (IsTold setting before) (body_to_controller before number)
     (λ body said. are.sent number (to_controller body) (said_sent before number body said)))))
-told_named setting before next are = rw (told_more before next)
-    (told_on setting before next (controller_heard before) are.told)
+told_named setting before next are = rw (told_more before next) (told_on _ before next _ are.told)
 
 -- ---- together
 
@@ -218,8 +187,7 @@ named_kept setting some before next cause are = record {
   ingress = λ i s is. ingress_named setting before next i s cause.second are is;
   known = λ s above. known_named setting before next s are above;
   sent = λ n message is. sent_named setting before next n message some cause are is;
-  heard = λ s. heard_on (λ body. NamesOnlyThere setting before (to_switch s body))
-      (λ body. NamesOnlyThere setting (before ++ next ∷ []) (to_switch s body)) before next s
+  heard = λ s. heard_on (λ body. NamesOnlyThere setting before (to_switch s body)) _ before next s
       (λ body names. names_on setting before next (to_switch s body) names)
       (λ number body sent. are.sent number (to_switch s body) sent) (are.heard s);
   told = told_named setting before next are;
@@ -230,24 +198,12 @@ unfolding controller_heard
 none_told = refl
 
 named_at_first : (setting : Setting) → AreNamed setting []
-named_at_first setting = record {
-  planned = all_at_first setting;
-  current = current_at_first;
-  opened = λ s boot version is. let one = (first_opened s boot version is).0 in omega (arith, one);
-  ingress = λ i s is.
-      let none : None ≡ Some s = sym (start_laws.packet i).ingress ∙ is in absurd cc;
-  known = λ s above. absurd (omega (arith, above, start_laws.known s));
-  sent = λ n message is.
-      let none : None ≡ Some message = sym (start_laws.message n).message ∙ is in absurd cc;
-  heard = λ s. rw (start_laws.heard s) tt;
-  told = subst (AllByRecursion (IsTold setting [])) (sym none_told) tt;
-}
+named_at_first setting = search (rules, all_at_first, first_opened, start_laws, none_told)
 
 named : (setting : Setting) (journal : List Item) → HaveCauses (Named setting) [] journal
     → IsNet setting.net → BodiesNameThere setting journal
 named setting journal have net =
-    let are = fact_on (Named setting) (AreNamed setting) (named_kept setting net.some_switch) []
-    journal have (named_at_first setting) in record {
+    let are = fact_on _ _ (named_kept _ net.some_switch) [] _ have (named_at_first _) in record {
       sent = are.sent;
       heard = λ s. All-from_recursion (λ body. NamesOnlyThere setting journal (to_switch s body))
           (heard journal s) (are.heard s);
@@ -260,3 +216,93 @@ bodies_named = reached (λ setting journal. IsNet setting.net → BodiesNameTher
     Named named
     (λ setting journal row step own. have_both (HasItemCause setting) (NamesRightly setting) journal
     _ (pieces_have setting journal row step) (pieces_name setting journal row step own))
+
+-- ---- what messages name, computed on a network of two switches with one version
+
+to_second : NamesOnlyThere open_net [] (to_switch 1 (Stamp 1 1 []))
+unfolding version_count
+to_second = record { addressed = (omega arith, refl); version = (omega arith, omega arith) }
+
+of_second : NamesOnlyThere open_net [] (to_controller (Hello 1 7))
+of_second = record { addressed = omega arith; version = tt }
+
+-- the network has no third switch
+not_to_third : NamesOnlyThere open_net [] (to_switch 2 (Stamp 1 1 [])) → ⊥
+not_to_third names = absurd (omega (arith, names.addressed.0))
+
+not_of_third : NamesOnlyThere open_net [] (to_controller (Hello 2 1)) → ⊥
+not_of_third names = absurd (omega (arith, names.addressed))
+
+-- no switch tells the controller to open, and none is told who speaks
+not_told_to_open : NamesOnlyThere open_net [] (to_controller (OpenAt 1 1)) → ⊥
+not_told_to_open names = absurd names.addressed
+
+not_a_hello_to_switch : NamesOnlyThere open_net [] (to_switch 1 (Hello 0 1)) → ⊥
+not_a_hello_to_switch names = cc names.addressed.1
+
+-- versions are counted from 1, and the second isn't there
+not_version_0 : NamesOnlyThere open_net [] (to_switch 1 (Stamp 1 0 [])) → ⊥
+not_version_0 names = absurd (omega (arith, names.version.0))
+
+not_version_2 : NamesOnlyThere open_net [] (to_controller (Installed 1 1 2)) → ⊥
+unfolding version_count
+not_version_2 names = absurd (omega (arith, names.version.1))
+
+-- ---- addresses alone, whatever the version
+
+addressed_to_second : IsAddressed open_net (Place.Switch 1) (Stamp 1 9 [])
+addressed_to_second = (omega arith, refl)
+
+not_addressed_to_third : IsAddressed open_net (Place.Switch 2) (Stamp 1 9 []) → ⊥
+not_addressed_to_third addressed = absurd (omega (arith, addressed.0))
+
+-- ---- whole journals: a stamp was sent to the second switch, which heard it
+
+abbrev stamped : List Item
+stamped = Item.Sent 1 (to_switch 1 (Stamp 1 1 [])) ∷ Item.Delivered 1 ∷ []
+
+its_names : NamesOnlyThere open_net stamped (to_switch 1 (Stamp 1 1 []))
+unfolding version_count
+its_names = record { addressed = (omega arith, refl); version = (omega arith, omega arith) }
+
+name_there : BodiesNameThere open_net stamped
+unfolding message_of heard is_up boot_of controller_heard
+name_there = record {
+  sent = λ n message is. by_number (1 == n) message is;
+  heard = λ s. All-from_recursion (Names s) (heard stamped s) (by_switch s (1 == s) refl);
+  told = λ k body inside. absurd (omega (arith, inside));
+} where
+  Names : ℕ → Body → Type 0
+  Names s body = NamesOnlyThere open_net stamped (to_switch s body)
+
+  by_number : (b : Bool) (message : Message)
+      → (if b then Some (to_switch 1 (Stamp 1 1 [])) else None) ≡ Some message
+      → NamesOnlyThere open_net stamped message
+  by_number true message is = let own : to_switch 1 (Stamp 1 1 []) ≡ message = cc in
+      subst (NamesOnlyThere open_net stamped) own its_names
+  by_number false message is = absurd cc
+
+  by_switch : (s : ℕ) (b : Bool) → (1 == s) ≡ b → AllByRecursion (Names s) (option_map_or
+      (λ body. [] ++ body ∷ []) (if b && true && true then Some (Stamp 1 1 []) else None) [])
+  by_switch s true e = (subst (λ t. Names t (Stamp 1 1 [])) (eqb-true 1 s e) its_names, tt)
+  by_switch s false e = tt
+
+-- a message to a third switch names none, as it is sent
+not_sent_to_third : BodiesNameThere open_net (Item.Sent 1 (to_switch 2 (Stamp 1 1 [])) ∷ []) → ⊥
+unfolding message_of
+not_sent_to_third name = not_to_fresh_third (name.sent 1 (to_switch 2 (Stamp 1 1 [])) refl) where
+  not_to_fresh_third : NamesOnlyThere open_net
+      (Item.Sent 1 (to_switch 2 (Stamp 1 1 [])) ∷ []) (to_switch 2 (Stamp 1 1 [])) → ⊥
+  not_to_fresh_third names = absurd (omega (arith, names.addressed.0))
+
+-- nor is it as a switch hears of a version that isn't there, or the controller of a third switch
+not_heard_of_version_2 :
+    BodiesNameThere open_net (Item.Sent 1 (to_switch 1 (Stamp 1 2 [])) ∷ Item.Delivered 1 ∷ []) → ⊥
+unfolding message_of heard is_up boot_of version_count
+not_heard_of_version_2 name =
+    let heard = name.heard 1 0 (Stamp 1 1 []) (omega arith) in absurd (omega (arith, heard.version.1))
+
+not_told_of_third : BodiesNameThere open_net
+    (Item.Sent 1 (to_controller (Hello 2 1)) ∷ Item.Delivered 1 ∷ []) → ⊥
+unfolding message_of controller_heard
+not_told_of_third name = search rules

@@ -2,23 +2,16 @@
 use Rattle.std.proofs.Common.{[], ◌++◌, ◌<◌, ◌∙◌, ◌∷◌, ◌≡◌, ◌≤◌, ◌⊎◌, Bool, IsTrue, List, Some, arith, false, filter, flat_map, inl, inr, length, map, not, refl, true, ℕ}
 use Rattle.base.proofs.Exports.{AllByRecursion, each_map, nat_tests, ⊤}
 use Rattle.update_machine.specs.Exports.{Advertise, Body, CacheRule, Collect, Confirm, Crash, Deliver, HaveCauses, Hello, Install, Installed, Item, Message, OpenAt, Packet, Place, Resend, Restart, Setting, Stamp, Stamped, Step, Tables, Update, advert_to, confirm_items, deliver_items, has_acked, held_adverts, hello_of, install_for, installs_to, installs_to_all, is_over, is_up, is_version, known_boot, message_of, near, next_packet, raises_known, resend_items, resent_by_controller, resent_by_switch, resent_to_member, restart_items, send_items, sent_from, settling, step_items, submitted_items, switch_items, switches_in, switches_of, to_switch, update_items, version_count, versions_from_current}
-use Rattle.ctrl_msg.specs.declared.message.Place.TheVariants as receiver
-use Rattle.journal.specs.declared.item.Item.TheVariants as item
 use Rattle.update_machine.proofs.Exports.{have_in_turn}
-use Rattle.control_laws.proofs.BootsKnown.{hello_above}
+use Rattle.control_laws.proofs.FactsGrown.{have_weaker, hello_above, known_more, message_more, piece_has}
 use Rattle.control_laws.proofs.ControllerCommands.{IsCommand, grows, settling_settles}
-use Rattle.control_laws.proofs.CrashedSwitches.{crash_has}
-use Rattle.control_laws.proofs.DeliveryCauses.{row_delivers}
-use Rattle.control_laws.proofs.ItemFacts.{have_weaker, piece_has}
-use Rattle.control_laws.proofs.FactsGrown.{known_more, message_more}
-use Rattle.control_laws.proofs.ReachedCauses.{NamesOwn, OwnPiecesHave}
-use Rattle.control_laws.proofs.ResentParts.{each_by_controller, each_to_member, later_versions, resent_has}
-use Rattle.control_laws.proofs.MessageSends.{each_of_network, sends_kept}
-use Rattle.control_laws.proofs.SettlingCauses.{SettlingHas, parts_have, settling_has}
-use Rattle.control_laws.proofs.SwitchBlocks.{said_parts}
+use Rattle.control_laws.proofs.StampingSwitches.{crash_has}
+use Rattle.control_laws.proofs.PieceCauses.{row_delivers, said_parts}
+use Rattle.control_laws.proofs.MarksAtEnds.{NamesOwn, OwnPiecesHave}
+use Rattle.control_laws.proofs.SwitchOpenings.{each_by_controller, each_to_member, later_versions, resent_has}
+use Rattle.control_laws.proofs.MessageSends.{SettlingHas, each_of_network, parts_have, sends_kept, settling_has}
 use Rattle.control_laws.proofs.TrafficItems.{IsAdvert, IsAdvertTo, IsIngress, IsTraffic, Traffic, adverts_to, between_cases, each_told, links_traffic, masked_there, packet_has, passed_traffic, step_traffic}
-use Rattle.control_laws.proofs.GreatestNumbers.{known_first}
-use Rattle.control_laws.proofs.ToldToController.{each_weaker}
+use Rattle.control_laws.proofs.ToldToController.{each_weaker, known_first}
 use Rattle.ternary.specs.Exports.{WordValue}
 
 -- ---- what a message names
@@ -29,11 +22,11 @@ IsKnownSwitch setting before s = (s < length setting.net.switches) ⊎ (1 < know
 
 -- what the controller says to switches, what these say of themselves, and adverts
 abbrev pub SaysOwn : Setting → List Item → Place → Body → Type 0
-SaysOwn setting before (receiver.Switch s) (Advertise advert) = s < length setting.net.switches
-SaysOwn setting before (receiver.Switch s) (Collect boot version) =
+SaysOwn setting before (Place.Switch s) (Advertise advert) = s < length setting.net.switches
+SaysOwn setting before (Place.Switch s) (Collect boot version) =
     (1 ≤ version) × IsKnownSwitch setting before s
-SaysOwn setting before (receiver.Switch s) body = IsCommand body × IsKnownSwitch setting before s
-SaysOwn setting before receiver.Controller (Hello s boot) = s < length setting.net.switches
+SaysOwn setting before (Place.Switch s) body = IsCommand body × IsKnownSwitch setting before s
+SaysOwn setting before Place.Controller (Hello s boot) = s < length setting.net.switches
 SaysOwn setting before to body = ⊥
 
 -- the switch answers a message that was sent to it
@@ -51,18 +44,18 @@ pub record AnswersStamp (before : List Item) (s boot version : ℕ) : Type 0 whe
   pub answers : AnswersTo before s (Stamp boot version touched)
 
 abbrev pub SaysThere : Setting → List Item → Place → Body → Type 0
-SaysThere setting before (receiver.Switch s) (CacheRule version word rule action) =
+SaysThere setting before (Place.Switch s) (CacheRule version word rule action) =
     IsTrue (is_version before version) × IsIngress before s
-SaysThere setting before receiver.Controller (Installed s boot version) =
+SaysThere setting before Place.Controller (Installed s boot version) =
     AnswersTables before s boot version
-SaysThere setting before receiver.Controller (Stamped s boot version) =
+SaysThere setting before Place.Controller (Stamped s boot version) =
     AnswersStamp before s boot version
 SaysThere setting before to body = SaysOwn setting before to body
 
 abbrev pub NamesRightly : Setting → List Item → Item → Type 0
-NamesRightly setting before (item.Sent number message) =
+NamesRightly setting before (Item.Sent number message) =
     SaysThere setting before message.to message.body
-NamesRightly setting before (item.Entered packet s header) = s < length setting.net.switches
+NamesRightly setting before (Item.Entered packet s header) = s < length setting.net.switches
 NamesRightly setting before _ = ⊤
 
 abbrev Name : Setting → List Item → List Item → Type 0
@@ -72,10 +65,10 @@ Name setting journal items = HaveCauses (NamesRightly setting) journal items
 
 traffic_names : (setting : Setting) (before : List Item) (next : Item)
     → IsTraffic setting before next → NamesRightly setting before next
-traffic_names setting before (item.Sent number message) is = between_cases setting before
+traffic_names setting before (Item.Sent number message) is = between_cases setting before
     (SaysThere setting before) (λ s version word rule action there ingress. (there, ingress))
     (λ s advert there. there) message.to message.body is
-traffic_names setting before (item.Entered packet s header) is = absurd is
+traffic_names setting before (Item.Entered packet s header) is = absurd is
 traffic_names setting before next is = tt
 
 traffic_name : (setting : Setting) (journal items : List Item) → Traffic setting journal items
@@ -89,26 +82,26 @@ abbrev IsOwn : Setting → List Item → Message → Type 0
 IsOwn setting before message = SaysOwn setting before message.to message.body
 
 known_sent : (setting : Setting) (before : List Item) (n s : ℕ) (message : Message)
-    → IsKnownSwitch setting before s → IsKnownSwitch setting (before ++ item.Sent n message ∷ []) s
+    → IsKnownSwitch setting before s → IsKnownSwitch setting (before ++ Item.Sent n message ∷ []) s
 known_sent setting before n s message known = elim known [
   | inl there ↦ inl there
-  | inr heard ↦ inr (omega (arith, heard, known_more before (item.Sent n message) s))
+  | inr heard ↦ inr (omega (arith, heard, known_more before (Item.Sent n message) s))
 ]
 
 own_sent : (setting : Setting) (before : List Item) (n : ℕ) (message : Message) (to : Place)
     (body : Body) → SaysOwn setting before to body
-    → SaysOwn setting (before ++ item.Sent n message ∷ []) to body
-own_sent setting before n message (receiver.Switch s) (Advertise advert) own = own
-own_sent setting before n message (receiver.Switch s) body own =
+    → SaysOwn setting (before ++ Item.Sent n message ∷ []) to body
+own_sent setting before n message (Place.Switch s) (Advertise advert) own = own
+own_sent setting before n message (Place.Switch s) body own =
     (own.0, known_sent setting before n s message own.1)
-own_sent setting before n message receiver.Controller (Hello s boot) own = own
+own_sent setting before n message Place.Controller (Hello s boot) own = own
 own_sent setting before n message to body own = absurd own
 
 own_names : (setting : Setting) (before : List Item) (to : Place) (body : Body)
     → SaysOwn setting before to body → SaysThere setting before to body
-own_names setting before (receiver.Switch s) (CacheRule version word rule action) own = absurd own.0
-own_names setting before receiver.Controller (Installed s boot version) own = absurd own
-own_names setting before receiver.Controller (Stamped s boot version) own = absurd own
+own_names setting before (Place.Switch s) (CacheRule version word rule action) own = absurd own.0
+own_names setting before Place.Controller (Installed s boot version) own = absurd own
+own_names setting before Place.Controller (Stamped s boot version) own = absurd own
 own_names setting before to body own = own
 
 sends_name : (setting : Setting) (journal : List Item) (messages : List Message)
@@ -183,9 +176,9 @@ switch_name setting before now s _ answers = tt
 -- a known boot that is raised is another one than the first, and stays so
 raised_known : (setting : Setting) (here : List Item) (s number : ℕ)
     → IsTrue (raises_known here s number)
-    → let now = here ++ item.Delivered number ∷ [] in 1 < known_boot (now ++ settling setting now) s
+    → let now = here ++ Item.Delivered number ∷ [] in 1 < known_boot (now ++ settling setting now) s
 raised_known setting here s number raises =
-    let now : List Item = here ++ item.Delivered number ∷ [] in
+    let now : List Item = here ++ Item.Delivered number ∷ [] in
     omega (
       arith,
       (grows now (settling setting now) (settling_settles setting now)).known s,
@@ -194,17 +187,17 @@ raised_known setting here s number raises =
     )
 
 deliver_name : (setting : Setting) (before : List Item) (row number : ℕ) (step : Step)
-    → let here = before ++ item.Row row step ∷ [] in
+    → let here = before ++ Item.Row row step ∷ [] in
     Name setting here (deliver_items setting before number here)
 deliver_name setting before row number step =
-    let here : List Item = before ++ item.Row row step ∷ [] in
+    let here : List Item = before ++ Item.Row row step ∷ [] in
     row_delivers (NamesRightly setting) setting before row number step tt tt
     (settling_name setting _)
     (λ s raises. installs_name setting s _ (inr (raised_known setting here s number raises)))
     (λ s body said. switch_name setting before _ s body (record {
       number = number;
-      sent = message_more here (item.Delivered number) number
-          ∙ message_more before (item.Row row step) number
+      sent = message_more here (Item.Delivered number) number
+          ∙ message_more before (Item.Row row step) number
           ∙ (said_parts before s number body said).sent;
     }))
 
@@ -229,7 +222,7 @@ confirm_name setting s journal = grind (arith, settling_name)
 
 advert_own : (setting : Setting) (before : List Item) (to : Place) (body : Body)
     → IsAdvertTo setting to body → SaysOwn setting before to body
-advert_own setting before (receiver.Switch s) (Advertise advert) is = is
+advert_own setting before (Place.Switch s) (Advertise advert) is = is
 advert_own setting before to body is = absurd is
 
 switch_own : (setting : Setting) (journal : List Item) (s : ℕ) → s < length setting.net.switches
@@ -276,7 +269,7 @@ resend_name setting s journal there = resent_has (NamesRightly setting) (IsOwn s
 -- ---- steps of the network
 
 step_name : (setting : Setting) (before : List Item) (row : ℕ) (step : Step) → NamesOwn setting step
-    → let here = before ++ item.Row row step ∷ [] in
+    → let here = before ++ Item.Row row step ∷ [] in
     Name setting here (step_items setting before step here)
 step_name setting before row (Packet s header) own = packet_has setting (NamesRightly setting)
     (traffic_names setting) (next_packet before) s header _ own.0

@@ -1,16 +1,17 @@
 -- Adverts, known links and routes name links of the network alone.
-use Rattle.std.proofs.Common.{[], ◌&&◌, ◌<◌, ◌∙◌, ◌∷◌, ◌≡◌, ◌≤◌, ◌⊎◌, Bool, IsTrue, List, None, Option, Some, ap, arith, false, filter, get_or, get_or-set_other, get_or-set_same, inl, inr, length, length-set, map, refl, set, subst, sym, true, ℕ}
-use Rattle.base.proofs.Exports.{any_filter, cases_eq, cases_lt, get_or-map, get_or_past, has-zero, length-map, list_any, mask_of_lt, nat_tests}
-use Rattle.failover.specs.Exports.{AreJoined, IsPath, IsRoute, LinksLead, held_advert, is_link, named_links, neighbours_named}
-use Rattle.base.specs.Exports.{has}
-use Rattle.update_machine.specs.Exports.{Advert, HaveCauses, Item, LinkRow, Net, Setting, advert_known, adverts_known, is_usable, links_known, near, own_advert, own_if_sent, serves}
-use Rattle.net_file.specs.Exports.{are_linked, joins, links_of}
+use Rattle.std.proofs.Common.{[], ◌&&◌, ◌<◌, ◌==◌, ◌∙◌, ◌∷◌, ◌≡◌, ◌≤◌, ◌⊎◌, Bool, IsTrue, List, None, Option, Some, ap, arith, eq-eqb, false, filter, get_or, get_or-set_other, get_or-set_same, inl, inr, length, length-set, map, refl, set, subst, sym, true, ℕ}
+use Rattle.base.proofs.Exports.{All-from_recursion, any_filter, cases_eq, cases_lt, get_or-map, get_or_past, has-zero, length-map, list_any, mask_of_lt, nat_tests}
+use Rattle.failover.specs.Exports.{AreJoined, IsPath, IsRoute, LinksLead, after_hearing, first_adverts, held_advert, is_link, is_news, named_links, neighbours_named}
+use Rattle.base.specs.Exports.{has, mask_of, mask_where, switches}
+use Rattle.update_machine.specs.Exports.{Advert, HaveCauses, Hello, Item, LinkRow, Net, Setting, Step, StepOfRow, advert_known, advert_to, adverts_known, after_steps, boot_of, crash_items, heard, held_adverts, is_link_up, is_up, is_usable, link_changes, link_items, links_known, message_of, near, next_message, own_advert, own_if_sent, own_seq, piece, restart_items, sent_from, serves, steps_in}
+use Rattle.net_file.specs.Exports.{IsNet, IsSwitchRow, are_linked, joins, links_of, solo_net}
 use Rattle.net_file.proofs.MaskBits.{in_mask, in_mask_of, in_mask_past}
-use Rattle.steps.specs.Exports.{HasLink}
-use Rattle.update_machine.proofs.Exports.{has_known_link, known_link_laws}
-use Rattle.control_laws.specs.Exports.{AllAdverts, GoesOverLinks, IsOverLinks, LinksAreThere, NamesLinks}
-use Rattle.control_laws.proofs.AllAdverts.{IsAdvertFact, all_such, is_newest, own_told}
-use Rattle.control_laws.proofs.BothCauses.{HasBothCauses}
+use Rattle.steps.specs.Exports.{HasLink, HasSwitch}
+use Rattle.update_machine.proofs.Exports.{advert, at, has_known_link, known_link_laws, open_net, to, to_controller, two_switches}
+use Rattle.control_laws.specs.Exports.{AdvertsAreOfSwitches, AllAdverts, GoesOverLinks, IsNoNewer, IsOverLinks, LinksAreThere, NamesLinks, OwnAreNewest}
+use Rattle.control_laws.proofs.AllAdverts.{AreSuch, HasBothCauses, IsAdvertFact, all_such, behind_both, is_newest, known_such, own_told, such_on}
+use Rattle.net_file.proofs.RowPlaces.{links}
+use Rattle.control_laws.proofs.OwnAdverts.{own_newest}
 
 -- ---- links that can be used
 
@@ -211,3 +212,206 @@ links_there setting journal have =
           known_linked setting journal adverts s one other down one_small other_small joined) s
           targets route (rw is at (known_link_laws.route setting journal s targets down));
     }
+
+-- ---- each advert that is told is of a switch of the network: those that tell have neighbours
+
+abbrev pub IsOfSwitch : Setting → List Item → Advert → Type 0
+IsOfSwitch setting journal advert = HasSwitch setting.net advert.origin
+
+-- a switch that has a neighbour is of the network
+has_neighbour : (setting : Setting) (journal : List Item) (s neighbour : ℕ) → IsNet setting.net
+    → IsTrue (has (near setting journal s) neighbour) → HasSwitch setting.net s
+has_neighbour setting journal s neighbour net is = links.below setting.net neighbour s net
+    (links.both_ways setting.net.links neighbour s ∙ near_linked setting journal s neighbour is)
+
+own_of : (setting : Setting) (journal : List Item) (s : ℕ) → HasSwitch setting.net s
+    → IsOfSwitch setting journal (own_advert setting journal s)
+own_of setting journal s there = rw (own_origin setting journal s) there
+
+of_fact : (setting : Setting) → IsNet setting.net → IsAdvertFact setting (IsOfSwitch setting)
+of_fact setting net = record {
+  kept = λ before next both advert of. of;
+  own = λ journal s neighbour linked.
+      own_of setting journal s (has_neighbour setting journal s neighbour net linked);
+  first = λ origin there. there;
+}
+
+pub of_switches : (setting : Setting) (journal : List Item)
+    → HaveCauses (HasBothCauses setting) [] journal → IsNet setting.net
+    → AdvertsAreOfSwitches setting journal
+of_switches setting journal have net =
+    let such = such_on setting (IsOfSwitch setting) (of_fact setting net) journal have in record {
+      sent = λ n s advert is. such.sent n (advert_to s advert) is;
+      heard = such.heard;
+      held = λ s origin advert there small known. let at : advert.origin ≡ origin =
+          known_origin setting journal s origin advert small known in (
+            subst (HasSwitch setting.net) at (known_such setting (IsOfSwitch setting) journal such s
+                origin advert small (own_of setting journal s there) known),
+            at,
+          );
+    }
+
+-- ---- adverts of small journals, computed
+
+-- ---- links of the network: switches a and b, and their link
+
+abbrev told : ℕ → ℕ → ℕ → Advert
+told boot seq up = record { origin = 0; boot = boot; seq = seq; up = up }
+
+names_b : NamesLinks two_switches (told 1 1 2)
+unfolding mask_of mask_where switches
+names_b k is = linked_by_mask two_switches.links 0 k is
+
+-- there is no switch 2
+names_none : NamesLinks two_switches (told 1 1 4) → ⊥
+unfolding has
+names_none names = let linked : false ≡ true = names 2 refl in absurd cc
+
+goes_over : IsOverLinks two_switches (1 ∷ 0 ∷ [])
+goes_over = (refl, tt)
+
+leaps : IsOverLinks two_switches (1 ∷ 2 ∷ []) → ⊥
+leaps over = let linked : false ≡ true = over.0 in absurd cc
+
+-- ---- own adverts, once the link failed
+
+abbrev failed : List Item
+failed = Item.Row 1 (Step.LinkDown 0 1) ∷ Item.LinkIs 0 1 false ∷ []
+
+own_is : own_advert open_net failed 0 ≡ told 1 2 0
+unfolding own_advert own_seq near is_link_up serves is_up boot_of steps_in mask_of mask_where switches
+own_is = refl
+
+first_is_older : IsNoNewer open_net failed (told 1 1 2)
+unfolding own_advert own_seq near is_link_up serves is_up boot_of steps_in mask_of mask_where switches
+first_is_older = record { boot = omega arith; own = λ up. inr refl }
+
+own_is_own : IsNoNewer open_net failed (told 1 2 0)
+unfolding own_advert own_seq near is_link_up serves is_up boot_of steps_in mask_of mask_where switches
+own_is_own = record { boot = omega arith; own = λ up. inl refl }
+
+-- one of the own number that says something else; one of a greater number; one of a boot to come
+apart : (m n : ℕ) → (m == n) ≡ false → m ≡ n → ⊥
+apart m n other same = let is : (m == n) ≡ true = eq-eqb m n same in absurd cc
+
+other_links : told 1 2 2 ≡ told 1 2 0 → ⊥
+other_links same = apart 2 0 refl (ap (λ (advert : Advert). advert.up) same)
+
+other_seq : told 1 3 0 ≡ told 1 2 0 → ⊥
+other_seq same = apart 3 2 refl (ap (λ (advert : Advert). advert.seq) same)
+
+other_of_number : IsNoNewer open_net failed (told 1 2 2) → ⊥
+unfolding own_advert own_seq near is_link_up serves is_up boot_of steps_in mask_of mask_where switches
+other_of_number is = elim (is.own refl) [
+  | inl same ↦ other_links same
+  | inr newer ↦ let no : false ≡ true = newer in absurd cc
+]
+
+greater_number : IsNoNewer open_net failed (told 1 3 0) → ⊥
+unfolding own_advert own_seq near is_link_up serves is_up boot_of steps_in mask_of mask_where switches
+greater_number is = elim (is.own refl) [
+  | inl same ↦ other_seq same
+  | inr newer ↦ let no : false ≡ true = newer in absurd cc
+]
+
+boot_to_come : IsNoNewer open_net failed (told 2 1 0) → ⊥
+unfolding boot_of
+boot_to_come is = let limit : 2 ≤ 1 = is.boot in omega arith
+
+-- ---- an advert of an old boot is none that counts, however great its number
+
+abbrev again : List Item
+again = Item.Row 1 (Step.Crash 0) ∷ Item.Down 0 ∷ Item.Row 2 (Step.Restart 0) ∷ Item.Booted 0 2 ∷ []
+
+old_is_older : IsNoNewer open_net again (told 1 7 2)
+unfolding own_advert own_seq near is_link_up serves is_up boot_of steps_in mask_of mask_where switches
+old_is_older = record { boot = omega arith; own = λ up. inr refl }
+
+-- ---- behind a link that failed and came back nothing is wrong
+
+abbrev back : List Item
+back = Item.Row 1 (Step.LinkDown 0 1) ∷ Item.LinkIs 0 1 false ∷ Item.Row 2 (Step.LinkUp 0 1)
+    ∷ Item.LinkIs 0 1 true ∷ Item.Sent 1 (to 1 (advert 0 1 3 2))
+    ∷ Item.Sent 2 (to 1 (advert 1 1 1 1)) ∷ Item.Sent 3 (to 0 (advert 0 1 1 2))
+    ∷ Item.Sent 4 (to 0 (advert 1 1 3 1)) ∷ []
+
+abbrev its_steps : List StepOfRow
+its_steps = at 1 (Step.LinkDown 0 1) ∷ at 2 (Step.LinkUp 0 1) ∷ []
+
+written : after_steps open_net [] its_steps ≡ back
+unfolding piece link_items link_changes held_adverts adverts_known own_advert own_seq near
+    is_link_up serves is_up boot_of heard steps_in next_message sent_from first_adverts
+    after_hearing is_news has mask_where switches mask_of
+written = refl
+
+linked_once_back : LinksAreThere open_net back
+linked_once_back = subst (LinksAreThere open_net) written
+    ((behind_both LinksAreThere links_there).ends.stepped open_net its_steps)
+
+newest_once_back : OwnAreNewest open_net back
+newest_once_back = subst (OwnAreNewest open_net) written
+    ((behind_both OwnAreNewest own_newest).ends.stepped open_net its_steps)
+
+-- ---- journals in which wrong adverts were sent
+
+unlinked : LinksAreThere open_net (Item.Sent 1 (to 1 (advert 0 1 1 4)) ∷ []) → ⊥
+unfolding message_of
+unlinked there = names_none (there.adverts.sent 1 1 (told 1 1 4) refl)
+
+newer_sent : OwnAreNewest open_net (Item.Sent 1 (to 1 (advert 0 2 1 2)) ∷ []) → ⊥
+unfolding message_of boot_of
+newer_sent newest = let limit : 2 ≤ 1 = (newest.sent 1 1 (told 2 1 2) refl).boot in omega arith
+
+-- ---- adverts of the network's switches, of which there is no third one
+
+first_of_b : advert_known open_net failed 0 1
+    ≡ Some (record { origin = 1; boot = 1; seq = 1; up = 1 })
+unfolding adverts_known own_advert own_seq near is_link_up serves is_up boot_of heard steps_in
+    first_adverts after_hearing is_news mask_of mask_where switches
+first_of_b = refl
+
+none_of_third : advert_known open_net failed 0 2 ≡ None
+unfolding adverts_known own_advert own_seq near is_link_up serves is_up boot_of heard steps_in
+    first_adverts after_hearing is_news mask_of mask_where switches
+none_of_third = refl
+
+of_third : AdvertsAreOfSwitches open_net (Item.Sent 1 (to 1 (advert 2 1 1 0)) ∷ []) → ⊥
+unfolding message_of
+of_third are =
+    let there : 2 < 2 =
+    are.sent 1 1 (record { origin = 2; boot = 1; seq = 1; up = 0 }) refl in omega arith
+
+-- ---- a network of one switch, which crashed and restarted
+
+abbrev pub solo : Setting
+solo = record { net = solo_net; files = []; plan = open_net.plan }
+
+pub is_net : IsNet solo_net
+is_net = record {
+  some_switch = omega arith;
+  few_switches = omega arith;
+  switches = All-from_recursion IsSwitchRow solo_net.switches
+      (record { name = refl; ports = omega arith; room = omega arith }, tt);
+  apart = λ i j row before inside. absurd (omega (arith, before, inside));
+  few_links = omega arith;
+  links = λ k link inside. absurd (omega (arith, inside));
+  others = λ i j link before inside. absurd (omega (arith, inside));
+  some_rules = omega arith;
+  leaf_rules = omega arith;
+  backups = omega arith;
+  cache = omega arith;
+}
+
+abbrev pub restart : List StepOfRow
+restart = at 1 (Step.Crash 0) ∷ at 2 (Step.Restart 0) ∷ []
+
+abbrev pub restarted : List Item
+restarted = Item.Row 1 (Step.Crash 0) ∷ Item.Down 0 ∷ Item.Row 2 (Step.Restart 0) ∷ Item.Booted 0 2
+    ∷ Item.Sent 1 (to_controller (Hello 0 2)) ∷ []
+
+of_the_switch : AdvertsAreOfSwitches solo restarted
+unfolding piece crash_items restart_items link_changes near is_link_up serves is_up boot_of
+    next_message sent_from mask_of mask_where switches
+of_the_switch =
+    (behind_both (λ setting journal. IsNet setting.net → AdvertsAreOfSwitches setting journal)
+    of_switches).ends.stepped solo restart is_net

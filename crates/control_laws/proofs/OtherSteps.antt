@@ -1,20 +1,147 @@
 -- The steps that leave all that the controller knows as it was.
-use Rattle.std.proofs.Common.{[], ◌++◌, ◌+◌, ◌∷◌, ◌≡◌, IsFalse, List, arith, false, filter, map, not, true, ℕ}
-use Rattle.base.proofs.Exports.{AllByRecursion, each_always, each_flat_map, each_map}
-use Rattle.update_machine.specs.Exports.{Advert, Body, Confirm, ControllerKeeps, Crash, Deliver, HaveCauses, Item, Message, OpenAt, Packet, Place, Resend, Restart, Setting, Step, Update, advert_to, deliver_items, has_acked, held_adverts, install_for, is_message_to_controller, link_changes, near, next_message, next_packet, passed_on, piece, resend_items, restart_items, send_items, sent_from, step_items, switch_items, switches_in, unacked_installs, versions_from_current}
-use Rattle.ctrl_msg.specs.declared.message.Place.TheVariants as receiver
-use Rattle.journal.specs.declared.item.Item.TheVariants as item
-use Rattle.control_laws.proofs.CrashedSwitches.{crash_has}
-use Rattle.control_laws.proofs.DeliveryCauses.{deliver_has}
-use Rattle.control_laws.proofs.ItemFacts.{have_weaker, piece_has}
-use Rattle.control_laws.proofs.FactsGrown.{known_more, message_more}
-use Rattle.control_laws.proofs.ResentParts.{each_by_controller, each_to_member, later_versions, resent_has}
-use Rattle.control_laws.proofs.ResentBySwitches.{each_by_switch}
-use Rattle.control_laws.proofs.SwitchOpenings.{member_parts, still_opened}
+use Rattle.std.proofs.Common.{[], ◌++◌, ◌+◌, ◌==◌, ◌∙◌, ◌∷◌, ◌≡◌, Bool, IsFalse, IsTrue, List, None, Option, Some, ap, arith, eqb-true, false, filter, if◌then◌else◌, is_some, map, not, refl, sym, true, ℕ}
+use Rattle.base.proofs.Exports.{⊤, AllByRecursion, each_always, each_flat_map, each_map, option_or}
+use Rattle.update_machine.specs.Exports.{Advert, Body, Confirm, ControllerKeeps, Crash, Deliver, HaveCauses, Item, Message, OpenAt, Packet, Place, Resend, Restart, Setting, Step, Update, acked_stamp, advert_to, controller_heard, deliver_items, first_number, has_acked, held_adverts, install_for, is_member, is_message_to_controller, is_over, known_boot, link_changes, near, next_message, next_packet, open_sent, opened_at, passed_on, piece, resend_items, restart_items, send_items, sent_from, step_items, switch_items, switches_in, to_switch, unacked_installs, versions_from_current}
+use Rattle.update_machine.proofs.Exports.{controller_keeps}
+use Rattle.control_laws.proofs.FactsGrown.{count_more, current_more, fact_on, have_weaker, known_more, message_more, opened_at_more, over_more, piece_has, retired_more, told_more}
+use Rattle.control_laws.proofs.MessageSends.{acked_same}
+use Rattle.control_laws.proofs.StampingSwitches.{crash_has}
+use Rattle.control_laws.proofs.PieceCauses.{deliver_has}
+use Rattle.control_laws.proofs.SwitchOpenings.{each_by_controller, each_to_member, later_versions, member_parts, resent_has, still_opened}
+use Rattle.control_laws.proofs.ControllerCommands.{each_by_switch}
 use Rattle.control_laws.proofs.TrafficItems.{IsTraffic, Traffic, between_cases, links_traffic, packet_has, passed_traffic, step_traffic}
-use Rattle.control_laws.proofs.SwitchCases.{switch_cases}
+use Rattle.control_laws.proofs.ToldToController.{switch_cases}
 use Rattle.control_laws.specs.Exports.{asks_controller}
-use Rattle.control_laws.proofs.ControllerLeft.{LeavesController, OpensNone, leaves_keep}
+
+-- ---- items that leave all that the controller knows as it was
+
+-- a message that opens no switch that wasn't opened in its known boot
+abbrev pub OpensNone : List Item → Place → Body → Type 0
+OpensNone before (Place.Switch s) (OpenAt boot version) = IsTrue (is_some (opened_at before s))
+OpensNone before Place.Controller (OpenAt boot version) = ⊥
+OpensNone before to body = ⊤
+
+abbrev pub LeavesController : List Item → Item → Type 0
+LeavesController before (Item.Sent number message) = OpensNone before message.to message.body
+LeavesController before (Item.Delivered number) = IsFalse (is_message_to_controller before number)
+LeavesController before (Item.OverNow s) = ⊥
+LeavesController before (Item.Submitted file version) = ⊥
+LeavesController before (Item.Current version) = ⊥
+LeavesController before (Item.Retired version) = ⊥
+LeavesController before _ = ⊤
+
+-- ---- a switch that is opened once more
+
+pub member_same : (before after : List Item) (s : ℕ) → is_over after s ≡ is_over before s
+    → opened_at after s ≡ opened_at before s → is_member after s ≡ is_member before s
+unfolding is_member
+member_same before after s over opened = rw (over, opened) refl
+
+pub stamp_same : (before after : List Item) (s : ℕ) → controller_heard after
+    ≡ controller_heard before → known_boot after s ≡ known_boot before s
+    → opened_at after s ≡ opened_at before s → acked_stamp after s ≡ acked_stamp before s
+unfolding acked_stamp
+stamp_same before after s heard known opened = rw (heard, known, opened) refl
+
+-- the first opening of a switch in a boot stands
+reopened : (before : List Item) (n s boot version : ℕ) → IsTrue (is_some (opened_at before s))
+    → (t : ℕ) → opened_at (before ++ Item.Sent n (to_switch s (OpenAt boot version)) ∷ []) t
+    ≡ opened_at before t
+reopened before n s boot version opened t =
+    opened_at_more before next t (known_more before next t) ∙ by_opened (opened_at before t) refl
+  where
+    next : Item
+    next = Item.Sent n (to_switch s (OpenAt boot version))
+
+    by_switch : (b : Bool) → (s == t) ≡ b → opened_at before t ≡ None → first_number (if b
+        then (if boot == known_boot before t then version ∷ [] else []) else []) ≡ None
+    by_switch true e closed =
+        let same : opened_at before s ≡ None = ap (opened_at before) (eqb-true s t e) ∙ closed in
+        absurd (cc (sym (ap (λ o. is_some o) same) ∙ opened))
+    by_switch false e closed = refl
+
+    by_opened : (o : Option ℕ) → opened_at before t ≡ o → option_or (opened_at before t)
+        (first_number (open_sent t (known_boot before t) next)) ≡ opened_at before t
+    by_opened (Some w) e = rw e refl
+    by_opened None e = rw e (by_switch (s == t) refl e)
+
+reopening_keeps : (before : List Item) (n s boot version : ℕ)
+    → IsTrue (is_some (opened_at before s)) → ControllerKeeps before
+    (before ++ Item.Sent n (to_switch s (OpenAt boot version)) ∷ [])
+reopening_keeps before n s boot version opened =
+    let next : Item = Item.Sent n (to_switch s (OpenAt boot version)) in
+    let same = reopened before n s boot version opened in record {
+      heard = told_more before next;
+      known = λ t. known_more before next t;
+      over = λ t. over_more before next t;
+      opened = same;
+      member = λ t. member_same before (before ++ next ∷ []) t (over_more before next t) (same t);
+      acked = λ t v. acked_same (before ++ next ∷ []) before t v (told_more before next);
+      stamp = λ t. stamp_same before (before ++ next ∷ []) t (told_more before next)
+          (known_more before next t) (same t);
+      current = current_more before next;
+      retired = retired_more before next;
+      count = count_more before next;
+    }
+
+-- ---- any items
+
+sent_keeps : (before : List Item) (n : ℕ) (to : Place) (body : Body) → OpensNone before to body
+    → ControllerKeeps before (before ++ Item.Sent n (record { to = to; body = body }) ∷ [])
+sent_keeps before n (Place.Switch s) (OpenAt boot version) none =
+    reopening_keeps before n s boot version none
+sent_keeps before n Place.Controller (OpenAt boot version) none = absurd none
+sent_keeps before n to body none =
+    controller_keeps before (Item.Sent n (record { to = to; body = body }) ∷ []) (refl, tt)
+
+keeps_one : (before : List Item) (next : Item) → LeavesController before next
+    → ControllerKeeps before (before ++ next ∷ [])
+keeps_one before (Item.Sent n message) leaves = sent_keeps before n message.to message.body leaves
+keeps_one before (Item.Delivered number) leaves =
+    controller_keeps before (Item.Delivered number ∷ []) (leaves, tt)
+keeps_one before (Item.OverNow s) leaves = absurd leaves
+keeps_one before (Item.Submitted file version) leaves = absurd leaves
+keeps_one before (Item.Current version) leaves = absurd leaves
+keeps_one before (Item.Retired version) leaves = absurd leaves
+keeps_one before next leaves = controller_keeps before (next ∷ []) (refl, tt)
+
+keeps_itself : (journal : List Item) → ControllerKeeps journal journal
+keeps_itself journal = record {
+  heard = refl;
+  known = λ s. refl;
+  over = λ s. refl;
+  opened = λ s. refl;
+  member = λ s. refl;
+  acked = λ s v. refl;
+  stamp = λ s. refl;
+  current = refl;
+  retired = refl;
+  count = refl;
+}
+
+keeps_on : (one two three : List Item) → ControllerKeeps one two → ControllerKeeps two three
+    → ControllerKeeps one three
+keeps_on one two three first later = record {
+  heard = later.heard ∙ first.heard;
+  known = λ s. later.known s ∙ first.known s;
+  over = λ s. later.over s ∙ first.over s;
+  opened = λ s. later.opened s ∙ first.opened s;
+  member = λ s. later.member s ∙ first.member s;
+  acked = λ s v. later.acked s v ∙ first.acked s v;
+  stamp = λ s. later.stamp s ∙ first.stamp s;
+  current = later.current ∙ first.current;
+  retired = later.retired ∙ first.retired;
+  count = later.count ∙ first.count;
+}
+
+-- so many items leave it too
+pub leaves_keep : (before items : List Item) → HaveCauses LeavesController before items
+    → ControllerKeeps before (before ++ items)
+leaves_keep before items have = fact_on LeavesController (ControllerKeeps before) (λ now next leaves
+    keeps. keeps_on before now (now ++ next ∷ []) keeps (keeps_one now next leaves)) before items
+    have (keeps_itself before)
+
+-- ---- other steps
 
 abbrev pub Leave : List Item → List Item → Type 0
 Leave journal items = HaveCauses LeavesController journal items
@@ -23,14 +150,14 @@ Leave journal items = HaveCauses LeavesController journal items
 
 traffic_leaves : (setting : Setting) (before : List Item) (next : Item)
     → IsTraffic setting before next → LeavesController before next
-traffic_leaves setting before (item.Sent number message) is = between_cases setting before
+traffic_leaves setting before (Item.Sent number message) is = between_cases setting before
     (OpensNone before) (λ s version word rule action there ingress. tt) (λ s advert there. tt)
     message.to message.body is
-traffic_leaves setting before (item.Delivered number) is = absurd is
-traffic_leaves setting before (item.OverNow s) is = absurd is
-traffic_leaves setting before (item.Submitted file version) is = absurd is
-traffic_leaves setting before (item.Current version) is = absurd is
-traffic_leaves setting before (item.Retired version) is = absurd is
+traffic_leaves setting before (Item.Delivered number) is = absurd is
+traffic_leaves setting before (Item.OverNow s) is = absurd is
+traffic_leaves setting before (Item.Submitted file version) is = absurd is
+traffic_leaves setting before (Item.Current version) is = absurd is
+traffic_leaves setting before (Item.Retired version) is = absurd is
 traffic_leaves setting before next is = tt
 
 traffic_leave : (setting : Setting) (journal items : List Item)
@@ -54,15 +181,15 @@ abbrev pub ReopensAlone : List Item → Message → Type 0
 ReopensAlone journal message = OpensNone journal message.to message.body
 
 opens_none_sent : (before : List Item) (n : ℕ) (message : Message) (to : Place) (body : Body)
-    → OpensNone before to body → OpensNone (before ++ item.Sent n message ∷ []) to body
-opens_none_sent before n message (receiver.Switch s) (OpenAt boot version) none =
-    still_opened before (item.Sent n message) s (known_more before (item.Sent n message) s) none
-opens_none_sent before n message receiver.Controller (OpenAt boot version) none = none
+    → OpensNone before to body → OpensNone (before ++ Item.Sent n message ∷ []) to body
+opens_none_sent before n message (Place.Switch s) (OpenAt boot version) none =
+    still_opened before (Item.Sent n message) s (known_more before (Item.Sent n message) s) none
+opens_none_sent before n message Place.Controller (OpenAt boot version) none = none
 opens_none_sent before n message to body none = tt
 
 rest_reopen : (before : List Item) (n : ℕ) (message : Message) (messages : List Message)
     → AllByRecursion (ReopensAlone before) messages
-    → AllByRecursion (ReopensAlone (before ++ item.Sent n message ∷ [])) messages
+    → AllByRecursion (ReopensAlone (before ++ Item.Sent n message ∷ [])) messages
 rest_reopen before n message [] all = tt
 rest_reopen before n message (next ∷ messages) all = (
   opens_none_sent before n message next.to next.body all.0,
@@ -75,7 +202,7 @@ unfolding sent_from
 sent_leave [] journal n all = tt
 sent_leave (message ∷ messages) journal n all = (
   all.0,
-  sent_leave messages (journal ++ item.Sent n message ∷ []) (n + 1)
+  sent_leave messages (journal ++ Item.Sent n message ∷ []) (n + 1)
       (rest_reopen journal n message messages all.1),
 )
 
@@ -94,10 +221,10 @@ switch_leaves setting before s body now = switch_cases (Leave now) setting befor
 
 deliver_leaves : (setting : Setting) (before : List Item) (row number : ℕ) (step : Step)
     → IsFalse (is_message_to_controller before number)
-    → let here = before ++ item.Row row step ∷ [] in
+    → let here = before ++ Item.Row row step ∷ [] in
     Leave here (deliver_items setting before number here)
 deliver_leaves setting before row number step none = deliver_has LeavesController setting before
-    number _ tt (rw (message_more before (item.Row row step) number) none)
+    number _ tt (rw (message_more before (Item.Row row step) number) none)
     (λ body sent. let clash : true ≡ false = rw sent at none in absurd cc)
     (λ s body said. switch_leaves setting before s body _)
 
@@ -139,7 +266,7 @@ resend_leaves setting s journal = resent_has LeavesController (ReopensAlone jour
 -- ---- steps
 
 step_leaves : (setting : Setting) (before : List Item) (row : ℕ) (step : Step)
-    → IsFalse (asks_controller before step) → let here = before ++ item.Row row step ∷ [] in
+    → IsFalse (asks_controller before step) → let here = before ++ Item.Row row step ∷ [] in
     Leave here (step_items setting before step here)
 step_leaves setting before row (Packet s header) none =
     packet_has setting LeavesController (traffic_leaves setting) (next_packet before) s header _ tt

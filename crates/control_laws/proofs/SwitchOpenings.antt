@@ -1,13 +1,46 @@
 -- Items that have their causes keep what is known of openings and of switches that serve.
-use Rattle.std.proofs.Common.{[], if◌then◌else◌, ◌++◌, ◌==◌, ◌∙◌, ◌∷◌, ◌≡◌, ◌≤◌, Bool, IsFalse, IsTrue, List, None, Option, Some, ap, arith, eq-eqb, false, inl, inr, is_some, nat_lt, option_and_then, refl, sym, true, ℕ}
-use Rattle.base.proofs.Exports.{nat_tests, option_map_or, option_or}
-use Rattle.update_machine.specs.Exports.{Item, OpenAt, Setting, body_to_controller, boot_of, controller_heard, first_number, hello_boot, is_member, is_over, is_up, known_boot, message_of, open_sent, opened_at, serves, to_switch}
-use Rattle.journal.specs.declared.item.Item.TheVariants as item
+use Rattle.std.proofs.Common.{[], ◌++◌, ◌+◌, ◌-◌, ◌==◌, ◌∙◌, ◌∷◌, ◌≡◌, ◌≤◌, Bool, IsFalse, IsTrue, List, None, Option, Some, arith, eq-eqb, false, if◌then◌else◌, inl, inr, is_some, nat_lt, refl, ℕ, rules}
+use Rattle.base.proofs.Exports.{AllByRecursion, each_append, nat_tests, option_map_or, range_with_len}
+use Rattle.update_machine.specs.Exports.{HaveCauses, Item, Message, OpenAt, Setting, boot_of, collect_for, controller_heard, current_mark, first_number, is_member, is_over, is_up, known_boot, message_of, open_for, open_sent, open_version, opened_at, resend_items, resent_by_controller, resent_by_switch, resent_to_member, retired_mark, send_items, serves, stamp_for, to_switch, unacked_installs, version_count, versions_from_current}
 use Rattle.update_machine.proofs.Exports.{start_laws}
 use Rattle.control_laws.specs.Exports.{BootsAreKnown, HasItemCause, IsRightOpening, OpensAtOneVersion, ServingIsKnown}
-use Rattle.control_laws.proofs.BootsKnown.{boots_at_first, boots_on, by_number, told_past}
-use Rattle.control_laws.proofs.ItemFacts.{AreKept, FromCauses, from_causes}
-use Rattle.control_laws.proofs.FactsGrown.{boot_more, known_more, opened_at_more, opened_in, opened_is, opened_more, over_more, raised, serving_more, up_more}
+use Rattle.control_laws.proofs.FactsGrown.{AreKept, FromCauses, boot_more, boots_on, by_number, from_causes, known_more, opened_at_more, opened_in, opened_is, opened_more, over_more, raised, serving_more, told_past, up_more}
+
+-- ---- what is sent again, by its parts: what the messages of each part have, its messages have
+
+-- the versions after the current one
+abbrev pub later_versions : List Item → List ℕ
+later_versions journal =
+    range_with_len (current_mark journal + 1) (version_count journal - current_mark journal)
+
+pub each_to_member : (P : Message → Type 0) (setting : Setting) (journal : List Item) (s : ℕ)
+    → P (open_for journal (open_version journal s) s)
+    → AllByRecursion P (unacked_installs setting journal s (later_versions journal))
+    → P (stamp_for setting journal (current_mark journal) s)
+    → ((retired_mark journal == 0) ≡ false → P (collect_for journal (retired_mark journal) s))
+    → AllByRecursion P (resent_to_member setting journal s)
+each_to_member P setting journal s opening tables stamp collect = search (rules, each_append)
+
+pub each_by_controller : (P : Message → Type 0) (setting : Setting) (journal : List Item) (s : ℕ)
+    → (IsFalse (is_over journal s) → IsTrue (is_member journal s)
+    → AllByRecursion P (resent_to_member setting journal s)) → (IsFalse (is_over journal s)
+    → AllByRecursion P (unacked_installs setting journal s (versions_from_current journal)))
+    → AllByRecursion P (resent_by_controller setting journal s)
+unfolding resent_by_controller
+each_by_controller P setting journal s to_member to_other = search rules
+
+pub resent_has : (cause : List Item → Item → Type 0) (P : Message → Type 0) (setting : Setting)
+    (s : ℕ) (journal : List Item) → cause journal Item.Nothing
+    → ((messages : List Message) → AllByRecursion P messages
+    → HaveCauses cause journal (send_items journal messages))
+    → AllByRecursion P (resent_by_switch setting journal s)
+    → AllByRecursion P (resent_by_controller setting journal s)
+    → HaveCauses cause journal (resend_items setting s journal)
+unfolding resend_items
+resent_has cause P setting s journal nothing sent by_switch by_controller =
+    search (rules, each_append)
+
+-- ---- switch openings
 
 -- ---- members
 
@@ -19,8 +52,7 @@ member_parts journal s member = grind arith
 pub member_of : (journal : List Item) (s : ℕ) → IsFalse (is_over journal s)
     → IsTrue (is_some (opened_at journal s)) → IsTrue (is_member journal s)
 unfolding is_member
-member_of journal s none opened =
-    let is : is_some (opened_at journal s) ≡ true = opened in rw (none, is) refl
+member_of journal s none opened = search rules
 
 -- ---- openings
 
@@ -36,31 +68,21 @@ pub opened_on : (before : List Item) (next : Item) (s boot version : ℕ) → op
 opened_on before next s boot version opened = rw (opened_more before next s boot, opened) refl
 
 pub own_opening : (s boot version n : ℕ)
-    → first_number (open_sent s boot (item.Sent n (to_switch s (OpenAt boot version)))) ≡ Some version
-own_opening s boot version n = let boot_is : (boot == boot) ≡ true = eq-eqb boot boot refl in
-    rw ((eq-eqb s s refl), boot_is) refl
+    → first_number (open_sent s boot (Item.Sent n (to_switch s (OpenAt boot version)))) ≡ Some version
+own_opening s boot version n = search (rules, eq-eqb)
 
 pub new_opening : (before : List Item) (s boot version n : ℕ) → IsRightOpening before s boot version
-    → opened_in (before ++ item.Sent n (to_switch s (OpenAt boot version)) ∷ []) s boot
+    → opened_in (before ++ Item.Sent n (to_switch s (OpenAt boot version)) ∷ []) s boot
     ≡ Some version
 new_opening before s boot version n right =
-    let next : Item = item.Sent n (to_switch s (OpenAt boot version)) in
-    elim right.opens [
-      | inl first ↦ opened_more before next s boot
-          ∙ ap (λ o. option_or o (first_number (open_sent s boot next)))
-          (ap (opened_in before s) right.to.known ∙ sym (opened_is before s) ∙ first.closed)
-          ∙ own_opening s boot version n
-      | inr same ↦ opened_on before next s boot version
-          (ap (opened_in before s) right.to.known ∙ sym (opened_is before s) ∙ same)
-    ]
+    search (rules, opened_more, opened_is, own_opening, opened_on)
 
 pub openings_on : (setting : Setting) (before : List Item) (next : Item) → HasItemCause setting
     before next → OpeningsStand before → OpeningsStand (before ++ next ∷ [])
-openings_on setting before next cause stand s boot version n is =
-    elim (by_number before next n (to_switch s (OpenAt boot version)) is) [
-      | inl new ↦ rw new (new_opening before s boot version n (rw new at cause))
-      | inr old ↦ opened_on before next s boot version (stand s boot version n old)
-    ]
+openings_on setting before next cause stand s boot version n is = elim (by_number _ next n _ is) [
+  | inl new ↦ rw new (new_opening before s boot version n (rw new at cause))
+  | inr old ↦ opened_on before next s boot version (stand s boot version n old)
+]
 
 pub openings_at_first : OpeningsStand []
 openings_at_first s boot version n is =
@@ -85,14 +107,7 @@ pub record IsServing (journal : List Item) (s : ℕ) : Type 0 where
 up_on : (setting : Setting) (before : List Item) (next : Item) (s : ℕ)
     → HasItemCause setting before next → (IsTrue (serves before s) → IsTrue (is_up before s))
     → IsTrue (serves (before ++ next ∷ []) s) → IsTrue (is_up (before ++ next ∷ []) s)
-up_on setting before (item.Opened t version) s cause up serving =
-    grind (arith, nat_tests, serving_more, up_more, cause.up)
-up_on setting before (item.Down t) s cause up serving =
-    grind (arith, nat_tests, serving_more, up_more)
-up_on setting before (item.Booted t boot) s cause up serving =
-    grind (arith, nat_tests, serving_more, up_more)
-up_on setting before next s cause up serving =
-    rw (up_more before next s) (up (rw (serving_more before next s) at serving))
+up_on setting before next s cause up serving = search (rules, nat_tests, serving_more, up_more)
 
 -- a switch opens in its known boot, by a message of that boot
 pub opening_known : (before : List Item) (s number version : ℕ) → BootsAreKnown before
@@ -105,51 +120,26 @@ opening_known before s number version boots sent =
 -- no hello of a past boot raises the known one
 not_raised : (boot : ℕ) (hello : Option ℕ) (own : ℕ) → boot ≡ own
     → ((of : ℕ) → hello ≡ Some of → of ≤ own) → raised boot hello ≡ boot
-not_raised boot None own same past = refl
-not_raised boot (Some of) own same past = omega (arith, past of refl)
+not_raised boot hello own same past = search rules
 
 -- where the known boot of a switch is its own, a delivery leaves it so
 pub delivery_known : (before : List Item) (s number : ℕ) → BootsAreKnown before
     → known_boot before s ≡ boot_of before s
-    → known_boot (before ++ item.Delivered number ∷ []) s ≡ known_boot before s
-delivery_known before s number boots same = known_more before (item.Delivered number) s
-    ∙ not_raised (known_boot before s)
-    (option_and_then (hello_boot s) (body_to_controller before number)) (boot_of before s) same
-    (λ of told. told_past before s number of boots told)
+    → known_boot (before ++ Item.Delivered number ∷ []) s ≡ known_boot before s
+delivery_known before s number boots same = search (rules, known_more, not_raised, told_past)
 
 known_on : (setting : Setting) (before : List Item) (next : Item) (s : ℕ)
     → HasItemCause setting before next → BootsAreKnown before → IsServing before s
     → IsTrue (serves (before ++ next ∷ []) s)
     → known_boot (before ++ next ∷ []) s ≡ boot_of (before ++ next ∷ []) s
-known_on setting before (item.Opened t version) s cause boots kept serving =
-    let own = opening_known before t cause.number cause.version boots cause.sent in
-    let moves : t ≡ s → known_boot before t ≡ known_boot before s = ap (known_boot before) in
-    let moved : t ≡ s → boot_of before t ≡ boot_of before s = ap (boot_of before) in
-    let here = kept.known in grind (arith, nat_tests, serving_more, known_more, boot_more)
-known_on setting before (item.Down t) s cause boots kept serving =
-    let here = kept.known in grind (arith, nat_tests, serving_more, known_more, boot_more)
-known_on setting before (item.Booted t boot) s cause boots kept serving =
-    let here = kept.known in grind (arith, nat_tests, serving_more, known_more, boot_more)
-known_on setting before (item.Delivered number) s cause boots kept serving =
-    let same : known_boot before s ≡ boot_of before s =
-    kept.known (rw (serving_more before (item.Delivered number) s) at serving) in
-    delivery_known before s number boots same ∙ same
-    ∙ sym (boot_more before (item.Delivered number) s)
 known_on setting before next s cause boots kept serving =
-    rw (known_more before next s, boot_more before next s)
-    (kept.known (rw (serving_more before next s) at serving))
+    search (rules, nat_tests, opening_known, serving_more, known_more, boot_more, delivery_known)
 
 -- a switch that was opened in its known boot stays so while that boot is the known one
 pub still_opened : (before : List Item) (next : Item) (s : ℕ)
     → known_boot (before ++ next ∷ []) s ≡ known_boot before s
     → IsTrue (is_some (opened_at before s)) → IsTrue (is_some (opened_at (before ++ next ∷ []) s))
-still_opened before next s same opened =
-    rw (opened_at_more before next s same) (by_opened (opened_at before s) opened)
-  where
-    by_opened : (o : Option ℕ) → IsTrue (is_some o)
-        → IsTrue (is_some (option_or o (first_number (open_sent s (known_boot before s) next))))
-    by_opened None is = cc
-    by_opened (Some version) is = refl
+still_opened before next s same opened = search (rules, opened_at_more)
 
 -- and a member stays one, unless it is over
 pub member_on : (before : List Item) (next : Item) (s : ℕ) → known_boot (before ++ next ∷ []) s
@@ -162,66 +152,28 @@ opened_here : (before : List Item) (s number version : ℕ) → BootsAreKnown be
     → OpeningsStand before
     → message_of before number ≡ Some (to_switch s (OpenAt (boot_of before s) version))
     → IsTrue (is_some (opened_at before s))
-opened_here before s number version boots stand sent =
-    let opened : opened_at before s ≡ Some version =
-    opened_is before s ∙ ap (opened_in before s) (opening_known before s number version boots sent)
-    ∙ stand s (boot_of before s) version number sent in
-    rw opened refl
+opened_here before s number version boots stand sent = search (rules, opened_is, opening_known)
 
 opened_serving : (setting : Setting) (before : List Item) (next : Item) (s : ℕ)
     → HasItemCause setting before next → BootsAreKnown before → OpeningsStand before
     → IsServing before s → IsTrue (serves (before ++ next ∷ []) s)
     → IsTrue (is_some (opened_at (before ++ next ∷ []) s))
-opened_serving setting before (item.Opened t version) s cause boots stand kept serving =
-    let own = opened_here before t cause.number cause.version boots stand cause.sent in
-    let moves : t ≡ s → is_some (opened_at before t) ≡ is_some (opened_at before s) =
-    ap (λ x. is_some (opened_at before x)) in
-    let here = kept.opened in
-    still_opened before (item.Opened t version) s (known_more before (item.Opened t version) s)
-    (grind (arith, nat_tests, serving_more))
-opened_serving setting before (item.Down t) s cause boots stand kept serving =
-    let here = kept.opened in
-    still_opened before (item.Down t) s (known_more before (item.Down t) s)
-    (grind (arith, nat_tests, serving_more))
-opened_serving setting before (item.Booted t boot) s cause boots stand kept serving =
-    let here = kept.opened in
-    still_opened before (item.Booted t boot) s (known_more before (item.Booted t boot) s)
-    (grind (arith, nat_tests, serving_more))
-opened_serving setting before (item.Delivered number) s cause boots stand kept serving =
-    let served = rw (serving_more before (item.Delivered number) s) at serving in
-    still_opened before (item.Delivered number) s
-    (delivery_known before s number boots (kept.known served)) (kept.opened served)
-opened_serving setting before next s cause boots stand kept serving = still_opened before next s
-    (known_more before next s) (kept.opened (rw (serving_more before next s) at serving))
+opened_serving setting before next s cause boots stand kept serving =
+    search (rules, nat_tests, opened_here, still_opened, known_more, serving_more, delivery_known)
 
 -- ---- switches that are over
 
 by_raise : (boot : ℕ) (hello : Option ℕ) (over : Bool) → (raised boot hello ≡ boot → IsFalse over)
     → IsFalse (if option_map_or (λ of. nat_lt boot of) hello false then false else over)
-by_raise boot None over none = none refl
-by_raise boot (Some of) over none = grind (arith, nat_tests)
+by_raise boot hello over none = search (rules, nat_tests)
 
 not_over_on : (setting : Setting) (before : List Item) (next : Item) (s : ℕ)
     → HasItemCause setting before next → BootsAreKnown before → IsServing before s
     → IsTrue (is_up (before ++ next ∷ []) s)
     → known_boot (before ++ next ∷ []) s ≡ boot_of (before ++ next ∷ []) s
     → IsFalse (is_over (before ++ next ∷ []) s)
-not_over_on setting before (item.OverNow t) s cause boots kept up same =
-    grind (arith, nat_tests, up_more, known_more, boot_more, over_more, kept.not_over)
-not_over_on setting before (item.Down t) s cause boots kept up same =
-    grind (arith, nat_tests, up_more, known_more, boot_more, over_more, kept.not_over)
-not_over_on setting before (item.Booted t boot) s cause boots kept up same =
-    grind (arith, nat_tests, up_more, known_more, boot_more, over_more, kept.not_over)
-not_over_on setting before (item.Delivered number) s cause boots kept up same =
-    let next : Item = item.Delivered number in
-    rw (over_more before next s)
-    (by_raise (known_boot before s)
-    (option_and_then (hello_boot s) (body_to_controller before number)) (is_over before s)
-    (λ stays. kept.not_over (rw (up_more before next s) at up)
-    (sym stays ∙ sym (known_more before next s) ∙ (same ∙ boot_more before next s))))
-not_over_on setting before next s cause boots kept up same = rw (over_more before next s)
-    (kept.not_over (rw (up_more before next s) at up)
-    (sym (known_more before next s) ∙ same ∙ boot_more before next s))
+not_over_on setting before next s cause boots kept up same =
+    search (rules, nat_tests, up_more, known_more, boot_more, over_more)
 
 -- ---- together
 
@@ -238,8 +190,7 @@ known_kept setting before next cause known = record {
   serving = λ s. record {
     up = up_on setting before next s cause (known.serving s).up;
     known = known_on setting before next s cause known.boots (known.serving s);
-    opened = opened_serving setting before next s cause known.boots known.openings
-        (known.serving s);
+    opened = opened_serving _ before next s cause known.boots known.openings (known.serving s);
     not_over = not_over_on setting before next s cause known.boots (known.serving s);
   };
 }
@@ -249,16 +200,7 @@ unfolding opened_at known_boot controller_heard
 first_opened s = refl
 
 pub known_at_first : IsKnown []
-known_at_first = record {
-  boots = boots_at_first;
-  openings = openings_at_first;
-  serving = λ s. record {
-    up = λ serving. start_laws.up s;
-    known = λ serving. start_laws.known s ∙ sym (start_laws.boot s);
-    opened = λ serving. first_opened s;
-    not_over = λ up known. start_laws.over s;
-  };
-}
+known_at_first = search (rules, start_laws, first_opened)
 
 pub caused_known : FromCauses (λ setting. IsKnown)
 caused_known = from_causes (λ setting. IsKnown) known_kept (λ setting. known_at_first)

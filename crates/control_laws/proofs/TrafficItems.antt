@@ -2,20 +2,15 @@
 -- deliver nothing and move no mark, whatever journal they stand behind.
 use Rattle.std.proofs.Common.{[], ◌++◌, ◌<◌, ◌∷◌, ◌≡◌, Bool, IfSome, IsFalse, IsTrue, List, None, Option, Some, arith, false, filter, flat_map, length, map, option_map, refl, slice_get, true, unwrap_or, ℕ}
 use Rattle.base.proofs.Exports.{AllByRecursion, each_append, each_flat_map, each_map, ⊤}
-use Rattle.update_machine.specs.Exports.{Action, Advert, Advertise, AuthorityRule, Body, CacheRule, Exit, Expire, Forget, Found, HaveCauses, Header, Hop, Item, Leg, LinkDown, LinkUp, Lose, Message, Place, Rule, Seek, Setting, Step, advert_to, arrive_by, arrive_items, authority_items, authority_rule, cache_items, cache_rule, end_items, expire_items, first_place, forget_items, found_down, found_items, go_on, has_changed, header_at, held_adverts, holds_version, hop_items, in_turn, ingress_of, is_at, is_deliverable, is_version, items_then, leg_items, leg_of, link_changes, link_items, lookup_at, lookup_items, lose_items, messages_of, messages_over, move_items, near, nothing, own_advert, packet_items, passed_on, plan_at, reroute_by, reroute_items, route_for, route_from, send_items, sent_from, serves, stamp_of, step_items, stuck_on, switches_in, switches_of, takes_route, targets_of}
-use Rattle.ctrl_msg.specs.declared.message.Place.TheVariants as receiver
+use Rattle.update_machine.specs.Exports.{Action, Advert, Advertise, AuthorityRule, Body, CacheRule, Exit, Expire, Forget, Found, HaveCauses, Header, Hop, How, Item, Leg, LinkDown, LinkUp, Lose, Message, Place, Rule, Seek, Setting, Step, advert_to, arrive_by, arrive_items, authority_items, authority_rule, cache_items, cache_rule, end_items, expire_items, first_place, forget_items, found_down, found_items, go_on, has_changed, header_at, held_adverts, holds_version, hop_items, in_turn, ingress_of, is_at, is_deliverable, is_version, items_then, leg_items, leg_of, link_changes, link_items, lookup_at, lookup_items, lose_items, messages_of, messages_over, move_items, near, nothing, own_advert, packet_items, passed_on, plan_at, reroute_by, reroute_items, route_for, route_from, send_items, sent_from, serves, stamp_of, step_items, stuck_on, switches_in, switches_of, takes_route, targets_of}
 use Rattle.base.specs.Exports.{has}
-use Rattle.policy_rules.specs.declared.policy.Action.TheVariants as action
-use Rattle.switch_table.specs.declared.search.Found.TheVariants as found
-use Rattle.policy_rules.specs.declared.packet.How.TheVariants as how
-use Rattle.journal.specs.declared.item.Item.TheVariants as item
 use Rattle.update_machine.proofs.Exports.{have_first, have_in_turn, have_put, part_there, version_kept}
 use Rattle.partition.specs.Plan.{Hosted}
 use Rattle.switch_table.specs.Exports.{part_of}
 use Rattle.control_laws.specs.Exports.{HasItemCause, IsRightMessage}
-use Rattle.control_laws.proofs.ItemFacts.{Has, have_weaker}
+use Rattle.control_laws.proofs.FactsGrown.{Has, have_weaker}
 use Rattle.control_laws.proofs.MessageSends.{each_of_network}
-use Rattle.control_laws.proofs.ResentBySwitches.{sends_each}
+use Rattle.control_laws.proofs.ControllerCommands.{sends_each}
 
 -- the switch where some packet entered
 pub record IsIngress (before : List Item) (s : ℕ) : Type 0 where
@@ -24,16 +19,16 @@ pub record IsIngress (before : List Item) (s : ℕ) : Type 0 where
 
 -- a cache rule of a version that is there goes to an ingress
 abbrev pub IsRuleTo : List Item → Place → Body → Type 0
-IsRuleTo before (receiver.Switch s) (CacheRule version word rule action) =
+IsRuleTo before (Place.Switch s) (CacheRule version word rule action) =
     IsTrue (is_version before version) × IsIngress before s
 IsRuleTo before to body = ⊥
 
 -- what such rules have
 pub rule_cases : (before : List Item) (P : Place → Body → Type 0)
     → ((s version : ℕ) (word : _) (rule : Option ℕ) (action : Action) → IsTrue (is_version before
-    version) → IsIngress before s → P (receiver.Switch s) (CacheRule version word rule action))
+    version) → IsIngress before s → P (Place.Switch s) (CacheRule version word rule action))
     → (to : Place) (body : Body) → IsRuleTo before to body → P to body
-rule_cases before P rules (receiver.Switch s) (CacheRule version word rule action) is =
+rule_cases before P rules (Place.Switch s) (CacheRule version word rule action) is =
     rules s version word rule action is.0 is.1
 rule_cases before P rules to body is = absurd is
 
@@ -47,20 +42,20 @@ pub record KnowsNoRoute (setting : Setting) (before : List Item) (i s : ℕ) (le
 -- sent but cache rules, nothing is forgotten that can't be delivered, no link changes, a packet is
 -- stuck only where its switch knows no route, and finds down only links that can't be used
 abbrev pub IsWork : Setting → List Item → Item → Type 0
-IsWork setting before (item.Sent number message) = IsRuleTo before message.to message.body
-IsWork setting before (item.Stuck i s cause leg down) = KnowsNoRoute setting before i s leg down
-IsWork setting before (item.FoundDown i one two) = IsFalse (has (near setting before one) two)
-IsWork setting before (item.Entered packet s header) = ⊥
-IsWork setting before (item.Delivered number) = ⊥
-IsWork setting before (item.Forgotten number) = IsTrue (is_deliverable before number)
-IsWork setting before (item.LinkIs one two up) = ⊥
-IsWork setting before (item.Down s) = ⊥
-IsWork setting before (item.Booted s boot) = ⊥
-IsWork setting before (item.Opened s version) = ⊥
-IsWork setting before (item.OverNow s) = ⊥
-IsWork setting before (item.Submitted file version) = ⊥
-IsWork setting before (item.Current version) = ⊥
-IsWork setting before (item.Retired version) = ⊥
+IsWork setting before (Item.Sent number message) = IsRuleTo before message.to message.body
+IsWork setting before (Item.Stuck i s cause leg down) = KnowsNoRoute setting before i s leg down
+IsWork setting before (Item.FoundDown i one two) = IsFalse (has (near setting before one) two)
+IsWork setting before (Item.Entered packet s header) = ⊥
+IsWork setting before (Item.Delivered number) = ⊥
+IsWork setting before (Item.Forgotten number) = IsTrue (is_deliverable before number)
+IsWork setting before (Item.LinkIs one two up) = ⊥
+IsWork setting before (Item.Down s) = ⊥
+IsWork setting before (Item.Booted s boot) = ⊥
+IsWork setting before (Item.Opened s version) = ⊥
+IsWork setting before (Item.OverNow s) = ⊥
+IsWork setting before (Item.Submitted file version) = ⊥
+IsWork setting before (Item.Current version) = ⊥
+IsWork setting before (Item.Retired version) = ⊥
 IsWork setting before _ = ⊤
 
 abbrev pub Work : Setting → List Item → List Item → Type 0
@@ -68,13 +63,13 @@ Work setting journal items = HaveCauses (IsWork setting) journal items
 
 -- a message of a switch to another one: such a rule, or an advert to a switch of the network
 abbrev pub IsBetween : Setting → List Item → Place → Body → Type 0
-IsBetween setting before (receiver.Switch s) (Advertise advert) = s < length setting.net.switches
+IsBetween setting before (Place.Switch s) (Advertise advert) = s < length setting.net.switches
 IsBetween setting before to body = IsRuleTo before to body
 
 abbrev pub IsTraffic : Setting → List Item → Item → Type 0
-IsTraffic setting before (item.Sent number message) =
+IsTraffic setting before (Item.Sent number message) =
     IsBetween setting before message.to message.body
-IsTraffic setting before (item.LinkIs one two up) = ⊤
+IsTraffic setting before (Item.LinkIs one two up) = ⊤
 IsTraffic setting before next = IsWork setting before next
 
 abbrev pub Traffic : Setting → List Item → List Item → Type 0
@@ -83,28 +78,28 @@ Traffic setting journal items = HaveCauses (IsTraffic setting) journal items
 -- what rules have and adverts
 pub between_cases : (setting : Setting) (before : List Item) (P : Place → Body → Type 0)
     → ((s version : ℕ) (word : _) (rule : Option ℕ) (action : Action) → IsTrue (is_version before
-    version) → IsIngress before s → P (receiver.Switch s) (CacheRule version word rule action))
+    version) → IsIngress before s → P (Place.Switch s) (CacheRule version word rule action))
     → ((s : ℕ) (advert : Advert) → s < length setting.net.switches
-    → P (receiver.Switch s) (Advertise advert))
+    → P (Place.Switch s) (Advertise advert))
     → (to : Place) (body : Body) → IsBetween setting before to body → P to body
-between_cases setting before P rules adverts (receiver.Switch s) (Advertise advert) is =
+between_cases setting before P rules adverts (Place.Switch s) (Advertise advert) is =
     adverts s advert is
 between_cases setting before P rules adverts to body is = rule_cases before P rules to body is
 
 -- of such items nothing is asked
 pub traffic_right : (setting : Setting) (before : List Item) (next : Item)
     → IsTraffic setting before next → HasItemCause setting before next
-traffic_right setting before (item.Sent number message) is = between_cases setting before
+traffic_right setting before (Item.Sent number message) is = between_cases setting before
     (IsRightMessage setting before) (λ s version word rule action there ingress. tt)
     (λ s advert there. tt) message.to message.body is
-traffic_right setting before (item.Entered packet s header) is = absurd is
-traffic_right setting before (item.Down s) is = absurd is
-traffic_right setting before (item.Booted s boot) is = absurd is
-traffic_right setting before (item.Opened s version) is = absurd is
-traffic_right setting before (item.OverNow s) is = absurd is
-traffic_right setting before (item.Submitted file version) is = absurd is
-traffic_right setting before (item.Current version) is = absurd is
-traffic_right setting before (item.Retired version) is = absurd is
+traffic_right setting before (Item.Entered packet s header) is = absurd is
+traffic_right setting before (Item.Down s) is = absurd is
+traffic_right setting before (Item.Booted s boot) is = absurd is
+traffic_right setting before (Item.Opened s version) is = absurd is
+traffic_right setting before (Item.OverNow s) is = absurd is
+traffic_right setting before (Item.Submitted file version) is = absurd is
+traffic_right setting before (Item.Current version) is = absurd is
+traffic_right setting before (Item.Retired version) is = absurd is
 traffic_right setting before _ is = tt
 
 pub traffic_has : (setting : Setting) (journal items : List Item) → Traffic setting journal items
@@ -114,10 +109,10 @@ traffic_has setting = have_weaker (IsTraffic setting) (HasItemCause setting) (tr
 -- work is traffic
 work_is_traffic : (setting : Setting) (before : List Item) (next : Item)
     → IsWork setting before next → IsTraffic setting before next
-work_is_traffic setting before (item.Sent number message) is =
+work_is_traffic setting before (Item.Sent number message) is =
     rule_cases before (IsBetween setting before)
     (λ s version word rule action there ingress. (there, ingress)) message.to message.body is
-work_is_traffic setting before (item.LinkIs one two up) is = absurd is
+work_is_traffic setting before (Item.LinkIs one two up) is = absurd is
 work_is_traffic setting before next is = is
 
 -- ---- packets
@@ -141,8 +136,8 @@ leg_work setting journal i s leg = by_route (route_for setting journal i s leg) 
 end_work : (setting : Setting) (i s : ℕ) (act : Action) (journal : List Item)
     → Work setting journal (end_items setting i s act journal)
 unfolding end_items
-end_work setting i s action.Drop journal = (tt, tt)
-end_work setting i s (action.Out port) journal = grind (arith, leg_work)
+end_work setting i s Action.Drop journal = (tt, tt)
+end_work setting i s (Action.Out port) journal = grind (arith, leg_work)
 
 -- a rule is of a version that is there
 abbrev IsOfVersion : List Item → Option AuthorityRule → Type 0
@@ -191,8 +186,8 @@ authority_work : (setting : Setting) (i s : ℕ) (rule : Option AuthorityRule) (
 unfolding authority_items
 authority_work setting i s None journal there = tt
 authority_work setting i s (Some rule) journal there =
-    let decided : Item = item.Decided i rule.version rule.rule.rule rule.rule.action
-    (how.Authority s rule.part.number) in
+    let decided : Item = Item.Decided i rule.version rule.rule.rule rule.rule.action
+    (How.Authority s rule.part.number) in
     let now : List Item = journal ++ decided ∷ [] in
     have_first (IsWork setting) decided
     (in_turn (cache_items setting i s rule ∷ end_items setting i s rule.rule.action ∷ [])) journal
@@ -205,14 +200,14 @@ authority_work setting i s (Some rule) journal there =
 
 found_work : (setting : Setting) (i s : ℕ) (what : Found) (journal : List Item)
     → Work setting journal (found_items setting i s what journal)
-found_work setting i s (found.Cached entry) journal =
-    let decided = item.Decided i entry.version entry.rule entry.action (how.Cached entry.message) in
+found_work setting i s (Found.Cached entry) journal =
+    let decided = Item.Decided i entry.version entry.rule entry.action (How.Cached entry.message) in
     have_first (IsWork setting) decided (end_items setting i s entry.action) journal tt
     (end_work setting i s entry.action (journal ++ decided ∷ []))
-found_work setting i s (found.Authority partition place) journal = authority_work setting i s
+found_work setting i s (Found.Authority partition place) journal = authority_work setting i s
     (authority_rule setting journal (stamp_of journal s) partition place) journal
     (rule_there setting journal (stamp_of journal s) partition place)
-found_work setting i s (found.Redirect partition targets) journal =
+found_work setting i s (Found.Redirect partition targets) journal =
     leg_work setting journal i s (Seek (stamp_of journal s) partition)
 
 lookup_work : (setting : Setting) (i s : ℕ) (journal : List Item)
@@ -254,10 +249,10 @@ reroute_by_work setting i s (Some leg) journal = by_route (route_for setting jou
     by_route : (o : Option (List ℕ)) → route_for setting journal i s leg ≡ o
         → Work setting journal (elim o [
           | None ↦ stuck_on setting journal i s leg ∷ []
-          | Some route ↦ items_then (item.Rerouted i route ∷ []) (go_on setting i s) journal
+          | Some route ↦ items_then (Item.Rerouted i route ∷ []) (go_on setting i s) journal
         ])
     by_route None e = (record { found = refl; none = e }, tt)
-    by_route (Some route) e = have_first (IsWork setting) (item.Rerouted i route)
+    by_route (Some route) e = have_first (IsWork setting) (Item.Rerouted i route)
         (go_on setting i s) journal tt (grind (arith, arrive_work))
 
 reroute_work : (setting : Setting) (i s : ℕ) (journal : List Item)
@@ -273,25 +268,25 @@ move_work setting i s journal = grind (arith, arrive_work, reroute_work)
 -- a packet that enters is no work yet: its cause is to be given
 pub packet_works : (setting : Setting) (cause : List Item → Item → Type 0) →
     ((before : List Item) (next : Item) → IsWork setting before next → cause before next) →
-    (i s : ℕ) (header : Header) (journal : List Item) → cause journal (item.Entered i s header)
+    (i s : ℕ) (header : Header) (journal : List Item) → cause journal (Item.Entered i s header)
     → HaveCauses cause journal (packet_items setting i s header journal)
 unfolding packet_items
 packet_works setting cause weaker i s header journal enters = by_serving (serves journal s) where
   entered : Item
-  entered = item.Entered i s header
+  entered = Item.Entered i s header
 
   by_serving : (b : Bool) → HaveCauses cause journal (elim b [
-    | false ↦ item.Closed i s ∷ []
+    | false ↦ Item.Closed i s ∷ []
     | true ↦ items_then (entered ∷ []) (lookup_items setting i s) journal
   ])
-  by_serving false = (weaker journal (item.Closed i s) tt, tt)
+  by_serving false = (weaker journal (Item.Closed i s) tt, tt)
   by_serving true = have_first cause entered (lookup_items setting i s) journal enters
       (have_weaker (IsWork setting) cause weaker (journal ++ entered ∷ []) (lookup_items setting i
       s (journal ++ entered ∷ [])) (lookup_work setting i s (journal ++ entered ∷ [])))
 
 pub packet_has : (setting : Setting) (cause : List Item → Item → Type 0) →
     ((before : List Item) (next : Item) → IsTraffic setting before next → cause before next) →
-    (i s : ℕ) (header : Header) (journal : List Item) → cause journal (item.Entered i s header)
+    (i s : ℕ) (header : Header) (journal : List Item) → cause journal (Item.Entered i s header)
     → HaveCauses cause journal (packet_items setting i s header journal)
 packet_has setting cause weaker = packet_works setting cause
     (λ before next is. weaker before next (work_is_traffic setting before next is))
@@ -314,7 +309,7 @@ unfolding forget_items
 forget_work setting number journal = by_test (is_deliverable journal number) refl where
   by_test : (b : Bool) → is_deliverable journal number ≡ b → Work setting journal (elim b [
     | false ↦ nothing
-    | true ↦ item.Forgotten number ∷ []
+    | true ↦ Item.Forgotten number ∷ []
   ])
   by_test false e = (tt, tt)
   by_test true e = (e, tt)
@@ -328,7 +323,7 @@ expire_work setting s at journal = grind arith
 
 -- an advert to a switch of the network
 abbrev pub IsAdvertTo : Setting → Place → Body → Type 0
-IsAdvertTo setting (receiver.Switch s) (Advertise advert) = s < length setting.net.switches
+IsAdvertTo setting (Place.Switch s) (Advertise advert) = s < length setting.net.switches
 IsAdvertTo setting to body = ⊥
 
 abbrev pub IsAdvert : Setting → Message → Type 0
@@ -336,15 +331,15 @@ IsAdvert setting message = IsAdvertTo setting message.to message.body
 
 advert_between : (setting : Setting) (before : List Item) (to : Place) (body : Body)
     → IsAdvertTo setting to body → IsBetween setting before to body
-advert_between setting before (receiver.Switch s) (Advertise advert) is = is
+advert_between setting before (Place.Switch s) (Advertise advert) is = is
 advert_between setting before to body is = absurd is
 
 -- what changes of links write, and switches that crash
 abbrev pub IsChange : Setting → List Item → Item → Type 0
-IsChange setting before (item.Sent number message) = IsAdvert setting message
-IsChange setting before (item.LinkIs one two up) = ⊤
-IsChange setting before (item.Lost packet) = ⊤
-IsChange setting before item.Nothing = ⊤
+IsChange setting before (Item.Sent number message) = IsAdvert setting message
+IsChange setting before (Item.LinkIs one two up) = ⊤
+IsChange setting before (Item.Lost packet) = ⊤
+IsChange setting before Item.Nothing = ⊤
 IsChange setting before _ = ⊥
 
 abbrev pub Change : Setting → List Item → List Item → Type 0
@@ -352,11 +347,11 @@ Change setting journal items = HaveCauses (IsChange setting) journal items
 
 pub change_traffic : (setting : Setting) (before : List Item) (next : Item)
     → IsChange setting before next → IsTraffic setting before next
-change_traffic setting before (item.Sent number message) is =
+change_traffic setting before (Item.Sent number message) is =
     advert_between setting before message.to message.body is
-change_traffic setting before (item.LinkIs one two up) is = tt
-change_traffic setting before (item.Lost packet) is = tt
-change_traffic setting before item.Nothing is = tt
+change_traffic setting before (Item.LinkIs one two up) is = tt
+change_traffic setting before (Item.Lost packet) is = tt
+change_traffic setting before Item.Nothing is = tt
 change_traffic setting before _ is = absurd is
 
 pub adverts_to : (setting : Setting) (s : ℕ) → s < length setting.net.switches

@@ -1,26 +1,79 @@
 -- Versions, computed: what a switch holds, as the tables of a second version reach it before its
 -- stamp does, and what is planned.
-use Rattle.std.proofs.Common.{[], ◌++◌, ◌∙◌, ◌∷◌, ◌≡◌, ◌≤◌, IsTrue, List, ap, arith, false, inl, inr, length, refl, subst, sym, true, ℕ}
-use Rattle.base.proofs.Exports.{cases_lt}
-use Rattle.update_machine.specs.Exports.{Collect, HasPlan, HaveCauses, Install, Item, OpenAt, Stamp, Tables, boot_of, controller_heard, current_mark, heard, holds_version, is_over, is_up, known_boot, message_of, next_policy, retired_mark, serves, stamp_of, tables_at, to_switch, version_count}
-use Rattle.journal.specs.declared.item.Item.TheVariants as item
-use Rattle.update_machine.proofs.Exports.{first_planned, none_of_7, open_net, plan_q, second_plan, second_planned, tables_of, versions}
-use Rattle.control_laws.specs.Exports.{AreTablesOf, BringsTables, HasItemCause, HoldsStamp, ServingHold, TablesArePlanned, VersionsArePlanned}
-use Rattle.control_laws.proofs.SubmissionRows.{second_file}
+use Rattle.std.proofs.Common.{[], ◌++◌, ◌∙◌, ◌∷◌, ◌≡◌, ◌≤◌, List, ap, arith, false, inl, inr, length, refl, subst, sym, true, ℕ, rules}
+use Rattle.base.proofs.Exports.{All-from_recursion, cases_lt}
+use Rattle.update_machine.specs.Exports.{Collect, Drop, HasPlan, HaveCauses, Install, Item, OpenAt, Stamp, Step, StepOfRow, Tables, boot_of, controller_heard, current_mark, heard, holds_version, is_over, is_up, known_boot, message_of, next_policy, piece, retired_mark, serves, stamp_of, tables_at, to_switch, version_count}
+use Rattle.steps.specs.Exports.{IsStep}
+use Rattle.update_machine.proofs.Exports.{all_to, at, first_planned, none_of_7, open_net, plan_q, second_plan, second_planned, tables_of, versions}
+use Rattle.control_laws.specs.Exports.{AreTablesOf, BringsTables, HasItemCause, HoldsAtEnds, HoldsBehindItems, HoldsReached, HoldsStamp, ServingHold, SubmitsRightly, TablesArePlanned, VersionsArePlanned}
 use Rattle.control_laws.proofs.PlannedTables.{tables_planned}
-use Rattle.control_laws.proofs.ServingSwitches.{serving_hold}
+use Rattle.control_laws.proofs.MarkLaws.{serving_hold}
+
+-- ---- causes of submissions, on journals of few items, and a fact that doesn't hold of all that is
+-- reached.
+
+-- ---- submissions
+
+pub second_file : SubmitsRightly open_net [] 2 2
+unfolding version_count retired_mark next_policy
+second_file = record {
+  next = refl;
+  rows = all_to Drop ∷ [];
+  policy = refl;
+  planned = refl;
+  live = λ met. omega (arith, met);
+  few = λ met. omega (arith, met);
+}
+
+pub no_third_file : SubmitsRightly open_net [] 3 2 → ⊥
+unfolding next_policy
+no_third_file submits = cc submits.policy
+
+pub no_version_3 : SubmitsRightly open_net [] 2 3 → ⊥
+unfolding version_count
+no_version_3 submits = omega (arith, submits.next)
+
+pub not_while_eight_live : SubmitsRightly open_net (versions 8 0) 2 9 → ⊥
+unfolding version_count retired_mark
+not_while_eight_live submits = submits.live refl
+
+pub not_behind_64 : SubmitsRightly open_net (versions 64 60) 2 65 → ⊥
+unfolding version_count
+not_behind_64 submits = submits.few refl
+
+-- ---- what is reached
+
+pub not_all_are_empty : HoldsReached (λ setting journal. journal ≡ []) → ⊥
+unfolding piece
+not_all_are_empty holds = let one = at 1 (Step.Lose 1) ∷ [] in
+    cc (holds.reached open_net _ (record {
+      steps = one;
+      own = All-from_recursion (λ (next : StepOfRow). IsStep open_net.net (length open_net.files)
+          next.step) one (omega arith, tt);
+      written = refl;
+    }))
+
+pub not_empty_behind_items : HoldsBehindItems (λ setting journal. journal ≡ []) → ⊥
+unfolding piece
+not_empty_behind_items holds = cc (holds.items open_net (at 1 (Step.Lose 1) ∷ []) 1)
+
+pub not_empty_at_ends : HoldsAtEnds (λ setting journal. journal ≡ []) → ⊥
+unfolding piece
+not_empty_at_ends holds = cc (holds.stepped open_net (at 1 (Step.Lose 1) ∷ []))
+
+-- ---- version trials
 
 abbrev pub second : Tables
 second = record { version = 2; parts = []; auth = [] }
 
 abbrev sent : List Item
-sent = item.Sent 1 (to_switch 0 (Install 1 second)) ∷ item.Delivered 1 ∷ item.Current 2 ∷ []
+sent = Item.Sent 1 (to_switch 0 (Install 1 second)) ∷ Item.Delivered 1 ∷ Item.Current 2 ∷ []
 
 abbrev installed : List Item
-installed = item.Submitted 2 2 ∷ sent
+installed = Item.Submitted 2 2 ∷ sent
 
 abbrev stamped : List Item
-stamped = item.Sent 2 (to_switch 0 (Stamp 1 2 [])) ∷ item.Delivered 2 ∷ []
+stamped = Item.Sent 2 (to_switch 0 (Stamp 1 2 [])) ∷ Item.Delivered 2 ∷ []
 
 only_two : (version : ℕ) → 2 ≤ version → version ≤ 2 → 2 ≡ version
 only_two version above below = omega (arith, above, below)
@@ -30,20 +83,11 @@ only_one version above below = omega (arith, above, below)
 
 holds_both : HoldsStamp (installed ++ stamped) 0
 unfolding boot_of heard is_up current_mark retired_mark message_of holds_version stamp_of
-holds_both = record {
-  stamp = refl;
-  held = λ version below. elim (cases_lt version 2) [
-    | inl less ↦ inr less
-    | inr above ↦ inl (subst (λ v. IsTrue (holds_version (installed ++ stamped) 0 v))
-        (only_two version above below) refl)
-  ];
-  retired = omega arith;
-  current = omega arith;
-}
+holds_both = search (rules, only_two)
 
 -- a switch without the tables of its stamp doesn't hold it
 abbrev untold : List Item
-untold = item.Submitted 2 2 ∷ item.Current 2 ∷ stamped
+untold = Item.Submitted 2 2 ∷ Item.Current 2 ∷ stamped
 
 not_without_tables : HoldsStamp untold 0 → ⊥
 unfolding boot_of heard is_up current_mark retired_mark message_of holds_version stamp_of
@@ -51,7 +95,7 @@ not_without_tables holds = let no : false ≡ true = holds.stamp in absurd cc
 
 -- nor one that is told to drop them
 abbrev dropped : List Item
-dropped = (installed ++ stamped) ++ item.Sent 3 (to_switch 0 (Collect 1 2)) ∷ item.Delivered 3 ∷ []
+dropped = (installed ++ stamped) ++ Item.Sent 3 (to_switch 0 (Collect 1 2)) ∷ Item.Delivered 3 ∷ []
 
 not_dropped : HoldsStamp dropped 0 → ⊥
 unfolding boot_of heard is_up current_mark retired_mark message_of holds_version stamp_of
@@ -65,7 +109,7 @@ not_while_serving hold = not_without_tables (hold 0 (omega arith) refl)
 -- ---- plans and tables, of the second of two files
 
 abbrev two_versions : List Item
-two_versions = item.Submitted 2 2 ∷ []
+two_versions = Item.Submitted 2 2 ∷ []
 
 two_planned : VersionsArePlanned open_net two_versions
 unfolding retired_mark version_count
@@ -75,8 +119,7 @@ two_planned = record {
   planned = λ first version above below. elim (cases_lt 1 version) [
     | inl later ↦ subst (HasPlan open_net two_versions) (only_two version later below)
         (second_planned [] [] tt)
-    | inr own ↦ subst (HasPlan open_net two_versions) (only_one version above own)
-        (first_planned two_versions)
+    | inr own ↦ subst (HasPlan open_net two_versions) (only_one version above own) (first_planned _)
   ];
 }
 
@@ -85,7 +128,7 @@ not_nine : VersionsArePlanned open_net (versions 9 0) → ⊥
 unfolding retired_mark version_count
 not_nine are = absurd (omega (arith, are.live))
 
-not_of_no_file : VersionsArePlanned open_net (item.Submitted 7 2 ∷ []) → ⊥
+not_of_no_file : VersionsArePlanned open_net (Item.Submitted 7 2 ∷ []) → ⊥
 unfolding version_count
 not_of_no_file are = none_of_7 [] (are.planned (first_planned []) 2 (omega arith) (omega arith))
 
@@ -102,7 +145,7 @@ its_tables = record {
   of_second items = ap (λ plan. tables_of plan 2 0) (second_plan [] items tt)
 
 -- the tables of the second version have a partition
-not_second : (items : List Item) → second ≡ tables_at open_net (item.Submitted 2 2 ∷ items) 2 0 → ⊥
+not_second : (items : List Item) → second ≡ tables_at open_net (Item.Submitted 2 2 ∷ items) 2 0 → ⊥
 not_second items is =
     let parts = ap (λ (tables : Tables). length tables.parts)
     (is ∙ ap (λ plan. tables_of plan 2 0) (second_plan [] items tt)) in
@@ -125,24 +168,12 @@ brings_none = tt
 
 -- the second version was submitted, and its tables were sent to switch 0, which heard them
 abbrev told : List Item
-told = item.Submitted 2 2 ∷ item.Sent 1 (to_switch 0 (Install 1 (tables_of plan_q 2 0)))
-    ∷ item.Delivered 1 ∷ []
+told = Item.Submitted 2 2 ∷ Item.Sent 1 (to_switch 0 (Install 1 (tables_of plan_q 2 0)))
+    ∷ Item.Delivered 1 ∷ []
 
 told_rightly : HaveCauses (HasItemCause open_net) [] told
 unfolding version_count retired_mark known_boot is_over controller_heard next_policy
-told_rightly = (
-  second_file,
-  (
-    record {
-      to = record { known = refl; not_over = refl };
-      version = 2;
-      which = inl refl;
-      there = omega arith;
-      planned = its_tables.planned;
-    },
-    (tt, tt),
-  ),
-)
+told_rightly = search (rules, second_file, its_tables)
 
 -- each switch serves, and goes on to stamp with the first version
 serve_once_told : ServingHold open_net told
@@ -162,6 +193,6 @@ not_heard_of_no_plan are = not_second sent (are.heard 0 0 (OpenAt 1 1) (omega ar
 
 -- and so does a version that is held without being there
 not_held_unless_there : TablesArePlanned open_net
-    (item.Sent 1 (to_switch 0 (Install 1 second)) ∷ item.Delivered 1 ∷ []) → ⊥
+    (Item.Sent 1 (to_switch 0 (Install 1 second)) ∷ Item.Delivered 1 ∷ []) → ⊥
 unfolding holds_version heard is_up boot_of message_of version_count
 not_held_unless_there are = let there = are.held 0 2 refl in absurd (omega (arith, there.1))

@@ -1,14 +1,12 @@
 -- News that is delivered floods, so what a switch has each neighbour has as new, or was sent,
 -- behind each step.
-use Rattle.std.proofs.Common.{[], if◌then◌else◌, ◌&&◌, ◌++◌, ◌<◌, ◌==◌, ◌∙◌, ◌∷◌, ◌≡◌, ◌≢◌, ◌≤◌, ◌⊎◌, Bool, IsFalse, IsTrue, List, None, Option, Some, ap, append-nil, append_assoc, arith, false, inl, inr, length, map, nat_lt, not, option_to_list, refl, slice_index, subst, sym, true, ℕ}
+use Rattle.std.proofs.Common.{[], ◌&&◌, ◌++◌, ◌<◌, ◌==◌, ◌∙◌, ◌∷◌, ◌≡◌, ◌≢◌, ◌≤◌, ◌⊎◌, Bool, IsFalse, IsTrue, List, None, Option, Some, ap, append-nil, append_assoc, arith, false, inl, inr, length, map, not, option_to_list, refl, subst, sym, true, ℕ, rules}
 use Rattle.base.proofs.Exports.{get_or-map-range_with_len, nat_tests, option_map_or}
-use Rattle.update_machine.specs.Exports.{Advert, Advertise, Body, Confirm, Crash, Deliver, HaveCauses, Item, LinkDown, LinkUp, Message, OpenAt, Packet, Place, Resend, Restart, Setting, Step, StepOfRow, Update, advert_known, advert_to, adverts_begun, adverts_heard, adverts_known, after_steps, body_to_switch, deliver_items, delivery_items, is_news_to, is_to_controller, items_then, link_changes, message_of, near, next_message, next_packet, nothing, own_advert, passed_on, piece, received_items, send_items, serves, stamp_of, step_items, switch_items, switches_in, switches_of, to_switch}
-use Rattle.ctrl_msg.specs.declared.message.Place.TheVariants as receiver
-use Rattle.failover.specs.Exports.{IsNewest, first_advert, first_adverts, held_advert, is_newer, is_news}
+use Rattle.update_machine.specs.Exports.{Advert, Advertise, Body, Confirm, Crash, Deliver, HaveCauses, Item, LinkDown, LinkUp, Message, OpenAt, Packet, Place, Resend, Restart, Setting, Step, StepOfRow, Update, advert_known, advert_to, adverts_begun, adverts_heard, adverts_known, after_steps, body_to_switch, deliver_items, delivery_items, is_news_to, is_to_controller, items_then, link_changes, message_of, near, next_message, next_packet, nothing, own_advert, passed_on, piece, send_items, serves, stamp_of, step_items, switch_items, switches_in, switches_of, to_switch}
+use Rattle.failover.specs.Exports.{IsNewest, first_adverts, held_advert, is_newer, is_news}
 use Rattle.failover.proofs.HeldAdverts.{held-first}
 use Rattle.base.specs.Exports.{has}
 use Rattle.net_file.specs.Exports.{IsNet, links_of}
-use Rattle.journal.specs.declared.item.Item.TheVariants as item
 use Rattle.update_machine.proofs.Exports.{have_append, links_keep, near_stays, start_laws}
 use Rattle.control_laws.proofs.Exports.{Has, IsKnown, behind_piece, boot_more, confirm_control, controller_control, deliver_cases, delivered_first, heard_more, is_newest, known_kept, own_origin, packet_works, resends_any, row_first, said_have, said_parts, said_row, step_work, switch_cases, up_more, update_has}
 use Rattle.convergence_laws.specs.Exports.{IsAsNew}
@@ -16,7 +14,7 @@ use Rattle.convergence_laws.proofs.AnsweredMessages.{delivery_is, sent_items}
 use Rattle.convergence_laws.proofs.ChangedLinksTold.{ends_there, link_news, pay_links, sends_near, sends_still}
 use Rattle.convergence_laws.proofs.InstalledTables.{delivery_told}
 use Rattle.convergence_laws.proofs.SpreadAdverts.{HasNews, HaveNews, IsDelivered, IsGiven, IsHad, IsStill, as_new_itself, as_new_through, delivered_news, given_grows, news_on, sends_tell, stills_news}
-use Rattle.convergence_laws.proofs.ListElements.{IsIn, in_either, in_filter, in_map, in_range, in_right}
+use Rattle.convergence_laws.proofs.PlainItems.{IsIn, in_either, in_filter, in_map, in_range, in_right}
 use Rattle.convergence_laws.proofs.MessageCourses.{IsInOrder, caused_traced, delivered_grows, next_grows, pieces_in_order}
 use Rattle.convergence_laws.proofs.AdvertNews.{Spread, Still, control_is_still, control_still, crash_spread, link_spread, owed_as, restart_spread, row_near, still_spread, work_is_still, work_still}
 
@@ -61,31 +59,20 @@ unowed : {since : ℕ} (setting : Setting) (here : List Item) (number : ℕ) (jo
     → ((s : ℕ) (advert : Advert) → body_to_switch here s number ≡ Some (Advertise advert) → ⊥)
     → HaveNews setting since (λ s neighbour advert. IsDelivered here number s advert) journal
     → Spread setting since journal
-unowed setting here number journal none have =
-    owed_as setting (λ s neighbour advert. IsDelivered here number s advert)
-    (λ s neighbour advert. ⊥) journal (λ s neighbour advert owed. none s advert owed.said) have
+unowed setting here number journal none have = owed_as setting _ (λ s neighbour advert. ⊥) journal
+    (λ s neighbour advert owed. none s advert owed.said) have
 
 -- what isn't news to a switch it held as new
 held_as_new : (setting : Setting) (before : List Item) (s : ℕ) (a : Advert) → a.origin < 64
     → is_news (adverts_known setting before s) a ≡ false
     → (c : Advert) × (advert_known setting before s a.origin ≡ Some c) × IsFalse (is_newer a c)
 unfolding is_news
-held_as_new setting before s a small none =
-    by_held (held_advert (adverts_known setting before s) a.origin) refl none
-  where
-    by_held : (o : Option Advert) → held_advert (adverts_known setting before s) a.origin ≡ o
-        → (nat_lt a.origin 64 && option_map_or (is_newer a) o true) ≡ false
-        → (c : Advert) × (advert_known setting before s a.origin ≡ Some c) × IsFalse (is_newer a c)
-    by_held None e none =
-        let below : nat_lt a.origin 64 ≡ true = grind (arith, nat_tests) in
-        let clash : true ≡ false = sym (ap (λ b. b && true) below) ∙ none in absurd cc
-    by_held (Some c) e none = let below : nat_lt a.origin 64 ≡ true = grind (arith, nat_tests) in
-        (c, e, sym (ap (λ b. b && is_newer a c) below) ∙ none)
+held_as_new setting before s a small none = search (rules, nat_tests)
 
 -- an advert is passed on where it is news, and had been had as new where it isn't
 advert_spread : {since : ℕ} (setting : Setting) (before : List Item) (row number : ℕ)
-    (step : Step) (t : ℕ) (advert : Advert) → IsNet setting.net → let here = before ++ item.Row row step ∷ [] in
-    let now = here ++ item.Delivered number ∷ [] in
+    (step : Step) (t : ℕ) (advert : Advert) → IsNet setting.net → let here = before ++ Item.Row row step ∷ [] in
+    let now = here ++ Item.Delivered number ∷ [] in
     since ≤ next_message now → body_to_switch here t number ≡ Some (Advertise advert)
     → ((s : ℕ) (a : Advert) → body_to_switch here s number ≡ Some (Advertise a)
     → (s ≡ t) × (a ≡ advert)) → Spread setting since here
@@ -96,10 +83,10 @@ advert_spread {since = since} setting before row number step t advert net late s
     have = by_news (is_news_to setting before t advert) refl
   where
     here : List Item
-    here = before ++ item.Row row step ∷ []
+    here = before ++ Item.Row row step ∷ []
 
     now : List Item
-    now = here ++ item.Delivered number ∷ []
+    now = here ++ Item.Delivered number ∷ []
 
     messages : List Message
     messages = passed_on setting now t advert
@@ -137,21 +124,21 @@ advert_spread {since = since} setting before row number step t advert net late s
         let near_here : IsTrue (has (near setting here t) neighbour) =
         subst (λ u. IsTrue (has (near setting here u) neighbour)) is.0
         (subst (λ mask. IsTrue (has mask neighbour))
-        ((links_keep setting here (item.Delivered number ∷ []) (refl, tt)).near s) linked) in
+        ((links_keep setting here (Item.Delivered number ∷ []) (refl, tt)).near s) linked) in
         by_has a best.0 (record { origin = given.of; new = best.2 })
         (spread.each t neighbour best.0 near_here (inr (record {
           other = λ same. apart (sym given.of ∙ same);
           small = omega (arith, given.of, owed.small);
-          given = given_grows setting before here t best.0 (up_more before (item.Row row step) t)
-              (boot_more before (item.Row row step) t)
-              (λ body is. rw (heard_more before (item.Row row step) t) is) given.given;
+          given = given_grows setting before here t best.0 (up_more before (Item.Row row step) t)
+              (boot_more before (Item.Row row step) t)
+              (λ body is. rw (heard_more before (Item.Row row step) t) is) given.given;
         })) (λ same. elsewhere (sym given.of ∙ same)))
       where
         by_has : (a c : Advert) → IsAsNew c a → ⊥ ⊎ HasNews setting since here neighbour c
             → HasNews setting since now neighbour a
         by_has a c as_new (inl none) = absurd none
         by_has a c as_new (inr has) =
-            let next : Item = item.Delivered number in
+            let next : Item = Item.Delivered number in
             let later = news_on setting here next neighbour c (up_more here next neighbour)
             (boot_more here next neighbour) (delivered_grows here number neighbour) has in record {
               advert = later.advert;
@@ -181,8 +168,8 @@ advert_spread {since = since} setting before row number step t advert net late s
 
 -- a switch that opens has new links
 open_spread : {since : ℕ} (setting : Setting) (before : List Item) (row number : ℕ)
-    (step : Step) (t boot version : ℕ) → IsNet setting.net → let here = before ++ item.Row row step ∷ [] in
-    let now = here ++ item.Delivered number ∷ [] in
+    (step : Step) (t boot version : ℕ) → IsNet setting.net → let here = before ++ Item.Row row step ∷ [] in
+    let now = here ++ Item.Delivered number ∷ [] in
     since ≤ next_message now
     → Has setting now (switch_items setting before t (OpenAt boot version) now) → IsKnown now
     → Spread setting since now
@@ -192,16 +179,16 @@ open_spread {since = since} setting before row number step t boot version net la
     by_serving (serves before t)
   where
     here : List Item
-    here = before ++ item.Row row step ∷ []
+    here = before ++ Item.Row row step ∷ []
 
     now : List Item
-    now = here ++ item.Delivered number ∷ []
+    now = here ++ Item.Delivered number ∷ []
 
     next : Item
-    next = item.Opened t (stamp_of now t)
+    next = Item.Opened t (stamp_of now t)
 
     near_now : (s : ℕ) → near setting now s ≡ near setting before s
-    near_now s = near_stays setting s here (item.Delivered number ∷ []) (refl, tt)
+    near_now s = near_stays setting s here (Item.Delivered number ∷ []) (refl, tt)
         ∙ row_near setting before row step s
 
     by_serving : (b : Bool) → Has setting now (elim b [
@@ -230,8 +217,8 @@ other_still setting before s body now none = switch_cases (Still now) setting be
 -- what is said to a switch
 said_spread : {since : ℕ} (setting : Setting) (before : List Item) (row number : ℕ)
     (step : Step) (t : ℕ) (body : Body) → IsNet setting.net
-    → let here = before ++ item.Row row step ∷ [] in
-    let now = here ++ item.Delivered number ∷ [] in
+    → let here = before ++ Item.Row row step ∷ [] in
+    let now = here ++ Item.Delivered number ∷ [] in
     since ≤ next_message now → body_to_switch here t number ≡ Some body
     → ((s : ℕ) (other : Body) → body_to_switch here s number ≡ Some other → (s ≡ t)
     × (other ≡ body))
@@ -241,21 +228,18 @@ said_spread : {since : ℕ} (setting : Setting) (before : List Item) (row number
     → Spread setting since (now ++ switch_items setting before t body now)
 said_spread setting before row number step t (Advertise advert) net late said alone causes known
     spread have = advert_spread setting before row number step t advert net late said
-    (λ s a told. let is = alone s (Advertise a) told in (is.0, same_advert a advert is.1)) spread
-    have
+    (λ s a told. let is = alone s (Advertise a) told in (is.0, same_advert a _ is.1)) spread have
   where
     same_advert : (a b : Advert) → Advertise a ≡ Advertise b → a ≡ b
     same_advert a b same = cc
 said_spread setting before row number step t (OpenAt boot version) net late said alone causes known
     spread have = open_spread setting before row number step t boot version net late causes known
-    (unowed setting (before ++ item.Row row step ∷ []) number _
-    (λ s a told. absurd (apart a (alone s (Advertise a) told).1)) have)
+    (unowed setting _ number _ (λ s a told. absurd (apart a (alone s (Advertise a) told).1)) have)
   where
     apart : (a : Advert) → Advertise a ≡ OpenAt boot version → ⊥
     apart a same = absurd cc
 said_spread setting before row number step t body net late said alone causes known spread have =
-    still_spread setting _ _ (other_still setting before t body _ (λ boot version same. absurd cc))
-    (unowed setting (before ++ item.Row row step ∷ []) number _
+    still_spread _ _ _ (other_still _ _ t body _ (λ boot version same. absurd cc)) (unowed _ _ _ _
     (λ s a told. let same : Advertise a ≡ body = (alone s (Advertise a) told).1 in absurd cc) have)
 
 -- ---- deliveries that say nothing to a switch
@@ -263,17 +247,14 @@ said_spread setting before row number step t body net late said alone causes kno
 unsent_items : (setting : Setting) (before : List Item) (number : ℕ) (now : List Item)
     → message_of before number ≡ None → delivery_items setting before number now ≡ []
 unfolding delivery_items
-unsent_items setting before number now none = ap (λ o. elim o [
-  | None ↦ []
-  | Some message ↦ received_items setting before number message now
-]) none
+unsent_items setting before number now none = search rules
 
 abbrev receiver_or : Place → ℕ
-receiver_or (receiver.Switch s) = s
-receiver_or receiver.Controller = 0
+receiver_or (Place.Switch s) = s
+receiver_or Place.Controller = 0
 
 deliver_spread : {since : ℕ} (setting : Setting) (before : List Item) (row number : ℕ) (step : Step)
-    → IsNet setting.net → let here = before ++ item.Row row step ∷ [] in
+    → IsNet setting.net → let here = before ++ Item.Row row step ∷ [] in
     since ≤ next_message here → IsKnown here → Spread setting since here
     → Spread setting since (here ++ deliver_items setting before number here)
 deliver_spread {since = since} setting before row number step net late known spread =
@@ -281,10 +262,10 @@ deliver_spread {since = since} setting before row number step net late known spr
     (still_spread setting here nothing (tt, tt) spread) (by_message (message_of before number) refl)
   where
     here : List Item
-    here = before ++ item.Row row step ∷ []
+    here = before ++ Item.Row row step ∷ []
 
     now : List Item
-    now = here ++ item.Delivered number ∷ []
+    now = here ++ Item.Delivered number ∷ []
 
     have : HaveNews setting since (λ s neighbour a. IsDelivered here number s a) now
     have = delivered_news setting here number spread
@@ -292,8 +273,7 @@ deliver_spread {since = since} setting before row number step net late known spr
     -- what is said was sent to the switch
     sent_of : (s : ℕ) (body : Body) → body_to_switch here s number ≡ Some body
         → message_of before number ≡ Some (to_switch s body)
-    sent_of s body said = (said_parts before s number body
-        (sym (said_row before row s number step) ∙ said)).sent
+    sent_of s body said = (said_parts _ s _ body (sym (said_row _ row s number step) ∙ said)).sent
 
     -- where nothing is said to a switch the rest is still
     silent : Still now (delivery_items setting before number now)
@@ -314,13 +294,12 @@ deliver_spread {since = since} setting before row number step net late known spr
     by_receiver : (to : Place) (body : Body)
         → message_of before number ≡ Some (record { to = to; body = body })
         → Spread setting since (now ++ delivery_items setting before number now)
-    by_receiver receiver.Controller body e =
-        silent (rw (delivery_told setting before number body now e)
+    by_receiver Place.Controller body e = silent (rw (delivery_told _ before number body now e)
         (control_still now _ (controller_control setting before body now)))
         (λ s other said. let clash : false ≡ true = ap (λ (o : Option Message). option_map_or
         (λ m. is_to_controller m.to) o false) (sym (sent_of s other said) ∙ e) in
         absurd cc)
-    by_receiver (receiver.Switch t) body e = by_said (body_to_switch here t number) refl where
+    by_receiver (Place.Switch t) body e = by_said (body_to_switch here t number) refl where
       by_said : (o : Option Body) → body_to_switch here t number ≡ o
           → Spread setting since (now ++ delivery_items setting before number now)
       by_said None f = silent (rw (nothing_said f) tt) (λ s other said.
@@ -331,13 +310,12 @@ deliver_spread {since = since} setting before row number step net late known spr
         where
           nothing_said : body_to_switch here t number ≡ None
               → delivery_items setting before number now ≡ []
-          nothing_said f = sent_items setting before number t body now e None
-              (sym (said_row before row t number step) ∙ f)
+          nothing_said f = sent_items _ _ _ t body now e None (sym (said_row _ row t _ step) ∙ f)
       by_said (Some told) f = rw (delivery_is setting before number now t told
           (sym (said_row before row t number step) ∙ f)) (said_spread setting before row number step
-          t told net (omega (arith, late, next_grows here (item.Delivered number ∷ []))) f
+          t told net (omega (arith, late, next_grows here (Item.Delivered number ∷ []))) f
           (to_switch_alone t told f) (said_have setting before here t number told f)
-          (known_kept setting here (item.Delivered number) tt known) spread have)
+          (known_kept setting here (Item.Delivered number) tt known) spread have)
 
     by_message : (o : Option Message) → message_of before number ≡ o
         → Spread setting since (now ++ delivery_items setting before number now)
@@ -348,22 +326,18 @@ deliver_spread {since = since} setting before row number step net late known spr
 -- ---- steps
 
 step_spread : {since : ℕ} (setting : Setting) (before : List Item) (row : ℕ) (step : Step) → IsNet setting.net
-    → let here = before ++ item.Row row step ∷ [] in
+    → let here = before ++ Item.Row row step ∷ [] in
     since ≤ next_message here → IsKnown here → Spread setting since here
     → Spread setting since (here ++ step_items setting before step here)
 step_spread setting before row (Packet s header) net = λ late known have. still_spread setting _ _
     (packet_works setting IsStill (work_is_still setting) (next_packet before) s header _ tt) have
-step_spread setting before row (Deliver number) net =
-    deliver_spread setting before row number (Deliver number) net
+step_spread setting before row (Deliver number) net = deliver_spread setting before row number _ net
 step_spread setting before row (Update file) net = λ late known have. still_spread setting _ _
     (update_has IsStill control_is_still setting file _ (λ version. tt)) have
-step_spread setting before row (LinkDown one two) net =
-    link_spread setting before row (LinkDown one two) one two false net
-step_spread setting before row (LinkUp one two) net =
-    link_spread setting before row (LinkUp one two) one two true net
+step_spread setting before row (LinkDown one two) net = link_spread _ before row _ one two false net
+step_spread setting before row (LinkUp one two) net = link_spread _ before row _ one two true net
 step_spread setting before row (Crash s) net = crash_spread setting before row (Crash s) s net
-step_spread setting before row (Restart s) net =
-    λ late. restart_spread setting before row (Restart s) s
+step_spread setting before row (Restart s) net = λ late. restart_spread setting before row _ s
 step_spread setting before row (Confirm s) net = λ late known have.
     still_spread setting _ _ (control_still _ _ (confirm_control setting s _)) have
 step_spread setting before row (Resend s) net = λ late known have.
@@ -375,7 +349,7 @@ piece_spread : {since : ℕ} (setting : Setting) (before : List Item) (row : ℕ
     → IsNet setting.net → since ≤ next_message before → IsKnown before → Spread setting since before
     → Spread setting since (before ++ piece setting before row step)
 piece_spread {since = since} setting before row step net late known have =
-    let next : Item = item.Row row step in
+    let next : Item = Item.Row row step in
     behind_piece setting before row step (Spread setting since)
     (step_spread setting before row step net (omega (arith, next_grows)) (known_kept setting before
     next tt known) (still_spread setting before (next ∷ []) (tt, tt) have))
@@ -400,14 +374,7 @@ begun_first setting s = rw (start_laws.up s, start_laws.boot s) refl
 has_first : (setting : Setting) (s neighbour : ℕ) → s < length setting.net.switches → s < 64
     → held_advert (adverts_begun setting [] neighbour) s ≡ Some (own_advert setting [] s)
 has_first setting s neighbour there small =
-    let near : List ℕ = map (links_of setting.net.links) (switches_of setting) in
-    let below : nat_lt s (length setting.net.switches) ≡ true = grind (arith, nat_tests) in
-    ap (λ adverts. held_advert adverts s) (begun_first setting neighbour)
-    ∙ held-first near (length setting.net.switches) s small
-    ∙ ap (λ b. if b then Some (first_advert s (slice_index near s)) else None) below
-    ∙ ap (λ up. Some (first_advert s up)) (get_or-map-range_with_len (links_of setting.net.links) 0
-    (length setting.net.switches) s s 0 there (omega arith))
-    ∙ ap Some (sym (start_laws.advert setting s))
+    search (rules, nat_tests, begun_first, held-first, get_or-map-range_with_len, start_laws)
 
 first_spread : {since : ℕ} (setting : Setting) → IsNet setting.net → Spread setting since []
 first_spread {since = since} setting net = record {

@@ -1,10 +1,9 @@
 -- At the end of each step what a switch has each neighbour has as new, or was sent.
-use Rattle.std.proofs.Common.{[], ◌&&◌, ◌++◌, ◌+◌, ◌==◌, ◌∙◌, ◌∷◌, ◌≡◌, ◌≤◌, ◌⊎◌, Bool, IsFalse, IsTrue, List, ap, append_assoc, arith, eq-eqb, eqb-true, false, inl, inr, map, max, min, not, refl, subst, sym, true, unwrap_or, ℕ}
+use Rattle.std.proofs.Common.{[], ◌&&◌, ◌++◌, ◌+◌, ◌==◌, ◌∙◌, ◌∷◌, ◌≡◌, ◌≤◌, ◌⊎◌, Bool, IsFalse, IsTrue, List, ap, append_assoc, arith, eq-eqb, eqb-true, false, inl, inr, map, max, min, not, refl, subst, sym, true, ℕ, rules}
 use Rattle.base.proofs.Exports.{beq}
-use Rattle.update_machine.specs.Exports.{Advert, HaveCauses, Item, LinksKeep, Setting, Step, boot_of, concerns_links, crash_items, gives_link, has_changed, heard, hello_of, is_link_up, is_up, items_then, link_changes, link_items, near, next_message, nothing, own_advert, packets_at, restart_items, serves}
+use Rattle.update_machine.specs.Exports.{Advert, HaveCauses, Item, LinksKeep, Setting, Step, boot_of, crash_items, has_changed, heard, hello_of, is_link_up, is_up, items_then, link_changes, link_items, near, next_message, nothing, own_advert, packets_at, restart_items, serves}
 use Rattle.base.specs.Exports.{has}
 use Rattle.net_file.specs.Exports.{IsNet}
-use Rattle.journal.specs.declared.item.Item.TheVariants as item
 use Rattle.update_machine.proofs.Exports.{last_given_append, links_keep, near_same, near_stays}
 use Rattle.control_laws.proofs.Exports.{Control, IsControl, IsKnown, IsWork, Work, boot_more, have_weaker, heard_more, losts_have, losts_keep, restart_cases, row_first, serving_more, up_more}
 use Rattle.convergence_laws.proofs.ChangedLinksTold.{IsOwed, link_news, pay_links, sends_still}
@@ -20,32 +19,20 @@ Spread setting since journal = HaveNews setting since (λ s neighbour advert. �
 
 pub still_spread : {since : ℕ} (setting : Setting) (journal items : List Item) → Still journal items
     → Spread setting since journal → Spread setting since (journal ++ items)
-still_spread setting journal items still have =
-    stills_news setting (λ s neighbour advert. ⊥) journal items still have
+still_spread setting journal items still have = stills_news setting _ journal items still have
 
 -- ---- blocks
 
 pub work_is_still : (setting : Setting) (before : List Item) (next : Item)
     → IsWork setting before next → IsStill before next
-work_is_still setting before (item.Delivered number) is = absurd is
-work_is_still setting before (item.Down s) is = absurd is
-work_is_still setting before (item.Booted s boot) is = absurd is
-work_is_still setting before (item.Opened s version) is = absurd is
-work_is_still setting before (item.LinkIs one two up) is = absurd is
-work_is_still setting before _ is = tt
+work_is_still setting before next is = search rules
 
 pub work_still : (setting : Setting) (journal items : List Item) → Work setting journal items
     → Still journal items
-work_still setting journal items work =
-    have_weaker (IsWork setting) IsStill (work_is_still setting) journal items work
+work_still setting journal items work = have_weaker _ _ (work_is_still setting) journal items work
 
 pub control_is_still : (before : List Item) (next : Item) → IsControl before next → IsStill before next
-control_is_still before (item.Delivered number) is = absurd is
-control_is_still before (item.Down s) is = absurd is
-control_is_still before (item.Booted s boot) is = absurd is
-control_is_still before (item.Opened s version) is = absurd is
-control_is_still before (item.LinkIs one two up) is = absurd is
-control_is_still before _ is = tt
+control_is_still before next is = search rules
 
 pub control_still : (journal items : List Item) → Control journal items → Still journal items
 control_still = have_weaker IsControl IsStill control_is_still
@@ -53,12 +40,12 @@ control_still = have_weaker IsControl IsStill control_is_still
 -- ---- links and switches
 
 pub row_near : (setting : Setting) (before : List Item) (row : ℕ) (step : Step) (s : ℕ)
-    → near setting (before ++ item.Row row step ∷ []) s ≡ near setting before s
-row_near setting before row step s = near_stays setting s before (item.Row row step ∷ []) (refl, tt)
+    → near setting (before ++ Item.Row row step ∷ []) s ≡ near setting before s
+row_near setting before row step s = near_stays setting s before (Item.Row row step ∷ []) (refl, tt)
 
 pub link_spread : {since : ℕ} (setting : Setting) (before : List Item) (row : ℕ) (step : Step)
     (one two : ℕ) (up : Bool) → IsNet setting.net
-    → let here = before ++ item.Row row step ∷ [] in
+    → let here = before ++ Item.Row row step ∷ [] in
     since ≤ next_message here → IsKnown here → Spread setting since here
     → Spread setting since (here ++ link_items setting before one two up here)
 unfolding link_items
@@ -66,10 +53,10 @@ link_spread {since = since} setting before row step one two up net late known ha
     by_test (beq (is_link_up before one two) up)
   where
     here : List Item
-    here = before ++ item.Row row step ∷ []
+    here = before ++ Item.Row row step ∷ []
 
     next : Item
-    next = item.LinkIs (min one two) (max one two) up
+    next = Item.LinkIs (min one two) (max one two) up
 
     now : List Item
     now = here ++ next ∷ []
@@ -87,7 +74,7 @@ link_spread {since = since} setting before row step one two up net late known ha
 -- what is owed is so behind the packets that are lost too
 owed_later : (setting : Setting) (before now : List Item) (packets : List ℕ) (s neighbour : ℕ)
     (advert : Advert) → IsOwed setting before now s neighbour advert
-    → IsOwed setting before (now ++ map item.Lost packets) s neighbour advert
+    → IsOwed setting before (now ++ map Item.Lost packets) s neighbour advert
 owed_later setting before now packets s neighbour advert owed = record {
   changed = by_changed (is_up now s) (near setting now s) owed.changed up (keeps.near s);
   told = subst (λ n. 1 ≤ n) (sym (keeps.seq s)) owed.told;
@@ -95,24 +82,20 @@ owed_later setting before now packets s neighbour advert owed = record {
   which = by_which owed.which;
 } where
   after : List Item
-  after = now ++ map item.Lost packets
+  after = now ++ map Item.Lost packets
 
   keeps : LinksKeep setting now after
-  keeps = links_keep setting now (map item.Lost packets)
-      (losts_have (λ before next. IsFalse (concerns_links before next)) (λ before i. refl) packets
-      now)
+  keeps = links_keep setting now (map Item.Lost packets)
+      (losts_have _ (λ before i. refl) packets now)
 
   up : is_up after s ≡ is_up now s
-  up = losts_keep (λ journal. is_up journal s) (λ journal i. up_more journal (item.Lost i) s)
-      packets now
+  up = losts_keep _ (λ journal i. up_more journal (Item.Lost i) s) packets now
 
   boot : boot_of after s ≡ boot_of now s
-  boot = losts_keep (λ journal. boot_of journal s)
-      (λ journal i. boot_more journal (item.Lost i) s) packets now
+  boot = losts_keep _ (λ journal i. boot_more journal (Item.Lost i) s) packets now
 
   same : heard after s ≡ heard now s
-  same = losts_keep (λ journal. heard journal s) (λ journal i. heard_more journal (item.Lost i) s)
-      packets now
+  same = losts_keep _ (λ journal i. heard_more journal (Item.Lost i) s) packets now
 
   by_changed : (up : Bool) (mask : ℕ) → (up && not (near setting before s == mask)) ≡ true
       → is_up after s ≡ up → near setting after s ≡ mask
@@ -137,32 +120,26 @@ pub owed_as : {since : ℕ} (setting : Setting) (One Other : ℕ → ℕ → Adv
     (journal : List Item)
     → ((s neighbour : ℕ) (advert : Advert) → One s neighbour advert → Other s neighbour advert)
     → HaveNews setting since One journal → HaveNews setting since Other journal
-owed_as setting One Other journal as_other have = record {
-  each = λ s neighbour advert linked had other.
-      elim (have.each s neighbour advert linked had other) [
-        | inl owed ↦ inl (as_other s neighbour advert owed)
-        | inr has ↦ inr has
-      ];
-}
+owed_as setting One Other journal as_other have = search rules
 
 pub crash_spread : {since : ℕ} (setting : Setting) (before : List Item) (row : ℕ) (step : Step)
-    (s : ℕ) → IsNet setting.net → let here = before ++ item.Row row step ∷ [] in
+    (s : ℕ) → IsNet setting.net → let here = before ++ Item.Row row step ∷ [] in
     since ≤ next_message here → IsKnown here → Spread setting since here
     → Spread setting since (here ++ crash_items setting before s here)
 unfolding crash_items
 crash_spread {since = since} setting before row step s net late known have = by_up (is_up before s) refl
   where
     here : List Item
-    here = before ++ item.Row row step ∷ []
+    here = before ++ Item.Row row step ∷ []
 
     next : Item
-    next = item.Down s
+    next = Item.Down s
 
     packets : List ℕ
     packets = packets_at before s
 
     losts : List Item
-    losts = map item.Lost packets
+    losts = map Item.Lost packets
 
     now : List Item
     now = here ++ next ∷ []
@@ -177,7 +154,7 @@ crash_spread {since = since} setting before row step s net late known have = by_
         (now ++ losts) (owed_later setting before now packets) (stills_news setting
         (IsOwed setting before now) now losts (losts_have IsStill (λ journal i. tt) packets now)
         (link_news setting before here next (row_near setting before row step) (record {
-          first = up_more before (item.Row row step) s ∙ up;
+          first = up_more before (Item.Row row step) s ∙ up;
           second = row_first before row step;
         }) refl known have)))
 
@@ -193,14 +170,13 @@ crash_spread {since = since} setting before row step s net late known have = by_
         (next ∷ losts) (link_changes setting before (here ++ (next ∷ losts)))) (rw same at (down e))
 
 booted_link : (here : List Item) (s boot one other : ℕ)
-    → is_link_up (here ++ item.Booted s boot ∷ []) one other ≡ is_link_up here one other
+    → is_link_up (here ++ Item.Booted s boot ∷ []) one other ≡ is_link_up here one other
 unfolding is_link_up
-booted_link here s boot one other = ap (λ o. unwrap_or o true)
-    (last_given_append (gives_link (min one other) (max one other)) here (item.Booted s boot ∷ []))
+booted_link here s boot one other = search (rules, last_given_append)
 
 -- a switch that began a boot has no links yet, and had none
 pub restart_spread : {since : ℕ} (setting : Setting) (before : List Item) (row : ℕ)
-    (step : Step) (s : ℕ) → let here = before ++ item.Row row step ∷ [] in
+    (step : Step) (s : ℕ) → let here = before ++ Item.Row row step ∷ [] in
     IsKnown here → Spread setting since here
     → Spread setting since (here ++ restart_items s here)
 restart_spread {since = since} setting before row step s known have =
@@ -208,10 +184,10 @@ restart_spread {since = since} setting before row step s known have =
     (λ down. still_spread setting now _ (sends_still now (hello_of now s ∷ [])) (booted down))
   where
     here : List Item
-    here = before ++ item.Row row step ∷ []
+    here = before ++ Item.Row row step ∷ []
 
     next : Item
-    next = item.Booted s (boot_of here s + 1)
+    next = Item.Booted s (boot_of here s + 1)
 
     now : List Item
     now = here ++ next ∷ []
@@ -231,8 +207,7 @@ restart_spread {since = since} setting before row step s known have =
 
     links_now : is_up here s ≡ false → (t : ℕ) → near setting now t ≡ near setting before t
     links_now down t = near_same setting here now (serving_same down)
-        (λ one other. booted_link here s (boot_of here s + 1) one other) t
-        ∙ row_near setting before row step t
+        (λ one other. booted_link here s _ one other) t ∙ row_near setting before row step t
 
     none : is_up here s ≡ false → (t neighbour : ℕ) (advert : Advert)
         → IsOwed setting before now t neighbour advert → ⊥
@@ -246,8 +221,7 @@ restart_spread {since = since} setting before row step s known have =
         by_changed false mask changed same = absurd cc
 
     booted : is_up here s ≡ false → Spread setting since now
-    booted down = owed_as setting (IsOwed setting before now) (λ t neighbour advert. ⊥) now
-        (none down) (link_news setting before here next (row_near setting before row step) (record {
-          first = record { down = down; next = refl };
-          second = row_first before row step;
-        }) refl known have)
+    booted down = owed_as _ _ _ now (none down) (link_news _ _ _ _ (row_near _ _ row step) (record {
+      first = record { down = down; next = refl };
+      second = row_first before row step;
+    }) refl known have)

@@ -1,21 +1,20 @@
 -- Where adverts have spread, and each switch was given what it was told, neighbours agree.
-use Rattle.std.proofs.Common.{[], ◌++◌, ◌<◌, ◌∙◌, ◌∷◌, ◌≡◌, ◌≢◌, ◌≤◌, ◌⊎◌, Bool, IsFalse, IsTrue, List, Some, ap, arith, false, inl, inr, refl, subst, sym, true, ℕ}
-use Rattle.base.proofs.Exports.{cases_eq, nat_tests}
-use Rattle.failover.specs.Exports.{is_newer}
-use Rattle.update_machine.specs.Exports.{Advert, HaveCauses, Item, Setting, advert_known, boot_of, is_up, near, own_advert, own_seq, serves}
-use Rattle.base.specs.Exports.{has}
+use Rattle.std.proofs.Common.{[], ◌++◌, ◌<◌, ◌∙◌, ◌∷◌, ◌≡◌, ◌≢◌, ◌≤◌, ◌⊎◌, IsFalse, IsTrue, List, None, Some, ap, arith, false, inl, inr, not, refl, subst, sym, true, ℕ, rules}
+use Rattle.base.proofs.Exports.{All-from_recursion, cases_eq, nat_tests}
+use Rattle.failover.specs.Exports.{first_advert, has_link, is_newer, no_links, with_link}
+use Rattle.update_machine.specs.Exports.{Advert, HaveCauses, Hello, Item, Setting, advert_known, boot_of, current_mark, is_deliverable, is_forgotten, is_link_up, is_up, message_of, near, next_waiting, own_advert, own_seq, serves, version_count, was_delivered}
+use Rattle.base.specs.Exports.{has, mask_of, mask_where, switches}
 use Rattle.net_file.specs.Exports.{IsNet}
-use Rattle.journal.specs.declared.item.Item.TheVariants as item
 use Rattle.steps.specs.Exports.{HasSwitch}
-use Rattle.update_machine.proofs.Exports.{known_link_laws, start_laws}
+use Rattle.update_machine.proofs.Exports.{known_link_laws, open_net, ring, start_laws}
 use Rattle.control_laws.proofs.Exports.{AreKept, HasBothCauses, IsKnown, boot_more, ends_serve, fact_on, known_at_first, known_kept, own_on, own_origin, own_told, same_near, same_seq, turns}
 use Rattle.control_laws.specs.Exports.{OwnAreNewest}
-use Rattle.convergence_laws.specs.Exports.{HoldsAsNew, IsAsNew, NeighboursAgree}
-use Rattle.convergence_laws.proofs.ChangedLinksTold.{AreEnds, ends_there, newest_held, own_held, serving_turns}
+use Rattle.convergence_laws.specs.Exports.{AreUnusable, HoldsAsNew, IsAsNew, IsFinished, IsUpdated, LeadsOver, NeighboursAgree, Reaches}
+use Rattle.convergence_laws.proofs.ChangedLinksTold.{AreEnds, ends_there, near_both, newest_held, own_held, serving_turns}
 use Rattle.convergence_laws.proofs.AdvertFloods.{known_given}
 use Rattle.convergence_laws.proofs.SpreadAdverts.{HasNews, IsGiven, IsHad, IsToldTo, as_new_itself, as_new_through}
-use Rattle.convergence_laws.proofs.UsableNeighbours.{near_both}
 use Rattle.convergence_laws.proofs.AdvertNews.{Spread}
+use Rattle.ctrl_msg.specs.Exports.{to_controller}
 
 -- ---- a switch that has a link told its own advert
 
@@ -25,16 +24,11 @@ pub record TellsOwn (setting : Setting) (journal : List Item) : Type 0 where
 
 boot_stays : (before : List Item) (next : Item) (s : ℕ) → turns s next ≡ false
     → boot_of (before ++ next ∷ []) s ≡ boot_of before s
-boot_stays before (item.Booted t boot) s e = rw (boot_more before (item.Booted t boot) s, e) refl
-boot_stays before next s e = boot_more before next s
+boot_stays before next s e = search (rules, boot_more)
 
 serving_boot : (before : List Item) (next : Item) (s : ℕ)
     → serves (before ++ next ∷ []) s ≡ true → boot_of (before ++ next ∷ []) s ≡ boot_of before s
-serving_boot before next s serving = by_turn (turns s next) refl where
-  by_turn : (b : Bool) → turns s next ≡ b → boot_of (before ++ next ∷ []) s ≡ boot_of before s
-  by_turn true e =
-      let clash : true ≡ false = sym serving ∙ serving_turns before next s e in absurd cc
-  by_turn false e = boot_stays before next s e
+serving_boot before next s serving = search (rules, serving_turns, boot_stays)
 
 tells_kept : (setting : Setting) → AreKept (HasBothCauses setting) (TellsOwn setting)
 tells_kept setting before next both are = record { known = known_now; tells = tells } where
@@ -46,8 +40,7 @@ tells_kept setting before next both are = record { known = known_now; tells = te
 
   tells : (s k : ℕ) → IsTrue (has (near setting now s) k) → 1 ≤ own_seq setting now s
   tells s k linked = let serving = (ends_serve setting now s k linked).0 in
-      elim (own_on setting before next s both ((known_now.serving s).up serving)
-      (serving_boot before next s serving)) [
+      elim (own_on _ _ _ s both ((known_now.serving s).up serving) (serving_boot _ _ s serving)) [
         | inl same ↦ omega (
           arith,
           same_seq setting now before s same,
@@ -58,19 +51,15 @@ tells_kept setting before next both are = record { known = known_now; tells = te
 
 pub caused_tells : (setting : Setting) (journal : List Item)
     → HaveCauses (HasBothCauses setting) [] journal → TellsOwn setting journal
-caused_tells setting journal have = fact_on (HasBothCauses setting) (TellsOwn setting)
-    (tells_kept setting) [] journal have (record {
-      known = known_at_first;
-      tells = λ s k linked. omega (arith, start_laws.seq setting s);
-    })
+caused_tells setting journal have = fact_on _ _ (tells_kept setting) [] journal have (record {
+  known = known_at_first;
+  tells = λ s k linked. omega (arith, start_laws.seq setting s);
+})
 
 -- ---- what a neighbour holds, or was told
 
 older_own : (own a : Advert) → (a ≡ own) ⊎ IsTrue (is_newer own a) → IsFalse (is_newer a own)
-older_own own a (inl same) = rw same (as_new_itself own).new
-older_own own a (inr newer) = less own a newer where
-  less : (x z : Advert) → is_newer x z ≡ true → is_newer z x ≡ false
-  less x z more = grind (arith, nat_tests)
+older_own own a h2 = search (rules, nat_tests, as_new_itself)
 
 -- of what it was given it holds what is as new
 given_held : (setting : Setting) (journal : List Item) (s : ℕ) (b a : Advert) → a.origin ≢ s
@@ -142,24 +131,21 @@ spread_cases {since = since} setting journal are s neighbour origin a linked sma
               ∙ own_held setting journal neighbour fits (are.tells.tells neighbour s back);
           as_new = record {
             origin = own_origin setting journal neighbour ∙ sym same;
-            new = older_own (own_advert setting journal neighbour) a
-                (subst (λ o. (a ≡ own_advert setting journal o)
+            new = older_own _ a (subst (λ o. (a ≡ own_advert setting journal o)
                 ⊎ IsTrue (is_newer (own_advert setting journal o) a)) same ((are.newest.held s
                 origin a small known).own (subst (λ o. IsTrue (is_up journal o)) (sym same) up)));
           };
         }
 
     a_small : IsHad setting journal s a → a.origin < 64
-    a_small (inl own) =
-        omega (arith, ap (λ (b : Advert). b.origin) own ∙ own_origin setting journal s, s_small)
+    a_small (inl own) = omega (arith, ap (λ (b : Advert). b.origin) own ∙ own_origin _ _ s, s_small)
     a_small (inr of) = of.small
 
     by_had : a.origin ≢ neighbour → (news : HasNews setting since journal neighbour a)
         → IsGiven setting journal neighbour news.advert
         ⊎ IsToldTo since journal neighbour news.advert
         → HoldsAsNew setting journal neighbour a ⊎ IsToldAsNew since journal neighbour a
-    by_had apart news (inl given) =
-        inl (given_held setting journal neighbour news.advert a apart (a_small had) news.as_new given)
+    by_had apart news (inl given) = inl (given_held _ _ _ _ a apart (a_small had) news.as_new given)
     by_had apart news (inr told) = inr (record {
       advert = news.advert;
       as_new = news.as_new;
@@ -202,3 +188,68 @@ spread_agree setting journal are gets s neighbour origin a linked small known =
           given_held setting journal neighbour found.advert a of told.small
           (as_new_through found.advert told.advert a found.as_new told.as_new) found.given
     ]
+
+-- ---- News, links that can be used and finished updates, computed on networks of two and four
+-- switches
+
+-- ---- links that can be used
+
+-- in the ring a reaches d by b
+across_the_ring : Reaches ring [] 0 3
+unfolding near is_link_up serves mask_of mask_where switches has
+across_the_ring = record { rest = 1 ∷ 3 ∷ []; leads = (refl, (refl, refl)) }
+
+-- and by c where b is down
+around_b : Reaches ring (Item.Down 1 ∷ []) 0 3
+unfolding near is_link_up serves mask_of mask_where switches has
+around_b = record { rest = 2 ∷ 3 ∷ []; leads = (refl, (refl, refl)) }
+
+not_by_b : LeadsOver ring (Item.Down 1 ∷ []) 3 0 (1 ∷ 3 ∷ []) → ⊥
+unfolding near is_link_up serves mask_of mask_where switches has
+not_by_b leads = let no : false ≡ true = leads.0 in absurd cc
+
+-- a link that can be used isn't among those that can't
+not_unusable : AreUnusable ring [] (with_link no_links 0 1) → ⊥
+unfolding near is_link_up serves mask_of mask_where switches has has_link with_link
+not_unusable all = let no : true ≡ false = all 0 1 refl in absurd cc
+
+-- ---- adverts
+
+-- an advert is as new as itself, and as an older one, but not as a newer one or another's
+itself : IsAsNew (first_advert 1 2) (first_advert 1 2)
+itself = record { origin = refl; new = refl }
+
+as_older : IsAsNew (record { origin = 1; boot = 2; seq = 1; up = 0 }) (first_advert 1 2)
+as_older = record { origin = refl; new = refl }
+
+not_as_newer : IsAsNew (first_advert 1 2) (record { origin = 1; boot = 1; seq = 2; up = 0 }) → ⊥
+not_as_newer as_new = let no : true ≡ false = as_new.new in absurd cc
+
+not_as_another : IsAsNew (first_advert 1 2) (first_advert 0 2) → ⊥
+not_as_another as_new = absurd (omega (arith, as_new.origin))
+
+-- ---- nothing is left to do
+
+finished_at_first : IsFinished open_net []
+finished_at_first = search (rules, start_laws, All-from_recursion)
+
+some_none : (n : ℕ) → Some n ≡ None → ⊥
+some_none n clash = cc
+
+not_while_one_waits : IsFinished open_net (Item.Sent 1 (to_controller (Hello 0 1)) ∷ []) → ⊥
+unfolding next_waiting is_deliverable message_of is_forgotten was_delivered
+not_while_one_waits finished = absurd (some_none 1 finished.waiting)
+
+not_where_one_is_lost : IsFinished open_net
+    (Item.Sent 1 (to_controller (Hello 0 1)) ∷ Item.Forgotten 1 ∷ []) → ⊥
+unfolding is_forgotten
+not_where_one_is_lost finished = let no : true ≡ false = finished.forgotten 1 in absurd cc
+
+-- ---- updates
+
+updated_at_first : IsUpdated open_net []
+updated_at_first = search (rules, All-from_recursion, start_laws)
+
+not_while_one_waits_for_it : IsUpdated open_net (Item.Submitted 2 2 ∷ []) → ⊥
+unfolding current_mark version_count
+not_while_one_waits_for_it is = absurd (omega (arith, is.current))

@@ -1,14 +1,12 @@
 -- At the end of each step a switch has answered what it heard in its boot, and has told the
 -- controller of that boot.
-use Rattle.std.proofs.Common.{[], if◌then◌else◌, ◌++◌, ◌+◌, ◌==◌, ◌∙◌, ◌∷◌, ◌≡◌, ◌⊎◌, Bool, IfSome, IsFalse, IsTrue, List, None, Option, Some, ap, append-nil, append_assoc, arith, eq-eqb, eqb-true, false, inl, inr, refl, subst, sym, true, unwrap_or, ℕ}
+use Rattle.std.proofs.Common.{[], if◌then◌else◌, ◌++◌, ◌+◌, ◌==◌, ◌∙◌, ◌∷◌, ◌≡◌, ◌⊎◌, Bool, IfSome, IsFalse, IsTrue, List, None, Option, Some, ap, append-nil, append_assoc, arith, eq-eqb, eqb-true, false, inl, inr, refl, subst, sym, true, unwrap_or, ℕ, rules}
 use Rattle.base.proofs.Exports.{IfSome_then, nat_tests, option_map_or}
-use Rattle.update_machine.specs.Exports.{Body, Deliver, Hello, Install, Installed, Item, OpenAt, Restart, Setting, Stamp, Stamped, Step, body_to_switch, boot_of, deliver_items, delivery_items, heard, hello_of, is_up, items_then, link_changes, message_of, nothing, piece, received_items, restart_items, send_items, serves, stamp_of, step_items, switch_items, to_switch}
+use Rattle.update_machine.specs.Exports.{Body, Deliver, Hello, Install, Installed, Item, OpenAt, Restart, Setting, Stamp, Stamped, Step, body_to_switch, boot_of, deliver_items, delivery_items, heard, hello_of, is_up, items_then, link_changes, message_of, nothing, piece, restart_items, send_items, serves, stamp_of, step_items, switch_items, to_switch}
 use Rattle.ctrl_msg.specs.Exports.{to_controller}
-use Rattle.journal.specs.declared.item.Item.TheVariants as item
 use Rattle.update_machine.proofs.Exports.{start_laws}
 use Rattle.control_laws.proofs.Exports.{AreKept, IsTraffic, behind_piece, boot_more, deliver_cases, fact_on, heard_more, is_delivered, links_traffic, restart_cases, said_parts, said_row, serving_more, up_more}
-use Rattle.convergence_laws.proofs.ListElements.{IsIn, in_either}
-use Rattle.convergence_laws.proofs.PlainItems.{IsPlain, Plain, delivery_plain, is_plain, sends_plain, step_plain}
+use Rattle.convergence_laws.proofs.PlainItems.{IsIn, IsPlain, Plain, delivery_plain, in_either, is_plain, sends_plain, step_plain}
 use Rattle.convergence_laws.proofs.MessageCourses.{IsSent, sends_all, sent_stays}
 
 -- ---- what is said
@@ -42,7 +40,7 @@ pub record HaveSpoken (journal : List Item) : Type 0 where
 -- ---- items that keep it
 
 abbrev is_booted : Item → Bool
-is_booted (item.Booted s boot) = true
+is_booted (Item.Booted s boot) = true
 is_booted _ = false
 
 -- what was heard before an item that is no delivery
@@ -62,21 +60,19 @@ was_apart before next t s body forgets same is = by_test (t == s) refl where
 
 was_in : (before : List Item) (next : Item) (s : ℕ) (body : Body) → IsFalse (is_delivered next)
     → IsIn body (heard (before ++ next ∷ []) s) → WasIn before next s body
-was_in before (item.Down t) s body plain is = was_apart before (item.Down t) t s body
-    (heard_more before (item.Down t) s) (λ e. rw (serving_more before (item.Down t) s, e) refl) is
-was_in before (item.Booted t boot) s body plain is =
-    was_apart before (item.Booted t boot) t s body (heard_more before (item.Booted t boot) s)
-    (λ e. rw (serving_more before (item.Booted t boot) s, e) refl) is
-was_in before (item.Opened t version) s body plain is = record {
-  is = rw (heard_more before (item.Opened t version) s) at is;
-  serving = λ serving.
-      rw (serving_more before (item.Opened t version) s) (by_test (t == s) serving);
+was_in before (Item.Down t) s body plain is = was_apart before (Item.Down t) t s body
+    (heard_more before (Item.Down t) s) (λ e. rw (serving_more before (Item.Down t) s, e) refl) is
+was_in before (Item.Booted t boot) s body plain is = was_apart before (Item.Booted t boot) t s body
+    (heard_more before _ s) (λ e. rw (serving_more before (Item.Booted t boot) s, e) refl) is
+was_in before (Item.Opened t version) s body plain is = record {
+  is = rw (heard_more before (Item.Opened t version) s) at is;
+  serving = λ serving. rw (serving_more before _ s) (by_test (t == s) serving);
 } where
   by_test : (b : Bool) → IsTrue (serves before s)
       → IsTrue (unwrap_or (if b then Some true else None) (serves before s))
   by_test true serving = refl
   by_test false serving = serving
-was_in before (item.Delivered number) s body plain is = absurd cc
+was_in before (Item.Delivered number) s body plain is = absurd cc
 was_in before next s body plain is = record {
   is = rw (heard_more before next s) at is;
   serving = λ serving. rw (serving_more before next s) serving;
@@ -85,9 +81,7 @@ was_in before next s body plain is = record {
 answered_stays : (before : List Item) (next : Item) (s : ℕ) (body : Body)
     → (IsTrue (serves before s) → IsTrue (serves (before ++ next ∷ []) s))
     → IsAnswered before s body → IsAnswered (before ++ next ∷ []) s body
-answered_stays before next s (OpenAt boot version) serving is = serving is
-answered_stays before next s body serving is =
-    IfSome_then (answer_of s body) is (λ answer sent. sent_stays before next (to_controller answer) sent)
+answered_stays before next s body serving is = search (rules, IfSome_then, sent_stays)
 
 answers_on : (Owed : ℕ → Body → Type 0) (before : List Item) (next : Item)
     → IsFalse (is_delivered next) → AreAnswered Owed before → AreAnswered Owed (before ++ next ∷ [])
@@ -113,64 +107,51 @@ hellos_on Owed before next plain are = record {
 } where
   boot_same : (next : Item) (s : ℕ) → IsFalse (is_booted next)
       → boot_of (before ++ next ∷ []) s ≡ boot_of before s
-  boot_same (item.Booted t boot) s plain = absurd cc
+  boot_same (Item.Booted t boot) s plain = absurd cc
   boot_same next s plain = boot_more before next s
 
   was_up : (next : Item) (s : ℕ) → IsFalse (is_booted next)
       → IsTrue (is_up (before ++ next ∷ []) s) → IsTrue (is_up before s)
-  was_up (item.Booted t boot) s plain up = absurd cc
-  was_up (item.Down t) s plain up = grind (arith, nat_tests, up_more)
+  was_up (Item.Booted t boot) s plain up = absurd cc
+  was_up (Item.Down t) s plain up = grind (arith, nat_tests, up_more)
   was_up next s plain up = rw (up_more before next s) at up
 
 plain_answers : (Owed : ℕ → Body → Type 0) → AreKept IsPlain (AreAnswered Owed)
-plain_answers Owed before (item.Delivered number) plain are = absurd plain
-plain_answers Owed before (item.Booted s boot) plain are = absurd plain
-plain_answers Owed before next plain are = answers_on Owed before next refl are
+plain_answers Owed before next plain are = search (rules, answers_on)
 
 plain_hellos : (Owed : ℕ → Type 0) → AreKept IsPlain (AreGreeted Owed)
-plain_hellos Owed before (item.Delivered number) plain are = absurd plain
-plain_hellos Owed before (item.Booted s boot) plain are = absurd plain
-plain_hellos Owed before next plain are = hellos_on Owed before next refl are
+plain_hellos Owed before next plain are = search (rules, hellos_on)
 
 answers_stay : (Owed : ℕ → Body → Type 0) (journal items : List Item) → Plain journal items
     → AreAnswered Owed journal → AreAnswered Owed (journal ++ items)
-answers_stay Owed journal items plain are =
-    fact_on IsPlain (AreAnswered Owed) (plain_answers Owed) journal items plain are
+answers_stay Owed journal items plain are = fact_on _ _ (plain_answers Owed) journal items plain are
 
 hellos_stay : (Owed : ℕ → Type 0) (journal items : List Item) → Plain journal items
     → AreGreeted Owed journal → AreGreeted Owed (journal ++ items)
-hellos_stay Owed journal items plain are =
-    fact_on IsPlain (AreGreeted Owed) (plain_hellos Owed) journal items plain are
+hellos_stay Owed journal items plain are = fact_on _ _ (plain_hellos Owed) journal items plain are
 
 spoken_stay : (journal items : List Item) → Plain journal items → HaveSpoken journal
     → HaveSpoken (journal ++ items)
-spoken_stay journal items plain spoken = record {
-  answers = answers_stay (λ s body. ⊥) journal items plain spoken.answers;
-  hellos = hellos_stay (λ s. ⊥) journal items plain spoken.hellos;
-}
+spoken_stay journal items plain spoken = search (rules, answers_stay, hellos_stay)
 
 boot_kept : (s boot : ℕ) → AreKept IsPlain (λ journal. boot_of journal s ≡ boot)
-boot_kept s boot before (item.Delivered number) plain is = absurd plain
-boot_kept s boot before (item.Booted t of) plain is = absurd plain
-boot_kept s boot before next plain is = boot_more before next s ∙ is
+boot_kept s boot before next plain is = search (rules, boot_more)
 
 boot_stays : (journal items : List Item) → Plain journal items → (s : ℕ)
     → boot_of (journal ++ items) s ≡ boot_of journal s
-boot_stays journal items plain s = fact_on IsPlain (λ now. boot_of now s ≡ boot_of journal s)
-    (boot_kept s (boot_of journal s)) journal items plain refl
+boot_stays journal items plain s = fact_on IsPlain _ (boot_kept s _) journal items plain refl
 
 -- ---- a delivery
 
 -- the delivery is owed its answers
 delivered_owed : (here : List Item) (number : ℕ) → AreAnswered (λ s body. ⊥) here
     → AreAnswered (λ s body. body_to_switch here s number ≡ Some body)
-    (here ++ item.Delivered number ∷ [])
+    (here ++ Item.Delivered number ∷ [])
 delivered_owed here number are = record {
-  each = λ s body is. by_said s body (body_to_switch here s number) refl
-      (rw (heard_more here (item.Delivered number) s) at is);
+  each = λ s body is. by_said s body _ refl (rw (heard_more here (Item.Delivered number) s) at is);
 } where
   next : Item
-  next = item.Delivered number
+  next = Item.Delivered number
 
   old : (s : ℕ) (body : Body) → IsIn body (heard here s)
       → (body_to_switch here s number ≡ Some body) ⊎ IsAnswered (here ++ next ∷ []) s body
@@ -192,10 +173,7 @@ delivered_owed here number are = record {
 -- a switch that serves does so behind such items
 serving_on : (setting : Setting) (s : ℕ)
     → AreKept (IsTraffic setting) (λ journal. IsTrue (serves journal s))
-serving_on setting s before (item.Down t) is serving = absurd is
-serving_on setting s before (item.Booted t boot) is serving = absurd is
-serving_on setting s before (item.Opened t version) is serving = absurd is
-serving_on setting s before next is serving = rw (serving_more before next s) serving
+serving_on setting s before next is serving = search (rules, serving_more)
 
 pub opens : (setting : Setting) (before : List Item) (s : ℕ) (now : List Item)
     → serves now s ≡ serves before s → (boot version : ℕ)
@@ -203,7 +181,7 @@ pub opens : (setting : Setting) (before : List Item) (s : ℕ) (now : List Item)
 unfolding switch_items
 opens setting before s now same boot version = by_serving (serves before s) refl where
   next : Item
-  next = item.Opened s (stamp_of now s)
+  next = Item.Opened s (stamp_of now s)
 
   opened : IsTrue (serves (now ++ next ∷ []) s)
   opened = rw (serving_more now next s, eq-eqb s s refl) refl
@@ -216,19 +194,15 @@ opens setting before s now same boot version = by_serving (serves before s) refl
   by_serving false e =
       rw (append_assoc now (next ∷ []) (link_changes setting before (now ++ next ∷ []))) at
       (fact_on (IsTraffic setting) (λ j. IsTrue (serves j s)) (serving_on setting s)
-      (now ++ next ∷ []) (link_changes setting before (now ++ next ∷ [])) (links_traffic setting
-      before (now ++ next ∷ [])) opened)
+      (now ++ next ∷ []) _ (links_traffic setting before (now ++ next ∷ [])) opened)
 
 switch_answers : (setting : Setting) (before : List Item) (s : ℕ) (body : Body)
     (now : List Item) → serves now s ≡ serves before s
     → IsAnswered (now ++ switch_items setting before s body now) s body
 unfolding switch_items
-switch_answers setting before s (Install boot tables) now same =
-    sends_all now (to_controller (Installed s boot tables.version) ∷ []) _ (inl refl)
-switch_answers setting before s (Stamp boot version touched) now same =
-    sends_all now (to_controller (Stamped s boot version) ∷ []) _ (inl refl)
-switch_answers setting before s (OpenAt boot version) now same =
-    opens setting before s now same boot version
+switch_answers setting before s (Install boot tables) now same = search (rules, sends_all)
+switch_answers setting before s (Stamp boot version touched) now same = search (rules, sends_all)
+switch_answers setting before s (OpenAt boot version) now same = opens _ _ s now same boot version
 switch_answers setting before s _ now same = tt
 
 -- what is sent to a switch is answered in the step, if it is said
@@ -239,11 +213,7 @@ pub sent_items : (setting : Setting) (before : List Item) (number s : ℕ) (body
       | Some told ↦ switch_items setting before s told now
     ]
 unfolding delivery_items
-sent_items setting before number s body now sent said is = ap (λ o. elim o [
-  | None ↦ []
-  | Some message ↦ received_items setting before number message now
-]) sent
-    ∙ ap (λ o. elim o [ None ↦ [] | Some told ↦ switch_items setting before s told now ]) is
+sent_items setting before number s body now sent said is = search rules
 
 pub delivery_is : (setting : Setting) (before : List Item) (number : ℕ) (now : List Item)
     (s : ℕ) (body : Body) → body_to_switch before s number ≡ Some body
@@ -256,123 +226,80 @@ delivery_answers : (setting : Setting) (before : List Item) (number : ℕ) (now 
     → serves now s ≡ serves before s
     → IsAnswered (now ++ delivery_items setting before number now) s body
 delivery_answers setting before number now s body said same =
-    rw (delivery_is setting before number now s body said)
-    (switch_answers setting before s body now same)
+    rw (delivery_is _ before number now s body said) (switch_answers setting before s body now same)
 
 deliver_spoken : (setting : Setting) (before : List Item) (row number : ℕ)
-    → let here = before ++ item.Row row (Deliver number) ∷ [] in HaveSpoken here
+    → let here = before ++ Item.Row row (Deliver number) ∷ [] in HaveSpoken here
     → HaveSpoken (here ++ deliver_items setting before number here)
-deliver_spoken setting before row number spoken = deliver_cases HaveSpoken setting before number
-    here (spoken_stay here nothing (tt, tt) spoken) (record { answers = answers; hellos = hellos })
-  where
-    here : List Item
-    here = before ++ item.Row row (Deliver number) ∷ []
-
-    now : List Item
-    now = here ++ item.Delivered number ∷ []
-
-    items : List Item
-    items = delivery_items setting before number now
-
-    answers : AreAnswered (λ s body. ⊥) (now ++ items)
-    answers = record {
+deliver_spoken setting before row number spoken =
+    let here : List Item = before ++ Item.Row row (Deliver number) ∷ [] in
+    let now : List Item = here ++ Item.Delivered number ∷ [] in
+    let items : List Item = delivery_items setting before number now in
+    let answers : AreAnswered (λ s body. ⊥) (now ++ items) = record {
       each = λ s body is. elim ((answers_stay (λ t b. body_to_switch here t number ≡ Some b) now
           items (delivery_plain setting before number now)
           (delivered_owed here number spoken.answers)).each s body is) [
             | inl owed ↦ inr (delivery_answers setting before number now s body
                 (sym (said_row before row s number (Deliver number)) ∙ owed) (serving_more here
-                (item.Delivered number) s ∙ serving_more before (item.Row row (Deliver number)) s))
+                (Item.Delivered number) s ∙ serving_more before (Item.Row row (Deliver number)) s))
             | inr answered ↦ inr answered
           ];
-    }
-
-    hellos : AreGreeted (λ s. ⊥) (now ++ items)
-    hellos = hellos_stay (λ s. ⊥) now items (delivery_plain setting before number now)
-        (hellos_on (λ s. ⊥) here (item.Delivered number) refl spoken.hellos)
+    } in
+    let hellos : AreGreeted (λ s. ⊥) (now ++ items) = hellos_stay (λ s. ⊥) now items
+    (delivery_plain setting before number now)
+    (hellos_on (λ s. ⊥) here (Item.Delivered number) refl spoken.hellos) in
+    deliver_cases HaveSpoken setting before number here (spoken_stay here nothing (tt, tt) spoken)
+    (record { answers = answers; hellos = hellos })
 
 -- ---- a restart
 
 -- a switch that began a boot heard nothing in it
 booted_answers : (here : List Item) (s boot : ℕ) → AreAnswered (λ t body. ⊥) here
-    → AreAnswered (λ t body. ⊥) (here ++ item.Booted s boot ∷ [])
-booted_answers here s boot are = answers_on (λ t body. ⊥) here (item.Booted s boot) refl are
+    → AreAnswered (λ t body. ⊥) (here ++ Item.Booted s boot ∷ [])
+booted_answers here s boot are = answers_on (λ t body. ⊥) here (Item.Booted s boot) refl are
 
 -- it owes its hello
 booted_owed : (here : List Item) (s boot : ℕ) → AreGreeted (λ t. ⊥) here
-    → AreGreeted (λ t. t ≡ s) (here ++ item.Booted s boot ∷ [])
-booted_owed here s boot are = record { each = λ t up. by_test t (s == t) refl up } where
-  next : Item
-  next = item.Booted s boot
-
-  by_test : (t : ℕ) (b : Bool) → (s == t) ≡ b → IsTrue (is_up (here ++ next ∷ []) t)
-      → (t ≡ s) ⊎ ((boot_of (here ++ next ∷ []) t ≡ 1)
-      ⊎ IsSent (here ++ next ∷ []) (to_controller (Hello t (boot_of (here ++ next ∷ []) t))))
-  by_test t true e up = inl (sym (eqb-true s t e))
-  by_test t false e up =
-      let same : boot_of (here ++ next ∷ []) t ≡ boot_of here t =
-      rw (boot_more here next t, e) refl in
-      elim (are.each t (rw (up_more here next t, e) at up)) [
-        | inl owed ↦ absurd owed
-        | inr known ↦ elim known [
-          | inl first ↦ inr (inl (same ∙ first))
-          | inr sent ↦ inr (inr (rw same (sent_stays here next _ sent)))
-        ]
-      ]
+    → AreGreeted (λ t. t ≡ s) (here ++ Item.Booted s boot ∷ [])
+booted_owed here s boot are = search (rules, eqb-true, boot_more, up_more, sent_stays)
 
 -- and sends it
 restart_spoken : (s : ℕ) (here : List Item) → HaveSpoken here
     → HaveSpoken (here ++ restart_items s here)
 restart_spoken s here spoken =
-    restart_cases HaveSpoken s here (spoken_stay here nothing (tt, tt) spoken)
-    (λ down. record { answers = answers; hellos = hellos })
-  where
-    next : Item
-    next = item.Booted s (boot_of here s + 1)
-
-    hello : List Item → List Item
-    hello booted = send_items booted (hello_of booted s ∷ [])
-
-    now : List Item
-    now = here ++ next ∷ []
-
-    plain : Plain now (hello now)
-    plain = sends_plain now (hello_of now s ∷ [])
-
-    same : boot_of (now ++ hello now) s ≡ boot_of now s
-    same = boot_stays now (hello now) plain s
-
-    answers : AreAnswered (λ t body. ⊥) (now ++ hello now)
-    answers = answers_stay (λ t body. ⊥) now (hello now) plain
-        (booted_answers here s (boot_of here s + 1) spoken.answers)
-
-    hellos : AreGreeted (λ t. ⊥) (now ++ hello now)
-    hellos = record {
+    let next : Item = Item.Booted s (boot_of here s + 1) in
+    let hello : List Item → List Item = λ booted. send_items booted (hello_of booted s ∷ []) in
+    let now : List Item = here ++ next ∷ [] in
+    let plain : Plain now (hello now) = sends_plain now (hello_of now s ∷ []) in
+    let same : boot_of (now ++ hello now) s ≡ boot_of now s = boot_stays now (hello now) plain s in
+    let answers : AreAnswered (λ t body. ⊥) (now ++ hello now) = answers_stay (λ t body. ⊥) now
+    (hello now) plain (booted_answers here s (boot_of here s + 1) spoken.answers) in
+    let hellos : AreGreeted (λ t. ⊥) (now ++ hello now) = record {
       each = λ t up. elim ((hellos_stay (λ u. u ≡ s) now (hello now) plain
           (booted_owed here s (boot_of here s + 1) spoken.hellos)).each t up) [
             | inl owed ↦ inr
                 (inr (rw owed (rw same (sends_all now (hello_of now s ∷ []) _ (inl refl)))))
             | inr known ↦ inr known
           ];
-    }
+    } in
+    restart_cases HaveSpoken s here (spoken_stay here nothing (tt, tt) spoken)
+    (λ down. record { answers = answers; hellos = hellos })
 
 -- ---- steps
 
 step_spoken : (setting : Setting) (before : List Item) (row : ℕ) (step : Step) (b : Bool)
-    → is_plain step ≡ b → let here = before ++ item.Row row step ∷ [] in HaveSpoken here
+    → is_plain step ≡ b → let here = before ++ Item.Row row step ∷ [] in HaveSpoken here
     → HaveSpoken (here ++ step_items setting before step here)
-step_spoken setting before row step true is = λ spoken.
-    spoken_stay (before ++ item.Row row step ∷ []) _
-    (step_plain setting before step (before ++ item.Row row step ∷ []) is) spoken
+step_spoken setting before row step true is = λ spoken. spoken_stay _ _
+    (step_plain setting before step (before ++ Item.Row row step ∷ []) is) spoken
 step_spoken setting before row (Deliver number) false is = deliver_spoken setting before row number
-step_spoken setting before row (Restart s) false is =
-    restart_spoken s (before ++ item.Row row (Restart s) ∷ [])
+step_spoken setting before row (Restart s) false is = search (rules, restart_spoken)
 step_spoken setting before row step false is = absurd cc
 
 pub piece_spoken : (setting : Setting) (before : List Item) (row : ℕ) (step : Step)
     → HaveSpoken before → HaveSpoken (before ++ piece setting before row step)
 piece_spoken setting before row step spoken = behind_piece setting before row step HaveSpoken
-    (step_spoken setting before row step (is_plain step) refl
-    (spoken_stay before (item.Row row step ∷ []) (tt, tt) spoken))
+    (step_spoken setting before row step _ refl (spoken_stay before _ (tt, tt) spoken))
 
 pub spoken_at_first : HaveSpoken []
 spoken_at_first = record {

@@ -1,15 +1,15 @@
 -- Where the controller knows of each switch that is up what it needs, every update has come to its
 -- end.
-use Rattle.std.proofs.Common.{[], ◌&&◌, ◌+◌, ◌-◌, ◌<◌, ◌||◌, ◌∙◌, ◌∷◌, ◌≡◌, ◌≤◌, All, Bool, IsFalse, IsTrue, List, ap, arith, false, fold, inl, inr, is_some, length, map, min, not, refl, sym, true, unwrap_or, ℕ}
-use Rattle.base.proofs.Exports.{All-from_recursion, AllByRecursion, cases_lt, each_map, list_all}
-use Rattle.update_machine.specs.Exports.{AreSettled, HaveCauses, Item, Setting, acked_stamp, all_acked, boot_of, current_mark, has_acked, is_joining, is_member, is_over, is_up, is_waited_for, known_boot, least_number, members, next_retired, retired_mark, serves, stamp_of, switches_of, version_count}
+use Rattle.std.proofs.Common.{[], ◌&&◌, ◌-◌, ◌<◌, ◌||◌, ◌∙◌, ◌∷◌, ◌≡◌, ◌≤◌, All, Bool, IsFalse, IsTrue, List, ap, arith, false, fold, inl, inr, is_some, length, min, not, refl, sym, true, unwrap_or, ℕ, rules}
+use Rattle.base.proofs.Exports.{All-from_recursion, AllByRecursion, each_map, list_all}
+use Rattle.update_machine.specs.Exports.{AreSettled, HaveCauses, Item, Setting, acked_stamp, boot_of, current_mark, has_acked, is_joining, is_member, is_over, is_up, is_waited_for, known_boot, least_number, members, next_retired, retired_mark, serves, stamp_of, switches_of, version_count}
 use Rattle.control_laws.specs.Exports.{HasItemCause, MarksAreBounded, MembersAcknowledged}
 use Rattle.control_laws.proofs.Exports.{acknowledged, each_range, have_weaker, member_parts}
 use Rattle.convergence_laws.specs.Exports.{IsUpdated}
 use Rattle.convergence_laws.proofs.AnsweredMessages.{HaveSpoken}
 use Rattle.convergence_laws.proofs.DownSwitches.{AreRecorded}
 use Rattle.convergence_laws.proofs.InstalledTables.{AllInstalled}
-use Rattle.convergence_laws.proofs.ListElements.{IsIn, all_in, each_of_in, in_range, of_filter, of_range}
+use Rattle.convergence_laws.proofs.PlainItems.{IsIn, all_in, each_of_in, in_range, of_filter, of_range}
 use Rattle.convergence_laws.proofs.MessageCourses.{IsInOrder}
 use Rattle.convergence_laws.proofs.StampOrders.{HaveStamps}
 
@@ -22,8 +22,7 @@ fold_least c first (x ∷ xs) is all = fold_least c (min first x) xs (omega (ari
 
 least_same : (c : ℕ) (xs : List ℕ) → AllByRecursion (λ x. x ≡ c) xs
     → unwrap_or (least_number xs) c ≡ c
-least_same c [] all = refl
-least_same c (x ∷ xs) all = fold_least c x xs all.0 all.1
+least_same c xs all = search (rules, fold_least)
 
 all_true : (test : ℕ → Bool) (xs : List ℕ) → ((x : ℕ) → IsIn x xs → IsTrue (test x))
     → IsTrue (list_all test xs)
@@ -43,8 +42,7 @@ pub record AreReady (setting : Setting) (journal : List Item) : Type 0 where
 
 pub items_caused : (setting : Setting) (journal : List Item)
     → HaveCauses (IsInOrder setting) [] journal → HaveCauses (HasItemCause setting) [] journal
-items_caused setting journal have = have_weaker (IsInOrder setting) (HasItemCause setting)
-    (λ before next both. both.first) [] journal have
+items_caused setting journal have = search (rules, have_weaker)
 
 -- ---- what the controller is to know
 
@@ -93,24 +91,7 @@ member_up setting journal are caught s there member = by_up (is_up journal s) re
 -- so the current version is the last one
 current_is : (setting : Setting) (journal : List Item) → AreReady setting journal
     → IsCaughtUp setting journal → current_mark journal ≡ version_count journal
-current_is setting journal are caught = elim are.settled.current [
-  | inl last ↦ last
-  | inr none ↦ elim (cases_lt (current_mark journal) (version_count journal)) [
-    | inl below ↦ let all : IsTrue (all_acked setting journal (current_mark journal + 1)) =
-        all_true (λ s. has_acked journal s (current_mark journal + 1)) (members setting journal)
-        (λ s is. acked s below (of_filter (is_member journal) s (switches_of setting) is)) in
-        absurd (cc (sym none ∙ all))
-    | inr above ↦ omega (arith, above, are.bounds.there)
-  ]
-] where
-  acked : (s : ℕ) → current_mark journal < version_count journal
-      → IsIn s (switches_of setting) × IsTrue (is_member journal s)
-      → IsTrue (has_acked journal s (current_mark journal + 1))
-  acked s below parts =
-      let there : s < length setting.net.switches =
-      omega (arith, (of_range s 0 (length setting.net.switches) parts.0).1) in
-      caught.acked s (current_mark journal + 1) there
-      (member_up setting journal are caught s there parts.1) (omega arith) (omega (arith, below))
+current_is setting journal are caught = search (rules, all_true, of_filter, of_range, member_up)
 
 -- and each switch that is up is a member
 up_member : (setting : Setting) (journal : List Item) → AreReady setting journal
@@ -138,18 +119,15 @@ retired_is : (setting : Setting) (journal : List Item) → AreReady setting jour
     → IsCaughtUp setting journal → retired_mark journal ≡ current_mark journal - 1
 unfolding next_retired
 retired_is setting journal are caught = are.settled.retired ∙ ap (λ n. n - 1)
-    (least_same (current_mark journal) (map (acked_stamp journal) (members setting journal))
-    (each_map (λ x. x ≡ current_mark journal) (acked_stamp journal) (members setting journal)
-    (each_of_in (λ s. acked_stamp journal s ≡ current_mark journal) (members setting journal)
+    (least_same (current_mark journal) _ (each_map (λ x. x ≡ current_mark journal)
+    (acked_stamp journal) (members setting journal) (each_of_in _ (members setting journal)
     (λ s is. of_member s (of_filter (is_member journal) s (switches_of setting) is)))))
   where
     of_member : (s : ℕ) → IsIn s (switches_of setting) × IsTrue (is_member journal s)
         → acked_stamp journal s ≡ current_mark journal
     of_member s parts =
-        let there : s < length setting.net.switches =
-        omega (arith, (of_range s 0 (length setting.net.switches) parts.0).1) in
-        let known = caught.stamps s there (member_up setting journal are caught s there parts.1)
-        parts.1 in
+        let there : s < length setting.net.switches = omega (arith, (of_range s 0 _ parts.0).1) in
+        let known = caught.stamps s there (member_up _ _ are caught s there parts.1) parts.1 in
         omega (arith, known, are.bounds.known s)
 
 -- ---- together
@@ -162,8 +140,7 @@ caught_updated setting journal are caught = record {
       0 (length setting.net.switches) (λ s above below. up_serves s (omega (arith, below))));
   stamps = All-from_recursion (λ s. IsTrue (is_up journal s)
       → stamp_of journal s ≡ version_count journal) (switches_of setting)
-      (each_range (λ s. IsTrue (is_up journal s) → stamp_of journal s ≡ version_count journal) 0
-      (length setting.net.switches)
+      (each_range _ 0 (length setting.net.switches)
       (λ s above below up. let there : s < length setting.net.switches = omega (arith, below) in
       let known = caught.stamps s there up (up_member setting journal are caught s there up) in
       omega (arith, known, members.stamps s (up_serves s there up), are.bounds.stamps s, current)));

@@ -1,19 +1,29 @@
 -- Where links change, each switch whose links did tells its neighbours.
-use Rattle.std.proofs.Common.{[], if◌then◌else◌, ◌++◌, ◌<◌, ◌==◌, ◌∙◌, ◌∷◌, ◌≡◌, ◌≢◌, ◌≤◌, ◌⊎◌, Bool, IsFalse, IsTrue, List, None, Option, Some, ap, arith, eq-eqb, eqb-true, false, filter, flat_map, inl, inr, length, map, option_to_list, refl, subst, sym, true, ℕ}
-use Rattle.base.proofs.Exports.{nat_tests}
-use Rattle.update_machine.specs.Exports.{Advert, HaveCauses, Item, Message, Setting, advert_known, advert_to, adverts_begun, adverts_heard, adverts_known, boot_of, concerns_links, has_changed, heard, held_adverts, is_up, link_changes, messages_of, messages_over, near, next_message, own_advert, own_seq, send_items, serves, switches_in, switches_of}
-use Rattle.failover.specs.Exports.{IsNewest, held_advert, is_newer}
+use Rattle.std.proofs.Common.{[], ◌++◌, ◌<◌, ◌==◌, ◌∙◌, ◌∷◌, ◌≡◌, ◌≢◌, ◌≤◌, ◌⊎◌, Bool, IsFalse, IsTrue, List, None, Option, Some, ap, arith, eq-eqb, eqb-true, false, filter, flat_map, inl, inr, length, map, option_to_list, refl, subst, sym, true, ℕ, rules}
 use Rattle.base.specs.Exports.{has, switches}
 use Rattle.net_file.specs.Exports.{IsNet}
-use Rattle.net_file.proofs.RowPlaces.{links}
-use Rattle.journal.specs.declared.item.Item.TheVariants as item
+use Rattle.net_file.proofs.MaskBits.{in_mask_of}
+use Rattle.net_file.proofs.RowPlaces.{linked_turn, links}
+use Rattle.update_machine.specs.Exports.{Advert, HaveCauses, Item, Message, Setting, advert_known, advert_to, adverts_begun, adverts_heard, adverts_known, boot_of, has_changed, heard, held_adverts, is_up, link_changes, messages_of, messages_over, near, next_message, own_advert, own_seq, send_items, serves, switches_in, switches_of}
+use Rattle.control_laws.proofs.Exports.{AdvertGoesOn, HasBothCauses, IsKnown, boot_more, ends_serve, heard_more, is_delivered, known_kept, linked_by_mask, near_linked, own_on, same_near, sends_any, serving_more, turns, up_more}
+use Rattle.base.proofs.Exports.{nat_tests}
+use Rattle.failover.specs.Exports.{IsNewest, held_advert, is_newer}
 use Rattle.steps.specs.Exports.{HasSwitch}
 use Rattle.update_machine.proofs.Exports.{known_link_laws, near_stays}
-use Rattle.control_laws.proofs.Exports.{AdvertGoesOn, HasBothCauses, IsKnown, boot_more, ends_serve, heard_more, is_delivered, known_kept, near_linked, own_on, same_near, sends_any, serving_more, turns, up_more}
 use Rattle.convergence_laws.specs.Exports.{IsAsNew}
 use Rattle.convergence_laws.proofs.SpreadAdverts.{HasNews, HaveNews, IsHad, IsOther, IsStill, as_new_itself, given_grows, news_on, sends_tell, stills_news}
-use Rattle.convergence_laws.proofs.UsableNeighbours.{near_both}
-use Rattle.convergence_laws.proofs.ListElements.{IsIn, all_in, in_either, in_filter, in_filter_map, in_flat_map, in_left, in_map, in_range, in_right}
+use Rattle.convergence_laws.proofs.PlainItems.{IsIn, all_in, in_either, in_filter, in_filter_map, in_flat_map, in_left, in_map, in_range, in_right}
+
+-- ---- neighbours over links that can be used
+
+-- ---- a link has both its ends
+
+pub near_both : (setting : Setting) (journal : List Item) (s k : ℕ) → s < 64
+    → IsTrue (has (near setting journal s) k) → IsTrue (has (near setting journal k) s)
+unfolding near has
+near_both setting journal s k small is = search (rules, in_mask_of, linked_turn, linked_by_mask)
+
+-- ---- changed links told
 
 -- ---- the newest advert that a switch holds
 
@@ -73,19 +83,13 @@ pub own_held : (setting : Setting) (journal : List Item) (s : ℕ) → s < 64
     → 1 ≤ own_seq setting journal s
     → advert_known setting journal s s ≡ Some (own_advert setting journal s)
 unfolding own_advert
-own_held setting journal s small told =
-    let some : (own_seq setting journal s == 0) ≡ false = grind (arith, nat_tests) in
-    known_link_laws.own setting journal s small
-    ∙ ap (λ b. if b then None else Some (own_advert setting journal s)) some
+own_held setting journal s small told = search (rules, nat_tests, known_link_laws)
 
 -- ---- an item that may change links
 
 pub serving_turns : (before : List Item) (next : Item) (s : ℕ) → turns s next ≡ true
     → serves (before ++ next ∷ []) s ≡ false
-serving_turns before (item.Down t) s e = rw (serving_more before (item.Down t) s, e) refl
-serving_turns before (item.Booted t boot) s e =
-    rw (serving_more before (item.Booted t boot) s, e) refl
-serving_turns before next s e = absurd cc
+serving_turns before next s e = search (rules, serving_more)
 
 record LivesOn (before : List Item) (next : Item) (s : ℕ) : Type 0 where
   up : is_up (before ++ next ∷ []) s ≡ is_up before s
@@ -94,17 +98,17 @@ record LivesOn (before : List Item) (next : Item) (s : ℕ) : Type 0 where
 
 lives_on : (before : List Item) (next : Item) (s : ℕ) → is_delivered next ≡ false
     → turns s next ≡ false → LivesOn before next s
-lives_on before (item.Down t) s none e = record {
-  up = rw (up_more before (item.Down t) s, e) refl;
-  boot = boot_more before (item.Down t) s;
-  bodies = rw (heard_more before (item.Down t) s, e) refl;
+lives_on before (Item.Down t) s none e = record {
+  up = rw (up_more before (Item.Down t) s, e) refl;
+  boot = boot_more before (Item.Down t) s;
+  bodies = rw (heard_more before (Item.Down t) s, e) refl;
 }
-lives_on before (item.Booted t boot) s none e = record {
-  up = rw (up_more before (item.Booted t boot) s, e) refl;
-  boot = rw (boot_more before (item.Booted t boot) s, e) refl;
-  bodies = rw (heard_more before (item.Booted t boot) s, e) refl;
+lives_on before (Item.Booted t boot) s none e = record {
+  up = rw (up_more before (Item.Booted t boot) s, e) refl;
+  boot = rw (boot_more before (Item.Booted t boot) s, e) refl;
+  bodies = rw (heard_more before (Item.Booted t boot) s, e) refl;
 }
-lives_on before (item.Delivered number) s none e = absurd cc
+lives_on before (Item.Delivered number) s none e = absurd cc
 lives_on before next s none e = record {
   up = up_more before next s;
   boot = boot_more before next s;
@@ -236,9 +240,7 @@ sends_still = sends_any IsStill (λ before n message. tt)
 
 pub sends_near : (setting : Setting) (journal : List Item) (messages : List Message) (s : ℕ)
     → near setting (journal ++ send_items journal messages) s ≡ near setting journal s
-sends_near setting journal messages s = near_stays setting s journal (send_items journal messages)
-    (sends_any (λ before next. IsFalse (concerns_links before next)) (λ before n message. refl)
-    journal messages)
+sends_near setting journal messages s = search (rules, near_stays, sends_any)
 
 -- both ends of a link are switches of the network
 pub record AreEnds (setting : Setting) (s neighbour : ℕ) : Type 0 where
@@ -257,9 +259,7 @@ ends_there setting journal s neighbour net is = record {
 pub near_back : (setting : Setting) (journal : List Item) (s neighbour : ℕ) → IsNet setting.net
     → IsTrue (has (near setting journal s) neighbour)
     → IsTrue (has (near setting journal neighbour) s)
-near_back setting journal s neighbour net is =
-    let there = (ends_there setting journal s neighbour net is).one in
-    near_both setting journal s neighbour (omega (arith, there, net.few_switches)) is
+near_back setting journal s neighbour net is = search (rules, ends_there, near_both)
 
 -- what a switch tells of an advert that it has: that one, or one that is as new
 record TellsAsNew (messages : List Message) (to : ℕ) (than : Advert) : Type 0 where
@@ -290,14 +290,12 @@ over_tells setting before now s neighbour a small owed =
     by_old false e which (inl same) = record {
       advert = own;
       as_new = is_own same;
-      is = in_map (advert_to neighbour) own (held_adverts setting now s)
-          (held_in setting now s s own small (own_held setting now s small owed.told));
+      is = in_map _ own _ (held_in _ now s s own small (own_held setting now s small owed.told));
     }
     by_old false e which (inr of) = let best = newest_held setting now s a of in record {
       advert = best.advert;
       as_new = best.as_new;
-      is = in_map (advert_to neighbour) best.advert (held_adverts setting now s)
-          (held_in setting now s a.origin best.advert of.small best.held);
+      is = in_map _ best.advert _ (held_in setting now s a.origin best.advert of.small best.held);
     }
 
 pub pay_links : {since : ℕ} (setting : Setting) (before now : List Item) → IsNet setting.net

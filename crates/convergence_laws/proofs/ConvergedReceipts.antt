@@ -1,15 +1,13 @@
 -- In a quiet journal what matters was heard, or what replaces it.
-use Rattle.std.proofs.Common.{[], ◌&&◌, ◌++◌, ◌+◌, ◌<◌, ◌==◌, ◌||◌, ◌∙◌, ◌∷◌, ◌≡◌, ◌≤◌, ◌⊎◌, Bool, IsFalse, IsTrue, List, Some, ap, append-nil, append_assoc, arith, eq-eqb, eqb-true, false, inl, inr, nat_lt, refl, subst, sym, true, ℕ}
-use Rattle.base.proofs.Exports.{list_any, nat_tests, or_right, ⊤}
+use Rattle.std.proofs.Common.{[], ◌&&◌, ◌++◌, ◌<◌, ◌==◌, ◌||◌, ◌∙◌, ◌∷◌, ◌≡◌, ◌≤◌, ◌⊎◌, Bool, IsFalse, IsTrue, List, Some, ap, append-nil, append_assoc, arith, eq-eqb, eqb-true, false, inl, inr, refl, subst, sym, true, ℕ, rules}
+use Rattle.base.proofs.Exports.{list_any, nat_tests, ⊤}
 use Rattle.ctrl_msg.specs.Exports.{body_boot, to_controller}
-use Rattle.update_machine.specs.Exports.{Advertise, AreReceived, Body, Collect, HaveCauses, IsQuiet, IsReceived, IsReplaced, Item, Message, Place, Replaces, Sending, Setting, Stamp, Stamped, are_old_tables, begins_boot, boot_at, boot_of, changes_sendings, controller_heard, count_of, current_mark, folded_from, heard, is_delivery, is_for_boot, is_later_body, is_old_answer, is_up, matters, sendings, speaker, to_switch, was_delivered}
-use Rattle.ctrl_msg.specs.declared.message.Place.TheVariants as receiver
-use Rattle.journal.specs.declared.item.Item.TheVariants as item
+use Rattle.update_machine.specs.Exports.{AreReceived, Body, HaveCauses, IsQuiet, IsReceived, IsReplaced, Item, Message, Place, Replaces, Sending, Setting, are_old_tables, begins_boot, boot_at, boot_of, changes_sendings, controller_heard, current_mark, folded_from, heard, is_for_boot, is_later_body, is_old_answer, is_up, matters, sendings, speaker, to_switch, was_delivered}
 use Rattle.steps.specs.Exports.{HasSwitch}
 use Rattle.update_machine.proofs.Exports.{count_of_append}
 use Rattle.control_laws.specs.Exports.{HasItemCause}
 use Rattle.control_laws.proofs.Exports.{boot_more, boot_rises, have_weaker}
-use Rattle.convergence_laws.proofs.ListElements.{IsIn, each_in, in_either, in_left, in_right}
+use Rattle.convergence_laws.proofs.PlainItems.{IsIn, each_in, in_either, in_left, in_right}
 use Rattle.convergence_laws.proofs.MessageCourses.{AreTraced, IsInOrder, IsSent, IsTraced, SwitchCourse, caused_traced, sendings_more, sent_by}
 
 -- ---- sendings
@@ -38,11 +36,11 @@ sendings_on journal (next ∷ items) x is = rw (append_assoc journal (next ∷ [
 
 -- what an item of a journal sends
 pub in_sendings : (journal front : List Item) (number : ℕ) (message : Message) (rest : List Item)
-    → journal ≡ front ++ item.Sent number message ∷ rest
+    → journal ≡ front ++ Item.Sent number message ∷ rest
     → IsIn (record { number = number; message = message; boot = boot_at front message.to })
     (sendings journal)
 in_sendings journal front number message rest is =
-    let next : Item = item.Sent number message in
+    let next : Item = Item.Sent number message in
     let x : Sending = record {
       number = number;
       message = message;
@@ -58,7 +56,7 @@ record IsSentBehind (setting : Setting) (journal before items : List Item) (x : 
     : Type 0 where
   between : List Item
   after : List Item
-  is : items ≡ between ++ item.Sent x.number x.message ∷ after
+  is : items ≡ between ++ Item.Sent x.number x.message ∷ after
   boot : x.boot ≡ boot_at (before ++ between) x.message.to
   received : (s : ℕ) → HasSwitch setting.net s → IsTrue (matters journal s x.message after)
       → IsReceived x.number x.message after
@@ -66,20 +64,14 @@ record IsSentBehind (setting : Setting) (journal before items : List Item) (x : 
 behind_one : (setting : Setting) (journal before : List Item) (next : Item) (items : List Item)
     (x : Sending) → IsSentBehind setting journal (before ++ next ∷ []) items x
     → IsSentBehind setting journal before (next ∷ items) x
-behind_one setting journal before next items x sent = record {
-  between = next ∷ sent.between;
-  after = sent.after;
-  is = ap (λ xs. next ∷ xs) sent.is;
-  boot = cc (sent.boot, append_assoc before (next ∷ []) sent.between);
-  received = sent.received;
-}
+behind_one setting journal before next items x sent = search (rules, append_assoc)
 
 sent_behind : (setting : Setting) (journal before : List Item) (value : List Sending)
     (items : List Item) (x : Sending) → AreReceived setting journal items
     → IsIn x (folded_from changes_sendings before value items)
     → IsIn x value ⊎ IsSentBehind setting journal before items x
 sent_behind setting journal before value [] x received is = inl is
-sent_behind setting journal before value (item.Sent number message ∷ items) x received is = elim
+sent_behind setting journal before value (Item.Sent number message ∷ items) x received is = elim
     (sent_behind setting journal (before ++ next ∷ []) (value ++ own ∷ []) items x received.1 is) [
       | inl so_far ↦ elim (in_either x value (own ∷ []) so_far) [
         | inl old ↦ inl old
@@ -92,7 +84,7 @@ sent_behind setting journal before value (item.Sent number message ∷ items) x 
     ]
   where
     next : Item
-    next = item.Sent number message
+    next = Item.Sent number message
 
     own : Sending
     own = record { number = number; message = message; boot = boot_at before message.to }
@@ -105,43 +97,28 @@ sent_behind setting journal before value (item.Sent number message ∷ items) x 
       boot = ap (λ js. boot_at js message.to) (sym (append-nil before));
       received = received.0;
     }
-sent_behind setting journal before value (next ∷ items) x received is =
-    elim (sent_behind setting journal (before ++ next ∷ []) value items x received is) [
-      | inl old ↦ inl old
-      | inr later ↦ inr (behind_one setting journal before next items x later)
-    ]
+sent_behind setting journal before value (next ∷ items) x received is = search
+    (rules, behind_one, sent_behind setting journal (before ++ next ∷ []) value items x received is)
 
 sent_at : (setting : Setting) (journal : List Item) (x : Sending) → AreReceived setting journal
     journal → IsIn x (sendings journal) → IsSentBehind setting journal [] journal x
 unfolding sendings
-sent_at setting journal x received is =
-    elim (sent_behind setting journal [] [] journal x received is) [
-      | inl none ↦ absurd none
-      | inr sent ↦ sent
-    ]
+sent_at setting journal x received is = elim (sent_behind _ journal [] [] journal x received is) [
+  | inl none ↦ absurd none
+  | inr sent ↦ sent
+]
 
 -- ---- deliveries
 
 pub delivered_append : (before after : List Item) (n : ℕ)
     → was_delivered (before ++ after) n ≡ (was_delivered before n || was_delivered after n)
 unfolding was_delivered
-delivered_append before after n = ap (nat_lt 0) (count_of_append (is_delivery n) before after)
-    ∙ some_of (count_of (is_delivery n) before) (count_of (is_delivery n) after)
-  where
-    some_of : (a b : ℕ) → nat_lt 0 (a + b) ≡ (nat_lt 0 a || nat_lt 0 b)
-    some_of a b = by_test (nat_lt 0 a) refl where
-      by_test : (t : Bool) → nat_lt 0 a ≡ t → nat_lt 0 (a + b) ≡ (t || nat_lt 0 b)
-      by_test true e = grind (arith, nat_tests)
-      by_test false e =
-          let none : a ≡ 0 = grind (arith, nat_tests) in
-          let same : a + b ≡ b = omega (arith, none) in ap (nat_lt 0) same
+delivered_append before after n = search (rules, nat_tests, count_of_append)
 
 -- what was delivered at the end of a journal was delivered
 delivered_behind : (journal front after : List Item) (n : ℕ) → journal ≡ front ++ after
     → IsTrue (was_delivered after n) → IsTrue (was_delivered journal n)
-delivered_behind journal front after n is delivered =
-    ap (λ js. was_delivered js n) is ∙ delivered_append front after n
-    ∙ or_right (was_delivered front n) (was_delivered after n) delivered
+delivered_behind journal front after n is delivered = search (rules, delivered_append)
 
 -- ---- boots
 
@@ -169,11 +146,7 @@ boots_rise setting before (next ∷ items) s have = omega (
 boot_begun : (setting : Setting) (before : List Item) (next : Item) (s : ℕ)
     → HasItemCause setting before next → begins_boot s next ≡ true
     → boot_of before s < boot_of (before ++ next ∷ []) s
-boot_begun setting before (item.Booted t boot) s cause is =
-    let own : (t == s) ≡ true = is in
-    let same : boot_of before t ≡ boot_of before s = ap (boot_of before) (eqb-true t s own) in
-    rw (boot_more before (item.Booted t boot) s, own) (omega (arith, cause.next, same))
-boot_begun setting before next s cause is = absurd cc
+boot_begun setting before next s cause is = search (rules, eqb-true, boot_more)
 
 -- items behind which a switch is in the same boot begin none of it
 no_boot : (setting : Setting) (before items : List Item) (s : ℕ)
@@ -192,10 +165,8 @@ no_boot setting before (next ∷ items) s have same =
     by_test : (b : Bool) → begins_boot s next ≡ b
         → (boot_of ((before ++ next ∷ []) ++ items) s ≡ boot_of (before ++ next ∷ []) s
         → list_any (begins_boot s) items ≡ false) → (b || list_any (begins_boot s) items) ≡ false
-    by_test true e rest =
-        absurd (omega (arith, on, rises, same, boot_begun setting before next s have.0 e))
-    by_test false e rest =
-        rest (omega (arith, on, rises, same, boot_rises setting before next s have.0))
+    by_test true e rest = absurd (omega (arith, on, rises, same, boot_begun _ _ next s have.0 e))
+    by_test false e rest = rest (omega (arith, on, rises, same, boot_rises _ before next s have.0))
 
 -- ---- what replaces a message
 
@@ -204,7 +175,7 @@ record IsReplacedBy (message : Message) (after : List Item) : Type 0 where
   later : Message
   between : List Item
   behind : List Item
-  is : after ≡ between ++ item.Sent number later ∷ behind
+  is : after ≡ between ++ Item.Sent number later ∷ behind
   replaces : Replaces later message
   delivered : IsTrue (was_delivered behind number)
 
@@ -223,7 +194,7 @@ replaced_on message next after found = record {
 replaced_by : (message : Message) (after : List Item) → IsReplaced message after
     → IsReplacedBy message after
 replaced_by message [] replaced = absurd replaced
-replaced_by message (item.Sent number later ∷ after) replaced = elim replaced [
+replaced_by message (Item.Sent number later ∷ after) replaced = elim replaced [
   | inl here ↦ record {
     number = number;
     later = later;
@@ -233,22 +204,21 @@ replaced_by message (item.Sent number later ∷ after) replaced = elim replaced 
     replaces = here.0;
     delivered = here.1;
   }
-  | inr rest ↦ replaced_on message (item.Sent number later) after (replaced_by message after rest)
+  | inr rest ↦ replaced_on message (Item.Sent number later) after (replaced_by message after rest)
 ]
-replaced_by message (next ∷ after) replaced =
-    replaced_on message next after (replaced_by message after replaced)
+replaced_by message (next ∷ after) replaced = replaced_on _ next _ (replaced_by _ after replaced)
 
 -- ---- what was received
 
 -- the boot is that of the receiver
 abbrev IsOwn : List Item → Place → ℕ → Type 0
-IsOwn journal (receiver.Switch s) boot = boot ≡ boot_of journal s
-IsOwn journal receiver.Controller boot = ⊤
+IsOwn journal (Place.Switch s) boot = boot ≡ boot_of journal s
+IsOwn journal Place.Controller boot = ⊤
 
 -- these items begin no boot of the receiver
 abbrev IsSince : Place → List Item → Type 0
-IsSince (receiver.Switch s) after = IsFalse (list_any (begins_boot s) after)
-IsSince receiver.Controller after = ⊤
+IsSince (Place.Switch s) after = IsFalse (list_any (begins_boot s) after)
+IsSince Place.Controller after = ⊤
 
 -- a message that was delivered, and says the same or more to the same receiver in its boot
 pub record IsGot (journal : List Item) (to : Place) (of : Body) : Type 0 where
@@ -282,7 +252,7 @@ got setting journal s number boot to body quiet have there is own matter =
     message = record { to = to; body = body }
 
     next : Item
-    next = item.Sent number message
+    next = Item.Sent number message
 
     at : IsSentBehind setting journal [] journal
         (record { number = number; message = message; boot = boot })
@@ -300,9 +270,9 @@ got setting journal s number boot to body quiet have there is own matter =
 
     since : (of : Place) → boot ≡ boot_at at.between of → IsOwn journal of boot
         → IsSince of at.after
-    since (receiver.Switch t) before own = no_boot setting (at.between ++ next ∷ []) at.after t
+    since (Place.Switch t) before own = no_boot setting (at.between ++ next ∷ []) at.after t
         behind.1 (omega (arith, whole t, boot_more at.between next t, before, own))
-    since receiver.Controller before own = tt
+    since Place.Controller before own = tt
 
     by_replaced : IsReplacedBy message at.after → IsGot journal to body
     by_replaced found = record {
@@ -321,7 +291,7 @@ got setting journal s number boot to body quiet have there is own matter =
       own = still to at.boot own;
     } where
       later : Item
-      later = item.Sent found.number found.later
+      later = Item.Sent found.number found.later
 
       front : List Item
       front = at.between ++ next ∷ found.between
@@ -332,12 +302,11 @@ got setting journal s number boot to body quiet have there is own matter =
 
       parts : HaveCauses (HasItemCause setting) at.between (next ∷ found.between)
           × HaveCauses (HasItemCause setting) front (later ∷ found.behind)
-      parts = have_split (HasItemCause setting) at.between
-          (next ∷ found.between) (later ∷ found.behind) (rw found.is at behind)
+      parts = have_split _ at.between _ (later ∷ found.behind) (rw found.is at behind)
 
       still : (of : Place) → boot ≡ boot_at at.between of → IsOwn journal of boot
           → IsOwn journal of (boot_at front of)
-      still (receiver.Switch t) before own = omega (
+      still (Place.Switch t) before own = omega (
         arith,
         before,
         own,
@@ -345,7 +314,7 @@ got setting journal s number boot to body quiet have there is own matter =
         boots_rise setting front (later ∷ found.behind) t parts.1,
         ap (λ js. boot_of js t) split,
       )
-      still receiver.Controller before own = tt
+      still Place.Controller before own = tt
 
     by_received : IsReceived number message at.after → IsGot journal to body
     by_received (inl delivered) = record {
@@ -365,16 +334,11 @@ got setting journal s number boot to body quiet have there is own matter =
 -- what replaces a body of a boot is of that boot
 pub later_boot : (body of : Body) (boot : ℕ) → IsTrue (is_later_body body of)
     → body_boot of ≡ Some boot → body_boot body ≡ Some boot
-later_boot (Stamp one v touched) (Stamp other w others) boot later is = grind (arith, nat_tests)
-later_boot (Collect one v) (Collect other w) boot later is = grind (arith, nat_tests)
-later_boot (Stamped s one v) (Stamped t other w) boot later is = grind (arith, nat_tests)
-later_boot (Advertise advert) (Advertise earlier) boot later is = absurd cc
-later_boot body of boot later is = absurd cc
+later_boot body of boot later is = search (rules, nat_tests)
 
 pub says_boot : (body of : Body) (boot : ℕ) → (body ≡ of) ⊎ IsTrue (is_later_body body of)
     → body_boot of ≡ Some boot → body_boot body ≡ Some boot
-says_boot body of boot (inl same) is = ap body_boot same ∙ is
-says_boot body of boot (inr later) is = later_boot body of boot later is
+says_boot body of boot h3 is = search (rules, later_boot)
 
 -- what was heard: the body, or one that replaces it
 pub record WasHeard (bodies : List Body) (of : Body) : Type 0 where
@@ -417,8 +381,7 @@ heard_of setting journal s body quiet causes there sent up of new =
     x = record { number = its.number; message = to_switch s body; boot = its.boot }
 
     boot : its.boot ≡ own
-    boot = own_boot journal s own x
-        (each_in (IsTraced journal) x (sendings journal) traced.each its.is).course of refl
+    boot = own_boot journal s own x (each_in _ x _ traced.each its.is).course of refl
 
     matter : (after : List Item) → IsFalse (list_any (begins_boot s) after)
         → IsTrue (matters journal s (to_switch s body) after)
@@ -432,9 +395,8 @@ heard_of setting journal s body quiet causes there sent up of new =
         by_advert true = refl
         by_advert false = refl
 
-    later : IsGot journal (receiver.Switch s) body
-    later = got setting journal s its.number its.boot (receiver.Switch s) body quiet causes there
-        its.is boot matter
+    later : IsGot journal (Place.Switch s) body
+    later = got setting journal s its.number its.boot _ body quiet causes there its.is boot matter
 
     heard_later : IsIn later.body (heard journal s)
     heard_later = let same : (own == later.boot) ≡ true = eq-eqb own later.boot (sym later.own) in
@@ -450,8 +412,7 @@ pub told_of : (setting : Setting) (journal : List Item) (s : ℕ) (body : Body)
     → IsFalse (is_old_answer (current_mark journal) body) → WasHeard (controller_heard journal) body
 told_of setting journal s body quiet causes there sent up speaks new = record {
   body = later.body;
-  is = (each_in (IsTraced journal) y (sendings journal)
-      (caused_traced setting journal causes).each later.is).course later.delivered;
+  is = (each_in _ y _ (caused_traced setting journal causes).each later.is).course later.delivered;
   says = later.says;
 } where
   own : ℕ
@@ -466,9 +427,8 @@ told_of setting journal s body quiet causes there sent up speaks new = record {
       let fresh : is_old_answer (current_mark journal) body ≡ false = new in
       rw (up, speaks, eq-eqb s s refl, mine, fresh) refl
 
-  later : IsGot journal receiver.Controller body
-  later = got setting journal s its.number its.boot receiver.Controller body quiet causes there
-      its.is tt (λ after since. matter after)
+  later : IsGot journal Place.Controller body
+  later = got _ journal s _ _ _ body quiet causes there its.is tt (λ after since. matter after)
 
   y : Sending
   y = record { number = later.number; message = to_controller later.body; boot = later.boot }

@@ -1,40 +1,61 @@
 -- In a quiet journal a step makes a packet stuck only where it reaches no target.
-use Rattle.std.proofs.Common.{[], if◌then◌else◌, ◌++◌, ◌<◌, ◌==◌, ◌^◌, ◌||◌, ◌∙◌, ◌∷◌, ◌≡◌, ◌≢◌, ◌≤◌, ◌⊎◌, All, Bool, IsFalse, IsTrue, List, ap, arith, bit_or, false, get_or, get_or-set_other, get_or-set_same, inl, inr, length, length-set, max, min, refl, set, subst, sym, true, ℕ}
-use Rattle.base.proofs.Exports.{cases_eq, cases_lt, get_or_past, has-or, has-pow_other, has-zero, ⊤}
+use Rattle.std.proofs.Common.{[], ◌++◌, ◌<◌, ◌^◌, ◌||◌, ◌∙◌, ◌∷◌, ◌≡◌, ◌≢◌, ◌≤◌, ◌⊎◌, All, Bool, IsFalse, IsTrue, List, ap, arith, bit_or, false, get_or, get_or-set_other, get_or-set_same, inl, inr, length, length-set, max, min, refl, set, subst, sym, true, ℕ, rules}
+use Rattle.base.proofs.Exports.{⊤, cases_eq, cases_lt, get_or_past, has-or, has-pow_other, has-zero}
+use Rattle.base.specs.Exports.{has}
+use Rattle.update_machine.specs.Exports.{Cause, Exit, HaveCauses, Header, Hop, Item, Leg, LinksKeep, Packet, Seek, Setting, Step, adverts_known, boot_of, changes_found, concerns_links, concerns_policies, found_down, heard, hop_items, is_up, near, packet_items, piece, plan_at, route_from, step_items, targets_in, targets_of}
+use Rattle.control_laws.proofs.Exports.{AreKept, IsWork, KnowsNoRoute, boot_more, fact_on, have_front, have_rest, have_weaker, heard_more, hop_work, packet_works, up_more}
 use Rattle.failover.specs.Exports.{has_link, no_links, with_link}
 use Rattle.failover.proofs.LinkSets.{has_link-none}
-use Rattle.base.specs.Exports.{has}
 use Rattle.net_file.specs.Exports.{IsNet}
-use Rattle.update_machine.specs.Exports.{Cause, Exit, HaveCauses, Hop, Item, Leg, LinksKeep, Packet, Seek, Setting, Step, adverts_known, boot_of, changes_found, concerns_links, concerns_policies, found_down, heard, is_up, items_then, near, next_packet, own_advert, piece, plan_at, route_from, step_items, targets_in, targets_of}
-use Rattle.journal.specs.declared.item.Item.TheVariants as item
 use Rattle.steps.specs.Exports.{HasSwitch}
 use Rattle.update_machine.proofs.Exports.{folded_append, have_first, links_keep, policies_keep}
-use Rattle.control_laws.proofs.Exports.{AreKept, KnowsNoRoute, boot_more, fact_on, have_front, have_rest, heard_more, up_more}
 use Rattle.convergence_laws.specs.Exports.{AreUnusable, GetStuckApart, Reaches}
 use Rattle.convergence_laws.proofs.ChangedLinksTold.{near_back}
-use Rattle.convergence_laws.proofs.ConvergedLinks.{AreAgreed}
-use Rattle.convergence_laws.proofs.ConvergedKnownLinks.{agreed_converged}
-use Rattle.convergence_laws.proofs.PlainItems.{HasOthers, IsAside, others_have}
-use Rattle.convergence_laws.proofs.ConvergedPacketSteps.{Walk, Walks, hop_walk, packet_walk}
+use Rattle.convergence_laws.proofs.ConvergedKnownLinks.{AreAgreed, agreed_converged}
+use Rattle.convergence_laws.proofs.PlainItems.{HasOthers, others_have}
+
+-- ---- what packets' steps write: a packet is stuck only where its switch knows no route, and finds
+-- down only links that can't be used.
+
+abbrev pub Walks : Setting → List Item → Item → Type 0
+Walks setting before (Item.Stuck i s cause leg down) = KnowsNoRoute setting before i s leg down
+Walks setting before (Item.FoundDown i one two) = IsFalse (has (near setting before one) two)
+Walks setting before (Item.Delivered number) = ⊥
+Walks setting before (Item.LinkIs one two up) = ⊥
+Walks setting before (Item.Down s) = ⊥
+Walks setting before (Item.Booted s boot) = ⊥
+Walks setting before (Item.Opened s version) = ⊥
+Walks setting before (Item.Submitted file version) = ⊥
+Walks setting before _ = ⊤
+
+abbrev pub Walk : Setting → List Item → List Item → Type 0
+Walk setting journal items = HaveCauses (Walks setting) journal items
+
+work_walks : (setting : Setting) (before : List Item) (next : Item) → IsWork setting before next
+    → Walks setting before next
+work_walks setting before next is = search rules
+
+pub packet_walk : (setting : Setting) (i s : ℕ) (header : Header) (journal : List Item)
+    → Walk setting journal (packet_items setting i s header journal)
+packet_walk setting i s header journal = packet_works _ _ (work_walks setting) i s header journal tt
+
+pub hop_walk : (setting : Setting) (i : ℕ) (journal : List Item)
+    → Walk setting journal (hop_items setting i journal)
+hop_walk setting i journal = have_weaker _ _ (work_walks setting) _ _ (hop_work setting i journal)
+
+-- ---- converged stuck packets
 
 -- ---- steps of other kinds make no packet stuck
 
 abbrev IsNoEnd : List Item → Item → Type 0
-IsNoEnd before (item.Stuck i s cause leg down) = ⊥
+IsNoEnd before (Item.Stuck i s cause leg down) = ⊥
 IsNoEnd before _ = ⊤
 
 abbrev NoEnd : List Item → List Item → Type 0
 NoEnd journal items = HaveCauses IsNoEnd journal items
 
 ends_none : HasOthers IsNoEnd
-ends_none = record {
-  aside = is_no_end;
-  delivered = λ journal number is. tt;
-  booted = λ journal s down. tt;
-} where
-  is_no_end : (before : List Item) (next : Item) → IsAside before next → IsNoEnd before next
-  is_no_end before (item.Stuck i s cause leg down) is = absurd is
-  is_no_end before _ is = tt
+ends_none = search rules
 
 -- ---- a set of links that were found down
 
@@ -55,8 +76,7 @@ more_links down x y a b is = by_row (cases_eq (min a b) low) where
   by_high : min a b ≡ low → (max a b ≡ high) ⊎ (max a b ≢ high) → IsTrue (has row (max a b))
       → IsTrue (has (get_or down (min a b) 0) (max a b)) ⊎ ((min a b ≡ low) × (max a b ≡ high))
   by_high same (inl top) here = inr (same, top)
-  by_high same (inr apart) here = inl (rw same (by_or (has (get_or down low 0) (max a b))
-      (has (2 ^ high) (max a b)) (has-pow_other high (max a b) apart)
+  by_high same (inr apart) here = inl (rw same (by_or _ _ (has-pow_other high (max a b) apart)
       (sym (has-or (get_or down low 0) (2 ^ high) (max a b)) ∙ here)))
     where
       by_or : (p q : Bool) → q ≡ false → (p || q) ≡ true → p ≡ true
@@ -83,33 +103,7 @@ unusable_more : (setting : Setting) (journal : List Item) → IsNet setting.net
     → (down : List ℕ) (x y : ℕ) → AreUnusable setting journal down
     → IsFalse (has (near setting journal x) y) → AreUnusable setting journal (with_link down x y)
 unusable_more setting journal net down x y unusable none a b linked =
-    by_link (has_link (with_link down x y) a b) refl
-  where
-    same_ends : (min a b ≡ min x y) × (max a b ≡ max x y)
-        → ((a ≡ x) × (b ≡ y)) ⊎ ((a ≡ y) × (b ≡ x))
-    same_ends ends =
-        let low = ends.0 in
-        let high = ends.1 in
-        elim (cases_eq a x) [
-          | inl same ↦ inl (same, omega (arith, low, high, same))
-          | inr apart ↦ inr (omega (arith, low, high, apart), omega (arith, low, high, apart))
-        ]
-
-    clashes : IsTrue (has (near setting journal x) y) → ⊥
-    clashes is = let clash : false ≡ true = sym none ∙ is in absurd cc
-
-    not_it : ((a ≡ x) × (b ≡ y)) ⊎ ((a ≡ y) × (b ≡ x)) → ⊥
-    not_it (inl ends) = clashes (rw ends.1 at (rw ends.0 at linked))
-    not_it (inr ends) =
-        clashes (rw ends.0 at (rw ends.1 at (near_back setting journal a b net linked)))
-
-    by_link : (c : Bool) → has_link (with_link down x y) a b ≡ c
-        → IsFalse (has_link (with_link down x y) a b)
-    by_link false e = e
-    by_link true e = elim (more_links down x y a b e) [
-      | inl old ↦ let clash : false ≡ true = sym (unusable a b linked) ∙ old in absurd cc
-      | inr ends ↦ absurd (not_it (same_ends ends))
-    ]
+    search (rules, cases_eq, near_back, more_links)
 
 -- ---- what stays as it was within the step
 
@@ -128,38 +122,22 @@ record IsSame (before after : List Item) (s : ℕ) : Type 0 where
 
 walks_same : (setting : Setting) (before : List Item) (next : Item) (s : ℕ)
     → Walks setting before next → IsSame before (before ++ next ∷ []) s
-walks_same setting before (item.Delivered number) s walks = absurd walks
-walks_same setting before (item.Down t) s walks = absurd walks
-walks_same setting before (item.Booted t boot) s walks = absurd walks
-walks_same setting before next s walks = record {
-  up = up_more before next s;
-  boot = boot_more before next s;
-  heard = heard_more before next s;
-}
+walks_same setting before next s walks = search (rules, up_more, boot_more, heard_more)
 
 -- so it knows the same routes where no links change
 same_route : (setting : Setting) (before after : List Item) (s : ℕ) → IsSame before after s
     → LinksKeep setting before after → (targets down : List ℕ)
     → route_from setting after s targets down ≡ route_from setting before s targets down
 unfolding route_from adverts_known
-same_route setting before after s same links targets down =
-    let bodies : heard after s ≡ heard before s = same.heard in
-    let advert : own_advert setting after s ≡ own_advert setting before s = links.advert s in
-    let linked : near setting after s ≡ near setting before s = links.near s in
-    rw (same.up, same.boot, bodies, advert, linked) refl
+same_route setting before after s same links targets down = search rules
 
 walks_links : (setting : Setting) (before : List Item) (next : Item)
     → Walks setting before next → IsFalse (concerns_links before next)
-walks_links setting before (item.LinkIs one two up) walks = absurd walks
-walks_links setting before (item.Down t) walks = absurd walks
-walks_links setting before (item.Booted t boot) walks = absurd walks
-walks_links setting before (item.Opened t version) walks = absurd walks
-walks_links setting before _ walks = refl
+walks_links setting before next walks = search rules
 
 walks_policies : (setting : Setting) (before : List Item) (next : Item)
     → Walks setting before next → IsFalse (concerns_policies before next)
-walks_policies setting before (item.Submitted file version) walks = absurd walks
-walks_policies setting before _ walks = refl
+walks_policies setting before next walks = search rules
 
 found_more : (before : List Item) (next : Item) (i : ℕ)
     → found_down (before ++ next ∷ []) i ≡ changes_found i before (found_down before i) next
@@ -170,15 +148,7 @@ found_on : (setting : Setting) (journal : List Item) → IsNet setting.net
     → (before : List Item) (next : Item) (i : ℕ) → Walks setting before next
     → StaysSo setting journal before i
     → AreUnusable setting journal (found_down (before ++ next ∷ []) i)
-found_on setting journal net before (item.FoundDown p x y) i walks stays =
-    rw (found_more before (item.FoundDown p x y) i) (by_test (p == i))
-  where
-    by_test : (b : Bool) → AreUnusable setting journal
-        (if b then with_link (found_down before i) x y else found_down before i)
-    by_test true = unusable_more setting journal net (found_down before i) x y stays.found
-        (ap (λ mask. has mask y) (sym (stays.links x)) ∙ walks)
-    by_test false = stays.found
-found_on setting journal net before next i walks stays = rw (found_more before next i) stays.found
+found_on setting journal net before next i walks stays = search (rules, found_more, unusable_more)
 
 pub stays_on : (setting : Setting) (journal : List Item) → IsNet setting.net → (i : ℕ)
     → AreKept (Walks setting) (λ now. StaysSo setting journal now i)
@@ -212,13 +182,12 @@ stays_itself setting journal i none = record {
 
 walk_apart : (setting : Setting) (journal : List Item) → AreAgreed setting journal
     → (items front rest : List Item) (i s : ℕ) (cause : Cause) (leg : Leg) (down : List ℕ)
-    → Walk setting journal items → items ≡ front ++ item.Stuck i s cause leg down ∷ rest
+    → Walk setting journal items → items ≡ front ++ Item.Stuck i s cause leg down ∷ rest
     → found_down journal i ≡ no_links → HasSwitch setting.net s
     → All (λ target. Reaches setting journal s target → ⊥) (targets_of setting journal leg)
 walk_apart setting journal are items front rest i s cause leg down walk is none there =
     let whole = subst (Walk setting journal) is walk in
-    let stays = fact_on (Walks setting) (λ now. StaysSo setting journal now i)
-    (stays_on setting journal are.net i) journal front
+    let stays = fact_on (Walks setting) _ (stays_on setting journal are.net i) journal front
     (have_front (Walks setting) journal front _ whole) (stays_itself setting journal i none) in
     let knows : KnowsNoRoute setting (journal ++ front) i s leg down =
     (have_rest (Walks setting) journal front _ whole).0 in
@@ -230,35 +199,29 @@ walk_apart setting journal are items front rest i s cause leg down walk is none 
 
 end_apart : (setting : Setting) (journal items front rest : List Item) (i s : ℕ) (cause : Cause)
     (leg : Leg) (down : List ℕ) → NoEnd journal items
-    → items ≡ front ++ item.Stuck i s cause leg down ∷ rest → ⊥
-end_apart setting journal items front rest i s cause leg down ends is =
-    (have_rest IsNoEnd journal front _ (subst (NoEnd journal) is ends)).0
+    → items ≡ front ++ Item.Stuck i s cause leg down ∷ rest → ⊥
+end_apart setting journal items front rest i s cause leg down ends is = search (rules, have_rest)
 
 -- the step writes what a packet's step writes, or makes no packet stuck
 step_kinds : (setting : Setting) (before : List Item) (row : ℕ) (step : Step)
-    → let here = before ++ item.Row row step ∷ [] in
+    → let here = before ++ Item.Row row step ∷ [] in
     Walk setting here (step_items setting before step here)
     ⊎ NoEnd here (step_items setting before step here)
-step_kinds setting before row (Packet s header) =
-    inl (packet_walk setting (next_packet before) s header _)
+step_kinds setting before row (Packet s header) = inl (packet_walk setting _ s header _)
 step_kinds setting before row (Hop i) = inl (hop_walk setting i _)
-step_kinds setting before row step =
-    inr (others_have IsNoEnd ends_none setting before row step refl)
+step_kinds setting before row step = inr (others_have _ ends_none setting before row step refl)
 
 pub stuck_reaches_none : (setting : Setting) (journal : List Item) → AreAgreed setting journal
     → GetStuckApart setting journal
 unfolding piece
 stuck_reaches_none setting journal are row step front rest i s cause leg down is none there =
     elim (step_kinds setting journal row step) [
-      | inl walk ↦ walk_apart setting journal are
-          (items_then (next ∷ []) (step_items setting journal step) journal) front rest i s cause
-          leg down
+      | inl walk ↦ walk_apart setting journal are _ front rest i s cause leg down
           (have_first (Walks setting) next (step_items setting journal step) journal tt walk) is
           none there
-      | inr ends ↦ absurd (end_apart setting journal
-          (items_then (next ∷ []) (step_items setting journal step) journal) front rest i s cause
-          leg down (have_first IsNoEnd next (step_items setting journal step) journal tt ends) is)
+      | inr ends ↦ absurd (end_apart setting journal _ front rest i s cause leg down
+          (have_first IsNoEnd next (step_items setting journal step) journal tt ends) is)
     ]
   where
     next : Item
-    next = item.Row row step
+    next = Item.Row row step

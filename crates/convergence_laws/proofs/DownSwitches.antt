@@ -1,14 +1,13 @@
 -- Of a switch that is down, for which the controller doesn't wait though it doesn't count it as
 -- over, nothing is known in its known boot; and what stands behind openings and acknowledgements.
-use Rattle.std.proofs.Common.{[], if◌then◌else◌, ◌++◌, ◌==◌, ◌||◌, ◌∙◌, ◌∷◌, ◌≡◌, ◌≤◌, ◌⊎◌, Bool, IsFalse, IsTrue, List, None, Option, Some, ap, arith, eqb-true, false, filter_map, inl, inr, nat_eq, option_to_list, refl, subst, sym, true, unwrap_or, ℕ}
-use Rattle.base.proofs.Exports.{cons_option, list_any, option_or}
-use Rattle.update_machine.specs.Exports.{Body, Installed, Item, Message, OpenAt, Sending, Setting, all_given, body_to_controller, boot_of, controller_heard, first_number, gives_waited_for, has_acked, heard, installed_in, installs_version, is_over, is_up, is_waited_for, known_boot, message_of, open_sent, opened_at, raises_known, sendings, serves, to_switch}
+use Rattle.std.proofs.Common.{[], if◌then◌else◌, ◌++◌, ◌==◌, ◌∙◌, ◌∷◌, ◌≡◌, ◌≤◌, ◌⊎◌, Bool, IsFalse, IsTrue, List, None, Option, Some, ap, arith, eqb-true, false, filter_map, inl, inr, nat_eq, option_to_list, refl, subst, sym, true, unwrap_or, ℕ, rules}
+use Rattle.base.proofs.Exports.{list_any, option_or}
+use Rattle.update_machine.specs.Exports.{Body, Installed, Item, Message, OpenAt, Sending, Setting, all_given, body_to_controller, boot_of, controller_heard, first_number, gives_waited_for, has_acked, heard, installed_in, installs_version, is_over, is_up, is_waited_for, known_boot, message_of, open_sent, opened_at, raises_known, serves, to_switch}
 use Rattle.ctrl_msg.specs.Exports.{to_controller}
-use Rattle.journal.specs.declared.item.Item.TheVariants as item
 use Rattle.update_machine.proofs.Exports.{start_laws}
 use Rattle.control_laws.specs.Exports.{HasItemCause}
-use Rattle.control_laws.proofs.Exports.{AreKept, FromCauses, IsKnown, StampsAreCurrent, boot_more, by_number, current_at_first, current_kept, from_causes, heard_known, installed_is, is_delivered, known_at_first, known_kept, known_more, known_rises, last_more, opened_at_more, opened_in, opened_more, opened_same, opens_by, over_more, raised_above, raised_none, said_sent, serving_more, told_more, unraised_same, up_more}
-use Rattle.convergence_laws.proofs.ListElements.{IsIn, in_either}
+use Rattle.control_laws.proofs.Exports.{AreKept, FromCauses, IsKnown, StampsAreCurrent, boot_more, by_number, current_kept, from_causes, heard_known, installed_is, is_delivered, known_at_first, known_kept, known_more, known_rises, last_more, opened_at_more, opened_in, opened_more, opened_same, opens_by, over_more, raised_above, raised_none, said_sent, serving_more, told_more, unraised_same, up_more}
+use Rattle.convergence_laws.proofs.PlainItems.{IsIn, in_either}
 use Rattle.convergence_laws.proofs.MessageCourses.{IsSent, sendings_more, sent_by, sent_now, sent_stays}
 
 -- ---- what was sent
@@ -16,17 +15,16 @@ use Rattle.convergence_laws.proofs.MessageCourses.{IsSent, sendings_more, sent_b
 -- a message is the one that the item sends, or was sent before
 pub sent_either : (before : List Item) (next : Item) (message : Message)
     → IsSent (before ++ next ∷ []) message
-    → IsSent before message ⊎ ((n : ℕ) × (next ≡ item.Sent n message))
-sent_either before next message sent = elim (in_either sent.sending (sendings before)
-    (sent_by before next) (rw (sendings_more before next) at sent.is)) [
-      | inl earlier ↦ inl (record { sending = sent.sending; is = earlier; of = sent.of })
-      | inr now ↦ inr (by_item next now)
-    ]
+    → IsSent before message ⊎ ((n : ℕ) × (next ≡ Item.Sent n message))
+sent_either before next message sent = elim (in_either _ _ _ (rw (sendings_more _ _) at sent.is)) [
+  | inl earlier ↦ inl (record { sending = sent.sending; is = earlier; of = sent.of })
+  | inr now ↦ inr (by_item next now)
+]
   where
     by_item : (next : Item) → IsIn sent.sending (sent_by before next)
-        → (n : ℕ) × (next ≡ item.Sent n message)
-    by_item (item.Sent n new) is = elim is [
-      | inl same ↦ (n, ap (item.Sent n) (ap (λ (x : Sending). x.message) same ∙ sent.of))
+        → (n : ℕ) × (next ≡ Item.Sent n message)
+    by_item (Item.Sent n new) is = elim is [
+      | inl same ↦ (n, ap (Item.Sent n) (ap (λ (x : Sending). x.message) same ∙ sent.of))
       | inr none ↦ absurd none
     ]
     by_item _ is = absurd is
@@ -76,12 +74,11 @@ messages_on setting before next are n message is = elim (by_number before next n
 told_on : (setting : Setting) (before : List Item) (next : Item) → AreRecorded before
     → (body : Body) → IsIn body (controller_heard (before ++ next ∷ []))
     → IsSent (before ++ next ∷ []) (to_controller body)
-told_on setting before (item.Delivered number) are body is =
-    by_said (body_to_controller before number) refl
-    (rw (told_more before (item.Delivered number)) at is)
+told_on setting before (Item.Delivered number) are body is = by_said _ refl
+    (rw (told_more before (Item.Delivered number)) at is)
   where
     next : Item
-    next = item.Delivered number
+    next = Item.Delivered number
 
     old : IsIn body (controller_heard before) → IsSent (before ++ next ∷ []) (to_controller body)
     old is = sent_stays before next (to_controller body) (are.told body is)
@@ -101,8 +98,7 @@ told_on setting before (item.Delivered number) are body is =
             (to_controller body) (said_sent before number body (e ∙ ap Some same)))
         | inr none ↦ absurd none
       ]
-told_on setting before next are body is = sent_stays before next (to_controller body)
-    (are.told body (rw (told_more before next) at is))
+told_on setting before next are body is = search (rules, sent_stays, told_more)
 
 openings_on : (before : List Item) (next : Item) → AreRecorded before → (s boot version : ℕ)
     → opened_in (before ++ next ∷ []) s boot ≡ Some version
@@ -124,54 +120,22 @@ acks_on : (setting : Setting) (before : List Item) (next : Item)
     → HasItemCause setting before next → AreRecorded before → (s boot version : ℕ)
     → IsSent (before ++ next ∷ []) (to_controller (Installed s boot version))
     → boot ≤ known_boot (before ++ next ∷ []) s
-acks_on setting before next cause are s boot version sent =
-    elim (sent_either before next (to_controller (Installed s boot version)) sent) [
-      | inl earlier ↦ omega (arith, known_rises before next s, are.acks s boot version earlier)
-      | inr new ↦ let right = subst (HasItemCause setting before) new.1 cause in
-          omega (arith, right.present.own, are.heard, known_rises)
-    ]
+acks_on setting before next cause are s boot version sent = elim (sent_either before next _ sent) [
+  | inl earlier ↦ omega (arith, known_rises before next s, are.acks s boot version earlier)
+  | inr new ↦ let right = subst (HasItemCause setting before) new.1 cause in
+      omega (arith, right.present.own, are.heard, known_rises)
+]
 
 -- ---- the first boot
 
 boots_on : (setting : Setting) (before : List Item) (next : Item) → HasItemCause setting before next
     → AreRecorded before → (s : ℕ) → 1 ≤ boot_of (before ++ next ∷ []) s
-boots_on setting before (item.Booted t boot) cause are s =
-    rw (boot_more before (item.Booted t boot) s) (by_test (t == s))
-  where
-    by_test : (b : Bool) → 1 ≤ unwrap_or (if b then Some boot else None) (boot_of before s)
-    by_test true = let next = cause.next in omega arith
-    by_test false = are.boots s
-boots_on setting before next cause are s = rw (boot_more before next s) (are.boots s)
+boots_on setting before next cause are s = search (rules, boot_more)
 
 first_on : (setting : Setting) (before : List Item) (next : Item) → HasItemCause setting before next
     → AreRecorded before → (s : ℕ) → IsTrue (is_up (before ++ next ∷ []) s)
     → boot_of (before ++ next ∷ []) s ≡ 1 → IsTrue (serves (before ++ next ∷ []) s)
-first_on setting before (item.Booted t boot) cause are s up first = by_test (t == s) refl where
-  next : Item
-  next = item.Booted t boot
-
-  by_test : (b : Bool) → (t == s) ≡ b → IsTrue (serves (before ++ next ∷ []) s)
-  by_test true e = absurd (omega (arith, rw (boot_more, e) at first, cause.next, are.boots))
-  by_test false e = rw (serving_more before next s, e) (are.first s
-      (rw (up_more before next s, e) at up) (rw (boot_more before next s, e) at first))
-first_on setting before (item.Down t) cause are s up first = by_test (t == s) refl where
-  next : Item
-  next = item.Down t
-
-  by_test : (b : Bool) → (t == s) ≡ b → IsTrue (serves (before ++ next ∷ []) s)
-  by_test true e = let down : false ≡ true = rw (up_more before next s, e) at up in absurd cc
-  by_test false e = rw (serving_more before next s, e)
-      (are.first s (rw (up_more before next s, e) at up) (rw (boot_more before next s) at first))
-first_on setting before (item.Opened t version) cause are s up first = by_test (t == s) refl where
-  next : Item
-  next = item.Opened t version
-
-  by_test : (b : Bool) → (t == s) ≡ b → IsTrue (serves (before ++ next ∷ []) s)
-  by_test true e = rw (serving_more before next s, e) refl
-  by_test false e = rw (serving_more before next s, e)
-      (are.first s (rw (up_more before next s) at up) (rw (boot_more before next s) at first))
-first_on setting before next cause are s up first = rw (serving_more before next s)
-    (are.first s (rw (up_more before next s) at up) (rw (boot_more before next s) at first))
+first_on setting before next cause are s up first = search (rules, boot_more, serving_more, up_more)
 
 -- ---- idle switches
 
@@ -181,13 +145,13 @@ waited_more before next s = last_more (gives_waited_for s) before next false
 
 idle_was : (before : List Item) (next : Item) (s : ℕ) → IsFalse (is_delivered next)
     → IsIdle (before ++ next ∷ []) s → IsIdle before s
-idle_was before (item.Delivered number) s none idle = absurd cc
-idle_was before (item.Down t) s none idle =
-    grind (arith, up_more, over_more, waited_more before (item.Down t) s)
-idle_was before (item.Booted t boot) s none idle =
-    grind (arith, up_more, over_more, waited_more before (item.Booted t boot) s)
-idle_was before (item.OverNow t) s none idle =
-    grind (arith, up_more, over_more, waited_more before (item.OverNow t) s)
+idle_was before (Item.Delivered number) s none idle = absurd cc
+idle_was before (Item.Down t) s none idle =
+    grind (arith, up_more, over_more, waited_more before (Item.Down t) s)
+idle_was before (Item.Booted t boot) s none idle =
+    grind (arith, up_more, over_more, waited_more before (Item.Booted t boot) s)
+idle_was before (Item.OverNow t) s none idle =
+    grind (arith, up_more, over_more, waited_more before (Item.OverNow t) s)
 idle_was before next s none idle = record {
   down = rw (up_more before next s) at idle.down;
   confirmed = rw (waited_more before next s) at idle.confirmed;
@@ -196,8 +160,8 @@ idle_was before next s none idle = record {
 
 -- a delivery that raises no known boot
 idle_delivered : (before : List Item) (number s : ℕ) → raises_known before s number ≡ false
-    → IsIdle (before ++ item.Delivered number ∷ []) s → IsIdle before s
-idle_delivered before number s e idle = let next : Item = item.Delivered number in record {
+    → IsIdle (before ++ Item.Delivered number ∷ []) s → IsIdle before s
+idle_delivered before number s e idle = let next : Item = Item.Delivered number in record {
   down = rw (up_more before next s) at idle.down;
   confirmed = rw (waited_more before next s) at idle.confirmed;
   not_over = cc (over_more before next s, e, idle.not_over);
@@ -208,22 +172,7 @@ pub any_told : (reads : Body → Option ℕ) (v : ℕ) (bodies : List Body)
     → IsTrue (list_any (nat_eq v) (filter_map reads bodies))
     → (body : Body) × IsIn body bodies × (reads body ≡ Some v)
 any_told reads v [] any = absurd cc
-any_told reads v (body ∷ bodies) any = by_read (reads body) refl any (any_told reads v bodies) where
-  by_test : (w : ℕ) (b : Bool) → nat_eq v w ≡ b → reads body ≡ Some w
-      → IsTrue (b || list_any (nat_eq v) (filter_map reads bodies))
-      → (IsTrue (list_any (nat_eq v) (filter_map reads bodies))
-      → (found : Body) × IsIn found bodies × (reads found ≡ Some v))
-      → (found : Body) × IsIn found (body ∷ bodies) × (reads found ≡ Some v)
-  by_test w true e is any rest = (body, inl refl, is ∙ ap Some (sym (eqb-true v w e)))
-  by_test w false e is any rest = let found = rest any in (found.0, inr found.1, found.2)
-
-  by_read : (o : Option ℕ) → reads body ≡ o
-      → IsTrue (list_any (nat_eq v) (cons_option o (filter_map reads bodies)))
-      → (IsTrue (list_any (nat_eq v) (filter_map reads bodies))
-      → (found : Body) × IsIn found bodies × (reads found ≡ Some v))
-      → (found : Body) × IsIn found (body ∷ bodies) × (reads found ≡ Some v)
-  by_read None e any rest = let found = rest any in (found.0, inr found.1, found.2)
-  by_read (Some w) e any rest = by_test w (nat_eq v w) refl e any rest
+any_told reads v (body ∷ bodies) any = search (rules, eqb-true, any_told reads v bodies)
 
 -- an acknowledgement that is known was sent, but of the first boot
 acked_sent : (journal : List Item) (s version : ℕ)
@@ -249,24 +198,14 @@ acked_sent journal s version told closed any = by_first (known_boot journal s ==
 closed_on : (setting : Setting) (before : List Item) (next : Item)
     → HasItemCause setting before next → AreRecorded before → (s : ℕ)
     → IsIdle (before ++ next ∷ []) s → opened_at (before ++ next ∷ []) s ≡ None
-closed_on setting before (item.Delivered number) cause are s idle =
-    by_raise (raises_known before s number) refl
-  where
-    next : Item
-    next = item.Delivered number
-
-    by_raise : (b : Bool) → raises_known before s number ≡ b
-        → opened_at (before ++ next ∷ []) s ≡ None
-    by_raise true e = raised_none before number s are.current e
-    by_raise false e = opened_same before next s (unraised_same before number s e) refl
-        ∙ are.closed s (idle_delivered before number s e idle)
-closed_on setting before (item.Sent n message) cause are s idle =
+closed_on setting before (Item.Delivered number) cause are s idle =
+    search (rules, raised_none, opened_same, unraised_same, idle_delivered)
+closed_on setting before (Item.Sent n message) cause are s idle =
     opened_at_more before next s (known_more before next s)
-    ∙ ap (λ o. option_or o (first_number (open_sent s boot next))) closed
-    ∙ by_new (first_number (open_sent s boot next)) refl
+    ∙ ap (λ o. option_or o (first_number (open_sent s boot next))) closed ∙ by_new _ refl
   where
     next : Item
-    next = item.Sent n message
+    next = Item.Sent n message
 
     boot : ℕ
     boot = known_boot before s
@@ -282,13 +221,10 @@ closed_on setting before (item.Sent n message) cause are s idle =
     by_new None e = e
     by_new (Some w) e =
         elim (subst (HasItemCause setting before) (opens_by next s boot w e).1 cause).opens [
-          | inl first ↦ absurd (are.silent s w was
-              (acked_sent before s w are.told closed first.acked))
+          | inl first ↦ absurd (are.silent s w was (acked_sent _ s w are.told closed first.acked))
           | inr same ↦ let clash : None ≡ Some w = sym closed ∙ same in absurd cc
         ]
-closed_on setting before next cause are s idle =
-    opened_same before next s (known_more before next s) refl
-    ∙ are.closed s (idle_was before next s refl idle)
+closed_on setting before next cause are s idle = search (rules, opened_same, known_more, idle_was)
 
 -- a switch that is down acknowledges nothing
 silent_now : (setting : Setting) (before : List Item) (next : Item)
@@ -307,22 +243,21 @@ silent_on : (setting : Setting) (before : List Item) (next : Item) → HasItemCa
     next → AreRecorded before → (s version : ℕ) → IsIdle (before ++ next ∷ []) s → IsSent
     (before ++ next ∷ []) (to_controller (Installed s (known_boot (before ++ next ∷ []) s) version))
     → ⊥
-silent_on setting before (item.Delivered number) cause are s version idle sent =
+silent_on setting before (Item.Delivered number) cause are s version idle sent =
     by_raise (raises_known before s number) refl
   where
     next : Item
-    next = item.Delivered number
+    next = Item.Delivered number
 
-    no_delivery : (n : ℕ) → item.Delivered number ≡ item.Sent n (to_controller
+    no_delivery : (n : ℕ) → Item.Delivered number ≡ Item.Sent n (to_controller
         (Installed s (known_boot (before ++ next ∷ []) s) version)) → ⊥
     no_delivery n is = absurd cc
 
     by_raise : (b : Bool) → raises_known before s number ≡ b → ⊥
-    by_raise true e = elim (sent_either before next
-        (to_controller (Installed s (known_boot (before ++ next ∷ []) s) version)) sent) [
-          | inl earlier ↦ absurd (omega (arith, raised_above, are.acks))
-          | inr new ↦ absurd (no_delivery new.0 new.1)
-        ]
+    by_raise true e = elim (sent_either before next _ sent) [
+      | inl earlier ↦ absurd (omega (arith, raised_above, are.acks))
+      | inr new ↦ absurd (no_delivery new.0 new.1)
+    ]
     by_raise false e = silent_now setting before next cause are s version
         (unraised_same before number s e) (idle_delivered before number s e idle) sent
 silent_on setting before next cause are s version idle sent = silent_now setting before next cause
@@ -353,28 +288,7 @@ not_idle s idle = let clash : true ≡ false = sym (start_laws.up s) ∙ idle.do
 
 recorded_at_first : AreRecorded []
 unfolding controller_heard opened_in
-recorded_at_first = record {
-  known = known_at_first;
-  current = current_at_first;
-  messages = λ n message is.
-      let none : None ≡ Some message = rw (start_laws.message n).message at is in absurd cc;
-  told = λ body is. absurd is;
-  openings = λ s boot version is. by_first s boot (boot == 1) refl version is;
-  heard = λ s version any.
-      let none = subst (λ bodies. IsTrue (list_any (installs_version version) bodies))
-      (start_laws.heard s) any in
-      absurd cc;
-  acks = λ s boot version sent. absurd (none_sent _ sent);
-  first = λ s up boot. start_laws.serving s;
-  boots = λ s. omega (arith, start_laws.boot s);
-  closed = λ s idle. absurd (not_idle s idle);
-  silent = λ s version idle sent. not_idle s idle;
-} where
-  by_first : (s boot : ℕ) (b : Bool) → (boot == 1) ≡ b → (version : ℕ)
-      → (if b then Some 1 else None) ≡ Some version
-      → (boot ≡ 1) ⊎ IsSent [] (to_switch s (OpenAt boot version))
-  by_first s boot true e version is = inl (eqb-true boot 1 e)
-  by_first s boot false e version is = absurd cc
+recorded_at_first = search (rules, known_at_first, start_laws, none_sent, not_idle, eqb-true)
 
 pub caused_recorded : FromCauses (λ setting. AreRecorded)
 caused_recorded = from_causes (λ setting. AreRecorded) recorded_kept (λ setting. recorded_at_first)

@@ -8,12 +8,9 @@ pub use Rattle.convergence_laws.proofs.CaughtUp.{AreReady, IsCaughtUp, caught_up
 pub use Rattle.convergence_laws.proofs.ChangedLinksTold.{ends_there, held_in, newest_held, own_held}
 pub use Rattle.convergence_laws.proofs.ConvergedReceipts.{delivered_append, heard_in_boot, own_boot, sendings_on}
 pub use Rattle.convergence_laws.proofs.DownSwitches.{caused_recorded, waited_more}
-pub use Rattle.convergence_laws.proofs.FinishedNetwork.{none_found, one_delivered, sent_delivered}
-pub use Rattle.convergence_laws.proofs.FlushedSchedules.{all_end, flush_ends, last_ends, none_waits}
+pub use Rattle.convergence_laws.proofs.NewsLaws.{all_end, contains_in, ends_spread, ends_tell, flush_ends, last_ends, none_found, none_waits, one_delivered, sent_delivered}
 pub use Rattle.convergence_laws.proofs.InstalledTables.{TablesSent}
-pub use Rattle.convergence_laws.proofs.ListElements.{IsIn, all_in, each_in, each_of_in, in_at, in_either, in_filter, in_filter_map, in_flat_map, in_left, in_map, in_range, in_right, of_filter, of_filter_map}
+pub use Rattle.convergence_laws.proofs.PlainItems.{IsIn, IsPlain, Plain, all_in, delivery_plain, each_in, each_of_in, in_at, in_either, in_filter, in_filter_map, in_flat_map, in_left, in_map, in_range, in_right, is_plain, of_filter, of_filter_map, step_plain}
 pub use Rattle.convergence_laws.proofs.MessageCourses.{AreTraced, IsInOrder, IsSent, IsTraced, caused_traced, deliverable_sent, delivered_more, forgotten_more, next_first, next_grows, pieces_in_order, sendings_more, sent_by}
-pub use Rattle.convergence_laws.proofs.NewsLaws.{contains_in, ends_spread, ends_tell}
-pub use Rattle.convergence_laws.proofs.PlainItems.{IsPlain, Plain, delivery_plain, is_plain, step_plain}
 pub use Rattle.convergence_laws.proofs.SpreadAdverts.{HasNews, IsHad, IsStill, IsToldTo, Leaves, as_new_itself, had_back, sends_tell, stills_leave, told_stills}
 pub use Rattle.convergence_laws.proofs.UpdatesEnd.{first_acked, hello_known, installed_acked, opened_stamps, some_opening, stamped_acked, steps_ready}

@@ -1,15 +1,13 @@
 -- At the end of each step each switch that isn't over was sent, in its known boot, the tables of
 -- each version from the current one to the last.
-use Rattle.std.proofs.Common.{[], if◌then◌else◌, ◌++◌, ◌+◌, ◌-◌, ◌<◌, ◌==◌, ◌∙◌, ◌∷◌, ◌≡◌, ◌≤◌, ◌⊎◌, Bool, IsFalse, IsTrue, List, None, Option, Some, ap, append-nil, arith, false, inl, inr, length, nat_lt, not, option_and_then, refl, subst, sym, true, ℕ}
-use Rattle.base.proofs.Exports.{cases_eq, each_always, each_map, option_map_or, ⊤}
-use Rattle.update_machine.specs.Exports.{Body, Confirm, ControllerKeeps, Deliver, Hello, Install, Item, Message, Setting, Step, Tables, Update, after_hello, body_to_controller, confirm_items, controller_items, current_mark, deliver_items, delivery_items, hello_boot, install_for, installs_to, installs_to_all, is_message_to_controller, is_new_boot, is_over, known_boot, message_of, piece, raises_known, received_items, send_items, settling, step_items, switches_of, tables_at, to_switch, update_items, version_count, versions_from_current}
+use Rattle.std.proofs.Common.{[], if◌then◌else◌, ◌++◌, ◌+◌, ◌<◌, ◌∙◌, ◌∷◌, ◌≡◌, ◌≤◌, ◌⊎◌, Bool, IsFalse, IsTrue, List, Some, ap, append-nil, arith, false, inl, inr, length, nat_lt, not, refl, subst, sym, true, ℕ, rules}
+use Rattle.base.proofs.Exports.{cases_eq, each_always, each_map, ⊤}
+use Rattle.update_machine.specs.Exports.{Body, ControllerKeeps, Deliver, Hello, Install, Item, Message, Setting, Step, Tables, after_hello, confirm_items, controller_items, current_mark, deliver_items, delivery_items, install_for, installs_to, installs_to_all, is_message_to_controller, is_new_boot, is_over, known_boot, message_of, piece, raises_known, send_items, settling, step_items, switches_of, tables_at, to_switch, update_items, version_count, versions_from_current}
 use Rattle.ctrl_msg.specs.Exports.{to_controller}
-use Rattle.journal.specs.declared.item.Item.TheVariants as item
 use Rattle.update_machine.proofs.Exports.{start_laws}
 use Rattle.control_laws.specs.Exports.{HasItemCause, asks_controller}
 use Rattle.control_laws.proofs.Exports.{AreKept, Both, ReopensAlone, behind_piece, confirm_cases, count_more, current_more, deliver_cases, fact_on, grows, have_both, hello_sent, in_two, installs_reopen, known_more, leaves_keep, message_more, others_keep, over_more, sends_any, sends_leave, settling_have, settling_settles, told_is, unraised_same, update_cases}
-use Rattle.convergence_laws.proofs.ListElements.{in_filter, in_map, in_range}
-use Rattle.convergence_laws.proofs.PlainItems.{IsPlain, settling_plain}
+use Rattle.convergence_laws.proofs.PlainItems.{IsPlain, in_filter, in_map, in_range, settling_plain}
 use Rattle.convergence_laws.proofs.MessageCourses.{IsSent, sends_all, sent_on}
 
 -- tables of the version were sent to the switch, for this boot
@@ -48,8 +46,7 @@ installs_same setting Owed last before items known over current have = record {
         | inl owed ↦ inl owed
         | inr had ↦ elim had [
           | inl first ↦ inr (inl (first.0, known s ∙ first.1))
-          | inr sent ↦ inr
-              (inr (rw (known s) (tables_on before items s (known_boot before s) version sent)))
+          | inr sent ↦ inr (inr (rw (known s) (tables_on before items s _ version sent)))
         ]
       ];
 }
@@ -58,26 +55,15 @@ installs_same setting Owed last before items known over current have = record {
 
 plain_known : (before : List Item) (next : Item) → IsPlain before next → (s : ℕ)
     → known_boot (before ++ next ∷ []) s ≡ known_boot before s
-plain_known before (item.Delivered number) plain s = absurd plain
-plain_known before next plain s = known_more before next s
+plain_known before next plain s = search (rules, known_more)
 
 plain_over : (before : List Item) (next : Item) → IsPlain before next → (s : ℕ)
     → IsFalse (is_over (before ++ next ∷ []) s) → IsFalse (is_over before s)
-plain_over before (item.Delivered number) plain s none = absurd plain
-plain_over before (item.OverNow t) plain s none =
-    by_test (t == s) (rw (over_more before (item.OverNow t) s) at none)
-  where
-    by_test : (b : Bool) → IsFalse (if b then true else is_over before s)
-        → IsFalse (is_over before s)
-    by_test true none = absurd cc
-    by_test false none = none
-plain_over before next plain s none = rw (over_more before next s) at none
+plain_over before next plain s none = search (rules, over_more)
 
 current_up : (setting : Setting) (before : List Item) (next : Item)
     → HasItemCause setting before next → current_mark before ≤ current_mark (before ++ next ∷ [])
-current_up setting before (item.Current version) cause =
-    let rises = cause.rises in rw (current_more before (item.Current version)) (omega arith)
-current_up setting before next cause = rw (current_more before next) (omega arith)
+current_up setting before next cause = search (rules, current_more)
 
 installs_on : (setting : Setting) (Owed : ℕ → Type 0) (last : ℕ)
     → AreKept (Both (HasItemCause setting) IsPlain) (HaveInstalls setting Owed last)
@@ -88,25 +74,23 @@ installs_on setting Owed last before next both have =
 settling_installs : (setting : Setting) (Owed : ℕ → Type 0) (last : ℕ) (now : List Item)
     → HaveInstalls setting Owed last now
     → HaveInstalls setting Owed last (now ++ settling setting now)
-settling_installs setting Owed last now have = fact_on (Both (HasItemCause setting) IsPlain)
-    (HaveInstalls setting Owed last) (installs_on setting Owed last) now (settling setting now)
-    (have_both (HasItemCause setting) IsPlain now (settling setting now) (settling_have setting now)
-    (settling_plain setting now)) have
+settling_installs setting Owed last now have = fact_on _ _ (installs_on setting Owed last) now
+    (settling setting now) (have_both (HasItemCause setting) IsPlain now (settling setting now)
+    (settling_have setting now) (settling_plain setting now)) have
 
 -- messages leave all of it
 abbrev IsSending : List Item → Item → Type 0
-IsSending before (item.Sent number message) = ⊤
+IsSending before (Item.Sent number message) = ⊤
 IsSending before _ = ⊥
 
 sends_installs : (setting : Setting) (Owed : ℕ → Type 0) (last : ℕ) (now : List Item)
     (messages : List Message) → HaveInstalls setting Owed last now
     → HaveInstalls setting Owed last (now ++ send_items now messages)
-sends_installs setting Owed last now messages have =
-    fact_on IsSending (HaveInstalls setting Owed last) kept now (send_items now messages)
-    (sends_any IsSending (λ before n message. tt) now messages) have
+sends_installs setting Owed last now messages have = fact_on IsSending _ kept now
+    (send_items now messages) (sends_any IsSending (λ before n message. tt) now messages) have
   where
     kept : AreKept IsSending (HaveInstalls setting Owed last)
-    kept before (item.Sent n message) is have = let next : Item = item.Sent n message in
+    kept before (Item.Sent n message) is have = let next : Item = Item.Sent n message in
         installs_same setting Owed last before (next ∷ []) (λ s. known_more before next s)
         (λ s none. sym (over_more before next s) ∙ none)
         (omega (arith, current_more before next)) have
@@ -117,13 +101,12 @@ sends_installs setting Owed last now messages have =
 -- the switch whose known boot it raises is owed its tables
 delivered_owed : (setting : Setting) (last : ℕ) (before : List Item) (number : ℕ)
     → HaveInstalls setting (λ s. ⊥) last before → HaveInstalls setting
-    (λ s. raises_known before s number ≡ true) last (before ++ item.Delivered number ∷ [])
+    (λ s. raises_known before s number ≡ true) last (before ++ Item.Delivered number ∷ [])
 delivered_owed setting last before number have = record {
-  each = λ s version there none above below.
-      by_raise s version there none above below (raises_known before s number) refl;
+  each = λ s version there none above below. by_raise s version there none above below _ refl;
 } where
   next : Item
-  next = item.Delivered number
+  next = Item.Delivered number
 
   by_raise : (s version : ℕ) → s < length setting.net.switches
       → IsFalse (is_over (before ++ next ∷ []) s)
@@ -139,8 +122,7 @@ delivered_owed setting last before number have = record {
         | inl owed ↦ absurd owed
         | inr had ↦ elim had [
           | inl first ↦ inr (inl (first.0, known ∙ first.1))
-          | inr sent ↦ inr
-              (inr (rw known (tables_on before (next ∷ []) s (known_boot before s) version sent)))
+          | inr sent ↦ inr (inr (rw known (tables_on before (next ∷ []) s _ version sent)))
         ]
       ]
 
@@ -152,15 +134,7 @@ record IsHello (before : List Item) (number s : ℕ) : Type 0 where
 
 raises_by : (before : List Item) (number s : ℕ) → raises_known before s number ≡ true
     → IsHello before number s
-raises_by before number s raises =
-    by_hello (option_and_then (hello_boot s) (body_to_controller before number)) refl raises
-  where
-    by_hello : (o : Option ℕ) → option_and_then (hello_boot s) (body_to_controller before number)
-        ≡ o → option_map_or (λ boot. nat_lt (known_boot before s) boot) o false ≡ true
-        → IsHello before number s
-    by_hello None e raises = absurd cc
-    by_hello (Some boot) e raises =
-        record { boot = boot; sent = hello_sent before s number boot e; new = raises }
+raises_by before number s raises = search (rules, hello_sent)
 
 -- all versions from the current one on are sent
 installs_sent : (setting : Setting) (now : List Item) (s version : ℕ)
@@ -170,9 +144,8 @@ unfolding installs_to
 installs_sent setting now s version above below = record {
   tables = tables_at setting now version s;
   of = refl;
-  sent = sends_all now _ (install_for setting now version s)
-      (in_map (λ v. install_for setting now v s) version (versions_from_current now) (in_range
-      version (current_mark now) (version_count now + 1 - current_mark now) above (omega arith)));
+  sent = sends_all now _ _ (in_map (λ v. install_for setting now v s) version
+      (versions_from_current now) (in_range version (current_mark now) _ above (omega arith)));
 }
 
 hello_is : (setting : Setting) (before : List Item) (s boot : ℕ) (now : List Item)
@@ -189,21 +162,12 @@ to_installs setting Owed last s now have = sends_installs setting Owed last now 
 hello_installs : (setting : Setting) (Owed : ℕ → Type 0) (last : ℕ) (before : List Item)
     (body : Body) (now : List Item) → HaveInstalls setting Owed last now
     → HaveInstalls setting Owed last (now ++ after_hello setting before body now)
-hello_installs setting Owed last before (Hello s boot) now have = by_new (is_new_boot before s boot)
-  where
-    by_new : (b : Bool) → HaveInstalls setting Owed last (now ++ elim b [
-      | true ↦ installs_to setting s now
-      | false ↦ []
-    ])
-    by_new false = subst (HaveInstalls setting Owed last) (sym (append-nil now)) have
-    by_new true = to_installs setting Owed last s now have
-hello_installs setting Owed last before _ now have = rw (append-nil now) have
+hello_installs setting Owed last before body now have = search (rules, to_installs)
 
 pub installs_keep : (setting : Setting) (s : ℕ) (now : List Item)
     → ControllerKeeps now (now ++ installs_to setting s now)
 unfolding installs_to
-installs_keep setting s now = leaves_keep now _
-    (sends_leave now _ (installs_reopen setting now s (versions_from_current now)))
+installs_keep setting s now = leaves_keep now _ (sends_leave now _ (installs_reopen _ now s _))
 
 -- behind a hello that raised it all tables are sent
 hello_sends : (setting : Setting) (before : List Item) (s boot version : ℕ) (body : Body)
@@ -226,17 +190,18 @@ settling_count setting now = (grows now (settling setting now) (settling_settles
 
 same_body : (before : List Item) (number : ℕ) (one other : Body) → message_of before number
     ≡ Some (to_controller one) → message_of before number ≡ Some (to_controller other) → one ≡ other
-same_body before number one other first second =
-    ap (λ (o : Option Message). option_map_or (λ message. message.body) o one) (sym first ∙ second)
+same_body before number one other first second = search rules
 
 heard_installs : (setting : Setting) (before : List Item) (row number : ℕ) (step : Step)
     (body : Body) (now : List Item) → message_of before number ≡ Some (to_controller body)
-    → let here = before ++ item.Row row step ∷ [] in
+    → let here = before ++ Item.Row row step ∷ [] in
     (last : ℕ) → last ≡ version_count now
     → HaveInstalls setting (λ s. raises_known here s number ≡ true) last now
     → HaveInstalls setting (λ s. ⊥) last (now ++ controller_items setting before body now)
 unfolding controller_items
 heard_installs setting before row number step body now sent last is have =
+    let all : HaveInstalls setting (λ s. raises_known here s number ≡ true) last after =
+    hello_installs setting _ last before body settled (settling_installs setting _ last now have) in
     subst (HaveInstalls setting (λ s. ⊥) last)
     (sym (in_two (settling setting) (after_hello setting before body) now)) (record {
       each = λ s version there none above below. by_owed s version above below
@@ -244,17 +209,13 @@ heard_installs setting before row number step body now sent last is have =
     })
   where
     here : List Item
-    here = before ++ item.Row row step ∷ []
+    here = before ++ Item.Row row step ∷ []
 
     settled : List Item
     settled = now ++ settling setting now
 
     after : List Item
     after = settled ++ after_hello setting before body settled
-
-    all : HaveInstalls setting (λ s. raises_known here s number ≡ true) last after
-    all = hello_installs setting _ last before body settled
-        (settling_installs setting _ last now have)
 
     by_owed : (s version : ℕ) → current_mark after ≤ version → version ≤ last
         → (raises_known here s number ≡ true) ⊎ (((version ≡ 1) × (known_boot after s ≡ 1))
@@ -265,47 +226,36 @@ heard_installs setting before row number step body now sent last is have =
     by_owed s version above below (inl raises) =
         let hello = raises_by here number s raises in
         let new = subst (λ k. IsTrue (nat_lt k hello.boot))
-        (known_more before (item.Row row step) s) hello.new in
+        (known_more before (Item.Row row step) s) hello.new in
         inr (inr (hello_sends setting before s hello.boot version body settled (same_body before
-        number body (Hello s hello.boot) sent (sym (message_more before (item.Row row step) number)
+        number body (Hello s hello.boot) sent (sym (message_more before (Item.Row row step) number)
         ∙ hello.sent)) new (omega (arith, below, is, settling_count setting now)) above))
 
 pub delivery_told : (setting : Setting) (before : List Item) (number : ℕ) (body : Body)
     (now : List Item) → message_of before number ≡ Some (to_controller body)
     → delivery_items setting before number now ≡ controller_items setting before body now
 unfolding delivery_items
-delivery_told setting before number body now sent = ap (λ o. elim o [
-  | None ↦ []
-  | Some message ↦ received_items setting before number message now
-]) sent
+delivery_told setting before number body now sent = search rules
 
 deliver_installs : (setting : Setting) (before : List Item) (row number : ℕ)
     → IsTrue (is_message_to_controller before number)
-    → let here = before ++ item.Row row (Deliver number) ∷ [] in
+    → let here = before ++ Item.Row row (Deliver number) ∷ [] in
     HaveInstalls setting (λ s. ⊥) (version_count before) here
     → HaveInstalls setting (λ s. ⊥) (version_count before)
     (here ++ deliver_items setting before number here)
 deliver_installs setting before row number is have =
+    let here : List Item = before ++ Item.Row row (Deliver number) ∷ [] in
+    let now : List Item = here ++ Item.Delivered number ∷ [] in
+    let last : ℕ = version_count before in
+    let same : last ≡ version_count now = sym (count_more here (Item.Delivered number)
+    ∙ count_more before (Item.Row row (Deliver number))) in
+    let told : (body : Body) × (message_of before number ≡ Some (to_controller body)) =
+    told_is before number is in
     deliver_cases (HaveInstalls setting (λ s. ⊥) last) setting before number here
-    (installs_on setting (λ s. ⊥) last here item.Nothing (record { first = tt; second = tt }) have)
+    (installs_on setting (λ s. ⊥) last here Item.Nothing (record { first = tt; second = tt }) have)
     (rw (delivery_told setting before number told.0 now told.1)
     (heard_installs setting before row number (Deliver number) told.0 now told.1 last same
     (delivered_owed setting last here number have)))
-  where
-    here : List Item
-    here = before ++ item.Row row (Deliver number) ∷ []
-
-    now : List Item
-    now = here ++ item.Delivered number ∷ []
-
-    last : ℕ
-    last = version_count before
-
-    same : last ≡ version_count now
-    same = sym (count_more here (item.Delivered number) ∙ count_more before (item.Row row (Deliver number)))
-
-    told : (body : Body) × (message_of before number ≡ Some (to_controller body))
-    told = told_is before number is
 
 hello_count : (setting : Setting) (before : List Item) (body : Body) (now : List Item)
     → version_count (now ++ after_hello setting before body now) ≡ version_count now
@@ -327,16 +277,16 @@ controller_count setting before body now =
 
 deliver_count : (setting : Setting) (before : List Item) (row number : ℕ)
     → IsTrue (is_message_to_controller before number)
-    → let here = before ++ item.Row row (Deliver number) ∷ [] in
+    → let here = before ++ Item.Row row (Deliver number) ∷ [] in
     version_count (here ++ deliver_items setting before number here) ≡ version_count before
 deliver_count setting before row number is =
-    let here : List Item = before ++ item.Row row (Deliver number) ∷ [] in
-    let next : Item = item.Delivered number in
+    let here : List Item = before ++ Item.Row row (Deliver number) ∷ [] in
+    let next : Item = Item.Delivered number in
     let now : List Item = here ++ next ∷ [] in
-    let same = count_more before (item.Row row (Deliver number)) in
+    let same = count_more before (Item.Row row (Deliver number)) in
     let told = told_is before number is in
     deliver_cases (λ js. version_count js ≡ version_count before) setting before number here
-    (count_more here item.Nothing ∙ same)
+    (count_more here Item.Nothing ∙ same)
     (ap (λ items. version_count (now ++ items)) (delivery_told setting before number told.0 now
     told.1) ∙ controller_count setting before told.0 now ∙ count_more here next ∙ same)
 
@@ -350,8 +300,7 @@ unfolding installs_to_all
 newest_sent setting now s there none = record {
   tables = tables_at setting now (version_count now) s;
   of = refl;
-  sent = sends_all now _ (install_for setting now (version_count now) s)
-      (in_map (install_for setting now (version_count now)) s _
+  sent = sends_all now _ _ (in_map (install_for setting now (version_count now)) s _
       (in_filter (λ t. not (is_over now t)) s (switches_of setting) (in_range s 0
       (length setting.net.switches) (omega arith) (omega (arith, there))) (ap not none)));
 }
@@ -359,9 +308,8 @@ newest_sent setting now s there none = record {
 pub all_keep : (setting : Setting) (now : List Item)
     → ControllerKeeps now (now ++ installs_to_all setting now)
 unfolding installs_to_all
-all_keep setting now = leaves_keep now _ (sends_leave now _
-    (each_map (ReopensAlone now) (install_for setting now (version_count now)) _
-    (each_always (λ s. ReopensAlone now (install_for setting now (version_count now) s)) (λ s. tt) _)))
+all_keep setting now = leaves_keep now _ (sends_leave now _ (each_map (ReopensAlone now)
+    (install_for setting now (version_count now)) _ (each_always _ (λ s. tt) _)))
 
 all_installs : (setting : Setting) (last : ℕ) (now : List Item)
     → last + 1 ≡ version_count now → HaveInstalls setting (λ s. ⊥) last now
@@ -392,40 +340,32 @@ counted_on : (setting : Setting) (before : List Item) (next : Item)
     → Both (HasItemCause setting) IsPlain before next
     → version_count (before ++ next ∷ []) ≡ version_count before
     → AllInstalled setting before → AllInstalled setting (before ++ next ∷ [])
-counted_on setting before next both same have = rw same
-    (installs_on setting (λ s. ⊥) (version_count before) before next both have)
+counted_on setting before next both same have = search (rules, installs_on)
 
 -- and settling behind a version that may be new
 settled_installs : (setting : Setting) (last : ℕ) (now : List Item) → last ≡ version_count now
     → HaveInstalls setting (λ s. ⊥) last now → AllInstalled setting (now ++ settling setting now)
-settled_installs setting last now same have = rw (same ∙ sym (settling_count setting now)) at
-    (settling_installs setting (λ s. ⊥) last now have)
+settled_installs setting last now same have = search (rules, settling_count, settling_installs)
 
 update_installs : (setting : Setting) (file : ℕ) (here : List Item) → AllInstalled setting here
     → AllInstalled setting (here ++ update_items setting file here)
-update_installs setting file here have = update_cases (AllInstalled setting) setting file here
-    (λ code. counted_on setting here (item.Refused file code) (record { first = tt; second = tt })
-    (count_more here (item.Refused file code)) have)
+update_installs setting file here have =
+    let next : Item = Item.Submitted file (version_count here + 1) in
+    let now : List Item = here ++ next ∷ [] in
+    let more : version_count here + 1 ≡ version_count now = sym (count_more here next) in
+    update_cases (AllInstalled setting) setting file here
+    (λ code. counted_on setting here (Item.Refused file code) (record { first = tt; second = tt })
+    (count_more here (Item.Refused file code)) have)
     (settled_installs setting (version_count here + 1) (now ++ installs_to_all setting now)
     (more ∙ sym (all_keep setting now).count) (all_installs setting (version_count here) now more
     (installs_same setting (λ s. ⊥) (version_count here) here (next ∷ []) (λ s. known_more here next
     s) (λ s none. sym (over_more here next s) ∙ none) (omega (arith, current_more)) have)))
-  where
-    next : Item
-    next = item.Submitted file (version_count here + 1)
-
-    now : List Item
-    now = here ++ next ∷ []
-
-    more : version_count here + 1 ≡ version_count now
-    more = sym (count_more here next)
 
 confirm_installs : (setting : Setting) (s : ℕ) (here : List Item) → AllInstalled setting here
     → AllInstalled setting (here ++ confirm_items setting s here)
-confirm_installs setting s here have = let next : Item = item.OverNow s in
+confirm_installs setting s here have = let next : Item = Item.OverNow s in
     confirm_cases (AllInstalled setting) setting s here
-    (counted_on setting here item.Nothing (record { first = tt; second = tt })
-    (count_more here item.Nothing) have)
+    (counted_on setting here _ (record { first = tt; second = tt }) (count_more here _) have)
     (settled_installs setting (version_count here) (here ++ next ∷ []) (sym (count_more here next))
     (installs_same setting (λ t. ⊥) (version_count here) here (next ∷ []) (λ t. known_more here next
     t) (λ t none. plain_over here next tt t none) (omega (arith, current_more here next)) have))
@@ -433,19 +373,10 @@ confirm_installs setting s here have = let next : Item = item.OverNow s in
 -- ---- steps
 
 told_installs : (setting : Setting) (before : List Item) (row : ℕ) (step : Step)
-    → IsTrue (asks_controller before step) → let here = before ++ item.Row row step ∷ [] in
+    → IsTrue (asks_controller before step) → let here = before ++ Item.Row row step ∷ [] in
     AllInstalled setting here → AllInstalled setting (here ++ step_items setting before step here)
-told_installs setting before row (Deliver number) is = λ have.
-    let here : List Item = before ++ item.Row row (Deliver number) ∷ [] in
-    subst (λ m. HaveInstalls setting (λ s. ⊥) m (here ++ deliver_items setting before number here))
-    (sym (deliver_count setting before row number is))
-    (deliver_installs setting before row number is
-    (rw (count_more before (item.Row row (Deliver number))) at have))
-told_installs setting before row (Update file) is =
-    update_installs setting file (before ++ item.Row row (Update file) ∷ [])
-told_installs setting before row (Confirm s) is =
-    confirm_installs setting s (before ++ item.Row row (Confirm s) ∷ [])
-told_installs setting before row step is = absurd cc
+told_installs setting before row step is =
+    search (rules, deliver_count, deliver_installs, count_more, update_installs, confirm_installs)
 
 other_installs : (setting : Setting) (before : List Item) (row : ℕ) (step : Step)
     → IsFalse (asks_controller before step) → AllInstalled setting before
@@ -464,14 +395,9 @@ piece_installs setting before row step have = by_kind (asks_controller before st
       → AllInstalled setting (before ++ piece setting before row step)
   by_kind false e = other_installs setting before row step e have
   by_kind true e = behind_piece setting before row step (AllInstalled setting)
-      (told_installs setting before row step e (counted_on setting before (item.Row row step)
-      (record { first = tt; second = tt }) (count_more before (item.Row row step)) have))
+      (told_installs setting before row step e (counted_on setting before (Item.Row row step)
+      (record { first = tt; second = tt }) (count_more before (Item.Row row step)) have))
 
 -- each switch begins with the first version
 pub installs_at_first : (setting : Setting) → AllInstalled setting []
-installs_at_first setting = record {
-  each = λ s version there none above below. inr (inl (
-    omega (arith, above, below, start_laws.current, start_laws.count),
-    start_laws.known s,
-  ));
-}
+installs_at_first setting = search (rules, start_laws)

@@ -1,4 +1,3 @@
-pub mod ListElements
 pub mod PlainItems
 pub mod MessageCourses
 pub mod AnsweredMessages
@@ -8,19 +7,13 @@ pub mod DownSwitches
 pub mod ConvergedReceipts
 pub mod CaughtUp
 pub mod UpdatesEnd
-pub mod FinishedNetwork
-pub mod FlushedSchedules
-pub mod UsableNeighbours
-pub mod SpreadAdverts
+pub mod NewsLaws
 pub mod ChangedLinksTold
+pub mod SpreadAdverts
 pub mod AdvertNews
 pub mod AdvertFloods
 pub mod AgreeingNeighbours
-pub mod ConvergedLinks
 pub mod ConvergedKnownLinks
-pub mod ConvergedPacketSteps
 pub mod ConvergedStuckPackets
-pub mod NewsLaws
-mod ConvergenceTrials
 pub mod CallerLemmas
 pub mod Exports

@@ -1,35 +1,28 @@
 -- What became of each message that was sent: it has the number under which it was sent, and if it
 -- was delivered to a switch in the boot in which it was sent, or to the controller, it was heard.
-use Rattle.std.proofs.Common.{[], if◌then◌else◌, ◌&&◌, ◌++◌, ◌+◌, ◌<◌, ◌==◌, ◌||◌, ◌∙◌, ◌∷◌, ◌≡◌, ◌≤◌, ◌⊎◌, Bool, IfSome, IsFalse, IsTrue, List, None, Option, Some, ap, append-nil, append_assoc, arith, eq-eqb, eqb-true, false, inl, inr, is_some, not, refl, subst, sym, true, ℕ}
+use Rattle.std.proofs.Common.{[], if◌then◌else◌, ◌++◌, ◌+◌, ◌<◌, ◌==◌, ◌||◌, ◌∙◌, ◌∷◌, ◌≡◌, ◌≤◌, ◌⊎◌, Bool, IfSome, IsFalse, IsTrue, List, None, Option, Some, ap, append-nil, append_assoc, arith, eq-eqb, eqb-true, false, inl, inr, refl, subst, sym, true, ℕ, rules}
 use Rattle.base.proofs.Exports.{AllByRecursion, IfSome_then, each_append, nat_tests, option_map_or, ⊤}
 use Rattle.ctrl_msg.specs.Exports.{body_boot, to_controller}
-use Rattle.update_machine.specs.Exports.{Body, HaveCauses, Item, Message, Place, Sending, Setting, TakesNext, body_to_controller, body_to_switch, boot_at, boot_of, changes_sendings, controller_heard, heard, is_deliverable, is_delivery, is_for_boot, is_forgetting, is_forgotten, is_sending, is_up, message_of, next_message, send_items, sendings, sent_from, to_switch, was_delivered}
-use Rattle.ctrl_msg.specs.declared.message.Place.TheVariants as receiver
-use Rattle.journal.specs.declared.item.Item.TheVariants as item
+use Rattle.update_machine.specs.Exports.{Body, HaveCauses, Item, Message, Place, Sending, Setting, TakesNext, body_to_controller, body_to_switch, boot_at, boot_of, controller_heard, heard, is_deliverable, is_delivery, is_for_boot, is_forgetting, is_forgotten, is_sending, is_up, message_of, next_message, send_items, sendings, sent_from, to_switch, was_delivered}
 use Rattle.update_machine.proofs.Exports.{PiecesHave, count_of_append, folded_append, next_rises, piece_next, start_laws}
 use Rattle.control_laws.specs.Exports.{HasItemCause}
 use Rattle.control_laws.proofs.Exports.{AreKept, Both, GoesOn, IsKnown, boot_more, boot_rises, counted_more, each_weaker, fact_on, goes_on, have_both, heard_more, known_at_first, known_kept, message_more, some_more, told_more, turns}
 use Rattle.control_laws.proofs.PieceCauses as boots
-use Rattle.convergence_laws.proofs.ListElements.{IsIn, in_left, in_right}
+use Rattle.convergence_laws.proofs.PlainItems.{IsIn, in_left, in_right}
 use Rattle.convergence_laws.proofs.PlainItems as plain
 
 -- ---- what one more item sends
 
 -- the sending of an item
 abbrev pub sent_by : List Item → Item → List Sending
-sent_by before (item.Sent number message) =
+sent_by before (Item.Sent number message) =
     record { number = number; message = message; boot = boot_at before message.to } ∷ []
 sent_by before _ = []
 
 pub sendings_more : (before : List Item) (next : Item)
     → sendings (before ++ next ∷ []) ≡ sendings before ++ sent_by before next
 unfolding sendings
-sendings_more before next = cc (folded_append changes_sendings [] before (next ∷ []), by_item next)
-  where
-    by_item : (next : Item) → changes_sendings before (sendings before) next
-        ≡ sendings before ++ sent_by before next
-    by_item (item.Sent number message) = refl
-    by_item other = sym (append-nil (sendings before))
+sendings_more before next = search (rules, folded_append)
 
 -- ---- what was sent
 
@@ -43,8 +36,7 @@ pub sent_stays : (before : List Item) (next : Item) (message : Message) → IsSe
     → IsSent (before ++ next ∷ []) message
 sent_stays before next message sent = record {
   sending = sent.sending;
-  is = rw (sendings_more before next)
-      (in_left sent.sending (sendings before) (sent_by before next) sent.is);
+  is = rw (sendings_more before next) (in_left sent.sending (sendings before) _ sent.is);
   of = sent.of;
 }
 
@@ -55,11 +47,10 @@ sent_on journal (next ∷ items) message sent = rw (append_assoc journal (next �
     (sent_on (journal ++ next ∷ []) items message (sent_stays journal next message sent))
 
 pub sent_now : (before : List Item) (number : ℕ) (message : Message)
-    → IsSent (before ++ item.Sent number message ∷ []) message
+    → IsSent (before ++ Item.Sent number message ∷ []) message
 sent_now before number message = record {
   sending = record { number = number; message = message; boot = boot_at before message.to };
-  is = rw (sendings_more before (item.Sent number message))
-      (in_right _ (sendings before) _ (inl refl));
+  is = rw (sendings_more before _) (in_right _ (sendings before) _ (inl refl));
   of = refl;
 }
 
@@ -68,12 +59,11 @@ pub all_sent : (journal : List Item) (n : ℕ) (messages : List Message) (messag
     → IsIn message messages → IsSent (journal ++ sent_from n messages) message
 unfolding sent_from
 all_sent journal n [] message is = absurd is
-all_sent journal n (first ∷ messages) message is = let next : Item = item.Sent n first in
+all_sent journal n (first ∷ messages) message is = let next : Item = Item.Sent n first in
     subst (λ now. IsSent now message)
     (append_assoc journal (next ∷ []) (sent_from (n + 1) messages))
     (elim is [
-      | inl here ↦ sent_on (journal ++ next ∷ []) (sent_from (n + 1) messages) message
-          (subst (IsSent (journal ++ next ∷ [])) here (sent_now journal n first))
+      | inl here ↦ sent_on _ _ _ (subst (IsSent (journal ++ next ∷ [])) here (sent_now _ n first))
       | inr later ↦ all_sent (journal ++ next ∷ []) (n + 1) messages message later
     ])
 
@@ -119,8 +109,8 @@ pub record SwitchCourse (journal : List Item) (s : ℕ) (x : Sending) : Type 0 w
       → IsIn x.message.body (heard journal s)
 
 abbrev pub Course : List Item → Place → Sending → Type 0
-Course journal (receiver.Switch s) x = SwitchCourse journal s x
-Course journal receiver.Controller x =
+Course journal (Place.Switch s) x = SwitchCourse journal s x
+Course journal Place.Controller x =
     IsTrue (was_delivered journal x.number) → IsIn x.message.body (controller_heard journal)
 
 pub record IsTraced (journal : List Item) (x : Sending) : Type 0 where
@@ -142,27 +132,20 @@ pub record AreTraced (journal : List Item) : Type 0 where
 
 -- what is delivered or forgotten was sent
 abbrev pub IsSentFirst : List Item → Item → Type 0
-IsSentFirst before (item.Delivered number) =
+IsSentFirst before (Item.Delivered number) =
     (message : Message) × (message_of before number ≡ Some message)
-IsSentFirst before (item.Forgotten number) =
+IsSentFirst before (Item.Forgotten number) =
     (message : Message) × (message_of before number ≡ Some message)
 IsSentFirst before _ = ⊤
 
 pub deliverable_sent : (journal : List Item) (number : ℕ) → is_deliverable journal number ≡ true
     → (message : Message) × (message_of journal number ≡ Some message)
 unfolding is_deliverable
-deliverable_sent journal number is = by_message (message_of journal number) refl is where
-  by_message : (o : Option Message) → message_of journal number ≡ o
-      → (is_some o && not (is_forgotten journal number)) ≡ true
-      → (message : Message) × (message_of journal number ≡ Some message)
-  by_message None e is = absurd cc
-  by_message (Some message) e is = (message, e)
+deliverable_sent journal number is = search rules
 
 plain_sent_first : (before : List Item) (next : Item) → plain.IsPlain before next
     → IsSentFirst before next
-plain_sent_first before (item.Delivered number) is = absurd is
-plain_sent_first before (item.Forgotten number) is = deliverable_sent before number is
-plain_sent_first before _ is = tt
+plain_sent_first before next is = search (rules, deliverable_sent)
 
 sent_first_others : plain.HasOthers IsSentFirst
 sent_first_others = record {
@@ -177,9 +160,8 @@ abbrev pub IsInOrder : Setting → List Item → Item → Type 0
 IsInOrder setting = Both (HasItemCause setting) (Both TakesNext IsSentFirst)
 
 pub pieces_in_order : (setting : Setting) → PiecesHave (IsInOrder setting) setting
-pieces_in_order setting journal row step = have_both (HasItemCause setting)
-    (Both TakesNext IsSentFirst) journal _ (boots.pieces_have setting journal row step)
-    (have_both TakesNext IsSentFirst journal _ (piece_next setting journal row step)
+pieces_in_order setting journal row step = have_both (HasItemCause setting) _ journal _
+    (boots.pieces_have setting journal row step) (have_both _ _ _ _ (piece_next _ journal row step)
     (plain.pieces_have IsSentFirst sent_first_others plain_sent_first setting journal row step))
 
 -- ---- items keep it
@@ -191,15 +173,14 @@ number_on before next x below = omega (arith, below, next_rises before next)
 message_on : (before : List Item) (next : Item) (x : Sending) → TakesNext before next
     → x.number < next_message before → message_of before x.number ≡ Some x.message
     → message_of (before ++ next ∷ []) x.number ≡ Some x.message
-message_on before (item.Sent number message) x takes below is =
+message_on before (Item.Sent number message) x takes below is =
     let apart : (number == x.number) ≡ false = grind (arith, nat_tests) in
-    rw (message_more before (item.Sent number message) x.number, apart) is
+    rw (message_more before (Item.Sent number message) x.number, apart) is
 message_on before next x takes below is = rw (message_more before next x.number) is
 
 pub delivered_grows : (before : List Item) (number s : ℕ) (body : Body)
-    → IsIn body (heard before s) → IsIn body (heard (before ++ item.Delivered number ∷ []) s)
-delivered_grows before number s body is =
-    rw (heard_more before (item.Delivered number) s) (by_said (body_to_switch before s number))
+    → IsIn body (heard before s) → IsIn body (heard (before ++ Item.Delivered number ∷ []) s)
+delivered_grows before number s body is = rw (heard_more before _ s) (by_said _)
   where
     by_said : (o : Option Body)
         → IsIn body (option_map_or (λ b. heard before s ++ b ∷ []) o (heard before s))
@@ -208,42 +189,36 @@ delivered_grows before number s body is =
 
 heard_grows : (before : List Item) (next : Item) (s : ℕ) (body : Body) → IsFalse (turns s next)
     → IsIn body (heard before s) → IsIn body (heard (before ++ next ∷ []) s)
-heard_grows before (item.Down t) s body same is = grind (arith, heard_more)
-heard_grows before (item.Booted t boot) s body same is = grind (arith, heard_more)
-heard_grows before (item.Delivered number) s body same is = delivered_grows before number s body is
+heard_grows before (Item.Down t) s body same is = grind (arith, heard_more)
+heard_grows before (Item.Booted t boot) s body same is = grind (arith, heard_more)
+heard_grows before (Item.Delivered number) s body same is = delivered_grows before number s body is
 heard_grows before next s body same is = rw (heard_more before next s) is
 
 -- what is delivered to the switch in its boot it hears
 delivery_heard : (before : List Item) (s number : ℕ) (body : Body)
     → message_of before number ≡ Some (to_switch s body) → IsTrue (is_up before s)
     → IsTrue (is_for_boot (boot_of before s) body)
-    → IsIn body (heard (before ++ item.Delivered number ∷ []) s)
+    → IsIn body (heard (before ++ Item.Delivered number ∷ []) s)
 delivery_heard before s number body sent up own =
     let for_it : is_for_boot (boot_of before s) body ≡ true = own in
     let said : body_to_switch before s number ≡ Some body =
     rw (sent, eq-eqb s s refl, up, for_it, body_to_switch) refl in
-    rw (heard_more before (item.Delivered number) s, said)
+    rw (heard_more before (Item.Delivered number) s, said)
     (in_right body (heard before s) (body ∷ []) (inl refl))
 
 delivery_told : (before : List Item) (number : ℕ) (body : Body)
     → message_of before number ≡ Some (to_controller body)
-    → IsIn body (controller_heard (before ++ item.Delivered number ∷ []))
+    → IsIn body (controller_heard (before ++ Item.Delivered number ∷ []))
 delivery_told before number body sent =
     let said : body_to_controller before number ≡ Some body = rw (sent, body_to_controller) refl in
-    rw (told_more before (item.Delivered number), said)
+    rw (told_more before (Item.Delivered number), said)
     (in_right body (controller_heard before) (body ∷ []) (inl refl))
 
 -- what was delivered behind a delivery is that, or was so before
 delivered_either : (before : List Item) (number n : ℕ)
-    → IsTrue (was_delivered (before ++ item.Delivered number ∷ []) n)
+    → IsTrue (was_delivered (before ++ Item.Delivered number ∷ []) n)
     → (number ≡ n) ⊎ IsTrue (was_delivered before n)
-delivered_either before number n delivered =
-    by_test (number == n) refl (rw (delivered_more before (item.Delivered number) n) at delivered)
-  where
-    by_test : (b : Bool) → (number == n) ≡ b → IsTrue (b || was_delivered before n)
-        → (number ≡ n) ⊎ IsTrue (was_delivered before n)
-    by_test true e was = inl (eqb-true number n e)
-    by_test false e was = inr was
+delivered_either before number n delivered = search (rules, delivered_more, eqb-true)
 
 switch_heard : (before : List Item) (next : Item) (s : ℕ) (x : Sending) (to : Message)
     → to ≡ to_switch s x.message.body → message_of before x.number ≡ Some to
@@ -251,16 +226,14 @@ switch_heard : (before : List Item) (next : Item) (s : ℕ) (x : Sending) (to : 
     → IsTrue (is_for_boot x.boot x.message.body)
     → IsTrue (was_delivered (before ++ next ∷ []) x.number)
     → IsIn x.message.body (heard (before ++ next ∷ []) s)
-switch_heard before (item.Delivered number) s x to is sent on course own delivered =
+switch_heard before (Item.Delivered number) s x to is sent on course own delivered =
     elim (delivered_either before number x.number delivered) [
       | inl same ↦ delivery_heard before s number x.message.body
           (ap (message_of before) same ∙ sent ∙ ap Some is) on.up (rw on.own at own)
-      | inr was ↦ heard_grows before (item.Delivered number) s x.message.body refl
-          (course.heard on.up on.own own was)
+      | inr was ↦ heard_grows before _ s x.message.body refl (course.heard on.up on.own own was)
     ]
-switch_heard before next s x to is sent on course own delivered =
-    heard_grows before next s x.message.body on.same
-    (course.heard on.up on.own own (rw (delivered_more before next x.number) at delivered))
+switch_heard before next s x to is sent on course own delivered = heard_grows before next s _
+    on.same (course.heard on.up on.own own (rw (delivered_more before next x.number) at delivered))
 
 switch_on : (setting : Setting) (before : List Item) (next : Item) (s : ℕ) (x : Sending)
     → HasItemCause setting before next
@@ -275,12 +248,11 @@ switch_on setting before next s x cause sent course = record {
 
 told_on : (before : List Item) (next : Item) (x : Sending)
     → message_of before x.number ≡ Some (to_controller x.message.body)
-    → Course before receiver.Controller x → Course (before ++ next ∷ []) receiver.Controller x
-told_on before (item.Delivered number) x sent course delivered =
+    → Course before Place.Controller x → Course (before ++ next ∷ []) Place.Controller x
+told_on before (Item.Delivered number) x sent course delivered =
     elim (delivered_either before number x.number delivered) [
       | inl same ↦ delivery_told before number x.message.body (ap (message_of before) same ∙ sent)
-      | inr was ↦ rw (told_more before (item.Delivered number))
-          (in_left x.message.body (controller_heard before) _ (course was))
+      | inr was ↦ rw (told_more before _) (in_left x.message.body _ _ (course was))
     ]
 told_on before next x sent course delivered =
     rw (told_more before next) (course (rw (delivered_more before next x.number) at delivered))
@@ -289,10 +261,9 @@ course_on : (setting : Setting) (before : List Item) (next : Item) (to : Place) 
     → HasItemCause setting before next
     → message_of before x.number ≡ Some (record { to = to; body = x.message.body })
     → Course before to x → Course (before ++ next ∷ []) to x
-course_on setting before next (receiver.Switch s) x cause sent course =
+course_on setting before next (Place.Switch s) x cause sent course =
     switch_on setting before next s x cause sent course
-course_on setting before next receiver.Controller x cause sent course =
-    told_on before next x sent course
+course_on setting before next Place.Controller x cause sent course = told_on _ next x sent course
 
 traced_on : (setting : Setting) (before : List Item) (next : Item) (x : Sending)
     → IsInOrder setting before next → IsTraced before x → IsTraced (before ++ next ∷ []) x
@@ -306,15 +277,15 @@ traced_on setting before next x cause traced = record {
 -- ---- a new message
 
 new_course : (before : List Item) (number : ℕ) (to : Place) (body : Body)
-    → IsKnown (before ++ item.Sent number (record { to = to; body = body }) ∷ [])
+    → IsKnown (before ++ Item.Sent number (record { to = to; body = body }) ∷ [])
     → IsFalse (was_delivered before number)
-    → Course (before ++ item.Sent number (record { to = to; body = body }) ∷ []) to (record {
+    → Course (before ++ Item.Sent number (record { to = to; body = body }) ∷ []) to (record {
       number = number;
       message = record { to = to; body = body };
       boot = boot_at before to;
     })
-new_course before number (receiver.Switch s) body known fresh =
-    let next : Item = item.Sent number (to_switch s body) in
+new_course before number (Place.Switch s) body known fresh =
+    let next : Item = Item.Sent number (to_switch s body) in
     let same : boot_of (before ++ next ∷ []) s ≡ boot_of before s = boot_more before next s in
     record {
       own = omega (arith, same);
@@ -324,22 +295,21 @@ new_course before number (receiver.Switch s) body known fresh =
       heard = λ up own for delivered.
           let no = sym fresh ∙ (rw (delivered_more before next number) at delivered) in absurd cc;
     }
-new_course before number receiver.Controller body known fresh = λ delivered. let next : Item =
-    item.Sent number (to_controller body) in
+new_course before number Place.Controller body known fresh = λ delivered. let next : Item =
+    Item.Sent number (to_controller body) in
     absurd (cc (sym fresh ∙ (rw (delivered_more before next number) at delivered)))
 
 new_traced : (setting : Setting) (before : List Item) (number : ℕ) (message : Message)
-    → IsInOrder setting before (item.Sent number message) → AreTraced before
-    → IsTraced (before ++ item.Sent number message ∷ [])
+    → IsInOrder setting before (Item.Sent number message) → AreTraced before
+    → IsTraced (before ++ Item.Sent number message ∷ [])
     (record { number = number; message = message; boot = boot_at before message.to })
 new_traced setting before number message cause are =
-    let next : Item = item.Sent number message in
+    let next : Item = Item.Sent number message in
     let takes : number ≡ next_message before = cause.second.first in record {
       first = omega (arith, takes, next_first before);
       number = rw (next_more before next) (omega (arith, takes));
       message = rw (message_more before next number, eq-eqb number number refl) refl;
-      course = new_course before number message.to message.body
-          (known_kept setting before next cause.first are.known)
+      course = new_course before number _ _ (known_kept setting before next cause.first are.known)
           (by_test (was_delivered before number) refl);
     }
   where
@@ -349,20 +319,18 @@ new_traced setting before number message cause are =
 
 sent_traced : (setting : Setting) (before : List Item) (next : Item) → IsInOrder setting before next
     → AreTraced before → AllByRecursion (IsTraced (before ++ next ∷ [])) (sent_by before next)
-sent_traced setting before (item.Sent number message) cause are =
-    (new_traced setting before number message cause are, tt)
-sent_traced setting before _ cause are = tt
+sent_traced setting before next cause are = search (rules, new_traced)
 
 -- ---- together
 
 sent_below : (setting : Setting) (before : List Item) (next : Item) (n : ℕ) (message : Message)
     → IsInOrder setting before next → AreTraced before
     → message_of (before ++ next ∷ []) n ≡ Some message → n < next_message (before ++ next ∷ [])
-sent_below setting before (item.Sent number sent) n message cause are is =
+sent_below setting before (Item.Sent number sent) n message cause are is =
     by_test (number == n) refl
   where
     next : Item
-    next = item.Sent number sent
+    next = Item.Sent number sent
 
     by_test : (b : Bool) → (number == n) ≡ b → n < next_message (before ++ next ∷ [])
     by_test true e = rw next_more (omega (arith, cause.second.first, eqb-true))
@@ -375,36 +343,14 @@ sent_below setting before next n message cause are is =
 delivered_below : (setting : Setting) (before : List Item) (next : Item) (n : ℕ)
     → IsInOrder setting before next → AreTraced before
     → IsTrue (was_delivered (before ++ next ∷ []) n) → n < next_message (before ++ next ∷ [])
-delivered_below setting before (item.Delivered number) n cause are is =
-    by_test (number == n) refl (rw (delivered_more before (item.Delivered number) n) at is)
-  where
-    next : Item
-    next = item.Delivered number
-
-    by_test : (b : Bool) → (number == n) ≡ b → IsTrue (b || was_delivered before n)
-        → n < next_message (before ++ next ∷ [])
-    by_test true e was = let sent = cause.second.second in
-        omega (arith, are.sent number sent.0 sent.1, eqb-true number n e, next_rises before next)
-    by_test false e was = omega (arith, are.delivered n was, next_rises before next)
 delivered_below setting before next n cause are is =
-    omega (arith, are.delivered n (rw (delivered_more before next n) at is), next_rises before next)
+    search (rules, delivered_more, eqb-true, next_rises)
 
 forgotten_below : (setting : Setting) (before : List Item) (next : Item) (n : ℕ)
     → IsInOrder setting before next → AreTraced before
     → IsTrue (is_forgotten (before ++ next ∷ []) n) → n < next_message (before ++ next ∷ [])
-forgotten_below setting before (item.Forgotten number) n cause are is =
-    by_test (number == n) refl (rw (forgotten_more before (item.Forgotten number) n) at is)
-  where
-    next : Item
-    next = item.Forgotten number
-
-    by_test : (b : Bool) → (number == n) ≡ b → IsTrue (b || is_forgotten before n)
-        → n < next_message (before ++ next ∷ [])
-    by_test true e was = let sent = cause.second.second in
-        omega (arith, are.sent number sent.0 sent.1, eqb-true number n e, next_rises before next)
-    by_test false e was = omega (arith, are.forgotten n was, next_rises before next)
 forgotten_below setting before next n cause are is =
-    omega (arith, are.forgotten n (rw (forgotten_more before next n) at is), next_rises before next)
+    search (rules, forgotten_more, eqb-true, next_rises)
 
 pub traced_kept : (setting : Setting) → AreKept (IsInOrder setting) AreTraced
 traced_kept setting before next cause are = record {
@@ -413,24 +359,15 @@ traced_kept setting before next cause are = record {
   delivered = λ n is. delivered_below setting before next n cause are is;
   forgotten = λ n is. forgotten_below setting before next n cause are is;
   each = rw (sendings_more before next)
-      (each_append (IsTraced (before ++ next ∷ [])) (sendings before) (sent_by before next)
-      (each_weaker (IsTraced before) (IsTraced (before ++ next ∷ []))
-      (λ x traced. traced_on setting before next x cause traced) (sendings before) are.each)
-      (sent_traced setting before next cause are));
+      (each_append _ (sendings before) (sent_by before next) (each_weaker (IsTraced before)
+      (IsTraced (before ++ next ∷ [])) (λ x traced. traced_on setting before next x cause traced)
+      (sendings before) are.each) (sent_traced setting before next cause are));
 }
 
 pub traced_at_first : AreTraced []
 unfolding was_delivered is_forgotten
-traced_at_first = record {
-  known = known_at_first;
-  sent = λ n message is.
-      let none : None ≡ Some message = rw (start_laws.message n).message at is in absurd cc;
-  delivered = λ n is. let no : false ≡ true = is in absurd cc;
-  forgotten = λ n is. let no : false ≡ true = is in absurd cc;
-  each = subst (AllByRecursion (IsTraced [])) (sym start_laws.sent) tt;
-}
+traced_at_first = search (rules, known_at_first, start_laws)
 
 pub caused_traced : (setting : Setting) (journal : List Item)
     → HaveCauses (IsInOrder setting) [] journal → AreTraced journal
-caused_traced setting journal have =
-    fact_on (IsInOrder setting) AreTraced (traced_kept setting) [] journal have traced_at_first
+caused_traced setting journal have = fact_on _ _ (traced_kept setting) [] _ have traced_at_first

@@ -1,16 +1,15 @@
 -- The adverts that switches have: those with which they began, those that they heard, and those
 -- that were sent to them in their present boot, with no number below a bound.
-use Rattle.std.proofs.Common.{[], if◌then◌else◌, ◌++◌, ◌+◌, ◌<◌, ◌==◌, ◌∙◌, ◌∷◌, ◌≡◌, ◌≢◌, ◌≤◌, ◌⊎◌, Bool, IsTrue, List, None, Option, Some, ap, append-nil, append_assoc, arith, false, inl, inr, refl, subst, sym, true, ℕ}
+use Rattle.std.proofs.Common.{[], if◌then◌else◌, ◌++◌, ◌+◌, ◌<◌, ◌==◌, ◌∙◌, ◌∷◌, ◌≡◌, ◌≢◌, ◌≤◌, ◌⊎◌, Bool, IsTrue, List, None, Option, Some, ap, append-nil, append_assoc, arith, false, inl, inr, refl, subst, sym, true, ℕ, rules}
 use Rattle.base.proofs.Exports.{nat_tests, option_map_or, ⊤}
 use Rattle.update_machine.specs.Exports.{Advert, Advertise, Body, HaveCauses, Item, LinksKeep, Message, Setting, advert_to, adverts_begun, adverts_heard, body_to_switch, boot_at, boot_of, heard, is_up, near, next_message, other_advert, own_advert, send_items, sendings, sent_from}
 use Rattle.failover.specs.Exports.{held_advert, is_newer}
 use Rattle.failover.proofs.NewestAdvert.{not_newer}
 use Rattle.base.specs.Exports.{has}
-use Rattle.journal.specs.declared.item.Item.TheVariants as item
 use Rattle.update_machine.proofs.Exports.{links_keep}
 use Rattle.control_laws.proofs.Exports.{AreKept, boot_more, fact_on, heard_more, up_more}
 use Rattle.convergence_laws.specs.Exports.{IsAsNew}
-use Rattle.convergence_laws.proofs.ListElements.{IsIn, in_either, in_filter_map, in_left, in_right, of_filter_map}
+use Rattle.convergence_laws.proofs.PlainItems.{IsIn, in_either, in_filter_map, in_left, in_right, of_filter_map}
 use Rattle.convergence_laws.proofs.MessageCourses.{delivered_grows, sendings_more, sent_by}
 
 -- ---- as new
@@ -22,10 +21,7 @@ new_through : (a b c : Advert) → is_newer b c ≡ false → is_newer a b ≡ f
 new_through a b c later first = grind (arith, nat_tests)
 
 pub as_new_through : (c b a : Advert) → IsAsNew c b → IsAsNew b a → IsAsNew c a
-as_new_through c b a later first = record {
-  origin = later.origin ∙ first.origin;
-  new = new_through a b c later.new first.new;
-}
+as_new_through c b a later first = search (rules, new_through)
 
 -- ---- what a switch has
 
@@ -79,13 +75,10 @@ pub given_grows : (setting : Setting) (before after : List Item) (s : ℕ) (adve
     → is_up after s ≡ is_up before s → boot_of after s ≡ boot_of before s
     → ((body : Body) → IsIn body (heard before s) → IsIn body (heard after s))
     → IsGiven setting before s advert → IsGiven setting after s advert
-given_grows setting before after s advert up boot grows (inl begun) = inl
-    (ap (λ adverts. held_advert adverts advert.origin) (begun_same setting before after s up boot)
-    ∙ begun)
+given_grows setting before after s advert up boot grows (inl begun) = search (rules, begun_same)
 given_grows setting before after s advert up boot grows (inr told) =
     let found = of_filter_map (other_advert s) advert (heard before s) told in
-    inr (in_filter_map (other_advert s) found.0 advert (heard after s) (grows found.0 found.1)
-    found.2)
+    inr (in_filter_map _ found.0 advert (heard after s) (grows found.0 found.1) found.2)
 
 pub told_on : {since : ℕ} (before : List Item) (next : Item) (s : ℕ) (advert : Advert)
     → boot_of (before ++ next ∷ []) s ≡ boot_of before s
@@ -114,18 +107,17 @@ news_on {since = since} setting before next s than up boot grows has = record {
   by_had : IsGiven setting before s has.advert ⊎ IsToldTo since before s has.advert
       → IsGiven setting (before ++ next ∷ []) s has.advert
       ⊎ IsToldTo since (before ++ next ∷ []) s has.advert
-  by_had (inl given) = inl (given_grows setting before (before ++ next ∷ []) s has.advert up boot
-      grows given)
+  by_had (inl given) = inl (given_grows setting before _ s has.advert up boot grows given)
   by_had (inr told) = inr (told_on before next s has.advert boot told)
 
 -- ---- items that neither deliver, nor turn switches, nor change links
 
 abbrev pub IsStill : List Item → Item → Type 0
-IsStill before (item.Delivered number) = ⊥
-IsStill before (item.Down s) = ⊥
-IsStill before (item.Booted s boot) = ⊥
-IsStill before (item.Opened s version) = ⊥
-IsStill before (item.LinkIs one two up) = ⊥
+IsStill before (Item.Delivered number) = ⊥
+IsStill before (Item.Down s) = ⊥
+IsStill before (Item.Booted s boot) = ⊥
+IsStill before (Item.Opened s version) = ⊥
+IsStill before (Item.LinkIs one two up) = ⊥
 IsStill before _ = ⊤
 
 -- what such items leave
@@ -138,11 +130,11 @@ pub record Leaves (setting : Setting) (before after : List Item) : Type 0 where
 
 still_leaves : (setting : Setting) (before : List Item) (next : Item) → IsStill before next
     → Leaves setting before (before ++ next ∷ [])
-still_leaves setting before (item.Delivered number) still = absurd still
-still_leaves setting before (item.Down s) still = absurd still
-still_leaves setting before (item.Booted s boot) still = absurd still
-still_leaves setting before (item.Opened s version) still = absurd still
-still_leaves setting before (item.LinkIs one two up) still = absurd still
+still_leaves setting before (Item.Delivered number) still = absurd still
+still_leaves setting before (Item.Down s) still = absurd still
+still_leaves setting before (Item.Booted s boot) still = absurd still
+still_leaves setting before (Item.Opened s version) still = absurd still
+still_leaves setting before (Item.LinkIs one two up) still = absurd still
 still_leaves setting before next still =
     let keeps = links_keep setting before (next ∷ []) (refl, tt) in record {
       up = λ s. up_more before next s;
@@ -173,21 +165,14 @@ stills_leave setting journal items still = fact_on IsStill (Leaves setting journ
 
 pub had_back : (setting : Setting) (before after : List Item) (s : ℕ) (advert : Advert)
     → Leaves setting before after → IsHad setting after s advert → IsHad setting before s advert
-had_back setting before after s advert leaves (inl own) = inl (own ∙ leaves.advert s)
-had_back setting before after s advert leaves (inr of) = inr (record {
-  other = of.other;
-  small = of.small;
-  given = given_grows setting after before s advert (sym (leaves.up s)) (sym (leaves.boot s))
-      (λ body is. rw (leaves.bodies s) at is) of.given;
-})
+had_back setting before after s advert leaves h6 = search (rules, given_grows)
 
 pub still_news : {since : ℕ} (setting : Setting) (Owed : ℕ → ℕ → Advert → Type 0)
     → AreKept IsStill (HaveNews setting since Owed)
 still_news setting Owed before next still have =
     let leaves = still_leaves setting before next still in record {
-      each = λ s neighbour advert linked had other. elim
-          (have.each s neighbour advert (rw (leaves.links s) at linked)
-          (had_back setting before (before ++ next ∷ []) s advert leaves had) other) [
+      each = λ s neighbour advert linked had other. elim (have.each s neighbour advert
+          (rw (leaves.links s) at linked) (had_back setting before _ s advert leaves had) other) [
             | inl owed ↦ inl owed
             | inr has ↦ inr (news_on setting before next neighbour advert (leaves.up neighbour)
                 (leaves.boot neighbour) (λ body is. rw (leaves.bodies neighbour) is) has)
@@ -197,8 +182,7 @@ still_news setting Owed before next still have =
 pub stills_news : {since : ℕ} (setting : Setting) (Owed : ℕ → ℕ → Advert → Type 0)
     (journal items : List Item) → HaveCauses IsStill journal items
     → HaveNews setting since Owed journal → HaveNews setting since Owed (journal ++ items)
-stills_news {since = since} setting Owed journal items still have =
-    fact_on IsStill (HaveNews setting since Owed) (still_news setting Owed) journal items still have
+stills_news {since = since} _ Owed _ _ still have = fact_on _ _ (still_news _ Owed) _ _ still have
 
 -- what was told stays told
 pub told_stills : {since : ℕ} (setting : Setting) (journal items : List Item) (s : ℕ)
@@ -219,13 +203,13 @@ pub record IsDelivered (here : List Item) (number s : ℕ) (advert : Advert) : T
 -- what is delivered to a switch is owed to its neighbours
 pub delivered_news : {since : ℕ} (setting : Setting) (here : List Item) (number : ℕ)
     → HaveNews setting since (λ s neighbour advert. ⊥) here → HaveNews setting since
-    (λ s neighbour advert. IsDelivered here number s advert) (here ++ item.Delivered number ∷ [])
+    (λ s neighbour advert. IsDelivered here number s advert) (here ++ Item.Delivered number ∷ [])
 delivered_news {since = since} setting here number have = record {
   each = λ s neighbour advert linked had other. by_had s neighbour advert
       (rw (keeps.near s) at linked) other had;
 } where
   next : Item
-  next = item.Delivered number
+  next = Item.Delivered number
 
   now : List Item
   now = here ++ next ∷ []
@@ -291,8 +275,7 @@ delivered_news {since = since} setting here number have = record {
       other = of.other;
       small = of.small;
       given = inl (ap (λ adverts. held_advert adverts advert.origin)
-          (sym (begun_same setting here now s (up_more here next s) (boot_more here next s)))
-          ∙ begun);
+          (sym (begun_same setting _ now s (up_more here next s) (boot_more here next s))) ∙ begun);
     }))
     by_given (inr told) = let found = of_filter_map (other_advert s) advert (heard now s) told in
         by_said s neighbour advert linked other of.other of.small found.0 found.2
@@ -302,15 +285,15 @@ delivered_news {since = since} setting here number have = record {
 -- ---- what is sent now is of the present boot
 
 boot_sent : (journal : List Item) (n : ℕ) (message : Message) (s : ℕ)
-    → boot_of (journal ++ item.Sent n message ∷ []) s ≡ boot_of journal s
-boot_sent journal n message s = boot_more journal (item.Sent n message) s
+    → boot_of (journal ++ Item.Sent n message ∷ []) s ≡ boot_of journal s
+boot_sent journal n message s = boot_more journal (Item.Sent n message) s
 
 told_items : {since : ℕ} (journal : List Item) (n : ℕ) (messages : List Message) (s : ℕ) (advert : Advert)
     → IsToldTo since journal s advert → IsToldTo since (journal ++ sent_from n messages) s advert
 unfolding sent_from
 told_items {since = since} journal n [] s advert told = rw (append-nil journal) told
 told_items {since = since} journal n (message ∷ messages) s advert told =
-    let next : Item = item.Sent n message in
+    let next : Item = Item.Sent n message in
     subst (λ now. IsToldTo since now s advert)
     (append_assoc journal (next ∷ []) (sent_from (n + 1) messages))
     (told_items (journal ++ next ∷ []) (n + 1) messages s advert
@@ -322,7 +305,7 @@ told_now : {since : ℕ} (journal : List Item) (n : ℕ) (messages : List Messag
 unfolding sent_from
 told_now journal n [] s advert late is = absurd is
 told_now {since = since} journal n (message ∷ messages) s advert late is =
-    let next : Item = item.Sent n message in
+    let next : Item = Item.Sent n message in
     let now : List Item = journal ++ next ∷ [] in
     subst (λ js. IsToldTo since js s advert)
     (append_assoc journal (next ∷ []) (sent_from (n + 1) messages))
@@ -345,5 +328,4 @@ told_now {since = since} journal n (message ∷ messages) s advert late is =
 pub sends_tell : {since : ℕ} (journal : List Item) (messages : List Message) (s : ℕ)
     (advert : Advert) → since ≤ next_message journal → IsIn (advert_to s advert) messages
     → IsToldTo since (journal ++ send_items journal messages) s advert
-sends_tell journal messages s advert late is =
-    told_now journal (next_message journal) messages s advert late is
+sends_tell journal messages s advert late is = search (rules, told_now)

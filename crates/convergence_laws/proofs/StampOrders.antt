@@ -1,14 +1,13 @@
 -- At the end of each step each member was opened at the current version, or was told to stamp with
 -- it.
-use Rattle.std.proofs.Common.{[], ◌++◌, ◌+◌, ◌<◌, ◌∙◌, ◌∷◌, ◌≡◌, ◌⊎◌, Bool, IsTrue, List, Some, ap, append-nil, append_assoc, arith, false, inl, inr, length, map, nat_lt, refl, subst, sym, true, ℕ}
+use Rattle.std.proofs.Common.{[], ◌++◌, ◌+◌, ◌<◌, ◌∙◌, ◌∷◌, ◌≡◌, ◌⊎◌, Bool, IsTrue, List, Some, ap, append-nil, append_assoc, arith, false, inl, inr, length, map, nat_lt, refl, subst, sym, true, ℕ, rules}
 use Rattle.base.proofs.Exports.{each_always, each_map, ⊤}
-use Rattle.update_machine.specs.Exports.{Body, Confirm, ControllerKeeps, Deliver, HaveCauses, Hello, Item, Message, Setting, Step, Update, after_hello, confirm_items, controller_heard, controller_items, current_items, current_mark, deliver_items, in_turn, installs_to, installs_to_all, is_member, is_message_to_controller, is_new_boot, is_over, items_then, known_boot, members, next_current, nothing, open_items, open_sent, opened_at, piece, retired_items, send_items, settling, stamp_for, step_items, switches_of, touched_by, update_items, version_count}
-use Rattle.journal.specs.declared.item.Item.TheVariants as item
+use Rattle.update_machine.specs.Exports.{Body, ControllerKeeps, HaveCauses, Hello, Item, Message, Setting, Step, after_hello, confirm_items, controller_heard, controller_items, current_items, current_mark, deliver_items, in_turn, is_member, is_message_to_controller, is_over, items_then, known_boot, members, next_current, nothing, open_items, open_sent, opened_at, piece, retired_items, send_items, settling, stamp_for, step_items, switches_of, touched_by, update_items, version_count}
 use Rattle.update_machine.proofs.Exports.{have_first, have_in_turn}
 use Rattle.control_laws.specs.Exports.{HasItemCause, asks_controller, stamp_to}
 use Rattle.control_laws.proofs.Exports.{AreKept, Both, LeavesMember, ReopensAlone, StampsAreCurrent, behind_piece, confirm_cases, current_kept, current_more, deliver_cases, delivered_cases, fact_on, have_both, have_rest, in_two, known_more, leaves_keep, member_was, others_keep, over_cases, over_more, quiet_leaves, sends_any, sends_leave, sent_cases, settling_have, told_is, update_cases}
 use Rattle.convergence_laws.proofs.InstalledTables.{all_keep, delivery_told, installs_keep}
-use Rattle.convergence_laws.proofs.ListElements.{in_filter, in_map, in_range}
+use Rattle.convergence_laws.proofs.PlainItems.{in_filter, in_map, in_range}
 use Rattle.convergence_laws.proofs.MessageCourses.{IsSent, sends_all, sent_on}
 use Rattle.ternary.specs.Exports.{WordValue}
 
@@ -44,29 +43,24 @@ stamped_same before items s known member opened current is now = elim (is (membe
 stamped_leaving : (before : List Item) (next : Item) (s : ℕ) → LeavesMember before next s
     → current_mark (before ++ next ∷ []) ≡ current_mark before
     → IsStamped before s → IsStamped (before ++ next ∷ []) s
-stamped_leaving before next s leaves current is = stamped_same before (next ∷ []) s leaves.known
-    (member_was before next s leaves) leaves.opened current is
+stamped_leaving before next s leaves current is = search (rules, stamped_same, member_was)
 
 stamps_keep : (setting : Setting) (before items : List Item)
     → ControllerKeeps before (before ++ items) → HaveStamps setting before
     → HaveStamps setting (before ++ items)
-stamps_keep setting before items keeps have = record {
-  each = λ s there. stamped_same before items s (keeps.known s)
-      (λ member. sym (keeps.member s) ∙ member) (keeps.opened s) keeps.current (have.each s there);
-}
+stamps_keep setting before items keeps have = search (rules, stamped_same)
 
 -- ---- items
 
 -- one that is opened now is opened at the current version
 stamped_sent : (setting : Setting) (before : List Item) (n s : ℕ) (message : Message)
-    → HasItemCause setting before (item.Sent n message) → IsStamped before s
-    → IsStamped (before ++ item.Sent n message ∷ []) s
-stamped_sent setting before n s message cause is = let next : Item = item.Sent n message in
+    → HasItemCause setting before (Item.Sent n message) → IsStamped before s
+    → IsStamped (before ++ Item.Sent n message ∷ []) s
+stamped_sent setting before n s message cause is = let next : Item = Item.Sent n message in
     sent_cases setting before n s message cause (IsStamped (before ++ next ∷ []) s)
     (λ leaves. stamped_leaving before next s leaves (current_more before next) is)
     (λ none member. absurd (none member))
-    (λ version first now member.
-    inl (now ∙ ap Some (first.current ∙ sym (current_more before next))))
+    (λ version first now member. inl (now ∙ ap Some (first.current ∙ sym (current_more _ next))))
 
 -- an item that opens none, and ends and raises no boot
 stamped_still : (before : List Item) (next : Item) (s : ℕ) → known_boot (before ++ next ∷ []) s
@@ -78,15 +72,15 @@ stamped_still before next s known over none current is =
     stamped_leaving before next s (quiet_leaves before next s known over none) current is
 
 stamped_over : (before : List Item) (t s : ℕ) → IsStamped before s
-    → IsStamped (before ++ item.OverNow t ∷ []) s
-stamped_over before t s is = let next : Item = item.OverNow t in
+    → IsStamped (before ++ Item.OverNow t ∷ []) s
+stamped_over before t s is = let next : Item = Item.OverNow t in
     over_cases before t s (IsStamped (before ++ next ∷ []) s)
     (λ leaves. stamped_leaving before next s leaves (current_more before next) is)
     (λ none member. absurd (none member))
 
 stamped_delivered : (before : List Item) (number s : ℕ) → StampsAreCurrent before
-    → IsStamped before s → IsStamped (before ++ item.Delivered number ∷ []) s
-stamped_delivered before number s are is = let next : Item = item.Delivered number in
+    → IsStamped before s → IsStamped (before ++ Item.Delivered number ∷ []) s
+stamped_delivered before number s are is = let next : Item = Item.Delivered number in
     delivered_cases before number s are (IsStamped (before ++ next ∷ []) s)
     (λ leaves. stamped_leaving before next s leaves (current_more before next) is)
     (λ none member. absurd (none member))
@@ -95,21 +89,14 @@ stamped_delivered before number s are is = let next : Item = item.Delivered numb
 
 -- messages, and a rise of retired
 abbrev IsLater : List Item → Item → Type 0
-IsLater before (item.Sent number message) = ⊤
-IsLater before (item.Retired version) = ⊤
+IsLater before (Item.Sent number message) = ⊤
+IsLater before (Item.Retired version) = ⊤
 IsLater before _ = ⊥
 
 stamps_later : (setting : Setting)
     → AreKept (Both (HasItemCause setting) IsLater) (HaveStamps setting)
-stamps_later setting before (item.Sent n message) both have = record {
-  each = λ s there. stamped_sent setting before n s message both.first (have.each s there);
-}
-stamps_later setting before (item.Retired version) both have =
-    let next : Item = item.Retired version in record {
-      each = λ s there. stamped_still before next s (known_more before next s)
-          (over_more before next s) refl (current_more before next) (have.each s there);
-    }
-stamps_later setting before _ both have = absurd both.second
+stamps_later setting before h2 both have =
+    search (rules, stamped_sent, stamped_still, known_more, over_more, current_more)
 
 later_sends : (journal : List Item) (messages : List Message)
     → HaveCauses IsLater journal (send_items journal messages)
@@ -127,13 +114,13 @@ retired_later setting journal = grind (arith, have_first, later_sends)
 
 -- the members are told of the version to which current rises
 raised_stamps : (setting : Setting) (now : List Item) (version : ℕ)
-    → let raised = now ++ item.Current version ∷ [] in HaveStamps setting
+    → let raised = now ++ Item.Current version ∷ [] in HaveStamps setting
     (raised ++ send_items raised (map (stamp_for setting now version) (members setting now)))
 raised_stamps setting now version = record {
   each = λ s there member. inr (by_member s there (was_member s member));
 } where
   next : Item
-  next = item.Current version
+  next = Item.Current version
 
   raised : List Item
   raised = now ++ next ∷ []
@@ -145,9 +132,8 @@ raised_stamps setting now version = record {
   after = raised ++ send_items raised stamps
 
   keeps : ControllerKeeps raised after
-  keeps = leaves_keep raised _ (sends_leave raised stamps (each_map (ReopensAlone raised)
-      (stamp_for setting now version) (members setting now) (each_always (λ s. ReopensAlone raised
-      (stamp_for setting now version s)) (λ s. tt) (members setting now))))
+  keeps = leaves_keep raised _ (sends_leave raised stamps (each_map (ReopensAlone raised) _
+      (members setting now) (each_always _ (λ s. tt) (members setting now))))
 
   leaves : (s : ℕ) → LeavesMember now next s
   leaves s = quiet_leaves now next s (known_more now next s) (over_more now next s) refl
@@ -164,9 +150,8 @@ raised_stamps setting now version = record {
       (sym (keeps.known s ∙ known_more now next s))
       (subst (IsStampSent after s (known_boot now s)) (sym mark) (record {
         touched = touched_by setting now version;
-        sent = sends_all raised stamps (stamp_for setting now version s)
-            (in_map (stamp_for setting now version) s (members setting now)
-            (in_filter (is_member now) s (switches_of setting) (in_range s 0
+        sent = sends_all raised stamps _ (in_map (stamp_for setting now version) s
+            (members setting now) (in_filter (is_member now) s (switches_of setting) (in_range s 0
             (length setting.net.switches) (omega arith) (omega (arith, there))) member));
       }))
 
@@ -183,41 +168,33 @@ current_stamps setting now have = by_test (nat_lt (current_mark now) (next_curre
 
     by_test : (b : Bool) → HaveStamps setting (now ++ elim b [
       | false ↦ []
-      | true ↦ items_then (item.Current version ∷ []) (λ raised. send_items raised stamps) now
+      | true ↦ items_then (Item.Current version ∷ []) (λ raised. send_items raised stamps) now
     ])
     by_test false = subst (HaveStamps setting) (sym (append-nil now)) have
     by_test true = subst (HaveStamps setting) (append_assoc now
-        (item.Current version ∷ []) (send_items (now ++ item.Current version ∷ []) stamps))
+        (Item.Current version ∷ []) (send_items (now ++ Item.Current version ∷ []) stamps))
         (raised_stamps setting now version)
 
 settling_stamps : (setting : Setting) (now : List Item) → HaveStamps setting now
     → HaveStamps setting (now ++ settling setting now)
 unfolding settling
-settling_stamps setting now have = subst (HaveStamps setting) (append_assoc now first rest)
+settling_stamps setting now have =
+    let first : List Item = current_items setting now in
+    let rest : List Item =
+    in_turn (open_items setting ∷ retired_items setting ∷ []) (now ++ first) in
+    subst (HaveStamps setting) (append_assoc now first rest)
     (fact_on (Both (HasItemCause setting) IsLater) (HaveStamps setting) (stamps_later setting)
     (now ++ first) rest (have_both (HasItemCause setting) IsLater (now ++ first) rest
     (have_rest (HasItemCause setting) now first rest (settling_have setting now))
     (have_in_turn IsLater (open_items setting ∷ retired_items setting ∷ [])
     (open_later setting, (retired_later setting, tt)) (now ++ first))) (current_stamps setting now
     have))
-  where
-    first : List Item
-    first = current_items setting now
-
-    rest : List Item
-    rest = in_turn (open_items setting ∷ retired_items setting ∷ []) (now ++ first)
 
 -- ---- steps
 
 hello_stamps : (setting : Setting) (before : List Item) (body : Body) (now : List Item)
     → HaveStamps setting now → HaveStamps setting (now ++ after_hello setting before body now)
-hello_stamps setting before (Hello s boot) now have = by_new (is_new_boot before s boot) where
-  by_new : (b : Bool) → HaveStamps setting (now ++ elim b [
-    | true ↦ installs_to setting s now
-    | false ↦ []
-  ])
-  by_new false = subst (HaveStamps setting) (sym (append-nil now)) have
-  by_new true = stamps_keep setting now _ (installs_keep setting s now) have
+hello_stamps setting before (Hello s boot) now have = search (rules, stamps_keep, installs_keep)
 hello_stamps setting before _ now have = subst (HaveStamps setting) (sym (append-nil now)) have
 
 heard_stamps : (setting : Setting) (before : List Item) (body : Body) (now : List Item)
@@ -233,23 +210,18 @@ still_stamps : (setting : Setting) (before : List Item) (next : Item)
     → ((s : ℕ) → open_sent s (known_boot before s) next ≡ [])
     → current_mark (before ++ next ∷ []) ≡ current_mark before
     → HaveStamps setting before → HaveStamps setting (before ++ next ∷ [])
-still_stamps setting before next known over none current have = record {
-  each = λ s there. stamped_still before next s (known s) (over s) (none s) current
-      (have.each s there);
-}
+still_stamps setting before next known over none current have = search (rules, stamped_still)
 
 -- nothing happened
 nothing_stamps : (setting : Setting) (here : List Item) → HaveStamps setting here
     → HaveStamps setting (here ++ nothing)
-nothing_stamps setting here have = still_stamps setting here item.Nothing
-    (known_more here item.Nothing) (over_more here item.Nothing) (λ s. refl)
-    (current_more here item.Nothing) have
+nothing_stamps setting here have = search (rules, still_stamps, known_more, over_more, current_more)
 
 deliver_stamps : (setting : Setting) (before here : List Item) (number : ℕ) → StampsAreCurrent here
     → IsTrue (is_message_to_controller before number) → HaveStamps setting here
     → HaveStamps setting (here ++ deliver_items setting before number here)
 deliver_stamps setting before here number are is have =
-    let now : List Item = here ++ item.Delivered number ∷ [] in
+    let now : List Item = here ++ Item.Delivered number ∷ [] in
     let told = told_is before number is in
     deliver_cases (HaveStamps setting) setting before number here (nothing_stamps setting here have)
     (rw (delivery_told setting before number told.0 now told.1) (heard_stamps setting before told.0
@@ -258,37 +230,33 @@ deliver_stamps setting before here number are is have =
 update_stamps : (setting : Setting) (file : ℕ) (here : List Item) → HaveStamps setting here
     → HaveStamps setting (here ++ update_items setting file here)
 update_stamps setting file here have =
-    let next : Item = item.Submitted file (version_count here + 1) in
+    let next : Item = Item.Submitted file (version_count here + 1) in
     let now : List Item = here ++ next ∷ [] in
     update_cases (HaveStamps setting) setting file here
-    (λ code. let refused : Item = item.Refused file code in
+    (λ code. let refused : Item = Item.Refused file code in
     still_stamps setting here refused (known_more here refused) (over_more here refused) (λ s. refl)
     (current_more here refused) have)
-    (settling_stamps setting (now ++ installs_to_all setting now) (stamps_keep setting now
-    (installs_to_all setting now) (all_keep setting now) (still_stamps setting here next
+    (settling_stamps _ _ (stamps_keep _ now _ (all_keep setting now) (still_stamps setting here next
     (known_more here next) (over_more here next) (λ s. refl) (current_more here next) have)))
 
 confirm_stamps : (setting : Setting) (s : ℕ) (here : List Item) → HaveStamps setting here
     → HaveStamps setting (here ++ confirm_items setting s here)
 confirm_stamps setting s here have = confirm_cases (HaveStamps setting) setting s here
-    (nothing_stamps setting here have) (settling_stamps setting (here ++ item.OverNow s ∷ [])
+    (nothing_stamps setting here have) (settling_stamps setting (here ++ Item.OverNow s ∷ [])
     (record { each = λ t there. stamped_over here s t (have.each t there) }))
 
 told_stamps : (setting : Setting) (before here : List Item) (step : Step)
     → IsTrue (asks_controller before step) → StampsAreCurrent here → HaveStamps setting here
     → HaveStamps setting (here ++ step_items setting before step here)
-told_stamps setting before here (Deliver number) is are have =
-    deliver_stamps setting before here number are is have
-told_stamps setting before here (Update file) is are have = update_stamps setting file here have
-told_stamps setting before here (Confirm s) is are have = confirm_stamps setting s here have
-told_stamps setting before here step is are have = absurd cc
+told_stamps setting before here step is are have =
+    search (rules, deliver_stamps, update_stamps, confirm_stamps)
 
 pub piece_stamps : (setting : Setting) (before : List Item) (row : ℕ) (step : Step)
     → StampsAreCurrent before → HaveStamps setting before
     → HaveStamps setting (before ++ piece setting before row step)
 piece_stamps setting before row step are have = by_kind (asks_controller before step) refl where
   next : Item
-  next = item.Row row step
+  next = Item.Row row step
 
   begun : HaveStamps setting (before ++ next ∷ [])
   begun = still_stamps setting before next (λ s. known_more before next s)

@@ -1,7 +1,7 @@
 -- In a quiet journal every update has come to its end.
-use Rattle.std.proofs.Common.{[], if◌then◌else◌, ◌++◌, ◌+◌, ◌-◌, ◌<◌, ◌==◌, ◌||◌, ◌∙◌, ◌∷◌, ◌≡◌, ◌≤◌, ◌⊎◌, Bool, IsFalse, IsTrue, List, None, Option, Some, ap, arith, eq-eqb, false, filter_map, fold, inl, inr, is_some, length, max, nat_eq, nat_lt, refl, sym, true, unwrap_or, ℕ}
+use Rattle.std.proofs.Common.{[], if◌then◌else◌, ◌++◌, ◌+◌, ◌-◌, ◌<◌, ◌==◌, ◌||◌, ◌∙◌, ◌∷◌, ◌≡◌, ◌≤◌, ◌⊎◌, Bool, IsFalse, IsTrue, List, None, Option, Some, ap, arith, eq-eqb, false, fold, inl, inr, is_some, length, max, nat_eq, nat_lt, refl, sym, true, unwrap_or, ℕ, rules}
 use Rattle.base.proofs.Exports.{list_any, nat_tests}
-use Rattle.update_machine.specs.Exports.{Advertise, Body, Collect, HaveCauses, Hello, Install, Installed, IsQuiet, Item, OpenAt, Setting, Stamp, Stamped, StepOfRow, Tables, acked_stamp, after_steps, boot_of, controller_heard, current_mark, has_acked, heard, hello_boot, installed_in, is_later_body, is_member, is_up, known_boot, open_version, opened_at, piece, serves, stamped_in, version_count}
+use Rattle.update_machine.specs.Exports.{Body, HaveCauses, Hello, Install, Installed, IsQuiet, Item, OpenAt, Setting, Stamp, Stamped, StepOfRow, Tables, acked_stamp, after_steps, boot_of, controller_heard, current_mark, has_acked, heard, installed_in, is_later_body, is_member, is_up, known_boot, opened_at, piece, serves, version_count}
 use Rattle.ctrl_msg.specs.Exports.{to_controller}
 use Rattle.update_machine.proofs.Exports.{have_append}
 use Rattle.control_laws.specs.Exports.{HoldsAtEnds}
@@ -11,7 +11,7 @@ use Rattle.convergence_laws.proofs.CaughtUp.{AreReady, IsCaughtUp, caught_update
 use Rattle.convergence_laws.proofs.AnsweredMessages.{HaveSpoken, piece_spoken, spoken_at_first}
 use Rattle.convergence_laws.proofs.DownSwitches.{caused_recorded}
 use Rattle.convergence_laws.proofs.InstalledTables.{AllInstalled, installs_at_first, piece_installs}
-use Rattle.convergence_laws.proofs.ListElements.{IsIn, in_filter_map, in_right}
+use Rattle.convergence_laws.proofs.PlainItems.{IsIn, in_filter_map, in_right}
 use Rattle.convergence_laws.proofs.ConvergedReceipts.{WasHeard, heard_of, told_of}
 use Rattle.convergence_laws.proofs.MessageCourses.{IsInOrder, IsSent, pieces_in_order}
 use Rattle.convergence_laws.proofs.StampOrders.{HaveStamps, IsStampSent, piece_stamps, stamps_at_first}
@@ -91,12 +91,7 @@ is_alone _ = false
 
 says_same : (body of : Body) → IsTrue (is_alone of)
     → (body ≡ of) ⊎ IsTrue (is_later_body body of) → body ≡ of
-says_same body of alone (inl same) = same
-says_same (Stamp one v touched) (Stamp other w others) alone (inr later) = absurd cc
-says_same (Collect one v) (Collect other w) alone (inr later) = absurd cc
-says_same (Stamped s one v) (Stamped t other w) alone (inr later) = absurd cc
-says_same (Advertise advert) (Advertise earlier) alone (inr later) = absurd cc
-says_same body of alone (inr later) = absurd cc
+says_same body of alone h3 = search rules
 
 was_itself : (bodies : List Body) (of : Body) → IsTrue (is_alone of) → WasHeard bodies of
     → IsIn of bodies
@@ -105,9 +100,7 @@ was_itself bodies of alone was = rw (says_same was.body of alone was.says) at wa
 pub hello_known : (journal : List Item) (s boot : ℕ) → IsIn (Hello s boot) (controller_heard journal)
     → boot ≤ known_boot journal s
 unfolding known_boot
-hello_known journal s boot is = let same : (s == s) ≡ true = eq-eqb s s refl in
-    in_fold 1 boot (filter_map (hello_boot s) (controller_heard journal))
-    (in_filter_map (hello_boot s) (Hello s boot) boot (controller_heard journal) is (rw same refl))
+hello_known journal s boot is = search (rules, eq-eqb, in_fold, in_filter_map)
 
 -- the controller knows the boot of each switch that is up
 known_own : (setting : Setting) (journal : List Item) → AreReady setting journal
@@ -118,10 +111,9 @@ known_own setting journal are quiet s there up = let below = are.recorded.known.
       | inl none ↦ absurd none
       | inr said ↦ elim said [
         | inl first ↦ omega (arith, below, first, known_first journal s)
-        | inr sent ↦ let told : boot_of journal s ≤ known_boot journal s =
-            hello_known journal s (boot_of journal s) (was_itself (controller_heard journal)
-            (Hello s (boot_of journal s)) refl (told_of setting journal s
-            (Hello s (boot_of journal s)) quiet are.causes there sent up refl refl)) in
+        | inr sent ↦ let told : boot_of journal s ≤ known_boot journal s = hello_known journal s
+            (boot_of journal s) (was_itself (controller_heard journal) _ refl (told_of setting
+            journal s (Hello s (boot_of journal s)) quiet are.causes there sent up refl refl)) in
             omega (arith, below, told)
       ]
     ]
@@ -132,9 +124,7 @@ pub installed_acked : (journal : List Item) (s version : ℕ)
     → IsIn (Installed s (known_boot journal s) version) (controller_heard journal)
     → IsTrue (has_acked journal s version)
 unfolding has_acked
-installed_acked journal s version is = any_in version
-    ((if known_boot journal s == 1 then 1 ∷ [] else [])
-    ++ filter_map (installed_in s (known_boot journal s)) (controller_heard journal))
+installed_acked journal s version is = any_in version _
     (in_right version (if known_boot journal s == 1 then 1 ∷ [] else []) _
     (in_filter_map (installed_in s (known_boot journal s))
     (Installed s (known_boot journal s) version) version (controller_heard journal) is
@@ -164,12 +154,11 @@ all_installed setting journal are quiet s version there up above below = elim (a
             (heard_of setting journal s body quiet are.causes there sent.sent up (ap Some own)
             (not_below tables.version (current_mark journal) (omega (arith, sent.of, above)))))) [
               | inl none ↦ absurd none
-              | inr answer ↦ rw sent.of at
-                  (installed_acked journal s tables.version (was_itself (controller_heard journal)
-                  (Installed s (known_boot journal s) tables.version) refl (told_of setting journal
-                  s (Installed s (known_boot journal s) tables.version) quiet are.causes there
-                  answer up (ap (λ b. Some (s, b)) own) (not_below tables.version
-                  (current_mark journal) (omega (arith, sent.of, above))))))
+              | inr answer ↦ rw sent.of at (installed_acked journal s tables.version
+                  (was_itself (controller_heard journal) _ refl (told_of setting journal s
+                  (Installed s (known_boot journal s) tables.version) quiet are.causes there answer
+                  up (ap (λ b. Some (s, b)) own) (not_below tables.version (current_mark journal)
+                  (omega (arith, sent.of, above))))))
             ]
       ]
     ]
@@ -194,15 +183,13 @@ opening_heard setting journal are quiet s version there up opened =
     elim (are.recorded.openings s (boot_of journal s) version (ap (opened_in journal s)
     (sym (known_own setting journal are quiet s there up)) ∙ sym (opened_is journal s) ∙ opened)) [
       | inl first ↦ inl first
-      | inr sent ↦ inr (was_itself (heard journal s) (OpenAt (boot_of journal s) version) refl
-          (heard_of setting journal s (OpenAt (boot_of journal s) version) quiet are.causes there
-          sent up refl refl))
+      | inr sent ↦ inr (was_itself (heard journal s) _ refl (heard_of setting journal s
+          (OpenAt (boot_of journal s) version) quiet are.causes there sent up refl refl))
     ]
 
 pub some_opening : (journal : List Item) (s : ℕ) → IsTrue (is_member journal s)
     → (version : ℕ) × (opened_at journal s ≡ Some version)
-some_opening journal s member =
-    by_opened (opened_at journal s) refl (member_parts journal s member).1
+some_opening journal s member = by_opened _ refl (member_parts journal s member).1
   where
     by_opened : (o : Option ℕ) → opened_at journal s ≡ o → IsTrue (is_some o)
         → (version : ℕ) × (opened_at journal s ≡ Some version)
@@ -228,32 +215,18 @@ member_serves setting journal are quiet s there up member =
 later_stamp : (body : Body) (boot version : ℕ) (touched : List WordValue)
     → (body ≡ Stamp boot version touched) ⊎ IsTrue (is_later_body body (Stamp boot version touched))
     → (later : ℕ) × (words : List WordValue) × (body ≡ Stamp boot later words) × (version ≤ later)
-later_stamp body boot version touched (inl same) = (version, touched, same, omega arith)
-later_stamp (Stamp of later words) boot version touched (inr more) =
-    let above : version ≤ later = grind (arith, nat_tests) in
-    (later, words, ap (λ b. Stamp b later words) (grind (arith, nat_tests)), above)
-later_stamp body boot version touched (inr more) = absurd cc
+later_stamp body boot version touched h4 = search (rules, nat_tests)
 
 later_stamped : (body : Body) (s boot version : ℕ)
     → (body ≡ Stamped s boot version) ⊎ IsTrue (is_later_body body (Stamped s boot version))
     → (later : ℕ) × (body ≡ Stamped s boot later) × (version ≤ later)
-later_stamped body s boot version (inl same) = (version, same, omega arith)
-later_stamped (Stamped t of later) s boot version (inr more) =
-    let same : t ≡ s = grind (arith, nat_tests) in
-    let own : of ≡ boot = grind (arith, nat_tests) in
-    let above : version ≤ later = grind (arith, nat_tests) in
-    (later, ap (λ u. Stamped u of later) same ∙ ap (λ b. Stamped s b later) own, above)
-later_stamped body s boot version (inr more) = absurd cc
+later_stamped body s boot version h4 = search (rules, nat_tests)
 
 pub stamped_acked : (journal : List Item) (s version : ℕ)
     → IsIn (Stamped s (known_boot journal s) version) (controller_heard journal)
     → version ≤ acked_stamp journal s
 unfolding acked_stamp
-stamped_acked journal s version is = in_fold (open_version journal s) version
-    (filter_map (stamped_in s (known_boot journal s)) (controller_heard journal))
-    (in_filter_map (stamped_in s (known_boot journal s)) (Stamped s (known_boot journal s) version)
-    version (controller_heard journal) is
-    (rw ((eq-eqb s s refl), eq-eqb (known_boot journal s) (known_boot journal s) refl) refl))
+stamped_acked journal s version is = search (rules, in_fold, in_filter_map, eq-eqb)
 
 told_stamps : (setting : Setting) (journal : List Item) → AreReady setting journal
     → IsQuiet setting journal → (s : ℕ) → s < length setting.net.switches → IsTrue (is_up journal s)
@@ -272,8 +245,7 @@ told_stamps setting journal are quiet s there up stamp = omega (
   own = known_own setting journal are quiet s there up
 
   was : WasHeard (heard journal s) (Stamp known (current_mark journal) stamp.touched)
-  was = heard_of setting journal s (Stamp known (current_mark journal) stamp.touched) quiet
-      are.causes there stamp.sent up (ap Some own) refl
+  was = heard_of setting journal s _ quiet are.causes there stamp.sent up (ap Some own) refl
 
   later : (v : ℕ) × (words : List WordValue) × (was.body ≡ Stamp known v words)
       × (current_mark journal ≤ v)
@@ -286,8 +258,7 @@ told_stamps setting journal are quiet s there up stamp = omega (
   ]
 
   told : WasHeard (controller_heard journal) (Stamped s known later.0)
-  told = told_of setting journal s (Stamped s known later.0) quiet are.causes there answer up
-      (ap (λ b. Some (s, b)) own) refl
+  told = told_of _ journal s _ quiet are.causes there answer up (ap (λ b. Some (s, b)) own) refl
 
   more : (v : ℕ) × (told.body ≡ Stamped s known v) × (later.0 ≤ v)
   more = later_stamped told.body s known later.0 told.says
@@ -301,16 +272,8 @@ opened_stamps journal s opened = omega (arith, acked_stamp_opened, ap (λ o. unw
 
 quiet_caught : (setting : Setting) (journal : List Item) → AreReady setting journal
     → IsQuiet setting journal → IsCaughtUp setting journal
-quiet_caught setting journal are quiet = record {
-  switches = quiet.switches;
-  known = known_own setting journal are quiet;
-  acked = all_installed setting journal are quiet;
-  serving = member_serves setting journal are quiet;
-  stamps = λ s there up member. elim (are.stamps.each s there member) [
-    | inl opened ↦ opened_stamps journal s opened
-    | inr sent ↦ told_stamps setting journal are quiet s there up sent
-  ];
-}
+quiet_caught setting journal are quiet =
+    search (rules, known_own, all_installed, member_serves, opened_stamps, told_stamps)
 
 pub updated_at_ends :
     HoldsAtEnds (λ setting journal. IsQuiet setting journal → IsUpdated setting journal)

@@ -1,14 +1,127 @@
 -- What was delivered within calm steps was delivered by one of them; so a switch answered it then.
-use Rattle.std.proofs.Common.{[], ◌++◌, ◌<◌, ◌==◌, ◌||◌, ◌∙◌, ◌∷◌, ◌≡◌, ◌≤◌, Bool, IfSome, IsTrue, List, Some, ap, append-nil, append_assoc, arith, eq-eqb, eqb-true, false, inl, refl, subst, sym, true, ℕ}
-use Rattle.base.proofs.Exports.{IfSome_then}
-use Rattle.update_machine.specs.Exports.{Body, Confirm, Deliver, HaveCauses, Install, Installed, Item, OpenAt, Resend, Setting, Stamp, Stamped, Step, StepOfRow, after_steps, body_to_switch, boot_of, deliver_items, delivery_items, is_deliverable, is_for_boot, is_up, items_then, message_of, next_message, nothing, piece, serves, switch_items, to_switch, was_delivered}
+use Rattle.std.proofs.Common.{[], ◌++◌, ◌+◌, ◌<◌, ◌==◌, ◌||◌, ◌∙◌, ◌∷◌, ◌≡◌, ◌≤◌, ◌⊎◌, Bool, IfSome, IsFalse, IsTrue, List, None, Some, ap, append-nil, append_assoc, arith, eq-eqb, eqb-true, false, inl, inr, refl, subst, sym, true, ℕ}
+use Rattle.base.proofs.Exports.{IfSome_then, cases_lt}
+use Rattle.update_machine.specs.Exports.{Body, Confirm, Deliver, HaveCauses, Install, Installed, Item, Message, OpenAt, Resend, Setting, Stamp, Stamped, Step, StepOfRow, after_steps, body_to_switch, boot_at, boot_of, controller_heard, deliver_items, delivery_items, is_deliverable, is_for_boot, is_forgotten, is_up, items_then, message_of, next_message, next_waiting, nothing, piece, send_items, sendings, sent_from, serves, switch_items, to_switch, was_delivered}
 use Rattle.ctrl_msg.specs.Exports.{to_controller}
-use Rattle.journal.specs.declared.item.Item.TheVariants as item
+use Rattle.convergence_laws.proofs.Exports.{AreTraced, IsIn, IsInOrder, IsPlain, IsSent, IsTraced, Plain, answer_of, caused_traced, deliverable_sent, delivered_more, delivery_is, delivery_plain, each_in, in_right, is_plain, next_grows, one_delivered, opens, sendings_more, sendings_on, sent_by, step_plain}
+use Rattle.forwarding_laws.proofs.CalmItems.{Calmly, IsCalmStep, Stays, calm_causes, calm_piece, calm_steps, calm_through, stays}
 use Rattle.update_machine.proofs.Exports.{AreOf}
 use Rattle.control_laws.proofs.Exports.{behind_piece, fact_on, serving_more}
-use Rattle.convergence_laws.proofs.Exports.{IsInOrder, IsPlain, Plain, answer_of, caused_traced, deliverable_sent, delivered_more, delivery_is, delivery_plain, is_plain, next_grows, opens, step_plain}
-use Rattle.forwarding_laws.proofs.CalmItems.{Calmly, IsCalmStep, Stays, calm_causes, calm_piece, calm_steps, calm_through, stays}
-use Rattle.forwarding_laws.proofs.RecoverySendings.{IsSince, sends_since, since_calm}
+
+-- ---- what was sent with a number from a bound on
+
+pub record IsSince (since : ℕ) (journal : List Item) (message : Message) : Type 0 where
+  pub number : ℕ
+  pub boot : ℕ
+  pub late : since ≤ number
+  pub is : IsIn (record { number = number; message = message; boot = boot }) (sendings journal)
+
+pub since_on : (since : ℕ) (journal items : List Item) (message : Message)
+    → IsSince since journal message → IsSince since (journal ++ items) message
+since_on since journal items message sent = record {
+  number = sent.number;
+  boot = sent.boot;
+  late = sent.late;
+  is = sendings_on journal items _ sent.is;
+}
+
+pub since_calm : (setting : Setting) (since : ℕ) (before after : List Item) (message : Message)
+    → Calmly setting before after → IsSince since before message → IsSince since after message
+since_calm setting since before after message calm sent = rw calm.is
+    (since_on since before calm.items message sent)
+
+all_since : (since : ℕ) (journal : List Item) (n : ℕ) (messages : List Message) (message : Message)
+    → since ≤ n → IsIn message messages → IsSince since (journal ++ sent_from n messages) message
+unfolding sent_from
+all_since since journal n [] message late is = absurd is
+all_since since journal n (first ∷ messages) message late is =
+    let next : Item = Item.Sent n first in
+    let now : List Item = journal ++ next ∷ [] in
+    subst (λ j. IsSince since j message)
+    (append_assoc journal (next ∷ []) (sent_from (n + 1) messages))
+    (elim is [
+      | inl here ↦ since_on since now (sent_from (n + 1) messages) message
+          (subst (IsSince since now) here (record {
+            number = n;
+            boot = boot_at journal first.to;
+            late = late;
+            is = rw (sendings_more journal next)
+                (in_right _ (sendings journal) (sent_by journal next) (inl refl));
+          }))
+      | inr later ↦ all_since since now (n + 1) messages message (omega (arith, late)) later
+    ])
+
+-- each of the messages that are sent now
+pub sends_since : (since : ℕ) (journal : List Item) (messages : List Message) (message : Message)
+    → since ≤ next_message journal → IsIn message messages
+    → IsSince since (journal ++ send_items journal messages) message
+sends_since since journal messages message late is =
+    all_since since journal (next_message journal) messages message late is
+
+-- ---- what was sent later, and what was sent earlier
+
+-- a message of the journal before
+pub record IsEarlier (before : List Item) (message : Message) : Type 0 where
+  pub number : ℕ
+  pub sent : message_of before number ≡ Some message
+
+pub since_or_earlier : (setting : Setting) (before journal : List Item) (message : Message)
+    → Calmly setting before journal → AreTraced journal → IsSent journal message
+    → IsSince (next_message before) journal message ⊎ IsEarlier before message
+since_or_earlier setting before journal message calm traced sent =
+    elim (cases_lt sent.sending.number (next_message before)) [
+      | inl below ↦ inr (record {
+        number = sent.sending.number;
+        sent = sym ((stays setting before journal calm).messages sent.sending.number below)
+            ∙ (each_in (IsTraced journal) sent.sending (sendings journal) traced.each
+            sent.is).message ∙ ap Some sent.of;
+      })
+      | inr above ↦ inl (record {
+        number = sent.sending.number;
+        boot = sent.sending.boot;
+        late = above;
+        is = subst (λ m. IsIn (record {
+          number = sent.sending.number;
+          message = m;
+          boot = sent.sending.boot;
+        }) (sendings journal)) sent.of sent.is;
+      })
+    ]
+
+-- ---- what was sent later was delivered
+
+-- what is known of a journal that goes on calmly until nothing waits
+pub record IsFlushed (setting : Setting) (before journal : List Item) : Type 0 where
+  pub calm : Calmly setting before journal
+  pub first : AreTraced before
+  pub traced : AreTraced journal
+  pub waiting : next_waiting journal ≡ None
+
+pub since_delivered : (setting : Setting) (before journal : List Item)
+    → IsFlushed setting before journal → (number boot : ℕ) (message : Message) → next_message before
+    ≤ number → IsIn (record { number = number; message = message; boot = boot }) (sendings journal)
+    → IsTrue (was_delivered journal number)
+since_delivered setting before journal are number boot message late is =
+    one_delivered journal (record { number = number; message = message; boot = boot }) are.waiting
+    ((stays setting before journal are.calm).forgotten number
+    ∙ by_forgotten (is_forgotten before number) refl)
+    (each_in (IsTraced journal) _ (sendings journal) are.traced.each is)
+  where
+    by_forgotten : (b : Bool) → is_forgotten before number ≡ b
+        → IsFalse (is_forgotten before number)
+    by_forgotten false e = e
+    by_forgotten true e = absurd (omega (arith, are.first.forgotten number e, late))
+
+-- so the controller heard what was sent to it
+pub since_told : (setting : Setting) (before journal : List Item) → IsFlushed setting before journal
+    → (body : Body) → IsSince (next_message before) journal (to_controller body)
+    → IsIn body (controller_heard journal)
+since_told setting before journal are body sent = (each_in (IsTraced journal)
+    (record { number = sent.number; message = to_controller body; boot = sent.boot })
+    (sendings journal) are.traced.each sent.is).course (since_delivered setting before journal are
+    sent.number sent.boot (to_controller body) sent.late sent.is)
+
+-- ---- answered deliveries
 
 -- ---- plain items deliver nothing
 
@@ -20,7 +133,7 @@ plain_undelivered journal items n plain =
   where
     next_undelivered : (now : List Item) (next : Item) → IsPlain now next
         → was_delivered (now ++ next ∷ []) n ≡ was_delivered now n
-    next_undelivered now (item.Delivered number) is = absurd is
+    next_undelivered now (Item.Delivered number) is = absurd is
     next_undelivered now next is = delivered_more now next n
 
 -- ---- the step by which it was delivered
@@ -37,8 +150,8 @@ piece_undelivered : (setting : Setting) (at : List Item) (row : ℕ) (step : Ste
     → is_plain step ≡ true → was_delivered (at ++ piece setting at row step) n ≡ was_delivered at n
 piece_undelivered setting at row step n plain = behind_piece setting at row step
     (λ j. was_delivered j n ≡ was_delivered at n)
-    (plain_undelivered (at ++ item.Row row step ∷ []) _ n (step_plain setting at step
-    (at ++ item.Row row step ∷ []) plain) ∙ delivered_more at (item.Row row step) n)
+    (plain_undelivered (at ++ Item.Row row step ∷ []) _ n (step_plain setting at step
+    (at ++ Item.Row row step ∷ []) plain) ∙ delivered_more at (Item.Row row step) n)
 
 piece_delivers : (setting : Setting) (at : List Item) (row m n : ℕ)
     → was_delivered (at ++ piece setting at row (Deliver m)) n ≡ true
@@ -49,28 +162,28 @@ piece_delivers setting at row m n = behind_piece setting at row (Deliver m)
     → (m ≡ n) × (is_deliverable at m ≡ true)) (by_test (is_deliverable at m) refl)
   where
     here : List Item
-    here = at ++ item.Row row (Deliver m) ∷ []
+    here = at ++ Item.Row row (Deliver m) ∷ []
 
     now : List Item
-    now = here ++ item.Delivered m ∷ []
+    now = here ++ Item.Delivered m ∷ []
 
     by_number : (b : Bool) → (m == n) ≡ b → (b || was_delivered here n) ≡ true
         → was_delivered at n ≡ false → m ≡ n
     by_number true e is none = eqb-true m n e
     by_number false e is none =
-        absurd (cc (sym is ∙ delivered_more at (item.Row row (Deliver m)) n ∙ none))
+        absurd (cc (sym is ∙ delivered_more at (Item.Row row (Deliver m)) n ∙ none))
 
     by_test : (b : Bool) → is_deliverable at m ≡ b → was_delivered (here ++ elim b [
       | false ↦ nothing
-      | true ↦ items_then (item.Delivered m ∷ []) (delivery_items setting at m) here
+      | true ↦ items_then (Item.Delivered m ∷ []) (delivery_items setting at m) here
     ]) n ≡ true → was_delivered at n ≡ false → (m ≡ n) × (is_deliverable at m ≡ true)
-    by_test false e is none = absurd (cc (sym is ∙ delivered_more here item.Nothing n
-        ∙ delivered_more at (item.Row row (Deliver m)) n ∙ none))
+    by_test false e is none = absurd (cc (sym is ∙ delivered_more here Item.Nothing n
+        ∙ delivered_more at (Item.Row row (Deliver m)) n ∙ none))
     by_test true e is none = (
       by_number (m == n) refl
-          (sym (delivered_more here (item.Delivered m) n) ∙ sym (plain_undelivered now
+          (sym (delivered_more here (Item.Delivered m) n) ∙ sym (plain_undelivered now
           (delivery_items setting at m now) n (delivery_plain setting at m now))
-          ∙ ap (λ j. was_delivered j n) (append_assoc here (item.Delivered m ∷ []) _) ∙ is) none,
+          ∙ ap (λ j. was_delivered j n) (append_assoc here (Item.Delivered m ∷ []) _) ∙ is) none,
       e,
     )
 
@@ -167,10 +280,10 @@ delivered_answered setting before after n s body causes is sent up own =
     then = at ++ piece setting at is.row (Deliver n)
 
     here : List Item
-    here = at ++ item.Row is.row (Deliver n) ∷ []
+    here = at ++ Item.Row is.row (Deliver n) ∷ []
 
     now : List Item
-    now = here ++ item.Delivered n ∷ []
+    now = here ++ Item.Delivered n ∷ []
 
     left : Stays at after
     left = stays setting at after
@@ -196,18 +309,18 @@ delivered_answered setting before after n s body causes is sent up own =
     late = omega (
       arith,
       (stays setting before at is.first).numbers,
-      next_grows at (item.Row is.row (Deliver n) ∷ []),
-      next_grows here (item.Delivered n ∷ []),
+      next_grows at (Item.Row is.row (Deliver n) ∷ []),
+      next_grows here (Item.Delivered n ∷ []),
     )
 
     by_test : (b : Bool) → b ≡ true → IsAnsweredSince (next_message before) (here ++ elim b [
       | false ↦ nothing
-      | true ↦ items_then (item.Delivered n ∷ []) (delivery_items setting at n) here
+      | true ↦ items_then (Item.Delivered n ∷ []) (delivery_items setting at n) here
     ]) s body
     by_test false e = absurd cc
     by_test true e = subst (λ j. IsAnsweredSince (next_message before) j s body)
-        (append_assoc here (item.Delivered n ∷ []) (delivery_items setting at n now))
+        (append_assoc here (Item.Delivered n ∷ []) (delivery_items setting at n now))
         (subst (λ items. IsAnsweredSince (next_message before) (now ++ items) s body)
         (sym (delivery_is setting at n now s body said))
         (switch_since setting (next_message before) at s body now late
-        (serving_more here (item.Delivered n) s ∙ serving_more at (item.Row is.row (Deliver n)) s)))
+        (serving_more here (Item.Delivered n) s ∙ serving_more at (Item.Row is.row (Deliver n)) s)))

@@ -4,7 +4,6 @@
 use Rattle.std.proofs.Common.{[], if◌then◌else◌, ◌++◌, ◌<◌, ◌==◌, ◌∙◌, ◌∷◌, ◌≡◌, ◌≤◌, Bool, IsFalse, IsTrue, List, None, Some, ap, append-nil, append_assoc, arith, false, refl, subst, sym, true, unwrap_or, ℕ}
 use Rattle.base.proofs.Exports.{nat_tests, option_or, ⊤}
 use Rattle.update_machine.specs.Exports.{Body, Confirm, Deliver, HaveCauses, Item, Message, Resend, Setting, Step, StepOfRow, TakesNext, acked_stamp, after_steps, boot_of, current_mark, first_number, gives_waited_for, has_acked, is_forgotten, is_up, is_waited_for, known_boot, link_changes, message_of, next_message, open_sent, opened_at, piece, retired_mark, send_items, serves, step_items, switch_items, version_count}
-use Rattle.journal.specs.declared.item.Item.TheVariants as item
 use Rattle.update_machine.proofs.Exports.{AreOf, have_append, have_first, next_rises}
 use Rattle.control_laws.proofs.Exports.{AreKept, Both, IsControl, acked_more, acked_stamp_rises, boot_more, confirm_control, controller_control, count_more, current_rises, deliver_has, fact_on, have_both, have_weaker, known_rises, last_more, message_more, opened_at_more, opened_in, opened_on, resends_any, retired_rises, sends_any, serving_more, switch_cases, up_more}
 use Rattle.convergence_laws.proofs.Exports.{IsInOrder, forgotten_more, pieces_in_order}
@@ -12,11 +11,11 @@ use Rattle.convergence_laws.proofs.Exports.{IsInOrder, forgotten_more, pieces_in
 -- ---- calm items
 
 abbrev pub IsCalm : List Item → Item → Type 0
-IsCalm before (item.Down s) = ⊥
-IsCalm before (item.Booted s boot) = ⊥
-IsCalm before (item.LinkIs one two up) = ⊥
-IsCalm before (item.Forgotten number) = ⊥
-IsCalm before (item.Submitted file version) = ⊥
+IsCalm before (Item.Down s) = ⊥
+IsCalm before (Item.Booted s boot) = ⊥
+IsCalm before (Item.LinkIs one two up) = ⊥
+IsCalm before (Item.Forgotten number) = ⊥
+IsCalm before (Item.Submitted file version) = ⊥
 IsCalm before _ = ⊤
 
 -- the steps that write such items alone
@@ -27,11 +26,11 @@ IsCalmStep (Deliver number) = ⊤
 IsCalmStep _ = ⊥
 
 pub control_is_calm : (before : List Item) (next : Item) → IsControl before next → IsCalm before next
-control_is_calm before (item.Down s) is = absurd is
-control_is_calm before (item.Booted s boot) is = absurd is
-control_is_calm before (item.LinkIs one two up) is = absurd is
-control_is_calm before (item.Forgotten number) is = absurd is
-control_is_calm before (item.Submitted file version) is = absurd is
+control_is_calm before (Item.Down s) is = absurd is
+control_is_calm before (Item.Booted s boot) is = absurd is
+control_is_calm before (Item.LinkIs one two up) is = absurd is
+control_is_calm before (Item.Forgotten number) is = absurd is
+control_is_calm before (Item.Submitted file version) is = absurd is
 control_is_calm before _ is = tt
 
 sends_calm : (journal : List Item) (messages : List Message)
@@ -90,22 +89,22 @@ calm_causes setting before after causes calm = rw calm.is (have_append (IsInOrde
 
 -- the row of a step, and what it writes behind that
 pub calm_row : (setting : Setting) (before : List Item) (row : ℕ) (step : Step) → IsCalmStep step
-    → Calmly setting before (before ++ item.Row row step ∷ [])
+    → Calmly setting before (before ++ Item.Row row step ∷ [])
 unfolding piece
 calm_row setting before row step is = record {
-  items = item.Row row step ∷ [];
+  items = Item.Row row step ∷ [];
   is = refl;
   have = (record { first = tt; second = (pieces_in_order setting before row step).0 }, tt);
 }
 
 pub calm_rest : (setting : Setting) (before : List Item) (row : ℕ) (step : Step) → IsCalmStep step
-    → let here = before ++ item.Row row step ∷ [] in
+    → let here = before ++ Item.Row row step ∷ [] in
     Calmly setting here (before ++ piece setting before row step)
 unfolding piece
 calm_rest setting before row step is =
-    let here : List Item = before ++ item.Row row step ∷ [] in record {
+    let here : List Item = before ++ Item.Row row step ∷ [] in record {
       items = step_items setting before step here;
-      is = sym (append_assoc before (item.Row row step ∷ []) (step_items setting before step here));
+      is = sym (append_assoc before (Item.Row row step ∷ []) (step_items setting before step here));
       have = have_both IsCalm (IsInOrder setting) here _ (step_calm setting before step here is)
           (pieces_in_order setting before row step).1;
     }
@@ -113,7 +112,7 @@ calm_rest setting before row step is =
 pub calm_piece : (setting : Setting) (before : List Item) (row : ℕ) (step : Step)
     → IsCalmStep step → Calmly setting before (before ++ piece setting before row step)
 calm_piece setting before row step is = calm_through setting before
-    (before ++ item.Row row step ∷ []) (before ++ piece setting before row step)
+    (before ++ Item.Row row step ∷ []) (before ++ piece setting before row step)
     (calm_row setting before row step is) (calm_rest setting before row step is)
 
 pub calm_steps : (setting : Setting) (before : List Item) (steps : List StepOfRow)
@@ -143,9 +142,9 @@ pub record Stays (before after : List Item) : Type 0 where
 
 pub next_confirmed : (before : List Item) (next : Item) (s : ℕ) → IsCalm before next
     → IsFalse (is_waited_for before s) → IsFalse (is_waited_for (before ++ next ∷ []) s)
-next_confirmed before (item.Down t) s calm none = absurd calm
-next_confirmed before (item.OverNow t) s calm none =
-    rw (last_more (gives_waited_for s) before (item.OverNow t) false) (by_test (t == s) none)
+next_confirmed before (Item.Down t) s calm none = absurd calm
+next_confirmed before (Item.OverNow t) s calm none =
+    rw (last_more (gives_waited_for s) before (Item.OverNow t) false) (by_test (t == s) none)
   where
     by_test : (b : Bool) → IsFalse (is_waited_for before s)
         → IsFalse (unwrap_or (if b then Some false else None) (is_waited_for before s))
@@ -155,10 +154,10 @@ next_confirmed before next s calm none = rw (last_more (gives_waited_for s) befo
 
 next_serving : (before : List Item) (next : Item) (s : ℕ) → IsCalm before next
     → IsTrue (serves before s) → IsTrue (serves (before ++ next ∷ []) s)
-next_serving before (item.Down t) s calm serving = absurd calm
-next_serving before (item.Booted t boot) s calm serving = absurd calm
-next_serving before (item.Opened t version) s calm serving =
-    rw (serving_more before (item.Opened t version) s) (by_test (t == s) serving)
+next_serving before (Item.Down t) s calm serving = absurd calm
+next_serving before (Item.Booted t boot) s calm serving = absurd calm
+next_serving before (Item.Opened t version) s calm serving =
+    rw (serving_more before (Item.Opened t version) s) (by_test (t == s) serving)
   where
     by_test : (b : Bool) → IsTrue (serves before s)
         → IsTrue (unwrap_or (if b then Some true else None) (serves before s))
@@ -168,30 +167,30 @@ next_serving before next s calm serving = rw (serving_more before next s) servin
 
 next_message_same : (before : List Item) (next : Item) (n : ℕ) → TakesNext before next
     → n < next_message before → message_of (before ++ next ∷ []) n ≡ message_of before n
-next_message_same before (item.Sent number message) n takes below =
+next_message_same before (Item.Sent number message) n takes below =
     let apart : (number == n) ≡ false = grind (arith, nat_tests) in
-    rw (message_more before (item.Sent number message) n, apart) refl
+    rw (message_more before (Item.Sent number message) n, apart) refl
 next_message_same before next n takes below = message_more before next n
 
 next_up : (before : List Item) (next : Item) (s : ℕ) → IsCalm before next
     → is_up (before ++ next ∷ []) s ≡ is_up before s
-next_up before (item.Down t) s calm = absurd calm
-next_up before (item.Booted t boot) s calm = absurd calm
+next_up before (Item.Down t) s calm = absurd calm
+next_up before (Item.Booted t boot) s calm = absurd calm
 next_up before next s calm = up_more before next s
 
 next_boot : (before : List Item) (next : Item) (s : ℕ) → IsCalm before next
     → boot_of (before ++ next ∷ []) s ≡ boot_of before s
-next_boot before (item.Booted t boot) s calm = absurd calm
+next_boot before (Item.Booted t boot) s calm = absurd calm
 next_boot before next s calm = boot_more before next s
 
 next_forgotten : (before : List Item) (next : Item) (n : ℕ) → IsCalm before next
     → is_forgotten (before ++ next ∷ []) n ≡ is_forgotten before n
-next_forgotten before (item.Forgotten number) n calm = absurd calm
+next_forgotten before (Item.Forgotten number) n calm = absurd calm
 next_forgotten before next n calm = forgotten_more before next n
 
 next_count : (before : List Item) (next : Item) → IsCalm before next
     → version_count (before ++ next ∷ []) ≡ version_count before
-next_count before (item.Submitted file version) calm = absurd calm
+next_count before (Item.Submitted file version) calm = absurd calm
 next_count before next calm = count_more before next
 
 next_stays : (setting : Setting) (before : List Item) (next : Item)

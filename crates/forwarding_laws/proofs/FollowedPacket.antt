@@ -6,16 +6,13 @@ use Rattle.base.specs.Exports.{has}
 use Rattle.update_machine.specs.Exports.{Action, Cause, Crash, Decision, Exit, Header, IsSetting, Item, Leaving, Leg, Lose, Seek, Setting, Step, decision_of, gives_decision, gives_header, gives_standing, gives_step, gives_travelling, header_in, next_packet, plan_at, present_step, retired_mark, route_from, standing, targets_of, travels, version_count}
 use Rattle.net_file.specs.Exports.{IsNet}
 use Rattle.policy_rules.specs.Exports.{Hosted, is_in}
-use Rattle.policy_rules.specs.declared.policy.Action.TheVariants as action
-use Rattle.journal.specs.declared.item.Item.TheVariants as item
 use Rattle.update_machine.proofs.Exports.{folded_append, last_given_append}
 use Rattle.convergence_laws.proofs.Exports.{AreKept, Behind, Both, StaysSo, moves, reach_more, stays_on}
 use Rattle.convergence_laws.specs.Exports.{AreUnusable, HasConverged, IsUpdated, Reaches}
 use Rattle.packet_laws.specs.Exports.{AllKept, FurtherCause, PacketCause, SeeksRightly, StrongCause, changes_mark, entry_mark}
 use Rattle.packet_laws.proofs.Exports.{Before, IsWayItem, Past, here_known, known_before, knows, packet_more, standing_more, stands_known, travels_more}
 use Rattle.forwarding_laws.specs.Exports.{EndsBy, FindsNoTarget, IsStuckApart}
-use Rattle.forwarding_laws.proofs.PassingSteps.{MarksStay, Passes, marks_stay, passes_walks}
-use Rattle.forwarding_laws.proofs.UsableWalks.{apart_from}
+use Rattle.forwarding_laws.proofs.SecondRounds.{MarksStay, Passes, apart_from, marks_stay, passes_walks}
 
 -- ---- what one more item tells of it
 
@@ -84,7 +81,7 @@ module _ (setting : Setting) (journal : List Item) (s i : ℕ) (header : Header)
   header_on next way = last_given_append (gives_header i) before (next ∷ []) ∙ by next way where
     by : (next : Item) → PacketCause setting before next
         → option_or (gives_header i next) (header_in before i) ≡ Some header
-    by (item.Entered packet t other) way = cc
+    by (Item.Entered packet t other) way = cc
         (comes_other packet i (next_packet before) way.0.number follows.number, follows.entered)
     by next way = follows.entered
 
@@ -93,7 +90,7 @@ module _ (setting : Setting) (journal : List Item) (s i : ℕ) (header : Header)
   mark_on next way = mark_more before next i ∙ by next way where
     by : (next : Item) → PacketCause setting before next
         → changes_mark i before (entry_mark before i) next ≡ retired_mark journal
-    by (item.Entered packet t other) way =
+    by (Item.Entered packet t other) way =
         cc (comes_other packet i (next_packet before) way.0.number follows.number, follows.mark)
     by next way = follows.mark
 
@@ -102,7 +99,7 @@ module _ (setting : Setting) (journal : List Item) (s i : ℕ) (header : Header)
   step_on next passes step present = by next passes (sym (step_more before next) ∙ present) where
     by : (next : Item) → Passes setting before next
         → option_or (gives_step next) (present_step before) ≡ Some step → IsTrue (moves step)
-    by (item.Row row taken) passes is = subst (λ x. IsTrue (moves x)) (cc is) passes
+    by (Item.Row row taken) passes is = subst (λ x. IsTrue (moves x)) (cc is) passes
     by next passes is = follows.step step is
 
   -- ---- where it stands
@@ -113,10 +110,10 @@ module _ (setting : Setting) (journal : List Item) (s i : ℕ) (header : Header)
     by : (next : Item) → PacketCause setting before next
         → option_or (gives_standing i next) (standing before i) ≡ Some t
         → Reaches setting journal s t
-    by (item.Entered packet u other) way is = follows.at t
+    by (Item.Entered packet u other) way is = follows.at t
         (sym (ap (λ b. option_or (if b then Some u else None) (standing before i))
         (comes_other packet i (next_packet before) way.0.number follows.number)) ∙ is)
-    by (item.Hopped packet u) way is = by_name (packet == i) refl is where
+    by (Item.Hopped packet u) way is = by_name (packet == i) refl is where
       by_name : (b : Bool) → (packet == i) ≡ b
           → option_or (if b then Some u else None) (standing before i) ≡ Some t
           → Reaches setting journal s t
@@ -154,7 +151,7 @@ module _ (setting : Setting) (journal : List Item) (s i : ℕ) (header : Header)
       by : (next : Item) → FurtherCause setting before next
           → option_or (gives_decision i next) (decision_of before i) ≡ Some decision
           → decision.version ≡ version_count journal
-      by (item.Decided packet version rule act how) further is = by_name (packet == i) refl is where
+      by (Item.Decided packet version rule act how) further is = by_name (packet == i) refl is where
         new : Decision
         new = record { version = version; rule = rule; action = act }
 
@@ -179,20 +176,20 @@ module _ (setting : Setting) (journal : List Item) (s i : ℕ) (header : Header)
 
     ends_on : (act : Action) → EndsBy setting journal before i s act
         → EndsBy setting journal after i s act
-    ends_on action.Drop there = Contains-append_left before (next ∷ []) (item.Dropped i) there
-    ends_on (action.Out port) (inl leaves) = inl (record {
+    ends_on Action.Drop there = Contains-append_left before (next ∷ []) (Item.Dropped i) there
+    ends_on (Action.Out port) (inl leaves) = inl (record {
       leaving = leaves.leaving;
-      left = Contains-append_left before (next ∷ []) (item.Left i port leaves.leaving) leaves.left;
+      left = Contains-append_left before (next ∷ []) (Item.Left i port leaves.leaving) leaves.left;
       home = leaves.home;
       has_port = leaves.has_port;
       reached = leaves.reached;
     })
-    ends_on (action.Out port) (inr stuck) = inr (record {
+    ends_on (Action.Out port) (inr stuck) = inr (record {
       switch = stuck.switch;
       cause = stuck.cause;
       down = stuck.down;
       stuck = Contains-append_left before (next ∷ [])
-          (item.Stuck i stuck.switch stuck.cause (Exit port) stuck.down) stuck.stuck;
+          (Item.Stuck i stuck.switch stuck.cause (Exit port) stuck.down) stuck.stuck;
       apart = stuck.apart;
     })
 
@@ -239,33 +236,33 @@ module _ (setting : Setting) (journal : List Item) (s i : ℕ) (header : Header)
   own : (i == i) ≡ true
   own = eq-eqb i i refl
 
-  dropped : PacketCause setting before (item.Dropped i)
-      → Fate setting journal s i header (before ++ item.Dropped i ∷ [])
-  dropped way = let now = ended_by (item.Dropped i) (rw own refl) refl in
+  dropped : PacketCause setting before (Item.Dropped i)
+      → Fate setting journal s i header (before ++ Item.Dropped i ∷ [])
+  dropped way = let now = ended_by (Item.Dropped i) (rw own refl) refl in
       inr (record {
         ended = now.0;
         how = inl (record {
           decision = way.decision;
           decided = now.1 ∙ way.decided;
-          ends = rw way.action (Contains-push before (item.Dropped i));
+          ends = rw way.action (Contains-push before (Item.Dropped i));
         });
       })
 
-  left : (port : ℕ) (leaving : Leaving) → FurtherCause setting before (item.Left i port leaving)
-      → Fate setting journal s i header (before ++ item.Left i port leaving ∷ [])
-  left port leaving leaves = let now = ended_by (item.Left i port leaving) (rw own refl) refl in
+  left : (port : ℕ) (leaving : Leaving) → FurtherCause setting before (Item.Left i port leaving)
+      → Fate setting journal s i header (before ++ Item.Left i port leaving ∷ [])
+  left port leaving leaves = let now = ended_by (Item.Left i port leaving) (rw own refl) refl in
       inr (record {
         ended = now.0;
         how = inl (record {
           decision = record {
             version = leaving.version;
             rule = leaving.rule;
-            action = action.Out port;
+            action = Action.Out port;
           };
           decided = now.1 ∙ leaves.decided;
           ends = inl (record {
             leaving = leaving;
-            left = Contains-push before (item.Left i port leaving);
+            left = Contains-push before (Item.Left i port leaving);
             home = leaves.switch;
             has_port = leaves.has_port;
             reached = follows.at leaves.switch leaves.stands;
@@ -274,7 +271,7 @@ module _ (setting : Setting) (journal : List Item) (s i : ℕ) (header : Header)
       })
 
   -- a packet is lost only by rows of its own or of a crash
-  not_lost : PacketCause setting before (item.Lost i) → ⊥
+  not_lost : PacketCause setting before (Item.Lost i) → ⊥
   not_lost way = elim way.how [
     | inl row ↦ let moved : moves (Lose i) ≡ true = follows.step (Lose i) row in cc
     | inr crash ↦ let moved = follows.step (Crash crash.switch) crash.crashes in
@@ -284,7 +281,7 @@ module _ (setting : Setting) (journal : List Item) (s i : ℕ) (header : Header)
   -- what is stuck reaches no target
   stuck_apart : IsNet setting.net → HasConverged setting journal → Before setting before → (t : ℕ)
       (cause : Cause) (leg : Leg) (down : List ℕ)
-      → StrongCause setting before (item.Stuck i t cause leg down)
+      → StrongCause setting before (Item.Stuck i t cause leg down)
       → All (λ target. Reaches setting journal s target → ⊥) (targets_of setting journal leg)
   stuck_apart net converged known t cause leg down strong =
       let here = here_known setting before i t (knows setting before i known) strong.0.at in
@@ -297,23 +294,23 @@ module _ (setting : Setting) (journal : List Item) (s i : ℕ) (header : Header)
 
   stuck : IsNet setting.net → HasConverged setting journal → IsUpdated setting journal
       → Before setting before → (t : ℕ) (cause : Cause) (leg : Leg) (down : List ℕ)
-      → StrongCause setting before (item.Stuck i t cause leg down)
-      → Fate setting journal s i header (before ++ item.Stuck i t cause leg down ∷ [])
+      → StrongCause setting before (Item.Stuck i t cause leg down)
+      → Fate setting journal s i header (before ++ Item.Stuck i t cause leg down ∷ [])
   stuck net converged updated known t cause leg down strong =
-      let now = ended_by (item.Stuck i t cause leg down) (rw own refl) refl in
+      let now = ended_by (Item.Stuck i t cause leg down) (rw own refl) refl in
       inr (record {
         ended = now.0;
         how = by_leg leg strong now.1 (stuck_apart net converged known t cause leg down strong);
       })
     where
-      by_leg : (leg : Leg) → StrongCause setting before (item.Stuck i t cause leg down)
-          → (let after = before ++ item.Stuck i t cause leg down ∷ [] in
+      by_leg : (leg : Leg) → StrongCause setting before (Item.Stuck i t cause leg down)
+          → (let after = before ++ Item.Stuck i t cause leg down ∷ [] in
           decision_of after i ≡ decision_of before i
           → All (λ target. Reaches setting journal s target → ⊥) (targets_of setting journal leg)
           → IsEnded setting journal s i after ⊎ FindsNoTarget setting journal after i s header)
       by_leg (Exit port) strong same apart =
           let decision : Decision = strong.1.stuck.own_leg.0 in
-          let next : Item = item.Stuck i t cause (Exit port) down in
+          let next : Item = Item.Stuck i t cause (Exit port) down in
           inl (record {
             decision = decision;
             decided = same ∙ strong.1.stuck.own_leg.1;
@@ -327,7 +324,7 @@ module _ (setting : Setting) (journal : List Item) (s i : ℕ) (header : Header)
                 }));
           })
       by_leg (Seek version partition) strong same apart =
-          let next : Item = item.Stuck i t cause (Seek version partition) down in
+          let next : Item = Item.Stuck i t cause (Seek version partition) down in
           let current : version ≡ version_count journal = newest updated version strong.1.rightly in
           let found = strong.1.stuck.own_leg in
           inr (record {
@@ -366,27 +363,27 @@ module _ (setting : Setting) (journal : List Item) (s i : ℕ) (header : Header)
   fate_next : IsNet setting.net → HasConverged setting journal → IsUpdated setting journal
       → Before setting before → (next : Item) → StrongCause setting before next
       → Fate setting journal s i header (before ++ next ∷ [])
-  fate_next net converged updated known (item.Entered packet t other) strong =
+  fate_next net converged updated known (Item.Entered packet t other) strong =
       let apart = comes_other packet i (next_packet before) strong.0.0.number follows.number in
-      pass_on (item.Entered packet t other) (rw apart refl) refl
-  fate_next net converged updated known (item.Dropped packet) strong =
-      of_packet item.Dropped packet (λ apart. pass_on (item.Dropped packet) (rw apart refl) refl)
-      (λ is. dropped (subst (λ k. PacketCause setting before (item.Dropped k)) is strong.0))
-  fate_next net converged updated known (item.Left packet port leaving) strong =
-      of_packet (λ k. item.Left k port leaving) packet
-      (λ apart. pass_on (item.Left packet port leaving) (rw apart refl) refl)
+      pass_on (Item.Entered packet t other) (rw apart refl) refl
+  fate_next net converged updated known (Item.Dropped packet) strong =
+      of_packet Item.Dropped packet (λ apart. pass_on (Item.Dropped packet) (rw apart refl) refl)
+      (λ is. dropped (subst (λ k. PacketCause setting before (Item.Dropped k)) is strong.0))
+  fate_next net converged updated known (Item.Left packet port leaving) strong =
+      of_packet (λ k. Item.Left k port leaving) packet
+      (λ apart. pass_on (Item.Left packet port leaving) (rw apart refl) refl)
       (λ is. left port leaving (rw is at strong.1))
-  fate_next net converged updated known (item.Lost packet) strong =
-      of_packet item.Lost packet (λ apart. pass_on (item.Lost packet) (rw apart refl) refl)
-      (λ is. absurd (not_lost (subst (λ k. PacketCause setting before (item.Lost k)) is strong.0)))
-  fate_next net converged updated known (item.Stuck packet t cause leg down) strong =
-      of_packet (λ k. item.Stuck k t cause leg down) packet
-      (λ apart. pass_on (item.Stuck packet t cause leg down) (rw apart refl) refl)
+  fate_next net converged updated known (Item.Lost packet) strong =
+      of_packet Item.Lost packet (λ apart. pass_on (Item.Lost packet) (rw apart refl) refl)
+      (λ is. absurd (not_lost (subst (λ k. PacketCause setting before (Item.Lost k)) is strong.0)))
+  fate_next net converged updated known (Item.Stuck packet t cause leg down) strong =
+      of_packet (λ k. Item.Stuck k t cause leg down) packet
+      (λ apart. pass_on (Item.Stuck packet t cause leg down) (rw apart refl) refl)
       (λ is. stuck net converged updated known t cause leg down (rw is at strong))
-  fate_next net converged updated known (item.Decided packet version rule act how) strong =
-      of_packet (λ k. item.Decided k version rule act how) packet
-      (λ apart. pass_on (item.Decided packet version rule act how) refl (rw apart refl))
-      (λ is. inl (travels_more before (item.Decided i version rule act how) i
+  fate_next net converged updated known (Item.Decided packet version rule act how) strong =
+      of_packet (λ k. Item.Decided k version rule act how) packet
+      (λ apart. pass_on (Item.Decided packet version rule act how) refl (rw apart refl))
+      (λ is. inl (travels_more before (Item.Decided i version rule act how) i
       ∙ subst (λ k. IsTrue (travels before k)) is strong.0.at.travelling))
   fate_next net converged updated known next strong = pass_on next refl refl
 

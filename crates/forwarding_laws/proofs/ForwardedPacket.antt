@@ -1,21 +1,21 @@
 -- A packet that enters behind a quiet journal is followed over its step and the hops of a drain,
 -- and has ended then.
-use Rattle.std.proofs.Common.{[], ◌++◌, ◌+◌, ◌-◌, ◌<◌, ◌==◌, ◌∙◌, ◌∷◌, ◌≡◌, ◌≤◌, ◌⊎◌, Contains, IsTrue, List, None, Option, Some, ap, append_assoc, arith, eq-eqb, false, find, inl, inr, length, option_map, refl, subst, sym, true, ℕ}
+use Rattle.std.proofs.Common.{[], ◌++◌, ◌+◌, ◌-◌, ◌<◌, ◌==◌, ◌∙◌, ◌∷◌, ◌≡◌, ◌≤◌, ◌⊎◌, Contains, IsTrue, List, None, Option, Some, ap, append_assoc, arith, eq-eqb, false, find, inl, inr, length, option_map, refl, subst, sym, take, true, ℕ}
 use Rattle.base.proofs.Exports.{All-contains, find_none, get_or-range_with_len, length-range_with_len, range_with_len}
 use Rattle.five_tuple.specs.Exports.{IsHeader}
-use Rattle.update_machine.specs.Exports.{AreAll, Decision, HaveCauses, Header, Hop, IsSetting, Item, Packet, Row, Setting, Step, StepOfRow, after_steps, count_of, decision_of, gives_header, header_in, is_packet, is_up, items_then, lookup_items, next_hop, next_packet, next_travelling, packet_items, packets_in, piece, policy_at, serves, switches_of, travels, version_count}
+use Rattle.update_machine.specs.Exports.{AreAll, Decision, HaveCauses, Header, Hop, IsQuiet, IsSetting, Item, Packet, Row, Setting, Step, StepOfRow, after_steps, count_of, decision_of, gives_header, header_in, is_packet, is_up, items_then, lookup_items, next_hop, next_packet, next_travelling, packet_items, packets_in, piece, policy_at, serves, switches_of, travels, version_count}
 use Rattle.policy_rules.specs.Exports.{IsFirstMatch, scan}
 use Rattle.policy_rules.proofs.CallerLemmas.{first_match-scan}
-use Rattle.journal.specs.declared.item.Item.TheVariants as item
 use Rattle.steps.specs.Exports.{HasSwitch}
 use Rattle.update_machine.proofs.Exports.{count_of_append, last_given_append, switch_keeps}
-use Rattle.convergence_laws.proofs.Exports.{Behind, Both, NamesOwn, fact_on, have_both, have_rest, moves, stays_itself, stays_on}
-use Rattle.convergence_laws.specs.Exports.{HasConverged, IsUpdated}
-use Rattle.packet_laws.specs.Exports.{AllKept, IsUnknown, StrongCause, hit_in, what_is_known}
-use Rattle.packet_laws.proofs.Exports.{IsSettled, IsWayItem, Past, all_kept, all_right, decision_out, found_in, kept_before, numbered, packet_more, piece_settled, standing_more, strongly_caused, travels_more, ways_of_all}
-use Rattle.forwarding_laws.specs.Exports.{FindsNoTarget, IsForwarded, QuietForwards}
+use Rattle.convergence_laws.proofs.Exports.{Behind, Both, HoldsAtEnds, NamesOwn, fact_on, have_both, have_rest, moves, stays_itself, stays_on}
+use Rattle.convergence_laws.specs.Exports.{GetStuckApart, HasConverged, IsUpdated}
+use Rattle.packet_laws.specs.Exports.{AllKept, HoldsBetween, IsUnknown, StrongCause, hit_in, steps_played, what_is_known}
+use Rattle.packet_laws.proofs.Exports.{IsSettled, IsWayItem, Past, all_kept, all_right, between, decision_out, found_in, kept_before, numbered, packet_more, piece_settled, standing_more, strongly_caused, travels_more, ways_of_all}
+use Rattle.forwarding_laws.specs.Exports.{FindsNoTarget, HasComeToRest, IsForwarded, QuietForwards}
 use Rattle.forwarding_laws.proofs.FollowedPacket.{Fate, Follows, IsEnded, IsFollowed, follows_on, mark_more, step_more, undecided_by}
-use Rattle.forwarding_laws.proofs.PassingSteps.{MarksStay, Passes, hop_passes, marks_stay, packet_passes}
+use Rattle.forwarding_laws.proofs.SecondRounds.{MarksStay, Passes, hop_passes, marks_stay, packet_passes}
+use Rattle.net_file.specs.Exports.{IsNet}
 
 -- ---- items of a settled journal
 
@@ -60,10 +60,10 @@ header_by before next i header gives =
     cc (last_given_append (gives_header i) before (next ∷ []), gives)
 
 number_more : (before : List Item) (i s : ℕ) (header : Header)
-    → next_packet (before ++ item.Entered i s header ∷ []) ≡ next_packet before + 1
+    → next_packet (before ++ Item.Entered i s header ∷ []) ≡ next_packet before + 1
 unfolding next_packet
 number_more before i s header =
-    rw (count_of_append is_packet before (item.Entered i s header ∷ [])) (omega arith)
+    rw (count_of_append is_packet before (Item.Entered i s header ∷ [])) (omega arith)
 
 serves_there : (setting : Setting) (journal : List Item) (s : ℕ) → IsUpdated setting journal
     → HasSwitch setting.net s → IsTrue (is_up journal s) → IsTrue (serves journal s)
@@ -78,10 +78,10 @@ module _ (setting : Setting) (journal : List Item) (row s : ℕ) (header : Heade
   i = next_packet journal
 
   abbrev coming : Item
-  coming = item.Row row (Packet s header)
+  coming = Item.Row row (Packet s header)
 
   abbrev entering : Item
-  entering = item.Entered i s header
+  entering = Item.Entered i s header
 
   abbrev here : List Item
   here = journal ++ coming ∷ []
@@ -137,7 +137,7 @@ module _ (setting : Setting) (journal : List Item) (row s : ℕ) (header : Heade
       let still : serves here s ≡ true =
       (switch_keeps setting s journal (coming ∷ []) (refl, tt)).serving ∙ serving in
       ap (λ b. coming ∷ (elim b [
-        | false ↦ item.Closed i s ∷ []
+        | false ↦ Item.Closed i s ∷ []
         | true ↦ items_then (entering ∷ []) (lookup_items setting i s) here
       ])) still
 
@@ -242,3 +242,92 @@ forwards setting journal is settled converged updated row later s header hops th
     (drained setting journal s (next_packet journal) header later entered hops is converged updated
     all (piece_settled setting journal row (Packet s header) is (there, sound) settled)
     (followed_in setting journal row s header is converged updated settled there sound up))
+
+-- ---- what holds of quiet journals between steps, by the laws that say it one by one
+
+-- what holds where steps end holds between them
+ends_between : (Holds : Setting → List Item → Type 0) → HoldsAtEnds Holds → HoldsBetween Holds
+ends_between Holds law = record {
+  reached = λ setting journal at. rw at.written (law.stepped setting at.steps);
+  answered = λ setting events journal own answers. law.answered setting events journal answers;
+  so_far = λ setting events journal own answers. law.so_far setting events journal answers;
+  played = λ setting events journal full own play n.
+      law.stepped setting (take n (steps_played setting events journal full play));
+}
+
+-- and so does what follows from two of them
+both_between : (One Other Holds : Setting → List Item → Type 0)
+    → ((setting : Setting) (journal : List Item) → One setting journal → Other setting journal
+    → Holds setting journal) → HoldsBetween One → HoldsBetween Other → HoldsBetween Holds
+both_between One Other Holds follow one other = record {
+  reached = λ setting journal at. follow setting journal (one.reached setting journal at)
+      (other.reached setting journal at);
+  answered = λ setting events journal own answers. follow setting journal
+      (one.answered setting events journal own answers)
+      (other.answered setting events journal own answers);
+  so_far = λ setting events journal own answers. follow setting journal
+      (one.so_far setting events journal own answers)
+      (other.so_far setting events journal own answers);
+  played = λ setting events journal full own play n. follow setting _
+      (one.played setting events journal full own play n)
+      (other.played setting events journal full own play n);
+}
+
+-- ---- journals of networks that have converged
+
+abbrev ForwardsBy : Setting → List Item → Type 0
+ForwardsBy setting journal = IsSetting setting → HasConverged setting journal
+    → IsUpdated setting journal → QuietForwards setting journal
+
+pub converged_forward : HoldsBetween ForwardsBy
+converged_forward = between (λ setting journal. HasConverged setting journal
+    → IsUpdated setting journal → QuietForwards setting journal) (λ setting journal is settled
+    converged updated. forwards setting journal is settled converged updated)
+
+-- ---- quiet journals
+
+abbrev Converges : Setting → List Item → Type 0
+Converges setting journal =
+    IsNet setting.net → IsQuiet setting journal → HasConverged setting journal
+
+abbrev Updates : Setting → List Item → Type 0
+Updates setting journal = IsQuiet setting journal → IsUpdated setting journal
+
+abbrev Parts : Setting → List Item → Type 0
+Parts setting journal = IsNet setting.net → IsQuiet setting journal → GetStuckApart setting journal
+
+abbrev Forwards : Setting → List Item → Type 0
+Forwards setting journal = IsSetting setting → IsQuiet setting journal → QuietForwards setting journal
+
+abbrev Rests : Setting → List Item → Type 0
+Rests setting journal = IsSetting setting → IsQuiet setting journal → HasComeToRest setting journal
+
+abbrev Known : Setting → List Item → Type 0
+Known setting journal = Converges setting journal × Updates setting journal
+
+known_between : HoldsAtEnds Converges → HoldsAtEnds Updates → HoldsBetween Known
+known_between converge update =
+    both_between Converges Updates Known (λ setting journal converges updates. (converges, updates))
+    (ends_between Converges converge) (ends_between Updates update)
+
+pub quiet_forwards : HoldsAtEnds Converges → HoldsAtEnds Updates → HoldsBetween ForwardsBy
+    → HoldsBetween Forwards
+quiet_forwards converge update forward = both_between ForwardsBy Known Forwards
+    (λ setting journal forwards known is quiet. forwards is (known.0 is.net quiet) (known.1 quiet))
+    forward (known_between converge update)
+
+pub comes_to_rest : HoldsAtEnds Converges → HoldsAtEnds Parts → HoldsAtEnds Updates
+    → HoldsBetween Forwards → HoldsBetween Rests
+comes_to_rest converge part update forward =
+    both_between Known (λ setting journal. Parts setting journal × Forwards setting journal) Rests
+    (λ setting journal known others is quiet. record {
+      quiet = quiet;
+      converged = known.0 is.net quiet;
+      apart = others.0 is.net quiet;
+      updated = known.1 quiet;
+      forwards = others.1 is quiet;
+    })
+    (known_between converge update)
+    (both_between Parts Forwards
+    (λ setting journal. Parts setting journal × Forwards setting journal)
+    (λ setting journal parts forwards. (parts, forwards)) (ends_between Parts part) forward)

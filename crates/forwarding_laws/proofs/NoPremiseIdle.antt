@@ -4,8 +4,6 @@ use Rattle.std.proofs.Common.{[], ◌&&◌, ◌++◌, ◌+◌, ◌==◌, ◌||�
 use Rattle.base.proofs.Exports.{All-cons, All-from_recursion, All-nil, and_parts}
 use Rattle.failover.specs.Exports.{no_links, with_link}
 use Rattle.update_machine.specs.Exports.{Advertise, Answers, AreAll, AreReceived, AreSteps, Body, Confirm, Crash, Deliver, Event, Flush, Forget, HaveCauses, Hop, Installed, IsQuiet, IsReceived, IsReplaced, Item, LinkDown, LinkUp, Lose, Message, NoAuthority, One, Packet, Place, Replaces, Resend, Restart, Seek, Setting, Step, StepOfRow, Update, after_steps, is_later_body, is_up, is_waited_for, next_delivery, next_waiting, piece, was_delivered}
-use Rattle.ctrl_msg.specs.declared.message.Place.TheVariants as receiver
-use Rattle.journal.specs.declared.item.Item.TheVariants as item
 use Rattle.steps.specs.Exports.{HasSwitch}
 use Rattle.update_machine.proofs.Exports.{advert, at, by_action, left_by, network, one, open_net, out_or_drop, plan_p, plan_q, switch, to, to_controller}
 use Rattle.convergence_laws.specs.Exports.{IsUpdated}
@@ -191,7 +189,7 @@ in_recovery front = record {
 -- nothing that is sent in these items passes the test
 abbrev none_pass : (Message → Bool) → List Item → Bool
 none_pass test [] = true
-none_pass test (item.Sent number later ∷ after) = not (test later) && none_pass test after
+none_pass test (Item.Sent number later ∷ after) = not (test later) && none_pass test after
 none_pass test (_ ∷ after) = none_pass test after
 
 not_both : (b : Bool) → IsTrue b → IsTrue (not b) → ⊥
@@ -203,9 +201,9 @@ unreplaced : (test : Message → Bool) (message : Message)
     → ((later : Message) → Replaces later message → IsTrue (test later))
     → (after : List Item) → IsTrue (none_pass test after) → IsReplaced message after → ⊥
 unreplaced test message passes [] none replaced = replaced
-unreplaced test message passes (item.Sent number later ∷ after) none (inl here) =
+unreplaced test message passes (Item.Sent number later ∷ after) none (inl here) =
     not_both (test later) (passes later here.0) (and_parts (not (test later)) _ none).0
-unreplaced test message passes (item.Sent number later ∷ after) none (inr behind) =
+unreplaced test message passes (Item.Sent number later ∷ after) none (inr behind) =
     unreplaced test message passes after (and_parts (not (test later)) _ none).1 behind
 unreplaced test message passes (_ ∷ after) none replaced =
     unreplaced test message passes after none replaced
@@ -251,8 +249,8 @@ both true b is also = also
 both false b is also = is
 
 abbrev is_to_b : Place → Bool
-is_to_b (receiver.Switch s) = s == 1
-is_to_b receiver.Controller = false
+is_to_b (Place.Switch s) = s == 1
+is_to_b Place.Controller = false
 
 abbrev is_advert_of_a : Body → Bool
 is_advert_of_a (Advertise advert) = advert.origin == 0
@@ -336,8 +334,8 @@ recovered_without_answer =
     (in_recovery (take 5 answer_lost)) with_answer_lost
 
 abbrev is_to_controller : Place → Bool
-is_to_controller receiver.Controller = true
-is_to_controller (receiver.Switch s) = false
+is_to_controller Place.Controller = true
+is_to_controller (Place.Switch s) = false
 
 abbrev is_answer_of_a : Body → Bool
 is_answer_of_a (Installed s boot version) = s == 0
@@ -402,13 +400,13 @@ not_after_one_round newest = not_held (newest 0 1 (omega arith) refl)
 -- nor does it help that this network is quiet
 abbrev all_delivered : List Item → Bool
 all_delivered [] = true
-all_delivered (item.Sent number message ∷ after) = was_delivered after number && all_delivered after
+all_delivered (Item.Sent number message ∷ after) = was_delivered after number && all_delivered after
 all_delivered (_ ∷ after) = all_delivered after
 
 all_received : (setting : Setting) (journal items : List Item) → IsTrue (all_delivered items)
     → AreReceived setting journal items
 all_received setting journal [] all = tt
-all_received setting journal (item.Sent number message ∷ after) all = (
+all_received setting journal (Item.Sent number message ∷ after) all = (
   λ s there m. inl (and_parts (was_delivered after number) _ all).0,
   all_received setting journal after (and_parts (was_delivered after number) _ all).1,
 )
@@ -505,9 +503,9 @@ undrained = record {
 }
 
 abbrev is_end : Item → Bool
-is_end (item.Dropped packet) = true
-is_end (item.Left packet port leaving) = true
-is_end (item.Lost packet) = true
+is_end (Item.Dropped packet) = true
+is_end (Item.Left packet port leaving) = true
+is_end (Item.Lost packet) = true
 is_end _ = false
 
 abbrev has_end : List Item → Bool
@@ -516,9 +514,9 @@ has_end (first ∷ rest) = is_end first || has_end rest
 
 ends_end : (setting : Setting) (packet : ℕ) (before : List Item) (found : Item)
     → EndsRightly setting packet before found → IsTrue (is_end found)
-ends_end setting packet before (item.Dropped i) own = refl
-ends_end setting packet before (item.Left i port leaving) own = refl
-ends_end setting packet before (item.Lost i) own = refl
+ends_end setting packet before (Item.Dropped i) own = refl
+ends_end setting packet before (Item.Left i port leaving) own = refl
+ends_end setting packet before (Item.Lost i) own = refl
 ends_end setting packet before _ own = absurd own
 
 end_there : (before : List Item) (found : Item) (rest : List Item) → IsTrue (is_end found)

@@ -10,9 +10,8 @@ use Rattle.control_laws.proofs.Exports.{AreKept, OpeningsStand, acked_stamp_open
 use Rattle.convergence_laws.proofs.Exports.{AreReady, IsCaughtUp, IsIn, IsInOrder, IsTraced, TablesSent, caused_recorded, caused_traced, each_in, first_acked, hello_known, in_left, in_right, installed_acked, items_caused, opened_stamps, some_opening, stamped_acked}
 use Rattle.forwarding_laws.proofs.CalmItems.{Calmly, Stays, acked_grows, calm_causes, stamp_grows, stays}
 use Rattle.forwarding_laws.proofs.RecoveryRows.{IsConfirmed, all_confirmed_on}
-use Rattle.forwarding_laws.proofs.AnsweredDeliveries.{IsAnsweredSince, IsDeliveredIn, delivered_answered}
-use Rattle.forwarding_laws.proofs.ResentMessages.{hello_resent, opening_resent, resent, stamp_resent, table_resent}
-use Rattle.forwarding_laws.proofs.RecoverySendings.{IsEarlier, IsFlushed, IsSince, since_delivered, since_or_earlier, since_told}
+use Rattle.forwarding_laws.proofs.AnsweredDeliveries.{IsAnsweredSince, IsDeliveredIn, IsEarlier, IsFlushed, IsSince, delivered_answered, since_delivered, since_or_earlier, since_told}
+use Rattle.forwarding_laws.proofs.RecoveredAdverts.{hello_resent, opening_resent, resent, stamp_resent, table_resent}
 
 -- ---- the moment at which a switch is asked to send again
 

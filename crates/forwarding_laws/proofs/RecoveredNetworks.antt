@@ -2,7 +2,6 @@
 use Rattle.std.proofs.Common.{[], ◌++◌, ◌∙◌, ◌∷◌, ◌≡◌, ◌≤◌, ◌⊎◌, Bool, IsTrue, List, None, Option, Some, arith, false, inl, inr, option_map, refl, subst, suc, sym, true, zero, ℕ}
 use Rattle.update_machine.specs.Exports.{Answers, AreAll, Deliver, Event, Flush, HaveCauses, IsSetting, Item, Message, Resend, Setting, Step, StepOfRow, TakesNext, after_steps, is_forgotten, message_of, next_delivery, next_message, next_waiting, piece, was_delivered}
 use Rattle.net_file.specs.Exports.{IsNet}
-use Rattle.journal.specs.declared.item.Item.TheVariants as item
 use Rattle.steps.specs.Exports.{HasSwitch}
 use Rattle.update_machine.proofs.Exports.{AreOf, after_append, start_laws}
 use Rattle.control_laws.specs.Exports.{AreEvents, HoldsAtEnds}
@@ -11,13 +10,11 @@ use Rattle.convergence_laws.specs.Exports.{GetStuckApart, HasConverged, IsUpdate
 use Rattle.convergence_laws.proofs.Exports.{AreReady, AreTraced, IsInOrder, all_end, caught_updated, caused_traced, ends_spread, ends_tell, flush_ends, next_first, next_grows, none_waits, pieces_in_order, sent_delivered, steps_ready, steps_spread}
 use Rattle.packet_laws.specs.Exports.{HoldsBetween}
 use Rattle.forwarding_laws.specs.Exports.{AllDelivered, EndsInRecovery, HasRecovered, QuietForwards}
-use Rattle.forwarding_laws.proofs.RecoveredAdverts.{recovered_agree, resends_spread}
+use Rattle.forwarding_laws.proofs.RecoveredAdverts.{piece_resends, recovered_agree, resends_spread}
 use Rattle.forwarding_laws.proofs.CalmItems.{Calmly, IsCalmStep, calm_rest, calm_row, calm_steps, calm_through, stays}
 use Rattle.forwarding_laws.proofs.RecoveredControl.{IsAsked, IsRecovered, recovered_caught}
-use Rattle.forwarding_laws.proofs.AnsweredDeliveries.{IsDeliveredIn, find_delivery}
-use Rattle.forwarding_laws.proofs.ResentMessages.{piece_resends}
+use Rattle.forwarding_laws.proofs.AnsweredDeliveries.{IsDeliveredIn, IsFlushed, find_delivery, since_calm}
 use Rattle.forwarding_laws.proofs.RecoveryRows.{EndsCalmly, IsTakenIn, among_taken, each_calm, ends_calmly}
-use Rattle.forwarding_laws.proofs.RecoverySendings.{IsFlushed, since_calm}
 
 -- ---- deliveries are calm
 
@@ -121,7 +118,7 @@ module _ (setting : Setting) (journal : List Item) (ends : EndsCalmly setting jo
     taken = among_taken setting (Resend s) confirmed ends.resends resends_calm (ends.each s there)
 
     here : List Item
-    here = taken.at ++ item.Row taken.row (Resend s) ∷ []
+    here = taken.at ++ Item.Row taken.row (Resend s) ∷ []
 
     then : List Item
     then = taken.at ++ piece setting taken.at taken.row (Resend s)

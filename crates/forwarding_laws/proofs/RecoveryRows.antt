@@ -4,7 +4,6 @@
 use Rattle.std.proofs.Common.{[], ◌++◌, ◌+◌, ◌||◌, ◌∙◌, ◌∷◌, ◌≡◌, ◌⊎◌, All, Bool, Contains, IsFalse, IsTrue, List, ap, append-nil, append_assoc, arith, eq-eqb, false, inl, inr, length, not, refl, subst, sym, true, ℕ}
 use Rattle.base.proofs.Exports.{All-from_recursion, AllByRecursion, recursion_from_All}
 use Rattle.update_machine.specs.Exports.{Answers, AreAll, AreSteps, Confirm, Event, Flush, Item, One, Resend, Setting, Step, StepOfRow, after_steps, confirm_items, gives_waited_for, is_up, is_waited_for, items_then, next_delivery, nothing, piece, settling, switches_of}
-use Rattle.journal.specs.declared.item.Item.TheVariants as item
 use Rattle.steps.specs.Exports.{HasSwitch}
 use Rattle.update_machine.proofs.Exports.{AreOf, after_append}
 use Rattle.control_laws.proofs.Exports.{IsControl, behind_piece, each_range, each_weaker, fact_on, have_weaker, last_more, settling_control, up_more}
@@ -160,10 +159,10 @@ confirm_ends setting at row s =
     behind_piece setting at row (Confirm s) (λ j. IsConfirmed j s) (by_up (is_up here s) refl)
   where
     here : List Item
-    here = at ++ item.Row row (Confirm s) ∷ []
+    here = at ++ Item.Row row (Confirm s) ∷ []
 
     next : Item
-    next = item.OverNow s
+    next = Item.OverNow s
 
     now : List Item
     now = here ++ next ∷ []
@@ -181,7 +180,7 @@ confirm_ends setting at row s =
       | true ↦ nothing
       | false ↦ items_then (next ∷ []) (settling setting) here
     ]) s
-    by_up true e = by_parts _ _ (inl (up_more here item.Nothing s ∙ e))
+    by_up true e = by_parts _ _ (inl (up_more here Item.Nothing s ∙ e))
     by_up false e = subst (λ j. IsConfirmed j s) (append_assoc here (next ∷ []) (settling setting now))
         (by_parts _ _ (inr settled))
 

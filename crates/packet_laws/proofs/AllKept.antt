@@ -1,29 +1,106 @@
 -- Each item that has its causes keeps all packets on their way, and all cache rules right: one
 -- induction by items.
-use Rattle.std.proofs.Common.{[], ◌++◌, ◌+◌, ◌==◌, ◌∙◌, ◌∷◌, ◌≡◌, ◌≤◌, ◌⊎◌, All, Bool, IsTrue, List, None, Some, arith, eqb-true, false, inl, inr, refl, subst, sym, true, ℕ}
-use Rattle.base.proofs.Exports.{All-nil, All-weaker, some_same}
+use Rattle.std.proofs.Common.{[], ◌++◌, ◌+◌, ◌==◌, ◌∙◌, ◌∷◌, ◌≡◌, ◌≢◌, ◌≤◌, ◌⊎◌, All, Bool, IsTrue, List, None, Some, arith, eqb-true, false, if◌then◌else◌, inl, inr, refl, subst, sym, true, unwrap_or, ℕ, rules}
+use Rattle.base.proofs.Exports.{All-weaker, nat_tests, option_or, some_same}
+use Rattle.failover.specs.Exports.{no_links}
+use Rattle.update_machine.specs.Exports.{AuthorityRule, Body, CacheRule, HasPlan, HaveCauses, Header, IsSetting, Item, Message, Packet, Setting, Step, cache_of, changes_found, changes_hops, changes_leg, current_mark, decision_of, found_down, gives_decision, gives_header, gives_ingress, gives_route, gives_standing, gives_travelling, header_in, ingress_of, last_given, leg_of, message_of, next_packet, plan_at, policy_at, present_step, retired_mark, route_in, route_place, standing, travels}
+use Rattle.update_machine.proofs.Exports.{begins_planned, folded_append, last_given_append, step_stays}
+use Rattle.packet_laws.specs.Exports.{AllKept, Blocked, BringsRight, CameIn, HasKeptFacts, IsRightEntry, IsRightRule, IsUnknown, Judged, OnWay, PacketCause, PacketFacts, SendsRightRule, SendsRule, Stage, changes_mark, entry_mark, facts_after, gives_stage, is_of_packet, stage_of, what_is_known}
 use Rattle.cache_maker.specs.Independent.{widen}
-use Rattle.update_machine.specs.Exports.{AuthorityRule, Body, CacheRule, HasPlan, HaveCauses, Header, IsSetting, Item, Message, Packet, Setting, Step, cache_of, current_mark, decision_of, found_down, header_in, leg_of, message_of, next_packet, plan_at, policy_at, present_step, retired_mark, travels}
 use Rattle.five_tuple.specs.Exports.{number_of}
-use Rattle.journal.specs.declared.item.Item.TheVariants as item
-use Rattle.update_machine.proofs.Exports.{begins_planned, step_stays}
 use Rattle.control_laws.proofs.Exports.{AreKept, Behind, HasBothCauses, NamesOwn, StampsAreCurrent, current_at_first, current_kept, fact_on, have_weaker, links_there, message_more, said_parts, stamps_touched, versions_planned, with_fact}
 use Rattle.control_laws.specs.Exports.{HasItemCause, stamp_to}
-use Rattle.packet_laws.specs.Exports.{AllKept, Blocked, BringsRight, CameIn, HasKeptFacts, IsRightEntry, IsRightRule, IsUnknown, Judged, OnWay, PacketCause, SendsRightRule, SendsRule, Stage, facts_after, gives_stage, is_of_packet, stage_of, what_is_known}
-use Rattle.packet_laws.proofs.PacketFacts.{facts_named, facts_other}
-use Rattle.packet_laws.proofs.CacheRules.{cache_rule_right}
-use Rattle.packet_laws.proofs.CachedEntries.{cache_holds}
-use Rattle.packet_laws.proofs.GrowingFacts.{Grows, grows, kept_on, right_on}
-use Rattle.packet_laws.proofs.PacketsHere.{IsHere, here_of, rules_of}
+use Rattle.packet_laws.proofs.CacheRules.{Grows, cache_holds, cache_rule_right, carried_right, first_match_by_scan, grows, kept_on, right_on}
+use Rattle.packet_laws.proofs.PacketHeaderLookups.{IsHere, deciding, here_of, rules_of}
 use Rattle.packet_laws.proofs.KeptPacketFacts.{Knows, decided_after, entered_after, exiting_after, found_after, gone, hopped_after, rerouted_after, seeking_after}
-use Rattle.packet_laws.proofs.PacketHeaderLookups.{deciding}
 use Rattle.packet_laws.proofs.PacketBlocks.{stage_more, stage_stays}
 use Rattle.packet_laws.proofs.RestingPackets.{IsAsked, IsWayItem, Past, numbered, switches_of_all, ways_of_all, with_past}
 use Rattle.packet_laws.proofs.ServedPackets.{packet_more}
-use Rattle.packet_laws.proofs.PacketPieceCauses.{step_now}
-use Rattle.packet_laws.proofs.CarriedRules.{carried_right}
-use Rattle.packet_laws.proofs.VersionMatches.{first_match_by_scan}
+use Rattle.packet_laws.proofs.SparedPackets.{step_now}
 use Rattle.ternary.specs.Exports.{WordValue}
+
+-- ---- what each item makes of the facts of a packet
+
+-- the facts behind one more item, each by its own fold
+abbrev told_facts : List Item → ℕ → Item → PacketFacts
+told_facts before i item = record {
+  header = option_or (gives_header i item) (header_in before i);
+  ingress = option_or (gives_ingress i item) (ingress_of before i);
+  stands = option_or (gives_standing i item) (standing before i);
+  travels = unwrap_or (option_or (gives_travelling i item) (last_given (gives_travelling i) before))
+      false;
+  decision = option_or (gives_decision i item) (decision_of before i);
+  leg = changes_leg i before (leg_of before i) item;
+  route = unwrap_or (option_or (gives_route i item) (last_given (gives_route i) before)) [];
+  hops = changes_hops i before (route_place before i) item;
+  found = changes_found i before (found_down before i) item;
+  mark = changes_mark i before (entry_mark before i) item;
+}
+
+facts_more : (before : List Item) (i : ℕ) (item : Item)
+    → what_is_known (before ++ item ∷ []) i ≡ told_facts before i item
+unfolding what_is_known header_in ingress_of standing travels decision_of leg_of route_in route_place
+    found_down entry_mark
+facts_more before i item = rw (
+  last_given_append (gives_header i) before (item ∷ []),
+  last_given_append (gives_ingress i) before (item ∷ []),
+  last_given_append (gives_standing i) before (item ∷ []),
+  last_given_append (gives_travelling i) before (item ∷ []),
+  last_given_append (gives_decision i) before (item ∷ []),
+  folded_append (changes_leg i) None before (item ∷ []),
+  last_given_append (gives_route i) before (item ∷ []),
+  folded_append (changes_hops i) 0 before (item ∷ []),
+  folded_append (changes_found i) no_links before (item ∷ []),
+  folded_append (changes_mark i) 0 before (item ∷ []),
+) refl
+
+by_name : (before : List Item) (i : ℕ) (item : Item) (b : Bool) → is_of_packet i item ≡ b
+    → told_facts before i item
+    ≡ (if b then facts_after (retired_mark before) item (what_is_known before i) else what_is_known before i)
+unfolding what_is_known header_in ingress_of standing travels decision_of leg_of route_in route_place
+    found_down entry_mark
+by_name before i (Item.Entered packet switch header) true e = rw e refl
+by_name before i (Item.Entered packet switch header) false e = rw e refl
+by_name before i (Item.Seeking packet version partition route) true e = rw e refl
+by_name before i (Item.Seeking packet version partition route) false e = rw e refl
+by_name before i (Item.Exiting packet route) true e = rw e refl
+by_name before i (Item.Exiting packet route) false e = rw e refl
+by_name before i (Item.Rerouted packet route) true e = rw e refl
+by_name before i (Item.Rerouted packet route) false e = rw e refl
+by_name before i (Item.Hopped packet switch) true e = rw e refl
+by_name before i (Item.Hopped packet switch) false e = rw e refl
+by_name before i (Item.FoundDown packet one two) true e = rw e refl
+by_name before i (Item.FoundDown packet one two) false e = rw e refl
+by_name before i (Item.Decided packet version rule action how) true e = rw e refl
+by_name before i (Item.Decided packet version rule action how) false e = rw e refl
+by_name before i (Item.Left packet port leaving) true e = rw e refl
+by_name before i (Item.Left packet port leaving) false e = rw e refl
+by_name before i (Item.Dropped packet) true e = rw e refl
+by_name before i (Item.Dropped packet) false e = rw e refl
+by_name before i (Item.Lost packet) true e = rw e refl
+by_name before i (Item.Lost packet) false e = rw e refl
+by_name before i (Item.Stuck packet switch cause leg down) true e = rw e refl
+by_name before i (Item.Stuck packet switch cause leg down) false e = rw e refl
+by_name before i other true e = absurd cc
+by_name before i other false e = refl
+
+pub facts_grow : (i : ℕ) (before : List Item) (item : Item) → what_is_known (before ++ item ∷ []) i
+    ≡ (if is_of_packet i item then facts_after (retired_mark before) item (what_is_known before i)
+    else what_is_known before i)
+facts_grow i before item = facts_more _ i item ∙ by_name before i item (is_of_packet i item) refl
+
+pub facts_named : (i : ℕ) (before : List Item) (item : Item) → is_of_packet i item ≡ true
+    → what_is_known (before ++ item ∷ []) i ≡ facts_after (retired_mark before) item (what_is_known before i)
+facts_named i before item named = cc (facts_grow i before item, named)
+
+pub facts_other : (i : ℕ) (before : List Item) (item : Item) → is_of_packet i item ≡ false
+    → what_is_known (before ++ item ∷ []) i ≡ what_is_known before i
+facts_other i before item other = cc (facts_grow i before item, other)
+
+pub other_number : (i j : ℕ) → j ≢ i → (i == j) ≡ false
+other_number i j apart = grind (arith, nat_tests)
+
+-- ---- all kept
 
 -- ---- steps that were asked for
 
@@ -31,17 +108,13 @@ abbrev AreAsked : Setting → List Item → Type 0
 AreAsked setting journal = (step : Step) → present_step journal ≡ Some step → NamesOwn setting step
 
 asked_kept : (setting : Setting) → AreKept (IsAsked setting) (AreAsked setting)
-asked_kept setting before (item.Row row step) asked are other present = subst (NamesOwn setting)
-    (some_same (present_step (before ++ item.Row row step ∷ [])) step other
-    (step_now before row step) present) asked
-asked_kept setting before next asked are step present =
-    are step (sym (step_stays before (next ∷ []) (refl, tt)) ∙ present)
+asked_kept setting before next asked are other present =
+    search (rules, some_same, step_now, step_stays)
 
 present_asked : (setting : Setting) (journal : List Item)
     → HaveCauses (IsWayItem setting) [] journal → AreAsked setting journal
 unfolding present_step
-present_asked setting journal have =
-    fact_on (IsAsked setting) (AreAsked setting) (asked_kept setting) [] journal
+present_asked setting journal have = fact_on (IsAsked setting) _ (asked_kept setting) [] journal
     (have_weaker (IsWayItem setting) (IsAsked setting) (λ js next is. is.asked) [] journal have)
     (λ step present. absurd cc)
 
@@ -54,8 +127,7 @@ pub record Before (setting : Setting) (before : List Item) : Type 0 where
 
 both_of_all : (setting : Setting) (before : List Item)
     → HaveCauses (IsWayItem setting) [] before → HaveCauses (HasBothCauses setting) [] before
-both_of_all setting before have = have_weaker (IsWayItem setting) (HasBothCauses setting)
-    (λ js next is. record { first = is.switches; second = is.links }) [] before have
+both_of_all setting before have = search (rules, have_weaker)
 
 pub knows : (setting : Setting) (before : List Item) (i : ℕ) → Before setting before
     → Knows setting before i (stage_of before i)
@@ -82,51 +154,41 @@ named_after : (setting : Setting) (before : List Item) (next : Item) (i : ℕ)
     → Before setting before → PacketCause setting before next → is_of_packet i next ≡ true
     → HasKeptFacts setting before (facts_after (retired_mark before) next (what_is_known before i))
     (stage_of (before ++ next ∷ []) i)
-named_after setting before (item.Entered packet s header) i known way named =
+named_after setting before (Item.Entered packet s header) i known way named =
     let own = present_asked setting before known.have (Packet s header) way.0.row in
     let none = known.kept.unknown packet (omega (arith, way.0.number)) in
-    named_as setting before packet i (item.Entered packet s header) CameIn named
+    named_as setting before packet i (Item.Entered packet s header) CameIn named
     (rw named refl)
     (entered_after setting before packet s header (what_is_known before packet) own.0 own.1
     none.decision none.leg)
-named_after setting before (item.Seeking packet version partition route) i known way named =
-    named_as setting before packet i (item.Seeking packet version partition route) OnWay named
-    (rw named refl) (seeking_after setting before packet (retired_mark before) version partition
-    route (knows setting before packet known) way)
-named_after setting before (item.Exiting packet route) i known way named = named_as setting before
-    packet i (item.Exiting packet route) OnWay named (rw named refl) (exiting_after setting before
+named_after setting before (Item.Seeking packet version partition route) i known way named =
+    named_as setting before packet i _ OnWay named (rw named refl) (seeking_after setting before
+    packet (retired_mark before) version partition route (knows setting before packet known) way)
+named_after setting before (Item.Exiting packet route) i known way named = named_as setting before
+    packet i (Item.Exiting packet route) OnWay named (rw named refl) (exiting_after setting before
     packet (retired_mark before) route (knows setting before packet known) way)
-named_after setting before (item.Rerouted packet route) i known way named = named_as setting before
-    packet i (item.Rerouted packet route) OnWay named (rw named refl) (rerouted_after setting before
+named_after setting before (Item.Rerouted packet route) i known way named = named_as setting before
+    packet i (Item.Rerouted packet route) OnWay named (rw named refl) (rerouted_after setting before
     packet (retired_mark before) route (knows setting before packet known) way)
-named_after setting before (item.Hopped packet next) i known way named = named_as setting before
-    packet i (item.Hopped packet next) OnWay named (rw named refl) (hopped_after setting before
+named_after setting before (Item.Hopped packet next) i known way named = named_as setting before
+    packet i (Item.Hopped packet next) OnWay named (rw named refl) (hopped_after setting before
     packet (retired_mark before) next (knows setting before packet known) way)
-named_after setting before (item.FoundDown packet one two) i known way named = named_as setting
-    before packet i (item.FoundDown packet one two) Blocked named (rw named refl)
-    (found_after setting before packet (retired_mark before) one two
-    (knows setting before packet known) way)
-named_after setting before (item.Decided packet version rule act by) i known way named =
-    named_as setting before packet i (item.Decided packet version rule act by) Judged named
+named_after setting before (Item.FoundDown packet one two) i known way named = named_as setting
+    before packet i _ Blocked named (rw named refl) (found_after setting before packet
+    (retired_mark before) one two (knows setting before packet known) way)
+named_after setting before (Item.Decided packet version rule act by) i known way named =
+    named_as setting before packet i (Item.Decided packet version rule act by) Judged named
     (rw named refl) (decided_after setting before packet (retired_mark before) version rule act by
     (knows setting before packet known) known.kept.cached way)
-named_after setting before (item.Left packet port leaving) i known way named =
-    gone setting before _ _ refl
-named_after setting before (item.Dropped packet) i known way named = gone setting before _ _ refl
-named_after setting before (item.Lost packet) i known way named = gone setting before _ _ refl
-named_after setting before (item.Stuck packet switch cause leg down) i known way named =
+named_after setting before (Item.Left packet port leaving) i known way named = search rules
+named_after setting before (Item.Dropped packet) i known way named = gone setting before _ _ refl
+named_after setting before (Item.Lost packet) i known way named = gone setting before _ _ refl
+named_after setting before (Item.Stuck packet switch cause leg down) i known way named =
     gone setting before _ _ refl
 named_after setting before next i known way named = absurd cc
 
 unnamed_stage : (i : ℕ) (next : Item) → is_of_packet i next ≡ false → gives_stage i next ≡ None
-unnamed_stage i (item.Entered packet s header) e = rw e refl
-unnamed_stage i (item.Seeking packet version partition route) e = rw e refl
-unnamed_stage i (item.Exiting packet route) e = rw e refl
-unnamed_stage i (item.Rerouted packet route) e = rw e refl
-unnamed_stage i (item.Hopped packet next) e = rw e refl
-unnamed_stage i (item.FoundDown packet one two) e = rw e refl
-unnamed_stage i (item.Decided packet version rule act by) e = rw e refl
-unnamed_stage i _ e = refl
+unnamed_stage i next e = search rules
 
 packets_on : (setting : Setting) (before : List Item) (next : Item) → Before setting before
     → IsWayItem setting before next → Grows setting before (before ++ next ∷ []) → (i : ℕ)
@@ -137,8 +199,7 @@ packets_on setting before next known cause grow i = by_name (is_of_packet i next
       (what_is_known (before ++ next ∷ []) i) (stage_of (before ++ next ∷ []) i)
   by_name true e = rw (facts_named i before next e) (kept_on setting before
       (before ++ next ∷ []) _ _ grow (named_after setting before next i known cause.way e))
-  by_name false e = rw (facts_other i before next e)
-      (rw (stage_stays before next i (unnamed_stage i next e))
+  by_name false e = rw (facts_other i _ next e) (rw (stage_stays _ next i (unnamed_stage i next e))
       (kept_on setting before (before ++ next ∷ []) _ _ grow (known.kept.packets i)))
 
 -- ---- packets that didn't enter
@@ -147,29 +208,22 @@ packets_on setting before next known cause grow i = by_name (is_of_packet i next
 named_travels : (setting : Setting) (before : List Item) (next : Item) (i : ℕ)
     → PacketCause setting before next → is_of_packet i next ≡ true → IsTrue (travels before i)
     ⊎ ((i ≡ next_packet before) × (next_packet (before ++ next ∷ []) ≡ next_packet before + 1))
-named_travels setting before (item.Entered packet s header) i way named = inr (
+named_travels setting before (Item.Entered packet s header) i way named = inr (
   sym (eqb-true packet i named) ∙ way.0.number,
-  packet_more before (item.Entered packet s header),
+  packet_more before (Item.Entered packet s header),
 )
-named_travels setting before (item.Seeking packet version partition route) i way named =
+named_travels setting before (Item.Seeking packet version partition route) i way named =
     inl (subst (λ k. IsTrue (travels before k)) (eqb-true packet i named) way.at.travelling)
-named_travels setting before (item.Exiting packet route) i way named =
-    inl (subst (λ k. IsTrue (travels before k)) (eqb-true packet i named) way.by.at.travelling)
-named_travels setting before (item.Rerouted packet route) i way named =
+named_travels setting before (Item.Exiting packet route) i way named = search (rules, eqb-true)
+named_travels setting before (Item.Rerouted packet route) i way named = search (rules, eqb-true)
+named_travels setting before (Item.Hopped packet next) i way named = search (rules, eqb-true)
+named_travels setting before (Item.FoundDown packet one two) i way named = search (rules, eqb-true)
+named_travels setting before (Item.Decided packet version rule act by) i way named =
     inl (subst (λ k. IsTrue (travels before k)) (eqb-true packet i named) way.at.travelling)
-named_travels setting before (item.Hopped packet next) i way named =
-    inl (subst (λ k. IsTrue (travels before k)) (eqb-true packet i named) way.at.travelling)
-named_travels setting before (item.FoundDown packet one two) i way named =
-    inl (subst (λ k. IsTrue (travels before k)) (eqb-true packet i named) way.at.travelling)
-named_travels setting before (item.Decided packet version rule act by) i way named =
-    inl (subst (λ k. IsTrue (travels before k)) (eqb-true packet i named) way.at.travelling)
-named_travels setting before (item.Left packet port leaving) i way named =
-    inl (subst (λ k. IsTrue (travels before k)) (eqb-true packet i named) way.at.travelling)
-named_travels setting before (item.Dropped packet) i way named =
-    inl (subst (λ k. IsTrue (travels before k)) (eqb-true packet i named) way.at.travelling)
-named_travels setting before (item.Lost packet) i way named =
-    inl (subst (λ k. IsTrue (travels before k)) (eqb-true packet i named) way.travelling)
-named_travels setting before (item.Stuck packet switch cause leg down) i way named =
+named_travels setting before (Item.Left packet port leaving) i way named = search (rules, eqb-true)
+named_travels setting before (Item.Dropped packet) i way named = search (rules, eqb-true)
+named_travels setting before (Item.Lost packet) i way named = search (rules, eqb-true)
+named_travels setting before (Item.Stuck packet switch cause leg down) i way named =
     inl (subst (λ k. IsTrue (travels before k)) (eqb-true packet i named) way.at.travelling)
 named_travels setting before next i way named = absurd cc
 
@@ -181,8 +235,7 @@ unknown_on setting before next known way i past = by_name (is_of_packet i next) 
       ⊎ ((i ≡ next_packet before) × (next_packet (before ++ next ∷ []) ≡ next_packet before + 1))
       → IsUnknown (what_is_known (before ++ next ∷ []) i)
   not_named (inl travelling) =
-      let number = numbered setting before (ways_of_all setting [] before known.have) i
-      travelling in
+      let number = numbered _ before (ways_of_all setting [] before known.have) i travelling in
       absurd (omega (arith, number.1, past, packet_more before next))
   not_named (inr own) = absurd (omega (arith, own.0, own.1, past))
 
@@ -219,20 +272,19 @@ told_right setting before message known tells =
     own.rule.action = record {
       known = omega (arith, rules.not_retired);
       current = rules.current;
-      decides = λ other sound held. first_match_by_scan (policy_at setting before version) other
-          (record { rule = own.rule.rule; action = own.rule.action }) (cache_rule_right setting
-          (policy_at setting before version) (plan_at setting before version) header rules.hosted
-          rules.finds rules.planned here.under.sound other sound held);
+      decides = λ other sound held. first_match_by_scan (policy_at setting before version) other _
+          (cache_rule_right setting (policy_at setting before version) (plan_at setting before
+          version) header rules.hosted rules.finds rules.planned here.under.sound other sound held);
     } in
     subst (λ (m : Message). BringsRight setting before m.body) (sym tells.says)
     (rw here.header (rw rules.same right))
 
 sent_right : (setting : Setting) (before : List Item) (number : ℕ) (message : Message)
-    → Before setting before → PacketCause setting before (item.Sent number message)
+    → Before setting before → PacketCause setting before (Item.Sent number message)
     → BringsRight setting before message.body
 sent_right setting before number message known way = by_body message.body refl way where
   by_body : (body : Body) → message.body ≡ body
-      → PacketCause setting before (item.Sent number message)
+      → PacketCause setting before (Item.Sent number message)
       → BringsRight setting before message.body
   by_body (CacheRule version word rule act) e way = told_right setting before message known
       (subst (λ b. SendsRightRule setting before message b) e way)
@@ -242,28 +294,33 @@ sent_on : (setting : Setting) (before : List Item) (next : Item) → Before sett
     → IsWayItem setting before next → Grows setting before (before ++ next ∷ [])
     → (n : ℕ) (message : Message) → message_of (before ++ next ∷ []) n ≡ Some message
     → BringsRight setting (before ++ next ∷ []) message.body
-sent_on setting before (item.Sent number sent) known cause grow n message is =
-    by_number (number == n) refl
+sent_on setting before (Item.Sent number sent) known cause grow n message is = by_number _ refl
   where
     by_number : (b : Bool) → (number == n) ≡ b
-        → BringsRight setting (before ++ item.Sent number sent ∷ []) message.body
+        → BringsRight setting (before ++ Item.Sent number sent ∷ []) message.body
     by_number true e =
-        let same = rw (message_more before (item.Sent number sent) n, e) at is in
+        let same = rw (message_more before (Item.Sent number sent) n, e) at is in
         let own : sent ≡ message = cc in
         brings_on setting before _ message.body grow
         (rw own at (sent_right setting before number sent known cause.way))
     by_number false e = brings_on setting before _ message.body grow
-        (known.kept.sent n message (rw (message_more before (item.Sent number sent) n, e) at is))
-sent_on setting before next known cause grow n message is =
-    brings_on setting before (before ++ next ∷ []) message.body grow
-    (known.kept.sent n message (rw (message_more before next n) at is))
+        (known.kept.sent n message (rw (message_more before (Item.Sent number sent) n, e) at is))
+sent_on setting before next known cause grow n message is = brings_on setting before _ message.body
+    grow (known.kept.sent n message (rw (message_more before next n) at is))
 
 -- ---- caches
 
 pub cached_on : (setting : Setting) (before : List Item) (next : Item) → Before setting before
     → Grows setting before (before ++ next ∷ []) → (s : ℕ) → All (IsRightEntry setting
     (before ++ next ∷ [])) (cache_of setting (before ++ next ∷ []) s).entries
-cached_on setting before next known grow s = All-weaker (IsRightEntry setting before)
+cached_on setting before next known grow s =
+    let are : StampsAreCurrent before = fact_on (HasItemCause setting) StampsAreCurrent
+    (current_kept setting) [] before have current_at_first in
+    -- a stamp that was sent is of a version that is there, and current or was
+    let current : (number boot version : ℕ) (touched : List WordValue)
+    → message_of before number ≡ Some (stamp_to s boot version touched)
+    → version ≤ current_mark before = λ number boot version touched sent. are.sent number _ sent in
+    All-weaker (IsRightEntry setting before)
     (IsRightEntry setting (before ++ next ∷ [])) (λ entry right. right_on setting before
     (before ++ next ∷ []) entry.version entry.word entry.rule entry.action grow right) _
     (cache_holds (IsRightEntry setting before) setting s before next
@@ -275,16 +332,6 @@ cached_on setting before next known grow s = All-weaker (IsRightEntry setting be
   where
     have : HaveCauses (HasItemCause setting) [] before
     have = switches_of_all setting [] before known.have
-
-    are : StampsAreCurrent before
-    are = fact_on (HasItemCause setting) StampsAreCurrent (current_kept setting) [] before have
-        current_at_first
-
-    -- a stamp that was sent is of a version that is there, and current or was
-    current : (number boot version : ℕ) (touched : List WordValue)
-        → message_of before number ≡ Some (stamp_to s boot version touched)
-        → version ≤ current_mark before
-    current number boot version touched sent = are.sent number _ sent
 
     planned : (number boot version : ℕ) (touched : List WordValue)
         → message_of before number ≡ Some (stamp_to s boot version touched)
@@ -300,8 +347,7 @@ pub kept_more : (setting : Setting) → IsSetting setting
     → AreKept (Past (IsWayItem setting)) (AllKept setting)
 kept_more setting is before next cause kept =
     let known : Before setting before = record { is = is; have = cause.past; kept = kept } in
-    let grow = grows setting before next (switches_of_all setting [] before cause.past)
-    cause.caused.switches in record {
+    let grow = grows _ _ next (switches_of_all _ [] _ cause.past) cause.caused.switches in record {
       packets = packets_on setting before next known cause.caused grow;
       unknown = unknown_on setting before next known cause.caused.way;
       sent = sent_on setting before next known cause.caused grow;
@@ -310,32 +356,19 @@ kept_more setting is before next cause kept =
 
 pub kept_at_first : (setting : Setting) → AllKept setting []
 unfolding what_is_known travels header_in decision_of leg_of found_down message_of cache_of
-kept_at_first setting = record {
-  packets = λ i. gone setting [] (what_is_known [] i) (stage_of [] i) refl;
-  unknown = λ i past. record {
-    header = refl;
-    travels = refl;
-    decision = refl;
-    leg = refl;
-    found = refl;
-  };
-  sent = λ n message is. absurd cc;
-  cached = λ s. All-nil (IsRightEntry setting []);
-}
+kept_at_first setting = search rules
 
 pub all_kept : (setting : Setting) (journal : List Item) → IsSetting setting
     → HaveCauses (IsWayItem setting) [] journal → AllKept setting journal
-all_kept setting journal is have =
-    fact_on (Past (IsWayItem setting)) (AllKept setting) (kept_more setting is) [] journal
+all_kept setting journal is have = fact_on _ (AllKept setting) (kept_more setting is) [] journal
     (with_past (IsWayItem setting) [] journal tt have) (kept_at_first setting)
 
 -- each item, where all is kept before it
 pub kept_before : (setting : Setting) (journal : List Item) → IsSetting setting
     → HaveCauses (IsWayItem setting) [] journal
     → HaveCauses (Behind (Past (IsWayItem setting)) (AllKept setting)) [] journal
-kept_before setting journal is have =
-    with_fact (Past (IsWayItem setting)) (AllKept setting) (kept_more setting is) [] journal
-    (with_past (IsWayItem setting) [] journal tt have) (kept_at_first setting)
+kept_before setting journal is have = with_fact _ (AllKept setting) (kept_more setting is) []
+    journal (with_past (IsWayItem setting) [] journal tt have) (kept_at_first setting)
 
 pub known_before : (setting : Setting) → IsSetting setting → (before : List Item) (next : Item)
     → Behind (Past (IsWayItem setting)) (AllKept setting) before next → Before setting before

@@ -1,22 +1,19 @@
 -- Each item leaves the routes of each packet few: one induction by items.
-use Rattle.std.proofs.Common.{[], if◌then◌else◌, ◌++◌, ◌+◌, ◌<◌, ◌∙◌, ◌∷◌, ◌≡◌, ◌≤◌, Bool, List, None, Option, Some, ap, arith, eqb-true, false, inl, inr, length, refl, subst, sym, true, ℕ}
+use Rattle.std.proofs.Common.{[], if◌then◌else◌, ◌++◌, ◌+◌, ◌<◌, ◌∙◌, ◌∷◌, ◌≡◌, ◌≤◌, Bool, List, None, Option, Some, ap, arith, eqb-true, false, inl, inr, length, refl, subst, sym, true, ℕ, rules}
 use Rattle.base.proofs.Exports.{option_or, some_same, ⊤}
 use Rattle.failover.specs.Exports.{IsLinkSet, no_links}
 use Rattle.failover.proofs.LinkSets.{none_is_link_set}
 use Rattle.update_machine.specs.Exports.{Decision, HaveCauses, IsSetting, Item, Leg, Seek, Setting, current_mark, decision_of, found_down, leg_of, most_versions, retired_mark}
-use Rattle.journal.specs.declared.item.Item.TheVariants as item
 use Rattle.control_laws.specs.Exports.{HasItemCause}
 use Rattle.control_laws.proofs.Exports.{Behind, Both, bounded, current_rises, fact_on, have_both, versions_planned}
 use Rattle.packet_laws.specs.Exports.{AllKept, Blocked, FindsLinkDown, FurtherCause, IsLookedUp, IsOnWay, Judged, MeetsDown, PacketCause, PacketFacts, Stage, StrongCause, TakesRoute, detour_count, exit_count, facts_after, finding_count, gives_stage, is_detour, is_exit, is_finding, is_of_packet, is_search, most_routes, routes_taken, search_count, stage_of, what_is_known}
-use Rattle.packet_laws.proofs.PacketFacts.{facts_grow}
-use Rattle.packet_laws.proofs.AllKept.{Before, kept_before, known_before, knows}
-use Rattle.packet_laws.proofs.PacketsHere.{IsHere, decision_in, here_of, leg_in, next_in, seeking_of}
+use Rattle.packet_laws.proofs.AllKept.{Before, facts_grow, kept_before, knows}
+use Rattle.packet_laws.proofs.PacketHeaderLookups.{IsHere, decision_in, here_of, leg_in, next_in, seeking_of}
 use Rattle.packet_laws.proofs.KeptPacketFacts.{Knows, seeking_after}
 use Rattle.packet_laws.proofs.RestingPackets.{IsWayItem, Past, switches_of_all}
 use Rattle.packet_laws.proofs.StronglyCaused.{strongly_caused}
 use Rattle.packet_laws.proofs.PacketBlocks.{stage_next}
-use Rattle.packet_laws.proofs.UnfoundLinks.{FindsOne, few_unfound, finds_one, unfound}
-use Rattle.packet_laws.proofs.PacketItemCounts.{count_more, one_more}
+use Rattle.packet_laws.proofs.WaitingMessages.{FindsOne, count_more, few_unfound, finds_one, one_more, unfound}
 
 -- ---- what is kept of a packet's routes
 
@@ -74,14 +71,11 @@ is_raised : (setting : Setting) (before : List Item) (i version partition : ℕ)
     → IsRaised setting before i version
 is_raised setting before i version partition route known few takes raises =
     let knows_it : Knows setting before i (stage_of before i) = knows setting before i known in
-    let here = here_of setting before i takes.switch (stage_of before i) knows_it.is knows_it.have
-    knows_it.kept takes.at in
-    let after = facts_after 0 (item.Seeking i version partition route) (what_is_known before i) in
+    let here = here_of setting before i _ _ knows_it.is knows_it.have knows_it.kept takes.at in
+    let after = facts_after 0 (Item.Seeking i version partition route) (what_is_known before i) in
     let way : IsOnWay setting before after =
-    (seeking_after setting before i 0 version partition route knows_it takes).on_way
-    here.travelling (inl refl) in
-    let on = seeking_of setting before after here.under.header version partition way
-    here.under.entered refl in record {
+    (seeking_after _ before i 0 version _ route knows_it takes).on_way here.travelling (inl refl) in
+    let on = seeking_of setting before after _ version _ way here.under.entered refl in record {
       raised = by_lookup here (omega (arith, on.not_retired)) takes.takes.looked_up;
       current = on.current;
     }
@@ -94,8 +88,7 @@ is_raised setting before i version partition route known few takes raises =
         omega (arith, few.seeking.none none, first)
     by_lookup here first (inr misses) = omega (
       arith,
-      few.seeking.sought misses.version misses.partition
-          (leg_in before i (Some (Seek misses.version misses.partition)) misses.seeks),
+      few.seeking.sought misses.version misses.partition (leg_in before i _ misses.seeks),
       raises misses.version misses.partition misses.seeks,
     )
 
@@ -109,8 +102,7 @@ finds : (setting : Setting) (before : List Item) (i one two : ℕ) → Before se
 finds setting before i one two known few meets down =
     let knows_it : Knows setting before i (stage_of before i) = knows setting before i known in
     let held : PacketFacts = what_is_known before i in
-    let here = here_of setting before i one (stage_of before i) knows_it.is knows_it.have
-    knows_it.kept meets.at in
+    let here = here_of setting before i one _ knows_it.is knows_it.have knows_it.kept meets.at in
     let way = knows_it.kept.on_way here.travelling (inl meets.moving) in
     finds_one setting.net held.found one two known.is.net few.turning.set down.linked
     (knows_it.kept.avoids here.travelling meets.moving held.hops one two
@@ -139,19 +131,13 @@ kept_few : (setting : Setting) (before : List Item) (i current : ℕ) (stage : O
     (what_is_known before i).found (exit_count before i) (detour_count before i) stage
     → IsFew setting current (what_is_known before i) stage (search_count before i)
     (exit_count before i) (detour_count before i) (finding_count before i)
-kept_few setting before i current stage more few room = record {
-  seeking = risen more few.seeking;
-  leaving = few.leaving;
-  turning = few.turning;
-  room = room;
-}
+kept_few setting before i current stage more few room = search rules
 
 -- and the stage too
 still_few : (setting : Setting) (before : List Item) (i current : ℕ) → current_mark before ≤ current
     → IsFewOf setting before i → IsFew setting current (what_is_known before i) (stage_of before i)
     (search_count before i) (exit_count before i) (detour_count before i) (finding_count before i)
-still_few setting before i current more few =
-    kept_few setting before i current (stage_of before i) more few few.room
+still_few setting before i current more few = search (rules, kept_few)
 
 named_few : (setting : Setting) (before : List Item) (next : Item) (i current : ℕ)
     → Premises setting before next → current_mark before ≤ current → (b : Bool)
@@ -161,9 +147,9 @@ named_few : (setting : Setting) (before : List Item) (next : Item) (i current : 
     (one_more (is_search i next) (search_count before i)) (one_more (is_exit i next)
     (exit_count before i)) (one_more (is_detour i next) (detour_count before i))
     (one_more (is_finding i next) (finding_count before i))
-named_few setting before (item.Entered packet s header) i current facts more true e few =
+named_few setting before (Item.Entered packet s header) i current facts more true e few =
     rw e (kept_few setting before i current None more few tt)
-named_few setting before (item.Seeking packet v p route) i current facts more true e few =
+named_few setting before (Item.Seeking packet v p route) i current facts more true e few =
     let same : packet ≡ i = eqb-true packet i e in
     let raised : IsRaised setting before packet v = is_raised setting before packet v p route
     facts.known (subst (IsFewOf setting before) (sym same) few) facts.way facts.further.0 in
@@ -179,7 +165,7 @@ named_few setting before (item.Seeking packet v p route) i current facts more tr
       turning = few.turning;
       room = tt;
     })
-named_few setting before (item.Exiting packet route) i current facts more true e few =
+named_few setting before (Item.Exiting packet route) i current facts more true e few =
     let same : packet ≡ i = eqb-true packet i e in
     let judged = subst (λ k. stage_of before k ≡ Some Judged) same facts.way.by.takes.judged in
     let first : exit_count before i ≡ 0 = rw judged at few.room in
@@ -196,7 +182,7 @@ named_few setting before (item.Exiting packet route) i current facts more true e
       turning = few.turning;
       room = tt;
     })
-named_few setting before (item.Rerouted packet route) i current facts more true e few =
+named_few setting before (Item.Rerouted packet route) i current facts more true e few =
     let blocked : stage_of before i ≡ Some Blocked =
     subst (λ k. stage_of before k ≡ Some Blocked) (eqb-true packet i e) facts.way.blocked.blocked in
     let room = rw blocked at few.room in
@@ -206,9 +192,9 @@ named_few setting before (item.Rerouted packet route) i current facts more true 
       turning = record { set = few.turning.set; detoured = omega (arith, room); once = few.turning.once };
       room = tt;
     })
-named_few setting before (item.Hopped packet s) i current facts more true e few =
+named_few setting before (Item.Hopped packet s) i current facts more true e few =
     rw e (kept_few setting before i current None more few tt)
-named_few setting before (item.FoundDown packet one two) i current facts more true e few =
+named_few setting before (Item.FoundDown packet one two) i current facts more true e few =
     let same : packet ≡ i = eqb-true packet i e in
     let one_less : FindsOne setting.net (what_is_known before i).found one two =
     subst (λ k. FindsOne setting.net (what_is_known before k).found one two) same
@@ -224,7 +210,7 @@ named_few setting before (item.FoundDown packet one two) i current facts more tr
       };
       room = omega (arith, few.turning.detoured, one_less.fewer);
     })
-named_few setting before (item.Decided packet v rule act by) i current facts more true e few =
+named_few setting before (Item.Decided packet v rule act by) i current facts more true e few =
     let undecided : (what_is_known before i).decision ≡ None = decision_in before i None
     (subst (λ k. decision_of before k ≡ None) (eqb-true packet i e) facts.further.0.undecided) in
     rw e (record {
@@ -233,27 +219,27 @@ named_few setting before (item.Decided packet v rule act by) i current facts mor
       turning = few.turning;
       room = few.leaving.undecided undecided;
     })
-named_few setting before (item.Left packet port leaving) i current facts more true e few =
+named_few setting before (Item.Left packet port leaving) i current facts more true e few =
     still_few setting before i current more few
-named_few setting before (item.Dropped packet) i current facts more true e few =
+named_few setting before (Item.Dropped packet) i current facts more true e few =
     still_few setting before i current more few
-named_few setting before (item.Lost packet) i current facts more true e few =
+named_few setting before (Item.Lost packet) i current facts more true e few =
     still_few setting before i current more few
-named_few setting before (item.Stuck packet s cause leg down) i current facts more true e few =
+named_few setting before (Item.Stuck packet s cause leg down) i current facts more true e few =
     still_few setting before i current more few
-named_few setting before (item.Entered packet s header) i current facts more false e few =
+named_few setting before (Item.Entered packet s header) i current facts more false e few =
     rw e (still_few setting before i current more few)
-named_few setting before (item.Seeking packet v p route) i current facts more false e few =
+named_few setting before (Item.Seeking packet v p route) i current facts more false e few =
     rw e (still_few setting before i current more few)
-named_few setting before (item.Exiting packet route) i current facts more false e few =
+named_few setting before (Item.Exiting packet route) i current facts more false e few =
     rw e (still_few setting before i current more few)
-named_few setting before (item.Rerouted packet route) i current facts more false e few =
+named_few setting before (Item.Rerouted packet route) i current facts more false e few =
     rw e (still_few setting before i current more few)
-named_few setting before (item.Hopped packet s) i current facts more false e few =
+named_few setting before (Item.Hopped packet s) i current facts more false e few =
     rw e (still_few setting before i current more few)
-named_few setting before (item.FoundDown packet one two) i current facts more false e few =
+named_few setting before (Item.FoundDown packet one two) i current facts more false e few =
     rw e (still_few setting before i current more few)
-named_few setting before (item.Decided packet v rule act by) i current facts more false e few =
+named_few setting before (Item.Decided packet v rule act by) i current facts more false e few =
     rw e (still_few setting before i current more few)
 named_few setting before next i current facts more true e few = absurd cc
 named_few setting before next i current facts more false e few =
@@ -286,11 +272,7 @@ IsKnown setting before next =
 
 premises_of : (setting : Setting) (before : List Item) (next : Item) → IsSetting setting
     → IsKnown setting before next → Premises setting before next
-premises_of setting before next is both = record {
-  known = known_before setting is before next both.first;
-  way = both.first.caused.caused.way;
-  further = both.second.1;
-}
+premises_of setting before next is both = search rules
 
 few_at_first : (setting : Setting) → RoutesAreFew setting []
 unfolding what_is_known stage_of leg_of decision_of found_down search_count exit_count detour_count
@@ -333,14 +315,12 @@ searched_few setting journal is have i = let switches = switches_of_all setting 
 pub detoured_few : (setting : Setting) (journal : List Item) → IsSetting setting
     → HaveCauses (IsWayItem setting) [] journal → (i : ℕ)
     → detour_count journal i ≤ length setting.net.links
-detoured_few setting journal is have i =
-    omega (arith, (routes_few setting journal is have i).turning.detoured)
+detoured_few setting journal is have i = omega (arith, (routes_few _ _ is have i).turning.detoured)
 
 pub finds_few : (setting : Setting) (journal : List Item) → IsSetting setting
     → HaveCauses (IsWayItem setting) [] journal → (i : ℕ)
     → finding_count journal i ≤ length setting.net.links
-finds_few setting journal is have i =
-    omega (arith, (routes_few setting journal is have i).turning.once)
+finds_few setting journal is have i = omega (arith, (routes_few _ journal is have i).turning.once)
 
 pub taken_few : (setting : Setting) (journal : List Item) → IsSetting setting
     → HaveCauses (IsWayItem setting) [] journal → (i : ℕ) → routes_taken journal i ≤ most_routes

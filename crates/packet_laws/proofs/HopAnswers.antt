@@ -2,18 +2,15 @@
 use Rattle.std.proofs.Common.{[], ◌∙◌, ◌≡◌, Bool, IsTrue, List, None, Option, Some, ap, arith, false, inl, is_some, option_and_then, position, refl, subst, sym, true, unwrap_or, ℕ}
 use Rattle.five_tuple.specs.Exports.{number_of}
 use Rattle.policy_rules.specs.Exports.{is_held}
-use Rattle.update_machine.specs.Exports.{AuthorityRule, Exit, HaveCauses, IsSetting, Item, Leg, Seek, Setting, arrive_by, arrive_items, authority_items, authority_rule, first_place, header_at, holds_version, hop_items, leg_items, leg_of, lookup_at, lookup_items, move_items, plan_at, policy_at, serves, stamp_of, standing, travels}
+use Rattle.update_machine.specs.Exports.{AuthorityRule, Exit, Found, HaveCauses, IsSetting, Item, Leg, Seek, Setting, arrive_by, arrive_items, authority_items, authority_rule, first_place, found_down, header_at, hop_items, leg_items, leg_of, lookup_at, lookup_items, move_items, plan_at, route_in, serves, stamp_of, standing, travels}
 use Rattle.switch_table.specs.Exports.{Hosted}
-use Rattle.switch_table.specs.declared.search.Found.TheVariants as found
 use Rattle.control_laws.specs.Exports.{HasItemCause}
-use Rattle.control_laws.proofs.Exports.{own}
-use Rattle.packet_laws.specs.Exports.{AllKept, AreResting, IsAt, IsOnWay, PacketFacts, stage_of, what_is_known}
+use Rattle.control_laws.proofs.Exports.{own, serving_hold}
+use Rattle.packet_laws.specs.Exports.{AllKept, AreResting, Avoids, IsAt, IsOnWay, PacketFacts, PacketsTravel, RulesAreRight, stage_of, what_is_known}
 use Rattle.packet_laws.proofs.AllKept.{all_kept}
-use Rattle.packet_laws.proofs.PacketsHere.{IsHere, here_of, leg_in, seeking_of}
-use Rattle.packet_laws.proofs.PacketHeaderLookups.{FindsRule, authority_found, current_planned, rule_there}
-use Rattle.packet_laws.proofs.PlanLookups.{in_plan}
-use Rattle.packet_laws.proofs.RestingPackets.{IsWayItem, switches_of_all}
-use Rattle.packet_laws.proofs.AskedHops.{NamesFirst}
+use Rattle.packet_laws.proofs.PacketHeaderLookups.{FindsRule, IsHere, authority_found, current_planned, here_of, in_plan, leg_in, rule_there, seeking_of, travels_in}
+use Rattle.packet_laws.proofs.RestingPackets.{IsSettled, IsWayItem, switches_of_all}
+use Rattle.packet_laws.proofs.RouteHops.{NamesFirst}
 
 leg_names : (setting : Setting) (journal : List Item) (i s : ℕ) (leg : Leg)
     → NamesFirst i (leg_items setting journal i s leg)
@@ -29,7 +26,7 @@ authority_names setting i s (Some rule) journal some = own i
 -- each rule that the lookup gives is there
 abbrev RulesAreThere : Setting → List Item → ℕ → ℕ → Type 0
 RulesAreThere setting journal i s = (partition place : ℕ)
-    → lookup_at setting journal s (header_at journal i) ≡ found.Authority partition place
+    → lookup_at setting journal s (header_at journal i) ≡ Found.Authority partition place
     → IsTrue (is_some (authority_rule setting journal (stamp_of journal s) partition place))
 
 lookup_names : (setting : Setting) (i s : ℕ) (journal : List Item)
@@ -54,8 +51,7 @@ rules_there setting journal i s moved partition place answer =
     moved.here.under.sound (ap (lookup_at setting journal s) (sym moved.here.header) ∙ answer) in
     subst
     (λ p. IsTrue (is_some (authority_rule setting journal (stamp_of journal s) partition p)))
-    finds.found_at (rw (rule_there setting journal moved.here.under.header finds.part.hosted
-    (stamp_of journal s) partition finds.part.finds finds.part.number) refl)
+    finds.found_at (rw (rule_there setting journal _ _ _ partition _ finds.part.number) refl)
 
 sought_there : (setting : Setting) (journal : List Item) (i s version partition : ℕ)
     → IsMoved setting journal i s → leg_of journal i ≡ Some (Seek version partition)
@@ -63,19 +59,16 @@ sought_there : (setting : Setting) (journal : List Item) (i s version partition 
     (first_place setting journal version partition (header_at journal i))))
 sought_there setting journal i s version partition moved seeks =
     let facts : PacketFacts = what_is_known journal i in
-    let on = seeking_of setting journal facts moved.here.under.header version partition moved.way
-    moved.here.under.entered (leg_in journal i (Some (Seek version partition)) seeks) in
-    let finds = in_plan setting (policy_at setting journal version)
-    (plan_at setting journal version) moved.here.under.header on.hosted (current_planned setting
-    journal version moved.is moved.have (omega (arith, on.not_retired)) on.current)
-    moved.here.under.sound on.own.first in
+    let on = seeking_of _ _ facts _ _ _ moved.way moved.here.under.entered (leg_in _ i _ seeks) in
+    let finds = in_plan setting _ (plan_at setting journal version) moved.here.under.header
+    on.hosted (current_planned setting journal version moved.is moved.have
+    (omega (arith, on.not_retired)) on.current) moved.here.under.sound on.own.first in
     let place = ap (first_place setting journal version partition) moved.here.header
     ∙ ap (λ (o : Option Hosted). unwrap_or (option_and_then (λ (p : Hosted). position
     (is_held (number_of moved.here.under.header)) p.0.rules) o) 0) on.own.found ∙ finds.position in
     subst
     (λ p. IsTrue (is_some (authority_rule setting journal version partition p)))
-    (sym place) (rw (rule_there setting journal moved.here.under.header on.hosted version partition
-    finds on.own.number) refl)
+    (sym place) (rw (rule_there setting journal _ _ version partition finds on.own.number) refl)
 
 leg_out : (journal : List Item) (i : ℕ) (leg : Option Leg) → (what_is_known journal i).leg ≡ leg
     → leg_of journal i ≡ leg
@@ -96,17 +89,14 @@ arrive_names setting i s journal moved =
           | true ↦ authority_items setting i s (authority_rule setting journal version partition
               (first_place setting journal version partition (header_at journal i))) journal
         ])
-    by_held version partition false e =
-        lookup_names setting i s journal (rules_there setting journal i s moved)
-    by_held version partition true e = authority_names setting i s (authority_rule setting journal
-        version partition (first_place setting journal version partition (header_at journal i)))
-        journal (sought_there setting journal i s version partition moved e)
+    by_held version partition false e = lookup_names _ i s _ (rules_there setting journal i s moved)
+    by_held version partition true e = authority_names setting i s _ journal
+        (sought_there setting journal i s version partition moved e)
 
     by_leg : (leg : Leg) → leg_of journal i ≡ Some leg
         → NamesFirst i (arrive_by setting i s (Some leg) journal)
     by_leg (Exit port) e = own i
-    by_leg (Seek version partition) e =
-        by_held version partition (holds_version journal s version) e
+    by_leg (Seek version partition) e = by_held version partition _ e
 
 move_names : (setting : Setting) (i s : ℕ) (journal : List Item) → IsMoved setting journal i s
     → NamesFirst i (move_items setting i s journal)
@@ -137,3 +127,31 @@ hop_names setting i journal is have rests travelling =
       here = here;
       way = (kept.packets i).on_way here.travelling (inl (rests.moving i travelling));
     }))
+
+-- ---- between steps packets travel as they should
+
+avoids_in : (journal : List Item) (i : ℕ) → Avoids (what_is_known journal i).found
+    (what_is_known journal i).route → Avoids (found_down journal i) (route_in journal i)
+unfolding what_is_known
+avoids_in journal i avoids = avoids
+
+pub packets_travel : (setting : Setting) (journal : List Item) → IsSetting setting
+    → IsSettled setting journal → PacketsTravel setting journal
+packets_travel setting journal is settled i travelling =
+    let kept : AllKept setting journal = all_kept setting journal is settled.causes in
+    let on : IsTrue (what_is_known journal i).travels = travels_in journal i travelling in
+    let moving = settled.rests.moving i travelling in
+    let way : IsOnWay setting journal (what_is_known journal i) =
+    (kept.packets i).on_way on (inl moving) in record {
+      on_way = way;
+      served = settled.rests.served i travelling;
+      avoids = avoids_in journal i ((kept.packets i).avoids on moving);
+      held = λ version partition s seeks there serving. (serving_hold setting journal
+          (switches_of_all setting [] journal settled.causes) s there serving).held version
+          (seeking_of setting journal (what_is_known journal i) way.under_way.header version
+          partition way way.under_way.entered (leg_in journal i _ seeks)).current;
+    }
+
+pub rules_right : (setting : Setting) (journal : List Item) → AllKept setting journal
+    → RulesAreRight setting journal
+rules_right setting journal kept = record { sent = kept.sent; cached = kept.cached }

@@ -1,26 +1,20 @@
 -- Items that have their causes keep each packet on its way.
-use Rattle.std.proofs.Common.{[], ◌&&◌, ◌<◌, ◌==◌, ◌∙◌, ◌∷◌, ◌≡◌, ◌≤◌, ◌⊎◌, All, Any, Contains, IsTrue, List, None, Option, Some, ap, arith, eqb-true, false, find, inl, inr, is_some, length, refl, rules, subst, sym, true, unwrap_or, ℕ}
-use Rattle.base.proofs.Exports.{All-contains, Any-from_list_any, and_parts, find-there, option_map_or, some_same}
+use Rattle.std.proofs.Common.{[], ◌<◌, ◌∙◌, ◌∷◌, ◌≡◌, ◌≤◌, ◌⊎◌, All, Contains, IsTrue, List, None, Option, Some, ap, arith, eqb-true, false, inl, inr, is_some, length, refl, rules, subst, sym, unwrap_or, ℕ}
+use Rattle.base.proofs.Exports.{All-contains, Any-from_list_any, find-there, some_same}
 use Rattle.five_tuple.specs.Exports.{IsHeader, number_of}
-use Rattle.update_machine.specs.Exports.{Action, AuthorityRule, CacheEntry, Decision, Exit, HaveCauses, Header, How, IsSetting, Item, Leg, NamesOwnPort, Partition, Seek, Setting, Tables, cache_of, current_mark, found_down, header_at, lookup_at, no_switch, owner, plan_at, policy_at, retired_mark, route_from, stamp_of, tables_at, targets_of}
-use Rattle.net_file.specs.Exports.{IsLink, IsNet, are_linked, joins, owner_of}
+use Rattle.update_machine.specs.Exports.{Action, AuthorityRule, CacheEntry, Decision, Exit, Found, HaveCauses, Header, How, IsSetting, Item, Leg, NamesOwnPort, Seek, Setting, Tables, cache_of, current_mark, found_down, lookup_at, no_switch, owner, policy_at, retired_mark, route_from, stamp_of, targets_of}
+use Rattle.net_file.specs.Exports.{IsNet, are_linked, owner_of}
 use Rattle.net_file.proofs.RowPlaces.{joined_below}
-use Rattle.policy_rules.specs.Exports.{is_in, scan}
-use Rattle.policy_rules.specs.declared.packet.How.TheVariants as how
-use Rattle.policy_rules.specs.declared.policy.Action.TheVariants as action
-use Rattle.switch_table.specs.Exports.{Hosted, authority_of, first_entry, redirect_of, table_lookup}
-use Rattle.switch_table.specs.declared.search.Found.TheVariants as found
+use Rattle.policy_rules.specs.Exports.{scan}
+use Rattle.switch_table.specs.Exports.{Hosted, first_entry, table_lookup}
 use Rattle.ternary.specs.Exports.{holds}
-use Rattle.journal.specs.declared.item.Item.TheVariants as item
 use Rattle.control_laws.specs.Exports.{HasItemCause, LinksAreThere}
 use Rattle.control_laws.proofs.Exports.{HasBothCauses}
 use Rattle.packet_laws.specs.Exports.{AuthorityDecides, Avoids, Blocked, CacheDecides, CameIn, DecidesBy, HasKeptFacts, IsAt, IsDecided, IsLookedUp, IsOnLeg, IsOnWay, IsPartitionOf, IsRedirected, IsRightEntry, IsRightlyDecided, IsSought, IsUnderWay, Judged, LeadsTo, MeetsDown, MovesOver, OnWay, PacketFacts, Stage, TakesDetour, TakesExit, TakesRoute, facts_after, stage_of, what_is_known}
-use Rattle.packet_laws.proofs.PacketsHere.{IsHere, found_in, here_of, leg_in, next_in, decision_in, rules_of, seeking_of}
-use Rattle.packet_laws.proofs.PacketHeaderLookups.{FindsTargets, redirect_found}
+use Rattle.packet_laws.proofs.PacketHeaderLookups.{FindsTargets, IsHere, decision_in, found_in, here_of, leg_in, next_in, redirect_found, rules_of, scan_named, seeking_of}
 use Rattle.packet_laws.proofs.PacketBlocks.{WhenDecided}
-use Rattle.packet_laws.proofs.PlanLookups.{scan_named}
 use Rattle.packet_laws.proofs.PacketKnownRoutes.{IsWay, route_way}
-use Rattle.packet_laws.proofs.VersionMatches.{scan_of_version}
+use Rattle.packet_laws.proofs.CacheRules.{scan_of_version}
 
 -- what is known of the journal before an item, and kept of its packet
 pub record Knows (setting : Setting) (before : List Item) (i : ℕ) (stage : Option Stage) : Type 0
@@ -34,40 +28,21 @@ pub record Knows (setting : Setting) (before : List Item) (i : ℕ) (stage : Opt
 -- where it stands
 pub here_known : (setting : Setting) (before : List Item) (i s : ℕ)
     → Knows setting before i (stage_of before i) → IsAt before i s → IsHere setting before i s
-here_known setting before i s knows at =
-    here_of setting before i s (stage_of before i) knows.is knows.have knows.kept at
+here_known setting before i s knows at = search (rules, here_of)
 
 -- a packet that moves on
 moving_on : (setting : Setting) (before : List Item) (facts : PacketFacts) → IsOnWay setting before
     facts → Avoids facts.found facts.route → HasKeptFacts setting before facts (Some OnWay)
-moving_on setting before facts on avoids = record {
-  under_way = λ travels. on.under_way;
-  came_in = λ travels is. absurd cc;
-  judged = λ travels is header entered. absurd cc;
-  on_way = λ travels is. on;
-  avoids = λ travels is. avoids;
-}
+moving_on setting before facts on avoids = search rules
 
 -- a packet that doesn't travel
 pub gone : (setting : Setting) (before : List Item) (facts : PacketFacts) (stage : Option Stage)
     → facts.travels ≡ false → HasKeptFacts setting before facts stage
-gone setting before facts stage ended = record {
-  under_way = λ travels. absurd cc;
-  came_in = λ travels is. absurd cc;
-  judged = λ travels is header entered. absurd cc;
-  on_way = λ travels is. absurd cc;
-  avoids = λ travels is. absurd cc;
-}
+gone setting before facts stage ended = search rules
 
 linked_there : (setting : Setting) (one two : ℕ) → IsNet setting.net
     → IsTrue (are_linked setting.net.links one two) → two < length setting.net.switches
-linked_there setting one two net linked =
-    by_link (Any-from_list_any (joins one two) setting.net.links linked)
-  where
-    by_link : Any (λ link. joins one two link ≡ true) setting.net.links
-        → two < length setting.net.switches
-    by_link any = joined_below (length setting.net.switches) one two any.1
-        (subst (IsLink (length setting.net.switches)) any.3 (net.links any.0 any.1 any.2)) any.4
+linked_there setting one two net linked = search (rules, Any-from_list_any, joined_below)
 
 -- ---- undecided packets
 
@@ -76,52 +51,29 @@ pub undecided_of : (setting : Setting) (before : List Item) (i s : ℕ) (stage :
     → (here : IsHere setting before i s) → (stage ≡ Some CameIn) ⊎ ((stage ≡ Some OnWay)
     × ((v : ℕ) × (p : ℕ) × ((what_is_known before i).leg ≡ Some (Seek v p))))
     → (what_is_known before i).decision ≡ None
-undecided_of setting before i s stage kept here (inl came) = (kept.came_in here.travelling came).0
-undecided_of setting before i s stage kept here (inr moving) =
-    (seeking_of setting before (what_is_known before i) here.under.header moving.1.0 moving.1.1
-    (kept.on_way here.travelling (inl moving.0)) here.under.entered moving.1.2).undecided
+undecided_of setting before i s stage kept here h7 = search (rules, seeking_of)
 
 sought_of : (setting : Setting) (before : List Item) (i s : ℕ) (stage : Option Stage)
     → HasKeptFacts setting before (what_is_known before i) stage
     → (here : IsHere setting before i s) → (stage ≡ Some CameIn) ⊎ (stage ≡ Some OnWay)
     → (v p : ℕ) → (what_is_known before i).leg ≡ Some (Seek v p)
     → IsSought setting before (what_is_known before i).mark here.under.header v p
-sought_of setting before i s stage kept here (inl came) v p seeks =
-    absurd (cc ((kept.came_in here.travelling came).1))
-sought_of setting before i s stage kept here (inr moving) v p seeks =
-    (seeking_of setting before (what_is_known before i) here.under.header v p
-    (kept.on_way here.travelling (inl moving)) here.under.entered seeks).sought
+sought_of setting before i s stage kept here h7 v p seeks = search (rules, seeking_of)
 
 -- where a packet is looked up or arrives
 pub stage_looked : (before : List Item) (i s : ℕ) → IsLookedUp before i s
     → (stage_of before i ≡ Some CameIn) ⊎ ((stage_of before i ≡ Some OnWay)
     × ((v : ℕ) × (p : ℕ) × ((what_is_known before i).leg ≡ Some (Seek v p))))
-stage_looked before i s (inl came) = inl came
-stage_looked before i s (inr misses) = inr (
-  misses.arrives.moving,
-  (
-    misses.version,
-    misses.partition,
-    leg_in before i (Some (Seek misses.version misses.partition)) misses.seeks,
-  ),
-)
+stage_looked before i s h3 = search (rules, leg_in)
 
 pub stage_when : (before : List Item) (i s version : ℕ) → WhenDecided before i s version
     → (stage_of before i ≡ Some CameIn) ⊎ ((stage_of before i ≡ Some OnWay)
     × ((v : ℕ) × (p : ℕ) × ((what_is_known before i).leg ≡ Some (Seek v p))))
-stage_when before i s version (inl looked) = stage_looked before i s looked.0
-stage_when before i s version (inr reaches) = inr (
-  reaches.arrives.moving,
-  (
-    version,
-    reaches.partition,
-    leg_in before i (Some (Seek version reaches.partition)) reaches.seeks,
-  ),
-)
+unfolding stage_of what_is_known
+stage_when before i s version h4 = search (rules, stage_looked, leg_in)
 
 stage_alone : {one two three : Type 0} → one ⊎ (two × three) → one ⊎ two
-stage_alone (inl x) = inl x
-stage_alone (inr x) = inr x.0
+stage_alone h0 = search rules
 
 -- ---- what each item makes of its packet
 
@@ -156,24 +108,23 @@ sets_out : (setting : Setting) (before : List Item) (i s : ℕ) (taken : Option 
     → IsWay setting s targets (what_is_known before i).found route
     → let after = record (what_is_known before i) { leg = taken; route = route; hops = 0 } in
     IsOnLeg setting before after here.under.header leg → HasKeptFacts setting before after (Some OnWay)
-sets_out setting before i s taken leg targets route here takes way on =
-    moving_on setting before _ (record {
-      under_way = record {
-        entry = here.under.entry;
-        place = here.under.place;
-        mark = here.under.mark;
-      };
-      leg = leg;
-      takes = takes;
-      on_leg = on;
-      stands = way.begins ∙ ap Some here.at;
-    }) way.avoids
+sets_out setting before i s taken leg targets route here takes way on = moving_on _ _ _ (record {
+  under_way = record {
+    entry = here.under.entry;
+    place = here.under.place;
+    mark = here.under.mark;
+  };
+  leg = leg;
+  takes = takes;
+  on_leg = on;
+  stands = way.begins ∙ ap Some here.at;
+}) way.avoids
 
 pub seeking_after : (setting : Setting) (before : List Item) (i mark version partition : ℕ)
     (route : List ℕ) → Knows setting before i (stage_of before i)
     → TakesRoute setting before i (Seek version partition) route
     → HasKeptFacts setting before
-    (facts_after mark (item.Seeking i version partition route) (what_is_known before i)) (Some OnWay)
+    (facts_after mark (Item.Seeking i version partition route) (what_is_known before i)) (Some OnWay)
 seeking_after setting before i mark version partition route knows takes =
     let facts : PacketFacts = what_is_known before i in
     let s : ℕ = takes.switch in
@@ -185,8 +136,7 @@ seeking_after setting before i mark version partition route knows takes =
     (ap (λ all. route_from setting before s all (found_down before i)) (sym (seek_targets setting
     before here.under.header version partition hosted part.1)) ∙ takes.leads)) in
     sets_out setting before i s _ (Seek version partition) hosted.1 route here refl way (record {
-      undecided = undecided_of setting before i s (stage_of before i) knows.kept here
-          (stage_looked before i s takes.takes.looked_up);
+      undecided = undecided_of _ _ i s _ knows.kept here (stage_looked _ i s takes.takes.looked_up);
       sought = record {
         not_retired = omega (arith, here.under.mark, here.stamped.retired, takes.takes.stamp);
         current = omega (arith, here.stamped.current, takes.takes.stamp);
@@ -197,16 +147,15 @@ seeking_after setting before i mark version partition route knows takes =
     })
 
 is_home : (o : Option ℕ) → IsTrue (is_some o) → o ≡ Some (unwrap_or o no_switch)
-is_home None e = absurd cc
-is_home (Some x) e = refl
+is_home o e = search rules
 
-pub port_named : (setting : Setting) (port : ℕ) (act : Action) → act ≡ action.Out port
+pub port_named : (setting : Setting) (port : ℕ) (act : Action) → act ≡ Action.Out port
     → NamesOwnPort setting act → owner_of setting.net.switches port ≡ Some (owner setting port)
 port_named setting port act is named = is_home (owner_of setting.net.switches port) (rw is at named)
 
 pub exiting_after : (setting : Setting) (before : List Item) (i mark : ℕ) (route : List ℕ)
     → Knows setting before i (stage_of before i) → TakesExit setting before i route
-    → HasKeptFacts setting before (facts_after mark (item.Exiting i route) (what_is_known before i)) (Some OnWay)
+    → HasKeptFacts setting before (facts_after mark (Item.Exiting i route) (what_is_known before i)) (Some OnWay)
 exiting_after setting before i mark route knows exits =
     let facts : PacketFacts = what_is_known before i in
     let s : ℕ = exits.by.switch in
@@ -241,37 +190,28 @@ leg_by setting before facts route header (Seek version partition) on leads = rec
   sought = on.sought;
   leads = rw (seek_targets setting before header version partition on.hosted on.own) at leads;
 }
-leg_by setting before facts route header (Exit port) on leads = record {
-  decision = on.decision;
-  decided = on.decided;
-  action = on.action;
-  owner = on.owner;
-  has_port = on.has_port;
-  leads = rw (ap (λ o. unwrap_or o no_switch) on.has_port) at leads;
-}
+leg_by setting before facts route header (Exit port) on leads = search rules
 
 pub rerouted_after : (setting : Setting) (before : List Item) (i mark : ℕ) (route : List ℕ)
     → Knows setting before i (stage_of before i) → TakesDetour setting before i route
-    → HasKeptFacts setting before (facts_after mark (item.Rerouted i route) (what_is_known before i)) (Some OnWay)
+    → HasKeptFacts setting before (facts_after mark (Item.Rerouted i route) (what_is_known before i)) (Some OnWay)
 rerouted_after setting before i mark route knows turns =
     let facts : PacketFacts = what_is_known before i in
     let s : ℕ = turns.switch in
     let here : IsHere setting before i s = here_known setting before i s knows turns.at in
     let was = knows.kept.on_way here.travelling (inr turns.blocked.blocked) in
-    let leg = some_same facts.leg was.leg turns.leg was.takes
-    (leg_in before i (Some turns.leg) turns.blocked.takes) in
+    let leg = some_same _ was.leg turns.leg was.takes (leg_in before i _ turns.blocked.takes) in
     let targets : List ℕ = targets_of setting before turns.leg in
     let way = route_way setting before s targets facts.found route knows.links
     (subst (λ down. route_from setting before s targets down ≡ Some route) (found_in before i)
     turns.leads) in
     sets_out setting before i s facts.leg turns.leg targets route here (was.takes ∙ ap Some leg)
-    way (leg_by setting before facts route here.under.header turns.leg
-    (rw leg at (rw (some_same facts.header was.under_way.header here.under.header
-    was.under_way.entered here.under.entered) at was.on_leg)) way.leads)
+    way (leg_by setting before facts route _ turns.leg (rw leg at (rw (some_same facts.header _
+    here.under.header was.under_way.entered here.under.entered) at was.on_leg)) way.leads)
 
 pub hopped_after : (setting : Setting) (before : List Item) (i mark next : ℕ)
     → Knows setting before i (stage_of before i) → MovesOver setting before i next
-    → HasKeptFacts setting before (facts_after mark (item.Hopped i next) (what_is_known before i)) (Some OnWay)
+    → HasKeptFacts setting before (facts_after mark (Item.Hopped i next) (what_is_known before i)) (Some OnWay)
 hopped_after setting before i mark next knows moves =
     let here = here_known setting before i moves.switch knows moves.at in
     let was = knows.kept.on_way here.travelling (inl moves.moving) in
@@ -294,7 +234,7 @@ hopped_after setting before i mark next knows moves =
 
 pub found_after : (setting : Setting) (before : List Item) (i mark one two : ℕ) → Knows setting
     before i (stage_of before i) → MeetsDown setting before i one two → HasKeptFacts setting before
-    (facts_after mark (item.FoundDown i one two) (what_is_known before i)) (Some Blocked)
+    (facts_after mark (Item.FoundDown i one two) (what_is_known before i)) (Some Blocked)
 found_after setting before i mark one two knows meets = record {
   under_way = λ travels. under;
   came_in = λ travels is. absurd cc;
@@ -315,7 +255,7 @@ found_after setting before i mark one two knows meets = record {
   was = knows.kept.on_way here.travelling (inl meets.moving)
 
   under : IsUnderWay setting before
-      (facts_after mark (item.FoundDown i one two) (what_is_known before i))
+      (facts_after mark (Item.FoundDown i one two) (what_is_known before i))
   under = record {
     entry = was.under_way.entry;
     place = was.under_way.place;
@@ -325,44 +265,21 @@ found_after setting before i mark one two knows meets = record {
 pub entered_after : (setting : Setting) (before : List Item)
     (i s : ℕ) (header : Header) (facts : PacketFacts) → s < length setting.net.switches
     → IsHeader header → facts.decision ≡ None → facts.leg ≡ None → HasKeptFacts setting before
-    (facts_after (retired_mark before) (item.Entered i s header) facts) (Some CameIn)
-entered_after setting before i s header facts there sound undecided no_leg = record {
-  under_way = λ travels. record {
-    entry = search (rules, sound, there);
-    place = record { switch = s; stands = refl; now = there };
-    mark = omega arith;
-  };
-  came_in = λ travels is. (undecided, no_leg);
-  judged = λ travels is other entered. absurd cc;
-  on_way = λ travels is. grind arith;
-  avoids = λ travels is. absurd cc;
-}
+    (facts_after (retired_mark before) (Item.Entered i s header) facts) (Some CameIn)
+entered_after setting before i s header facts there sound undecided no_leg = search rules
 
 -- ---- decisions
 
 table_not_cached : (tables : Tables) (header : Header) (entry : CacheEntry)
-    → table_lookup tables header ≡ found.Cached entry → ⊥
-table_not_cached tables header entry = by_part (find (is_in header) tables.auth) where
-  by_part : (o : Option Partition)
-      → option_map_or (authority_of header) o (redirect_of header tables.parts)
-      ≡ found.Cached entry → ⊥
-  by_part None e = cc
-  by_part (Some part) e = cc
+    → table_lookup tables header ≡ Found.Cached entry → ⊥
+table_not_cached tables header entry = search rules
 
 cached_found : (setting : Setting) (journal : List Item) (s : ℕ) (header : Header)
-    (entry : CacheEntry) → lookup_at setting journal s header ≡ found.Cached entry
+    (entry : CacheEntry) → lookup_at setting journal s header ≡ Found.Cached entry
     → first_entry (stamp_of journal s) (number_of header) (cache_of setting journal s).entries
     ≡ Some entry
 unfolding lookup_at
-cached_found setting journal s header entry answer = by_entry (first_entry (stamp_of journal s)
-    (number_of header) (cache_of setting journal s).entries) answer
-  where
-    by_entry : (o : Option CacheEntry) → option_map_or found.Cached o
-        (table_lookup (tables_at setting journal (stamp_of journal s) s) header)
-        ≡ found.Cached entry → o ≡ Some entry
-    by_entry None e =
-        absurd (table_not_cached (tables_at setting journal (stamp_of journal s) s) header entry e)
-    by_entry (Some other) e = cc
+cached_found setting journal s header entry answer = search (rules, table_not_cached)
 
 -- what decides the packet
 pub record DecidesRightly (setting : Setting) (before : List Item) (facts : PacketFacts)
@@ -381,16 +298,9 @@ record HasCached (setting : Setting) (before : List Item) (s : ℕ) (header : He
   held : IsTrue (holds entry.word (number_of header))
 
 has_cached : (setting : Setting) (before : List Item) (s : ℕ) (header : Header)
-    (entry : CacheEntry) → lookup_at setting before s header ≡ found.Cached entry
+    (entry : CacheEntry) → lookup_at setting before s header ≡ Found.Cached entry
     → HasCached setting before s header entry
-has_cached setting before s header entry answer =
-    let found = find-there (λ (x : CacheEntry). (x.version == stamp_of before s)
-    && holds x.word (number_of header)) (cache_of setting before s).entries entry
-    (cached_found setting before s header entry answer) in record {
-      there = found.0;
-      stamp = eqb-true entry.version (stamp_of before s) (and_parts _ _ found.1).0;
-      held = (and_parts _ _ found.1).1;
-    }
+has_cached setting before s header entry answer = search (rules, find-there, cached_found, eqb-true)
 
 cache_decides : (setting : Setting) (before : List Item) (i s version : ℕ) (rule : Option ℕ)
     (act : Action) (message : ℕ) → IsSetting setting → (here : IsHere setting before i s)
@@ -406,8 +316,7 @@ cache_decides setting before i s version rule act message is here right by =
     right cached.there in
     let stamp : entry.version ≡ stamp_of before s = cached.stamp in
     let match = ap (λ v. scan (policy_at setting before v) header) by.of_version
-    ∙ scan_of_version setting before entry.version header
-    (record { rule = entry.rule; action = entry.action }) is
+    ∙ scan_of_version setting before entry.version header _ is
     (own.decides header here.under.sound cached.held)
     ∙ ap (λ r. record { rule = r; action = entry.action }) (sym by.by_rule)
     ∙ ap (λ a. record { rule = rule; action = a }) (sym by.says) in record {
@@ -421,8 +330,7 @@ cache_decides setting before i s version rule act message is here right by =
       current = omega (arith, by.of_version, own.current);
       first_match = match;
       named = rw (ap (λ v. scan (policy_at setting before v) header) (sym (by.of_version ∙ stamp))
-          ∙ match) at (scan_named setting (policy_at setting before (stamp_of before s))
-          (plan_at setting before (stamp_of before s)) header here.stamped.planned);
+          ∙ match) at (scan_named setting _ _ header here.stamped.planned);
     }
 
 authority_decides : (setting : Setting) (before : List Item) (i s version : ℕ) (rule : Option ℕ)
@@ -431,9 +339,8 @@ authority_decides : (setting : Setting) (before : List Item) (i s version : ℕ)
     → AuthorityDecides setting before i s version rule act partition
     → DecidesRightly setting before (what_is_known before i) here.under.header version rule act
 authority_decides setting before i s version rule act partition knows here by =
-    let rules = rules_of setting before i s version by.found knows.is knows.have here
-    (sought_of setting before i s (stage_of before i) knows.kept here
-    (stage_alone (stage_when before i s version by.when))) by.finds in
+    let rules = rules_of setting before i s version _ knows.is knows.have here (sought_of setting
+    before i s _ knows.kept here (stage_alone (stage_when before i s version by.when))) by.finds in
     let match = sym rules.finds.decides
     ∙ ap (λ (f : AuthorityRule). record { rule = f.rule.rule; action = f.rule.action })
     (sym rules.same) ∙ ap (λ r. record { rule = r; action = by.found.rule.action }) (sym by.by_rule)
@@ -441,8 +348,7 @@ authority_decides setting before i s version rule act partition knows here by =
       not_retired = rules.not_retired;
       current = rules.current;
       first_match = match;
-      named = rw match at (scan_named setting (policy_at setting before version)
-          (plan_at setting before version) here.under.header rules.planned);
+      named = rw match at (scan_named setting _ _ here.under.header rules.planned);
     }
 
 -- when the packet was decided, and by what
@@ -457,31 +363,25 @@ pub decided_now : (setting : Setting) (before : List Item) (i s version : ℕ) (
     → All (IsRightEntry setting before) (cache_of setting before s).entries
     → DecidesBy setting before i s version rule act by
     → IsDecidedNow setting before i s version rule act here.under.header
-decided_now setting before i s version rule act (how.Cached message) knows here right decides =
+decided_now setting before i s version rule act (How.Cached message) knows here right decides =
     record {
       when = inl (
         decides.looked_up,
-        decides.of_version
-            ∙ (has_cached setting before s (header_at before i) decides.entry decides.answer).stamp,
+        decides.of_version ∙ (has_cached setting before s _ decides.entry decides.answer).stamp,
       );
-      rightly = cache_decides setting before i s version rule act message knows.is here right
-          decides;
+      rightly = cache_decides _ before i s version rule act message knows.is here right decides;
     }
-decided_now setting before i s version rule act (how.Authority home partition) knows here right
-    decides = record {
-      when = decides.1.when;
-      rightly = authority_decides setting before i s version rule act partition knows here
-          decides.1;
-    }
+decided_now setting before i s version rule act (How.Authority home partition) knows here right
+    decides = search (rules, authority_decides)
 
 pub decided_after : (setting : Setting) (before : List Item) (i mark version : ℕ) (rule : Option ℕ)
     (act : Action) (by : How) → Knows setting before i (stage_of before i)
     → ((s : ℕ) → All (IsRightEntry setting before) (cache_of setting before s).entries)
     → IsDecided setting before i version rule act by → HasKeptFacts setting before
-    (facts_after mark (item.Decided i version rule act by) (what_is_known before i)) (Some Judged)
+    (facts_after mark (Item.Decided i version rule act by) (what_is_known before i)) (Some Judged)
 decided_after setting before i mark version rule act by knows right decided =
     let facts : PacketFacts = what_is_known before i in
-    let after : PacketFacts = facts_after mark (item.Decided i version rule act by) facts in
+    let after : PacketFacts = facts_after mark (Item.Decided i version rule act by) facts in
     let s : ℕ = decided.switch in
     let here : IsHere setting before i s = here_known setting before i s knows decided.at in
     let now = decided_now setting before i s version rule act by knows here (right s) decided.by in
@@ -492,8 +392,7 @@ decided_after setting before i mark version rule act by knows right decided =
       current = now.rightly.current;
       first_match = now.rightly.first_match;
       named = now.rightly.named;
-      sought = sought_of setting before i s (stage_of before i) knows.kept here
-          (stage_alone (stage_when before i s version now.when));
+      sought = sought_of _ _ i s _ knows.kept here (stage_alone (stage_when before i s _ now.when));
     } in record {
       under_way = λ travels. record {
         entry = here.under.entry;

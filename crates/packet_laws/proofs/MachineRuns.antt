@@ -1,18 +1,16 @@
 -- A journal whose items have their causes is a run of the machine.
-use Rattle.std.proofs.Common.{[], if◌then◌else◌, ◌++◌, ◌<◌, ◌∙◌, ◌∷◌, ◌≡◌, ◌≢◌, ◌≤◌, Bool, IsTrue, List, None, Option, Some, ap, arith, eq-eqb, false, inl, inr, ne_eqb, option_map, refl, subst, sym, true, ℕ}
+use Rattle.std.proofs.Common.{[], if◌then◌else◌, ◌++◌, ◌<◌, ◌∙◌, ◌∷◌, ◌≡◌, ◌≢◌, ◌≤◌, Bool, IsTrue, List, None, Option, Some, ap, arith, eq-eqb, false, ne_eqb, option_map, refl, subst, sym, true, ℕ, rules}
 use Rattle.base.proofs.Exports.{cases_eq, some_same, ⊤}
 use Rattle.update_machine.specs.Exports.{Action, Decision, Dropped, End, Ends, HaveCauses, Header, Hit, How, IsRun, IsSetting, Item, Leaving, LeftBy, Lost, Machine, MayEnd, PoliciesKeep, Row, Runs, Setting, Stuck, Takes, first_machine, gives_retired, header_in, is_submission, next_packet, policy_at, retired_mark, travels, version_count, with_packet}
 use Rattle.policy_rules.specs.Exports.{scan}
 use Rattle.policy_rules.proofs.CallerLemmas.{first_match-scan}
-use Rattle.journal.specs.declared.item.Item.TheVariants as item
 use Rattle.update_machine.specs.Machine.{Packet}
 use Rattle.update_machine.proofs.Exports.{ArePolicies, have_append, policies_begin, policies_keep, policies_stay, policy_there, start_laws, takes_version}
 use Rattle.control_laws.specs.Exports.{HasItemCause, RetiresRightly, SubmitsRightly}
 use Rattle.control_laws.proofs.Exports.{Behind, bounded, caused_numbered, retired_more}
 use Rattle.packet_laws.specs.Exports.{AllKept, IsDecided, IsUnknown, PacketCause, PacketFacts, facts_after, is_of_packet, stage_of, what_is_known}
-use Rattle.packet_laws.proofs.PacketFacts.{other_number, facts_named, facts_other, facts_grow}
-use Rattle.packet_laws.proofs.AllKept.{Before, kept_before, known_before, knows}
-use Rattle.packet_laws.proofs.PacketsHere.{IsHere, decision_in, here_of, travels_in}
+use Rattle.packet_laws.proofs.AllKept.{Before, facts_grow, facts_named, facts_other, kept_before, known_before, knows, other_number}
+use Rattle.packet_laws.proofs.PacketHeaderLookups.{IsHere, decision_in, here_of, travels_in}
 use Rattle.packet_laws.proofs.PacketEnds.{leaves_rightly}
 use Rattle.packet_laws.proofs.KeptPacketFacts.{Knows, decided_now, stage_when, undecided_of}
 use Rattle.packet_laws.proofs.RestingPackets.{IsWayItem, Past, switches_of_all}
@@ -40,77 +38,47 @@ record Matches (setting : Setting) (machine : Machine) (journal : List Item) : T
 
 known : (o : Option Packet) (facts : PacketFacts) (header : Header) → SeenAs o facts
     → facts.header ≡ Some header → (packet : Packet) × (o ≡ Some packet) × IsSeen packet facts
-known None facts header seen e = absurd cc
-known (Some packet) facts header seen e = (packet, refl, seen)
+known o facts header seen e = search rules
 
 not_known : (o : Option Packet) (facts : PacketFacts) → SeenAs o facts → facts.header ≡ None
     → o ≡ None
-not_known None facts seen e = refl
-not_known (Some packet) facts seen e =
-    let there : facts.header ≡ Some packet.header = seen.header in absurd cc
+not_known o facts seen e = search rules
 
 -- facts that are the same to the machine
 seen_same : (o : Option Packet) (one other : PacketFacts) → other.header ≡ one.header
     → other.mark ≡ one.mark → other.decision ≡ one.decision → other.travels ≡ one.travels →
     SeenAs o one → SeenAs o other
-seen_same None one other h m d t seen = h ∙ seen
-seen_same (Some packet) one other h m d t seen = record {
-  header = h ∙ seen.header;
-  mark = seen.mark ∙ sym m;
-  decision = seen.decision ∙ ap (option_map hit_in) (sym d);
-  end = λ travels. seen.end (sym t ∙ travels);
-}
+seen_same o one other h m d t seen = search rules
 
 -- ---- items that the machine doesn't see
 
 -- an item that leaves its packet's header, decision and travelling as they were, and no move
 abbrev IsUnseen : Item → Type 0
-IsUnseen (item.Submitted file version) = ⊥
-IsUnseen (item.Retired version) = ⊥
-IsUnseen (item.Entered packet switch header) = ⊥
-IsUnseen (item.Decided packet version rule action how) = ⊥
-IsUnseen (item.Dropped packet) = ⊥
-IsUnseen (item.Left packet port leaving) = ⊥
-IsUnseen (item.Lost packet) = ⊥
-IsUnseen (item.Stuck packet switch cause leg down) = ⊥
+IsUnseen (Item.Submitted file version) = ⊥
+IsUnseen (Item.Retired version) = ⊥
+IsUnseen (Item.Entered packet switch header) = ⊥
+IsUnseen (Item.Decided packet version rule action how) = ⊥
+IsUnseen (Item.Dropped packet) = ⊥
+IsUnseen (Item.Left packet port leaving) = ⊥
+IsUnseen (Item.Lost packet) = ⊥
+IsUnseen (Item.Stuck packet switch cause leg down) = ⊥
 IsUnseen _ = ⊤
 
 unseen_facts : (mark : ℕ) (item : Item) (facts : PacketFacts) (o : Option Packet) → IsUnseen item
     → SeenAs o facts → SeenAs o (facts_after mark item facts)
-unseen_facts mark (item.Submitted file version) facts o is seen = absurd is
-unseen_facts mark (item.Retired version) facts o is seen = absurd is
-unseen_facts mark (item.Entered packet switch header) facts o is seen = absurd is
-unseen_facts mark (item.Decided packet version rule act by) facts o is seen = absurd is
-unseen_facts mark (item.Dropped packet) facts o is seen = absurd is
-unseen_facts mark (item.Left packet port leaving) facts o is seen = absurd is
-unseen_facts mark (item.Lost packet) facts o is seen = absurd is
-unseen_facts mark (item.Stuck packet switch cause leg down) facts o is seen = absurd is
-unseen_facts mark (item.Seeking packet version partition route) facts o is seen = seen_same o facts
-    (facts_after mark (item.Seeking packet version partition route) facts) refl refl refl refl seen
-unseen_facts mark (item.Exiting packet route) facts o is seen =
-    seen_same o facts (facts_after mark (item.Exiting packet route) facts) refl refl refl refl seen
-unseen_facts mark (item.Rerouted packet route) facts o is seen =
-    seen_same o facts (facts_after mark (item.Rerouted packet route) facts) refl refl refl refl seen
-unseen_facts mark (item.Hopped packet switch) facts o is seen =
-    seen_same o facts (facts_after mark (item.Hopped packet switch) facts) refl refl refl refl seen
-unseen_facts mark (item.FoundDown packet one two) facts o is seen =
-    seen_same o facts (facts_after mark (item.FoundDown packet one two) facts) refl refl refl refl seen
-unseen_facts mark _ facts o is seen = seen
+unseen_facts mark item facts o is seen = search rules
 
 no_submission : (next : Item) → IsUnseen next → is_submission next ≡ false
-no_submission (item.Submitted file version) is = absurd is
-no_submission _ is = refl
+no_submission next is = search rules
 
 no_retirement : (next : Item) → IsUnseen next → gives_retired next ≡ None
-no_retirement (item.Retired version) is = absurd is
-no_retirement _ is = refl
+no_retirement next is = search rules
 
 unseen_matches : (setting : Setting) (machine : Machine) (journal : List Item) (next : Item)
     → IsUnseen next → Matches setting machine journal
     → Matches setting machine (journal ++ next ∷ [])
 unseen_matches setting machine journal next is matches = record {
-  policies = policies_stay setting machine.policies journal (journal ++ next ∷ []) keep
-      matches.policies;
+  policies = policies_stay setting machine.policies journal _ keep matches.policies;
   mark = matches.mark ∙ sym (rw (retired_more journal next, no_retirement next is) refl);
   packets = λ i. rw (facts_grow i journal next) (by_name i (is_of_packet i next));
 } where
@@ -120,8 +88,7 @@ unseen_matches setting machine journal next is matches = record {
   by_name : (i : ℕ) (b : Bool)
       → SeenAs (machine.packets i)
       (if b then facts_after (retired_mark journal) next (what_is_known journal i) else what_is_known journal i)
-  by_name i true = unseen_facts (retired_mark journal) next (what_is_known journal i)
-      (machine.packets i) is (matches.packets i)
+  by_name i true = unseen_facts _ next _ (machine.packets i) is (matches.packets i)
   by_name i false = matches.packets i
 
 -- ---- items that change a packet
@@ -143,16 +110,8 @@ changed_matches : (setting : Setting) (machine : Machine) (journal : List Item)
     journal (journal ++ next ∷ []) → ((j : ℕ) → j ≢ i → is_of_packet j next ≡ false) → IsSeen packet
     (what_is_known (journal ++ next ∷ []) i)
     → Matches setting (with_packet machine i packet) (journal ++ next ∷ [])
-changed_matches setting machine journal next i packet matches keeps others seen = record {
-  policies = policies_stay setting machine.policies journal (journal ++ next ∷ []) keeps.keep
-      matches.policies;
-  mark = matches.mark ∙ sym keeps.mark;
-  packets = λ j. elim (cases_eq j i) [
-    | inl same ↦ rw (eq-eqb j i same) (rw same seen)
-    | inr apart ↦ rw (ne_eqb j i apart) (subst (SeenAs (machine.packets j))
-        (sym (facts_other j journal next (others j apart))) (matches.packets j))
-  ];
-}
+changed_matches setting machine journal next i packet matches keeps others seen =
+    search (rules, policies_stay, cases_eq, eq-eqb, ne_eqb, facts_other)
 
 -- what the machine makes of an item, and that it still knows the packets as the journal does
 record Goes (setting : Setting) (machine : Machine) (journal : List Item) (next : Item) : Type 0
@@ -164,19 +123,12 @@ record Goes (setting : Setting) (machine : Machine) (journal : List Item) (next 
 ended_seen : (packet : Packet) (facts after : PacketFacts) (end : End)
     → after ≡ record facts { travels = false } → IsSeen packet facts
     → IsSeen (record packet { end = Some end }) after
-ended_seen packet facts after end e seen = subst (IsSeen (record packet { end = Some end })) (sym e)
-    (record {
-      header = seen.header;
-      mark = seen.mark;
-      decision = seen.decision;
-      end = λ travels. absurd cc;
-    })
+ended_seen packet facts after end e seen = search rules
 
 action_of : (packet : Packet) (facts : PacketFacts) (decision : Decision) → IsSeen packet facts
     → facts.decision ≡ Some decision → option_map (λ (h : Hit). h.action) packet.decision ≡ Some
     decision.action
-action_of packet facts decision seen decided = ap (option_map (λ (h : Hit). h.action))
-    (seen.decision ∙ ap (option_map hit_in) decided)
+action_of packet facts decision seen decided = search rules
 
 -- ---- ends
 
@@ -192,8 +144,7 @@ goes_end : (setting : Setting) (machine : Machine) (journal : List Item) (next :
 goes_end setting machine journal next i end before matches travelling may after others keeps takes =
     let on : IsTrue (what_is_known journal i).travels = travels_in journal i travelling in
     let under = (before.kept.packets i).under_way on in
-    let at = known (machine.packets i) (what_is_known journal i) under.header (matches.packets i)
-    under.entered in record {
+    let at = known (machine.packets i) _ under.header (matches.packets i) under.entered in record {
       new = with_packet machine i (record at.0 { end = Some end });
       takes = takes (with_packet machine i (record at.0 { end = Some end })) (record {
         packet = at.0;
@@ -202,17 +153,16 @@ goes_end setting machine journal next i end before matches travelling may after 
         may = may at.0 at.2;
         after = refl;
       });
-      matches = changed_matches setting machine journal next i (record at.0 { end = Some end })
-          matches keeps others (ended_seen at.0 (what_is_known journal i) _ end after at.2);
+      matches = changed_matches _ _ _ _ i _ matches keeps others (ended_seen _ _ _ end after at.2);
     }
 
 -- ---- entries and decisions
 
 goes_in : (setting : Setting) (machine : Machine) (journal : List Item) (i s : ℕ)
     (header : Header) → Before setting journal → Matches setting machine journal
-    → i ≡ next_packet journal → Goes setting machine journal (item.Entered i s header)
+    → i ≡ next_packet journal → Goes setting machine journal (Item.Entered i s header)
 goes_in setting machine journal i s header before matches number =
-    let entered : Item = item.Entered i s header in
+    let entered : Item = Item.Entered i s header in
     let packet : Packet = record {
       header = header;
       entry_mark = machine.mark;
@@ -223,13 +173,11 @@ goes_in setting machine journal i s header before matches number =
     let after = facts_named i journal entered (eq-eqb i i refl) in record {
       new = with_packet machine i packet;
       takes = record {
-        unknown = not_known (machine.packets i) (what_is_known journal i) (matches.packets i)
-            none.header;
+        unknown = not_known (machine.packets i) _ (matches.packets i) none.header;
         after = refl;
       };
-      matches = changed_matches setting machine journal entered i packet matches
-          (keeps_marks setting journal entered refl refl) (λ j apart. other_number i j apart)
-          (subst (IsSeen packet) (sym after) (record {
+      matches = changed_matches _ _ _ _ i packet matches (keeps_marks _ journal entered refl refl)
+          (λ j apart. other_number i j apart) (subst (IsSeen packet) (sym after) (record {
             header = refl;
             mark = matches.mark;
             decision = ap (option_map hit_in) (sym none.decision);
@@ -240,17 +188,16 @@ goes_in setting machine journal i s header before matches number =
 goes_decided : (setting : Setting) (machine : Machine) (journal : List Item) (i version : ℕ)
     (rule : Option ℕ) (act : Action) (by : How) → Before setting journal
     → Matches setting machine journal → IsDecided setting journal i version rule act by
-    → Goes setting machine journal (item.Decided i version rule act by)
+    → Goes setting machine journal (Item.Decided i version rule act by)
 goes_decided setting machine journal i version rule act by before matches way =
-    let decided : Item = item.Decided i version rule act by in
+    let decided : Item = Item.Decided i version rule act by in
     let knows_it : Knows setting journal i (stage_of journal i) = knows setting journal i before in
     let facts : PacketFacts = what_is_known journal i in
     let s : ℕ = way.switch in
     let here : IsHere setting journal i s =
     here_of setting journal i s (stage_of journal i) before.is knows_it.have knows_it.kept way.at in
     let header : Header = here.under.header in
-    let now = decided_now setting journal i s version rule act by knows_it here
-    (before.kept.cached s) way.by in
+    let now = decided_now _ _ i s version rule act by knows_it here (before.kept.cached s) way.by in
     let at = known (machine.packets i) facts header (matches.packets i) here.under.entered in
     let there : version ≤ version_count journal =
     omega (arith, now.rightly.current, (bounded setting journal knows_it.have).there) in
@@ -275,9 +222,8 @@ goes_decided setting machine journal i version rule act by before matches way =
         first_match = rw hit at (first_match-scan policy at.0.header);
         after = refl;
       };
-      matches = changed_matches setting machine journal decided i new matches
-          (keeps_marks setting journal decided refl refl) (λ j apart. other_number i j apart)
-          (subst (IsSeen new) (sym after)
+      matches = changed_matches _ _ _ _ i new matches (keeps_marks _ journal decided refl refl)
+          (λ j apart. other_number i j apart) (subst (IsSeen new) (sym after)
           (record { header = at.2.header; mark = at.2.mark; decision = refl; end = at.2.end }));
     }
 
@@ -292,12 +238,11 @@ packets_same machine journal next none seen i = rw (facts_other i journal next (
 
 goes_retired : (setting : Setting) (machine : Machine) (journal : List Item) (version : ℕ)
     → HaveCauses (HasItemCause setting) [] journal → Matches setting machine journal
-    → RetiresRightly setting journal version → Goes setting machine journal (item.Retired version)
+    → RetiresRightly setting journal version → Goes setting machine journal (Item.Retired version)
 goes_retired setting machine journal version have matches retires =
-    let next : Item = item.Retired version in
+    let next : Item = Item.Retired version in
     let keep = policies_keep journal (next ∷ []) (refl, tt) in
-    let marks = bounded setting (journal ++ next ∷ [])
-    (have_append (HasItemCause setting) [] journal (next ∷ []) have (retires, tt)) in
+    let marks = bounded setting (journal ++ next ∷ []) (have_append _ [] _ _ have (retires, tt)) in
     let mark : retired_mark (journal ++ next ∷ []) ≡ version = rw (retired_more journal next) refl in
     record {
       new = record machine { mark = version };
@@ -314,8 +259,7 @@ goes_retired setting machine journal version have matches retires =
         after = refl;
       };
       matches = record {
-        policies = policies_stay setting machine.policies journal (journal ++ next ∷ []) keep
-            matches.policies;
+        policies = policies_stay setting machine.policies journal _ keep matches.policies;
         mark = sym mark;
         packets = packets_same machine journal next (λ i. refl) matches.packets;
       };
@@ -324,9 +268,9 @@ goes_retired setting machine journal version have matches retires =
 goes_submitted : (setting : Setting) (machine : Machine) (journal : List Item)
     (file version : ℕ) → HaveCauses (HasItemCause setting) [] journal
     → Matches setting machine journal → SubmitsRightly setting journal file version
-    → Goes setting machine journal (item.Submitted file version)
+    → Goes setting machine journal (Item.Submitted file version)
 goes_submitted setting machine journal file version have matches submits =
-    let next : Item = item.Submitted file version in
+    let next : Item = Item.Submitted file version in
     let gained = takes_version setting machine journal file version submits.rows
     (caused_numbered setting journal have) matches.policies submits.next submits.policy in record {
       new = record machine { policies = machine.policies ++ submits.rows ∷ [] };
@@ -345,46 +289,44 @@ abbrev KeptItem : Setting → List Item → Item → Type 0
 KeptItem setting = Behind (Past (IsWayItem setting)) (AllKept setting)
 
 left_action : (setting : Setting) (journal : List Item) (i port : ℕ) (leaving : Leaving)
-    → Before setting journal → PacketCause setting journal (item.Left i port leaving)
+    → Before setting journal → PacketCause setting journal (Item.Left i port leaving)
     → (packet : Packet) → IsSeen packet (what_is_known journal i) → MayEnd packet (LeftBy port)
 left_action setting journal i port leaving before way packet seen =
-    let rightly = leaves_rightly setting journal i port leaving (knows setting journal i before)
-    way in
+    let rightly = leaves_rightly _ journal i port leaving (knows setting journal i before) way in
     action_of packet (what_is_known journal i) _ seen (decision_in journal i _ rightly.decided)
 
 goes : (setting : Setting) (machine : Machine) (journal : List Item) (next : Item)
     → Before setting journal → IsWayItem setting journal next → Matches setting machine journal
     → Goes setting machine journal next
-goes setting machine journal (item.Submitted file version) before cause matches =
-    goes_submitted setting machine journal file version
-    (switches_of_all setting [] journal before.have) matches cause.switches
-goes setting machine journal (item.Retired version) before cause matches = goes_retired setting
+goes setting machine journal (Item.Submitted file version) before cause matches =
+    search (rules, goes_submitted, switches_of_all)
+goes setting machine journal (Item.Retired version) before cause matches = goes_retired setting
     machine journal version (switches_of_all setting [] journal before.have) matches cause.switches
-goes setting machine journal (item.Entered i s header) before cause matches =
+goes setting machine journal (Item.Entered i s header) before cause matches =
     goes_in setting machine journal i s header before matches cause.way.0.number
-goes setting machine journal (item.Decided i version rule act by) before cause matches =
+goes setting machine journal (Item.Decided i version rule act by) before cause matches =
     goes_decided setting machine journal i version rule act by before matches cause.way
-goes setting machine journal (item.Left i port leaving) before cause matches =
-    let next : Item = item.Left i port leaving in
+goes setting machine journal (Item.Left i port leaving) before cause matches =
+    let next : Item = Item.Left i port leaving in
     goes_end setting machine journal next i (LeftBy port) before matches
     cause.way.at.travelling
     (left_action setting journal i port leaving before cause.way)
     (facts_named i journal next (eq-eqb i i refl)) (λ j apart. other_number i j apart)
     (keeps_marks setting journal next refl refl) (λ new ends. ends)
-goes setting machine journal (item.Dropped i) before cause matches =
-    let next : Item = item.Dropped i in
+goes setting machine journal (Item.Dropped i) before cause matches =
+    let next : Item = Item.Dropped i in
     goes_end setting machine journal next i Dropped before matches cause.way.at.travelling
     (λ packet seen. action_of packet (what_is_known journal i) cause.way.decision seen
     (decision_in journal i (Some cause.way.decision) cause.way.decided) ∙ ap Some cause.way.action)
     (facts_named i journal next (eq-eqb i i refl)) (λ j apart. other_number i j apart)
     (keeps_marks setting journal next refl refl) (λ new ends. ends)
-goes setting machine journal (item.Lost i) before cause matches = let next : Item = item.Lost i in
+goes setting machine journal (Item.Lost i) before cause matches = let next : Item = Item.Lost i in
     goes_end setting machine journal next i Lost before matches cause.way.travelling
     (λ packet seen. tt)
     (facts_named i journal next (eq-eqb i i refl)) (λ j apart. other_number i j apart)
     (keeps_marks setting journal next refl refl) (λ new ends. ends)
-goes setting machine journal (item.Stuck i switch why leg down) before cause matches =
-    let next : Item = item.Stuck i switch why leg down in
+goes setting machine journal (Item.Stuck i switch why leg down) before cause matches =
+    let next : Item = Item.Stuck i switch why leg down in
     goes_end setting machine journal next i Stuck before matches cause.way.at.travelling
     (λ packet seen. tt)
     (facts_named i journal next (eq-eqb i i refl)) (λ j apart. other_number i j apart)
@@ -397,19 +339,14 @@ runs_from : (setting : Setting) (machine : Machine) (before items : List Item) �
     → (new : Machine) × Runs setting machine items new
 runs_from setting machine before [] is have matches = (machine, refl)
 runs_from setting machine before (next ∷ items) is have matches =
-    let step = goes setting machine before next (known_before setting is before next have.0)
-    have.0.caused.caused matches in
+    let step = goes _ _ _ next (known_before _ is _ next have.0) have.0.caused.caused matches in
     let rest = runs_from setting step.new (before ++ next ∷ []) items is have.1 step.matches in
     (rest.0, (step.new, step.takes, rest.1))
 
 matches_at_first : (setting : Setting) → IsSetting setting
     → Matches setting (first_machine setting) []
 unfolding what_is_known header_in
-matches_at_first setting is = record {
-  policies = policies_begin setting is;
-  mark = sym start_laws.retired;
-  packets = λ i. refl;
-}
+matches_at_first setting is = search (rules, policies_begin, start_laws)
 
 pub caused_is_run : (setting : Setting) (journal : List Item) → IsSetting setting
     → HaveCauses (IsWayItem setting) [] journal → IsRun setting journal

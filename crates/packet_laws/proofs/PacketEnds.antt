@@ -1,21 +1,19 @@
 -- Items that end a packet, or say that it found a link down, have their causes.
-use Rattle.std.proofs.Common.{[], ◌+◌, ◌-◌, ◌<◌, ◌∙◌, ◌∷◌, ◌≡◌, ◌≤◌, ◌⊎◌, All, Bool, Contains, IsFalse, IsTrue, List, None, Option, Some, ap, arith, eq-eqb, eqb-true, false, get_or, inl, inr, length, nat_eq, option_map, option_to_list, refl, slice_get, subst, sym, true, unwrap_or, ℕ}
-use Rattle.base.proofs.Exports.{All-from_recursion, All-nil, All-weaker, cases_lt, get_or_from_slice_get, list_any, nat_tests, slice_get-get_or, slice_get_within, some_same}
+use Rattle.std.proofs.Common.{[], ◌+◌, ◌-◌, ◌<◌, ◌∙◌, ◌∷◌, ◌≡◌, ◌≤◌, ◌⊎◌, All, Bool, Contains, IsFalse, IsTrue, List, None, Option, Some, ap, arith, eq-eqb, eqb-true, false, get_or, inl, inr, length, nat_eq, option_map, option_to_list, refl, slice_get, subst, sym, true, unwrap_or, ℕ, rules}
+use Rattle.base.proofs.Exports.{All-from_recursion, All-weaker, cases_lt, get_or_from_slice_get, list_any, nat_tests, slice_get-get_or, slice_get_within, some_same}
 use Rattle.failover.specs.Exports.{IsReachable}
 use Rattle.failover.proofs.RouteSearch.{length-known_links}
 use Rattle.base.specs.Exports.{has}
 use Rattle.net_file.specs.Exports.{are_linked, owner_of}
-use Rattle.update_machine.specs.Exports.{Action, AreTargets, Cause, Decision, Exit, FindsDown, FindsNoPath, HasCause, IsLostRightly, IsStuckRightly, Item, Leads, LeavesRightly, Leaving, Leg, Seek, SeeksOwn, Setting, adverts_of_others, can_use, decision_of, found_down, header_at, header_in, is_open, is_up, links_known, near, no_switch, owner, plan_at, serves, standing, targets_of}
-use Rattle.policy_rules.specs.declared.policy.Action.TheVariants as action
+use Rattle.update_machine.specs.Exports.{Action, AreTargets, Cause, Decision, Exit, FindsDown, FindsNoPath, HasCause, IsLostRightly, IsStuckRightly, Item, Leads, LeavesRightly, Leaving, Leg, Seek, SeeksOwn, Setting, can_use, decision_of, found_down, header_at, header_in, is_open, is_up, links_known, near, no_switch, owner, plan_at, serves, standing, targets_of}
 use Rattle.switch_table.specs.Exports.{Hosted}
-use Rattle.journal.specs.declared.item.Item.TheVariants as item
 use Rattle.update_machine.proofs.Exports.{plan_is, unreached}
 use Rattle.control_laws.specs.Exports.{HasItemCause}
 use Rattle.control_laws.proofs.Exports.{IsKnown, linked_by_mask, own_end}
-use Rattle.packet_laws.specs.Exports.{FindsNoRoute, FollowsLinks, IsAt, IsAtPort, IsBlockedOn, IsLostHere, IsOnLeg, IsOnWay, IsPartitionOf, LeavesHere, MeetsDown, PacketCause, PacketFacts, SeeksRightly, TakesLeg, entry_mark, stage_of, what_is_known}
-use Rattle.packet_laws.proofs.PacketsHere.{IsHere, decision_in, exiting_of, header_in_facts, leg_in, next_in, stands_in, seeking_of}
+use Rattle.packet_laws.specs.Exports.{FindsNoRoute, FollowsLinks, IsAt, IsAtPort, IsBlockedOn, IsLostHere, IsOnWay, IsPartitionOf, LeavesHere, MeetsDown, PacketCause, PacketFacts, SeeksRightly, TakesLeg, entry_mark, stage_of, what_is_known}
+use Rattle.packet_laws.proofs.PacketHeaderLookups.{IsHere, decision_in, exiting_of, header_in_facts, leg_in, next_in, stands_in, seeking_of}
 use Rattle.packet_laws.proofs.KeptPacketFacts.{Knows, here_known, port_named, redirected_to, stage_looked, undecided_of}
-use Rattle.packet_laws.proofs.OpenWays.{Sees, none_leads, open_joined}
+use Rattle.packet_laws.proofs.PacketKnownRoutes.{Sees, none_leads, open_joined}
 
 pub decision_out : (journal : List Item) (i : ℕ) (decision : Option Decision)
     → (what_is_known journal i).decision ≡ decision → decision_of journal i ≡ decision
@@ -24,13 +22,11 @@ decision_out journal i decision is = is
 
 stands_at : (setting : Setting) (before : List Item) (i s : ℕ) → IsHere setting before i s
     → standing before i ≡ Some s
-stands_at setting before i s here =
-    stands_in before i here.under.switch here.under.stands ∙ ap Some (sym here.at)
+stands_at setting before i s here = search (rules, stands_in)
 
 pub stands_known : (setting : Setting) (before : List Item) (i s : ℕ)
     → Knows setting before i (stage_of before i) → IsAt before i s → standing before i ≡ Some s
-stands_known setting before i s knows at =
-    stands_at setting before i s (here_known setting before i s knows at)
+stands_known setting before i s knows at = stands_at _ before i s (here_known _ before i s knows at)
 
 entered_as : (setting : Setting) (before : List Item) (i s : ℕ)
     → (here : IsHere setting before i s) → header_in before i ≡ Some here.under.header
@@ -40,11 +36,7 @@ entered_as setting before i s here = header_in_facts before i here.under.header 
 
 follows : (setting : Setting) (journal : List Item) (facts : PacketFacts) (way : IsOnWay setting journal facts)
     → FollowsLinks setting facts.route
-follows setting journal facts way = by_leg way.leg way.on_leg where
-  by_leg : (leg : Leg) → IsOnLeg setting journal facts way.under_way.header leg
-      → FollowsLinks setting facts.route
-  by_leg (Seek version partition) on = on.leads.joined
-  by_leg (Exit port) on = on.leads.joined
+follows setting journal facts way = search rules
 
 -- a link that a packet finds down is one of the network, since its route follows links
 pub meets_link : (setting : Setting) (before : List Item) (i one two : ℕ)
@@ -62,14 +54,7 @@ meets_link setting before i one two knows meets =
 -- ---- losses
 
 lost_rightly : (before : List Item) (i : ℕ) → IsLostHere before i → IsLostRightly before i
-lost_rightly before i lost = elim lost.how [
-  | inl row ↦ inl row
-  | inr crash ↦ inr (record {
-    switch = crash.switch;
-    crashes = crash.crashes;
-    stands = crash.stands;
-  })
-]
+lost_rightly before i lost = search rules
 
 -- ---- packets that are stuck
 
@@ -79,27 +64,16 @@ seeks_part : (setting : Setting) (before : List Item) (i s version partition : �
     → TakesLeg setting before i s (Seek version partition)
     ⊎ IsBlockedOn before i (Seek version partition)
     → (hosted : Hosted) × IsPartitionOf setting before here.under.header version partition hosted
-seeks_part setting before i s version partition knows here (inl takes) =
-    redirected_to setting before i s version partition here takes
-seeks_part setting before i s version partition knows here (inr blocked) =
-    let on = seeking_of setting before (what_is_known before i) here.under.header version partition
-    (knows.kept.on_way here.travelling (inr blocked.blocked)) here.under.entered
-    (leg_in before i (Some (Seek version partition)) blocked.takes) in
-    (on.hosted, on.own)
+seeks_part setting before i s version partition knows here h8 =
+    search (rules, redirected_to, seeking_of, leg_in)
 
 -- its decision, by the port to which it exits
 exits_by : (setting : Setting) (before : List Item) (i s port : ℕ)
     → Knows setting before i (stage_of before i) → IsHere setting before i s
     → TakesLeg setting before i s (Exit port) ⊎ IsBlockedOn before i (Exit port)
     → (decision : Decision) × (decision_of before i ≡ Some decision)
-    × (decision.action ≡ action.Out port)
-exits_by setting before i s port knows here (inl takes) =
-    (takes.decision, takes.decided, takes.action)
-exits_by setting before i s port knows here (inr blocked) =
-    let on = exiting_of setting before (what_is_known before i) port
-    (knows.kept.on_way here.travelling (inr blocked.blocked))
-    (leg_in before i (Some (Exit port)) blocked.takes) in
-    (on.decision, decision_out before i (Some on.decision) on.decided, on.action)
+    × (decision.action ≡ Action.Out port)
+exits_by setting before i s port knows here h7 = search (rules, exiting_of, leg_in, decision_out)
 
 own_leg : (setting : Setting) (before : List Item) (i s : ℕ) (leg : Leg)
     → Knows setting before i (stage_of before i) → IsHere setting before i s
@@ -110,8 +84,7 @@ own_leg setting before i s (Seek version partition) knows here on =
       entered_as setting before i s here,
       ap (option_map (λ (p : Hosted). p.0.number)) part.1.first ∙ ap Some part.1.number,
     )
-own_leg setting before i s (Exit port) knows here on =
-    exits_by setting before i s port knows here on
+own_leg setting before i s (Exit port) knows here on = exits_by _ before i s port knows here on
 
 pub mark_in : (journal : List Item) (i : ℕ) → (what_is_known journal i).mark ≡ entry_mark journal i
 unfolding what_is_known
@@ -134,9 +107,8 @@ seeks_rightly setting before i s version partition knows here (inl takes) = reco
   current = omega (arith, here.stamped.current, takes.stamp);
 }
 seeks_rightly setting before i s version partition knows here (inr blocked) =
-    let on = seeking_of setting before (what_is_known before i) here.under.header version partition
-    (knows.kept.on_way here.travelling (inr blocked.blocked)) here.under.entered
-    (leg_in before i (Some (Seek version partition)) blocked.takes) in record {
+    let on = seeking_of _ before _ _ _ _ (knows.kept.on_way here.travelling (inr blocked.blocked))
+    here.under.entered (leg_in before i (Some (Seek version partition)) blocked.takes) in record {
       undecided = decision_out before i None on.undecided;
       not_retired = subst (λ m. m < version) (mark_in before i) on.not_retired;
       current = on.current;
@@ -176,11 +148,7 @@ finds_down setting before i one two knows meets = record {
 -- a partition of a plan stands in it
 part_in : (plan : List Hosted) (k : ℕ) (hosted : Hosted) → slice_get plan k ≡ Some hosted
     → Contains plan hosted
-part_in plan k hosted there = (
-  k,
-  slice_get_within plan k hosted there,
-  get_or_from_slice_get plan k hosted hosted there,
-)
+part_in plan k hosted there = search (rules, slice_get_within, get_or_from_slice_get)
 
 -- no way leads to any of these targets
 abbrev AreCutOff : Setting → List Item → ℕ → ℕ → List ℕ → Type 0
@@ -190,8 +158,7 @@ AreCutOff setting before i s targets =
 home_cut_off : (setting : Setting) (before : List Item) (i s : ℕ) (home : Option ℕ)
     → AreCutOff setting before i s (unwrap_or home no_switch ∷ [])
     → AreCutOff setting before i s (option_to_list home)
-home_cut_off setting before i s None cut = All-nil _
-home_cut_off setting before i s (Some home) cut = cut
+home_cut_off setting before i s home cut = search rules
 
 -- the targets of its leg, all cut off
 record HasTargets (setting : Setting) (before : List Item) (i s : ℕ) (leg : Leg) : Type 0 where
@@ -244,9 +211,8 @@ stuck_by_claims setting before i s cause leg down knows finds =
     All-weaker (λ target. ¬ IsReachable links s target)
     (λ target. (path : List ℕ) → ¬ Leads (is_open setting before i s) s path target)
     (λ target unreached. none_leads (is_open setting before i s) links s target
-    (length-known_links (adverts_of_others setting before s) s (near setting before s)
-    (found_down before i)) (open_joined setting before i s sees)
-    (omega (arith, here.at, here.under.now, knows.is.net.few_switches)) unreached)
+    (length-known_links _ s (near setting before s) (found_down before i)) (open_joined setting
+    before i s sees) (omega (arith, here.at, here.under.now, knows.is.net.few_switches)) unreached)
     (targets_of setting before leg) exact.no_path in
     let own = targets_cut_off setting before i s leg knows here finds.on cut in record {
       stands = exact.stands;
@@ -283,7 +249,7 @@ record LeavesBy (setting : Setting) (before : List Item) (i s port : ℕ) : Type
   has_port : owner_of setting.net.switches port ≡ Some s
   decision : Decision
   decided : decision_of before i ≡ Some decision
-  action : decision.action ≡ action.Out port
+  action : decision.action ≡ Action.Out port
 
 leaves_by : (setting : Setting) (before : List Item) (i port : ℕ) (leaving : Leaving)
     → Knows setting before i (stage_of before i) → (way : LeavesHere setting before i port leaving)
@@ -296,8 +262,7 @@ leaves_by setting before i port leaving knows way here = by_port way.at_port whe
   by_port (inl now) =
       let decision : Decision = now.2.0 in
       let judged = knows.kept.judged here.travelling now.0 here.under.header here.under.entered in
-      let home = port_named setting port judged.decision.action
-      (ap (λ (d : Decision). d.action) (some_same facts.decision judged.decision decision
+      let home = port_named setting port _ (ap (λ (d : Decision). d.action) (some_same _ _ decision
       judged.decided (decision_in before i (Some decision) now.2.1)) ∙ now.2.2) judged.named in
       record {
         has_port = home ∙ ap Some (eqb-true (owner setting port) way.switch now.1);
@@ -330,7 +295,7 @@ leaving_of before i = record {
 }
 
 leaving_is : (one other : Leaving) (i port : ℕ)
-    → item.Left i port one ≡ item.Left i port other → one ≡ other
+    → Item.Left i port one ≡ Item.Left i port other → one ≡ other
 leaving_is one other i port e = cc
 
 pub leaves_rightly : (setting : Setting) (before : List Item) (i port : ℕ) (leaving : Leaving)
@@ -344,7 +309,7 @@ leaves_rightly setting before i port leaving knows way =
     let whole : decision ≡ record {
       version = decision.version;
       rule = decision.rule;
-      action = action.Out port;
+      action = Action.Out port;
     } =
     ap (λ (a : Action). record { version = decision.version; rule = decision.rule; action = a })
     by.action in
@@ -358,7 +323,7 @@ leaves_rightly setting before i port leaving knows way =
       decided = by.decided ∙ ap Some whole ∙ ap (λ (o : Option Decision). Some (record {
         version = unwrap_or (option_map (λ (d : Decision). d.version) o) 0;
         rule = unwrap_or (option_map (λ (d : Decision). d.rule) o) None;
-        action = action.Out port;
+        action = Action.Out port;
       })) (sym by.decided);
     })
 
@@ -376,16 +341,16 @@ pub end_caused : (setting : Setting) (before : List Item) (next : Item)
     → ((i : ℕ) → Knows setting before i (stage_of before i)) → IsKnown before
     → HasItemCause setting before next → PacketCause setting before next
     → HasCause setting before next
-end_caused setting before (item.Left packet port leaving) knows served own way =
+end_caused setting before (Item.Left packet port leaving) knows served own way =
     leaves_rightly setting before packet port leaving (knows packet) way
-end_caused setting before (item.Lost packet) knows served own way = lost_rightly before packet way
-end_caused setting before (item.FoundDown packet one two) knows served own way =
+end_caused setting before (Item.Lost packet) knows served own way = lost_rightly before packet way
+end_caused setting before (Item.FoundDown packet one two) knows served own way =
     finds_down setting before packet one two (knows packet) way
-end_caused setting before (item.Stuck packet switch cause leg down) knows served own way =
+end_caused setting before (Item.Stuck packet switch cause leg down) knows served own way =
     stuck_by_claims setting before packet switch cause leg down (knows packet) way
-end_caused setting before (item.Down switch) knows served own way = way
-end_caused setting before (item.Booted switch boot) knows served own way =
+end_caused setting before (Item.Down switch) knows served own way = way
+end_caused setting before (Item.Booted switch boot) knows served own way =
     (way, not_serving before switch served own.down)
-end_caused setting before (item.LinkIs one two up) knows served own way = way
-end_caused setting before (item.Submitted file version) knows served own way = way
+end_caused setting before (Item.LinkIs one two up) knows served own way = way
+end_caused setting before (Item.Submitted file version) knows served own way = way
 end_caused setting before next knows served own way = tt

@@ -1,14 +1,119 @@
 -- What a serving switch says of a header, by the plan of the version of its stamp.
-use Rattle.std.proofs.Common.{[], if◌then◌else◌, ◌<◌, ◌∙◌, ◌≡◌, ◌≤◌, Bool, IsTrue, List, None, Option, Some, ap, arith, false, length, option_map, position, refl, slice_get, sym, true, ℕ}
-use Rattle.base.proofs.Exports.{option_map_or}
-use Rattle.five_tuple.specs.Exports.{IsHeader, number_of}
-use Rattle.update_machine.specs.Exports.{AuthorityRule, CacheEntry, Found, HaveCauses, Header, IsSetting, Item, Row, Rule, Setting, authority_rule, cache_of, current_mark, lookup_at, plan_at, policy_at, retired_mark, serves, stamp_of, tables_at}
-use Rattle.switch_table.specs.Exports.{Hosted, authority_of, first_entry, has_target, lookup_in, part_of, table_lookup}
-use Rattle.switch_table.specs.declared.search.Found.TheVariants as found
-use Rattle.update_machine.proofs.Exports.{begins_planned}
+use Rattle.std.proofs.Common.{[], ◌+◌, ◌<◌, ◌∙◌, ◌≡◌, ◌≤◌, All, Bool, Contains, IsTrue, List, None, Option, Some, ap, arith, false, filter, find, if◌then◌else◌, inl, inr, length, map, option_and_then, option_map, position, refl, slice_get, subst, sym, true, unwrap_or, ℕ, rules}
+use Rattle.base.proofs.Exports.{All-filter, find-position, find-there, get_or-map, length-map, option_map_or, slice_get-get_or, some_of_map, some_of_then, some_same}
+use Rattle.five_tuple.specs.Exports.{IsHeader, fields_of, number_of}
+use Rattle.update_machine.specs.Exports.{AuthorityRule, CacheEntry, Decision, Exit, Found, HasPlan, HaveCauses, Header, IsSetting, Item, Leg, NamesOwnPort, Partition, Row, Rule, Seek, Setting, authority_rule, current_mark, decision_of, first_place, found_down, header_at, header_in, leg_of, lookup_at, next_switch, plan_at, policy_at, retired_mark, serves, stamp_of, standing, tables_at, travels}
+use Rattle.partition.specs.Plan.{IsPlan}
+use Rattle.policy_rules.specs.Exports.{first_rule, hit_of, hit_of_rule, is_held, is_highest, is_in, row_matches, scan}
+use Rattle.switch_table.specs.Exports.{Hosted, authority_of, has_target, lookup_in, part_of, table_lookup, tables_of}
+use Rattle.switch_table.proofs.TableLemmas.{tables_planned}
+use Rattle.update_machine.proofs.Exports.{begins_planned, version_is_planned, versions_own}
 use Rattle.control_laws.specs.Exports.{HasItemCause, HoldsStamp}
 use Rattle.control_laws.proofs.Exports.{bounded, serving_hold, versions_planned}
-use Rattle.packet_laws.proofs.PlanLookups.{Finds, IsPlanned, LooksUp, looks_up, version_planned}
+use Rattle.packet_laws.specs.Exports.{AuthorityFinds, HasKeptFacts, IsAt, IsOnLeg, IsOnWay, IsSought, IsUnderWay, PacketFacts, Stage, what_is_known}
+
+-- ---- what the plan of a version says of a header: the partition whose region holds it, and the
+-- rule there that decides it as the version's policy does.
+
+-- ---- policies and their plans
+
+-- rows that name ports of the network alone, and their plan on it
+pub record IsPlanned (setting : Setting) (rows : List Row) (plan : List Hosted) : Type 0 where
+  pub parts : IsPlan rows setting.net plan
+  pub ports : All (λ row. NamesOwnPort setting row.action) rows
+
+-- a version with a plan is planned
+pub version_planned : (setting : Setting) (journal : List Item) (version : ℕ) → IsSetting setting
+    → HasPlan setting journal version
+    → IsPlanned setting (policy_at setting journal version) (plan_at setting journal version)
+version_planned setting journal version is has = record {
+  parts = version_is_planned setting journal version is has;
+  ports = (versions_own setting journal version is).1;
+}
+
+-- ---- ports of actions
+
+abbrev rows_that_match : List Row → Header → List Row
+rows_that_match rows header = filter (λ row. row_matches row (fields_of header)) rows
+
+hit_named : (setting : Setting) (rows : List Row) (best : Option Row)
+    → All (λ row. NamesOwnPort setting row.action) rows → find (is_highest rows) rows ≡ best →
+    NamesOwnPort setting (hit_of best).action
+hit_named setting rows None all e = tt
+hit_named setting rows (Some row) all e =
+    let there : Contains rows row = (find-there (is_highest rows) rows row e).0 in
+    subst (λ (r : Row). NamesOwnPort setting r.action) there.2 (all there.0 row there.1)
+
+-- the action of a first match names a port of the network, if it names one
+pub scan_named : (setting : Setting) (rows : List Row) (plan : List Hosted) (header : Header)
+    → IsPlanned setting rows plan → NamesOwnPort setting (scan rows header).action
+scan_named setting rows plan header is = hit_named setting (rows_that_match rows header) _
+    (All-filter (λ row. row_matches row (fields_of header)) (λ row. NamesOwnPort setting row.action)
+    rows is.ports) refl
+
+-- ---- the partition of a header
+
+-- the partition of a plan that holds the header, and its rule that decides it
+pub record Finds (rows : List Row) (plan : List Hosted) (header : Header) (hosted : Hosted) : Type 0 where
+  pub place : ℕ
+  pub rule : Rule
+  pub first : find (λ other. is_in header (part_of other)) plan ≡ Some hosted
+  pub holds : IsTrue (is_in header (part_of hosted))
+  pub at : slice_get plan hosted.0.number ≡ Some hosted
+  pub position : unwrap_or (position (is_held (number_of header)) hosted.0.rules) 0 ≡ place
+  pub ruled : slice_get hosted.0.rules place ≡ Some rule
+  pub decides : hit_of_rule rule ≡ scan rows header
+
+pub in_plan : (setting : Setting) (rows : List Row) (plan : List Hosted)
+    (header : Header) (hosted : Hosted) → IsPlanned setting rows plan → IsHeader header
+    → find (λ other. is_in header (part_of other)) plan ≡ Some hosted
+    → Finds rows plan header hosted
+in_plan setting rows plan header hosted is sound found =
+    let there = find-there (λ other. is_in header (part_of other)) plan hosted found in
+    let k : ℕ = there.0.0 in
+    let within : k < length (map part_of plan) =
+    omega (arith, length-map plan part_of, there.0.1) in
+    let mapped = get_or-map part_of plan k hosted (part_of hosted) there.0.1
+    ∙ ap part_of there.0.2 in
+    let got : slice_get plan k ≡ Some hosted = slice_get-get_or plan
+    k hosted there.0.1 ∙ ap Some there.0.2 in
+    let decided : option_map hit_of_rule (first_rule hosted.0.rules header)
+    ≡ Some (scan rows header) = subst (λ (p : Partition). IsTrue (is_in header p)
+    → option_map hit_of_rule (first_rule p.rules header) ≡ Some (scan rows header)) mapped
+    (is.parts.sound.decides header sound k (part_of hosted) within) there.1 in
+    let rule : (rule : Rule) × (first_rule hosted.0.rules header ≡ Some rule)
+    × (hit_of_rule rule ≡ scan rows header) = some_of_map hit_of_rule _ _ decided in
+    let position_of : (place : ℕ)
+    × (position (is_held (number_of header)) hosted.0.rules ≡ Some place)
+    × (slice_get hosted.0.rules place ≡ Some rule.0) = some_of_then (slice_get hosted.0.rules) _
+    rule.0 (find-position (is_held (number_of header)) hosted.0.rules ∙ rule.1) in record {
+      place = position_of.0;
+      rule = rule.0;
+      first = found;
+      holds = there.1;
+      at = ap (slice_get plan) (sym (ap (λ (p : Partition). p.number) mapped)
+          ∙ is.parts.sound.numbers k (part_of hosted) within) ∙ got;
+      position = ap (λ o. unwrap_or o 0) position_of.1;
+      ruled = position_of.2;
+      decides = rule.2;
+    }
+
+-- what the tables of a switch say of a header, by the partition that holds it
+pub record LooksUp (rows : List Row) (plan : List Hosted) (version switch : ℕ) (header : Header) : Type 0 where
+  pub hosted : Hosted
+  pub finds : Finds rows plan header hosted
+  pub says : table_lookup (tables_of plan version switch) header ≡ lookup_in switch header hosted
+
+pub looks_up : (setting : Setting) (rows : List Row) (plan : List Hosted) (version switch : ℕ)
+    (header : Header) → IsPlanned setting rows plan → IsHeader header
+    → LooksUp rows plan version switch header
+looks_up setting rows plan version switch header is sound =
+    let own = some_of_map (lookup_in switch header)
+    (find (λ other. is_in header (part_of other)) plan) _
+    (tables_planned rows plan version switch header is.parts.sound sound) in
+    record { hosted = own.0; finds = in_plan setting rows plan header own.0 is sound own.1; says = sym own.2 }
+
+-- ---- packet header lookups
 
 -- ---- versions
 
@@ -34,8 +139,7 @@ stamped setting journal s is have there serving =
     let holds : HoldsStamp journal s = serving_hold setting journal have s there serving in record {
       retired = holds.retired;
       current = holds.current;
-      planned = current_planned setting journal (stamp_of journal s) is have
-          (omega (arith, holds.retired)) holds.current;
+      planned = current_planned _ journal _ is have (omega (arith, holds.retired)) holds.current;
     }
 
 -- ---- what a lookup says
@@ -48,19 +152,16 @@ pub record FindsPart (setting : Setting) (journal : List Item) (s : ℕ) (header
       (plan_at setting journal (stamp_of journal s)) header hosted
   pub number : hosted.0.number ≡ partition
 
-by_tables : (entries : Option CacheEntry) (said other : Found) → option_map_or found.Cached entries
-    said ≡ other → ((entry : CacheEntry) → found.Cached entry ≡ other → ⊥) → said ≡ other
-by_tables None said other e none = e
-by_tables (Some entry) said other e none = absurd (none entry e)
+by_tables : (entries : Option CacheEntry) (said other : Found) → option_map_or Found.Cached entries
+    said ≡ other → ((entry : CacheEntry) → Found.Cached entry ≡ other → ⊥) → said ≡ other
+by_tables entries said other e none = search rules
 
 table_says : (setting : Setting) (journal : List Item) (s : ℕ) (header : Header) (other : Found)
     → lookup_at setting journal s header ≡ other
-    → ((entry : CacheEntry) → found.Cached entry ≡ other → ⊥)
+    → ((entry : CacheEntry) → Found.Cached entry ≡ other → ⊥)
     → table_lookup (tables_at setting journal (stamp_of journal s) s) header ≡ other
 unfolding lookup_at
-table_says setting journal s header other answer none = by_tables (first_entry (stamp_of journal s)
-    (number_of header) (cache_of setting journal s).entries)
-    (table_lookup (tables_at setting journal (stamp_of journal s) s) header) other answer none
+table_says setting journal s header other answer none = search (rules, by_tables)
 
 -- what a lookup says that no cached rule answers, by a partition of the plan of the stamp
 abbrev LooksUpAt : Setting → List Item → ℕ → Header → Type 0
@@ -74,11 +175,10 @@ record SaysOf (setting : Setting) (journal : List Item) (s : ℕ) (header : Head
 
 says_of : (setting : Setting) (journal : List Item) (s : ℕ) (header : Header) (what : Found)
     → IsStamped setting journal s → IsHeader header → lookup_at setting journal s header ≡ what
-    → ((entry : CacheEntry) → found.Cached entry ≡ what → ⊥) → SaysOf setting journal s header what
+    → ((entry : CacheEntry) → Found.Cached entry ≡ what → ⊥) → SaysOf setting journal s header what
 says_of setting journal s header what stamped sound answer none =
-    let looks = looks_up setting (policy_at setting journal (stamp_of journal s))
-    (plan_at setting journal (stamp_of journal s)) (stamp_of journal s) s header stamped.planned
-    sound in record {
+    let looks = looks_up setting _ (plan_at setting journal (stamp_of journal s))
+    (stamp_of journal s) s header stamped.planned sound in record {
       looks = looks;
       is = sym looks.says ∙ table_says setting journal s header what answer none;
     }
@@ -91,7 +191,7 @@ pub record FindsRule (setting : Setting) (journal : List Item) (s : ℕ) (header
 
 pub authority_found : (setting : Setting) (journal : List Item) (s : ℕ) (header : Header)
     (partition place : ℕ) → IsStamped setting journal s → IsHeader header
-    → lookup_at setting journal s header ≡ found.Authority partition place
+    → lookup_at setting journal s header ≡ Found.Authority partition place
     → FindsRule setting journal s header partition place
 authority_found setting journal s header partition at stamped sound answer =
     let says = says_of setting journal s header _ stamped sound answer (λ entry e. absurd cc) in
@@ -99,7 +199,7 @@ authority_found setting journal s header partition at stamped sound answer =
   where
     by_target : (looks : LooksUpAt setting journal s header) (b : Bool)
         → has_target s looks.hosted ≡ b → (if b then authority_of header (part_of looks.hosted)
-        else found.Redirect looks.hosted.0.number looks.hosted.1) ≡ found.Authority partition at
+        else Found.Redirect looks.hosted.0.number looks.hosted.1) ≡ Found.Authority partition at
         → FindsRule setting journal s header partition at
     by_target looks true is e = record {
       part = record { hosted = looks.hosted; finds = looks.finds; number = cc };
@@ -115,7 +215,7 @@ pub record FindsTargets (setting : Setting) (journal : List Item) (s : ℕ) (hea
 
 pub redirect_found : (setting : Setting) (journal : List Item) (s : ℕ) (header : Header)
     (partition : ℕ) (targets : List ℕ) → IsStamped setting journal s → IsHeader header
-    → lookup_at setting journal s header ≡ found.Redirect partition targets
+    → lookup_at setting journal s header ≡ Found.Redirect partition targets
     → FindsTargets setting journal s header partition targets
 redirect_found setting journal s header partition targets stamped sound answer =
     let says = says_of setting journal s header _ stamped sound answer (λ entry e. absurd cc) in
@@ -123,7 +223,7 @@ redirect_found setting journal s header partition targets stamped sound answer =
   where
     by_target : (looks : LooksUpAt setting journal s header) (b : Bool)
         → (if b then authority_of header (part_of looks.hosted)
-        else found.Redirect looks.hosted.0.number looks.hosted.1) ≡ found.Redirect partition targets
+        else Found.Redirect looks.hosted.0.number looks.hosted.1) ≡ Found.Redirect partition targets
         → FindsTargets setting journal s header partition targets
     by_target looks true e = absurd cc
     by_target looks false e = record {
@@ -146,11 +246,149 @@ pub rule_there : (setting : Setting) (journal : List Item) (header : Header) (ho
     (version partition : ℕ) (finds : Finds (policy_at setting journal version)
     (plan_at setting journal version) header hosted) → hosted.0.number ≡ partition
     → authority_rule setting journal version partition finds.place ≡ Some (deciding version finds)
-rule_there setting journal header hosted version partition finds number =
-    let rule_of : Hosted → Rule → AuthorityRule = λ p rule.
-    record { version = version; part = part_of p; place = finds.place; rule = rule } in
-    ap (λ (o : Option Hosted). elim o as (λ _. Option AuthorityRule) [
-      | None ↦ None
-      | Some p ↦ option_map (rule_of p) (slice_get p.0.rules finds.place)
-    ]) (ap (slice_get (plan_at setting journal version)) (sym number) ∙ finds.at)
-    ∙ ap (option_map (rule_of hosted)) finds.ruled
+rule_there setting journal header hosted version partition finds number = search rules
+
+-- ---- what is known of a packet at its switch, where something is kept of each packet
+
+-- ---- facts
+
+pub travels_in : (journal : List Item) (i : ℕ) → IsTrue (travels journal i)
+    → IsTrue (what_is_known journal i).travels
+unfolding what_is_known
+travels_in journal i is = is
+
+pub leg_in : (journal : List Item) (i : ℕ) (leg : Option Leg) → leg_of journal i ≡ leg
+    → (what_is_known journal i).leg ≡ leg
+unfolding what_is_known
+leg_in journal i leg is = is
+
+pub decision_in : (journal : List Item) (i : ℕ) (decision : Option Decision)
+    → decision_of journal i ≡ decision → (what_is_known journal i).decision ≡ decision
+unfolding what_is_known
+decision_in journal i decision is = is
+
+pub found_in : (journal : List Item) (i : ℕ) → found_down journal i ≡ (what_is_known journal i).found
+unfolding what_is_known
+found_in journal i = refl
+
+pub next_in : (journal : List Item) (i : ℕ) → next_switch journal i
+    ≡ slice_get (what_is_known journal i).route ((what_is_known journal i).hops + 1)
+unfolding what_is_known next_switch
+next_in journal i = refl
+
+pub stands_in : (journal : List Item) (i : ℕ) (s : ℕ) → (what_is_known journal i).stands ≡ Some s
+    → standing journal i ≡ Some s
+unfolding what_is_known
+stands_in journal i s is = is
+
+pub header_in_facts : (journal : List Item) (i : ℕ) (header : Header)
+    → (what_is_known journal i).header ≡ Some header → header_in journal i ≡ Some header
+unfolding what_is_known
+header_in_facts journal i header is = is
+
+-- ---- at a switch
+
+-- the packet is under way at the serving switch, whose stamp is of a planned version
+pub record IsHere (setting : Setting) (before : List Item) (i s : ℕ) : Type 0 where
+  pub travelling : IsTrue (what_is_known before i).travels
+  pub under : IsUnderWay setting before (what_is_known before i)
+  pub at : s ≡ under.switch
+  pub header : header_at before i ≡ under.header
+  pub stamped : IsStamped setting before s
+
+pub here_of : (setting : Setting) (before : List Item) (i s : ℕ) (stage : Option Stage)
+    → IsSetting setting → HaveCauses (HasItemCause setting) [] before
+    → HasKeptFacts setting before (what_is_known before i) stage → IsAt before i s
+    → IsHere setting before i s
+here_of setting before i s stage is have kept at =
+    let travelling : IsTrue (what_is_known before i).travels = travels_in before i at.travelling in
+    let under : IsUnderWay setting before (what_is_known before i) = kept.under_way travelling in
+    let same : s ≡ under.switch =
+    sym at.stands ∙ ap (λ o. unwrap_or o 0) (stands_in before i under.switch under.stands) in
+    record {
+      travelling = travelling;
+      under = under;
+      at = same;
+      header = rw (header_in_facts before i under.header under.entered) refl;
+      stamped = stamped setting before s is have (rw same under.now) at.serving;
+    }
+
+-- ---- legs
+
+leg_is : (one other : Leg) (facts : PacketFacts) → facts.leg ≡ Some one
+    → facts.leg ≡ Some other → one ≡ other
+leg_is one other facts p q = some_same facts.leg one other p q
+
+pub seeking_of : (setting : Setting) (journal : List Item) (facts : PacketFacts) (header : Header)
+    (version partition : ℕ) → IsOnWay setting journal facts → facts.header ≡ Some header
+    → facts.leg ≡ Some (Seek version partition)
+    → IsOnLeg setting journal facts header (Seek version partition)
+seeking_of setting journal facts header version partition way entered seeks =
+    search (rules, some_same, leg_is)
+
+pub exiting_of : (setting : Setting) (journal : List Item) (facts : PacketFacts) (port : ℕ)
+    (way : IsOnWay setting journal facts) → facts.leg ≡ Some (Exit port)
+    → IsOnLeg setting journal facts way.under_way.header (Exit port)
+exiting_of setting journal facts port way exits = search (rules, leg_is)
+
+-- ---- authority rules
+
+-- the rule is the one by which the plan of the version decides the header
+pub record Rules (setting : Setting) (before : List Item) (facts : PacketFacts) (header : Header)
+    (version : ℕ) (found : AuthorityRule) : Type 0 where
+  pub not_retired : facts.mark < version
+  pub current : version ≤ current_mark before
+  pub planned : IsPlanned setting (policy_at setting before version)
+      (plan_at setting before version)
+  pub hosted : Hosted
+  pub finds : Finds (policy_at setting before version) (plan_at setting before version) header
+      hosted
+  pub same : found ≡ deciding version finds
+
+rule_is : (o : Option AuthorityRule) (one other : AuthorityRule) → o ≡ Some one → o ≡ Some other
+    → one ≡ other
+rule_is o one other p q = cc
+
+pub rules_of : (setting : Setting) (before : List Item) (i s version : ℕ) (found : AuthorityRule)
+    → IsSetting setting → HaveCauses (HasItemCause setting) [] before
+    → (here : IsHere setting before i s)
+    → ((v p : ℕ) → (what_is_known before i).leg ≡ Some (Seek v p)
+    → IsSought setting before (what_is_known before i).mark here.under.header v p)
+    → AuthorityFinds setting before i s version found
+    → Rules setting before (what_is_known before i) here.under.header version found
+rules_of setting before i s version found is have here sought finds = elim finds.says [
+  | inl says ↦ let stamp : ℕ = stamp_of before s in
+      let own : FindsRule setting before s here.under.header finds.partition finds.place =
+      authority_found setting before s here.under.header finds.partition finds.place here.stamped
+      here.under.sound (ap (lookup_at setting before s) (sym here.header) ∙ says.answer) in
+      let rule = ap (authority_rule setting before stamp finds.partition) own.found_at
+      ∙ subst (λ v. authority_rule setting before v finds.partition finds.place ≡ Some found)
+      says.stamp finds.rule in
+      subst (λ v. Rules setting before (what_is_known before i) here.under.header v found)
+      (sym says.stamp) (record {
+        not_retired = omega (arith, here.under.mark, here.stamped.retired);
+        current = here.stamped.current;
+        planned = here.stamped.planned;
+        hosted = own.part.hosted;
+        finds = own.part.finds;
+        same = rule_is _ found (deciding stamp own.part.finds) rule (rule_there setting before
+            here.under.header own.part.hosted stamp finds.partition own.part.finds own.part.number);
+      })
+  | inr by ↦ let leg = sought version finds.partition (leg_in before i _ by.seeks) in
+      let planned = current_planned _ _ _ is have (omega (arith, leg.not_retired)) leg.current in
+      let own = in_plan setting _ _ _ leg.hosted planned here.under.sound leg.own.first in
+      let place = by.first ∙ ap (first_place setting before version finds.partition) here.header
+      ∙ ap (λ (o : Option Hosted). unwrap_or (option_and_then (λ (p : Hosted). position
+      (is_held (number_of here.under.header)) p.0.rules) o) 0) leg.own.found ∙ own.position in
+      record {
+        not_retired = leg.not_retired;
+        current = leg.current;
+        planned = planned;
+        hosted = leg.hosted;
+        finds = own;
+        same = rule_is _ found (deciding version own)
+            (ap (authority_rule setting before version finds.partition) (sym place) ∙ finds.rule)
+            (rule_there setting before here.under.header leg.hosted version finds.partition own
+            leg.own.number);
+      }
+]

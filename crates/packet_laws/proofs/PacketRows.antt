@@ -1,10 +1,102 @@
 -- The packet rows of the steps of events are those of the events.
-use Rattle.std.proofs.Common.{[], ◌++◌, ◌+◌, ◌-◌, ◌∙◌, ◌∷◌, ◌≡◌, ◌≤◌, ◌⊎◌, List, Option, ap, append-nil, append_assoc, arith, inl, inr, refl, subst, suc, sym, take, ℕ}
+use Rattle.std.proofs.Common.{[], ◌++◌, ◌+◌, ◌-◌, ◌∙◌, ◌∷◌, ◌≡◌, ◌≤◌, ◌⊎◌, Bool, List, None, Option, Some, ap, append-nil, append_assoc, arith, false, inl, inr, refl, subst, suc, sym, take, true, ℕ, rules}
+use Rattle.update_machine.specs.Exports.{Answers, AreFirstSteps, AreFirstStepsOf, AreSome, AreSteps, AreStepsOf, Drain, Event, Flush, HaveCauses, Header, IsPlay, Item, One, Packet, Setting, Step, StepOfRow, after_steps, items_then, lookup_items, next_delivery, next_hop, next_packet, packet_items, piece, serves}
+use Rattle.update_machine.proofs.Exports.{AreOf, HasNexts, all_first, all_given_append, event_steps_are, firsts_are}
+use Rattle.packet_laws.proofs.SparedPackets.{IsInStep, IsNoRow, lookup_in_step}
+use Rattle.packet_laws.proofs.RestingPackets.{no_entries, no_rows}
+use Rattle.packet_laws.specs.Exports.{AreEntered, EachEnters, StepRow, event_row, gives_row, rows_played, step_row, step_rows, step_rows_in}
 use Rattle.policy_rules.proofs.CallerLemmas.{append_not_nil}
-use Rattle.update_machine.specs.Exports.{AreFirstSteps, AreFirstStepsOf, AreSome, AreSteps, AreStepsOf, Drain, Event, Flush, Item, One, Setting, Step, StepOfRow, after_steps, next_delivery, next_hop, piece}
-use Rattle.update_machine.proofs.Exports.{AreOf, HasNexts, all_first, event_steps_are, firsts_are}
-use Rattle.packet_laws.specs.Exports.{StepRow, event_row, step_row, step_rows}
-use Rattle.packet_laws.proofs.RowPieces.{rows_of}
+
+-- ---- what the pieces of steps have of packet rows and their entries
+
+-- none of the items is a row
+abbrev NoRows : List Item → List Item → Type 0
+NoRows before items = HaveCauses (λ js next. IsNoRow next) before items
+
+-- ---- the rows
+
+none_given : (before items : List Item) → NoRows before items → step_rows_in items ≡ []
+none_given before [] none = refl
+none_given before (Item.Row row step ∷ items) none = absurd none.0
+none_given before (first ∷ items) none = none_given (before ++ first ∷ []) items none.1
+
+piece_rows : (setting : Setting) (before : List Item) (row : ℕ) (step : Step)
+    → step_rows_in (piece setting before row step) ≡ step_row row step
+unfolding piece
+piece_rows setting before row step =
+    cc (none_given _ _ (no_rows setting before row step), append-nil (step_row row step))
+
+-- the packet rows of steps
+abbrev pub rows_of : List StepOfRow → List StepRow
+rows_of [] = []
+rows_of (next ∷ steps) = step_row next.row next.step ++ rows_of steps
+
+pub steps_rows : (setting : Setting) (before : List Item) (steps : List StepOfRow)
+    → step_rows_in (after_steps setting before steps) ≡ step_rows_in before ++ rows_of steps
+steps_rows setting before [] = sym (append-nil (step_rows_in before))
+steps_rows setting before (next ∷ steps) =
+    steps_rows setting (before ++ piece setting before next.row next.step) steps
+    ∙ ap (λ rows. rows ++ rows_of steps)
+    (all_given_append gives_row before (piece setting before next.row next.step)
+    ∙ ap (λ rows. step_rows_in before ++ rows) (piece_rows setting before next.row next.step))
+    ∙ append_assoc (step_rows_in before) (step_row next.row next.step) (rows_of steps)
+
+-- ---- the entries
+
+none_enter : (before journal items : List Item)
+    → HaveCauses (λ js next. IsInStep next) journal items → EachEnters before items
+none_enter before journal [] none = tt
+none_enter before journal (Item.Row row step ∷ items) none = absurd none.0
+none_enter before journal (Item.Entered packet switch header ∷ items) none = absurd none.0
+none_enter before journal (Item.Closed packet switch ∷ items) none = absurd none.0
+none_enter before journal (first ∷ items) none = none_enter (before ++ first ∷ []) _ items none.1
+
+packet_enters : (setting : Setting) (before : List Item) (row s : ℕ) (header : Header)
+    → EachEnters before (piece setting before row (Packet s header))
+unfolding piece packet_items
+packet_enters setting before row s header = by_serving (serves here s) refl where
+  i : ℕ
+  i = next_packet before
+
+  here : List Item
+  here = before ++ Item.Row row (Packet s header) ∷ []
+
+  by_serving : (b : Bool) → serves here s ≡ b → EachEnters before (Item.Row row (Packet s header) ∷ elim b [
+    | false ↦ Item.Closed i s ∷ []
+    | true ↦ items_then (Item.Entered i s header ∷ []) (lookup_items setting i s) here
+  ])
+  by_serving false is = ((refl, refl, is), tt)
+  by_serving true is = ((refl, refl, refl, is), none_enter _ _ _ (lookup_in_step setting i s _))
+
+piece_enters : (setting : Setting) (before : List Item) (row : ℕ) (step : Step)
+    → EachEnters before (piece setting before row step)
+unfolding piece
+piece_enters setting before row (Packet s header) = packet_enters setting before row s header
+piece_enters setting before row step = none_enter _ _ _ (no_entries setting before row step tt)
+
+enter_on : (before items more : List Item) → EachEnters before items
+    → EachEnters (before ++ items) more → EachEnters before (items ++ more)
+enter_on before [] more first then = subst (λ js. EachEnters js more) (append-nil before) then
+enter_on before (Item.Row row (Packet s header) ∷ []) more first then = absurd first
+enter_on before (Item.Row row (Packet s header) ∷ entry ∷ items) more first then =
+    let own : List Item = Item.Row row (Packet s header) ∷ entry ∷ [] in (
+      first.0,
+      enter_on (before ++ own) items more first.1 (rw (append_assoc before own items) then),
+    )
+enter_on before (Item.Entered packet switch header ∷ items) more first then = absurd first
+enter_on before (Item.Closed packet switch ∷ items) more first then = absurd first
+enter_on before (next ∷ items) more first then = enter_on (before ++ next ∷ []) items more first
+    (rw (append_assoc before (next ∷ []) items) then)
+
+pub steps_enter : (setting : Setting) (before : List Item) (steps : List StepOfRow)
+    → EachEnters [] before → EachEnters [] (after_steps setting before steps)
+steps_enter setting before [] known = known
+steps_enter setting before (next ∷ steps) known =
+    steps_enter setting (before ++ piece setting before next.row next.step) steps
+    (enter_on [] before (piece setting before next.row next.step) known
+    (piece_enters setting before next.row next.step))
+
+-- ---- packet rows
 
 pub rows_append : (one two : List StepOfRow) → rows_of (one ++ two) ≡ rows_of one ++ rows_of two
 rows_append [] two = refl
@@ -61,8 +153,7 @@ some_last setting next row before (first ∷ steps) last some = some_last settin
 none_front : (row : ℕ) (steps : List StepOfRow) (last : StepOfRow)
     → AreOf BringsNone (steps ++ last ∷ []) → last.row ≡ row → Front row steps last
 none_front row steps last none is = record {
-  none = first_empty (rows_of steps) (rows_of (last ∷ []))
-      (sym (rows_append steps (last ∷ [])) ∙ none_rows (steps ++ last ∷ []) none);
+  none = first_empty (rows_of steps) _ (sym (rows_append steps (last ∷ [])) ∙ none_rows _ none);
   of_row = is;
 } where
   first_empty : (xs ys : List StepRow) → xs ++ ys ≡ [] → xs ≡ []
@@ -90,9 +181,8 @@ pub all_steps_rows : (setting : Setting) (row : ℕ) (events : List Event) (befo
 all_steps_rows setting row [] before steps all = ap rows_of all
 all_steps_rows setting row (event ∷ events) before steps (mine, rest, split, all, others) =
     ap rows_of split.split ∙ rows_append mine rest
-    ∙ ap (λ rows. rows ++ rows_of rest) (event_rows setting row event before mine all)
-    ∙ ap (λ rows. event_row row event ++ rows)
-    (all_steps_rows setting (row + 1) events (after_steps setting before mine) rest others)
+    ∙ ap (λ rows. rows ++ rows_of rest) (event_rows setting row event before mine all) ∙ ap
+    (λ rows. event_row row event ++ rows) (all_steps_rows setting (row + 1) events _ rest others)
 
 -- ---- in front of a step
 
@@ -168,3 +258,25 @@ steps_in_front setting row (event ∷ events) before steps last
     front_played setting row event events before steps last mine rest all
     (λ front is. steps_in_front setting (row + 1) events after front last (rw is at others))
     (where_ends steps last mine rest split.split)
+
+-- ---- the packets of plays
+
+steps_entered : (setting : Setting) (steps : List StepOfRow) (journal : List Item)
+    (rows : List StepRow) → journal ≡ after_steps setting [] steps → rows_of steps ≡ rows
+    → AreEntered rows journal
+steps_entered setting steps journal rows written are =
+    subst (AreEntered rows) (sym written) (record {
+      in_order = steps_rows setting [] steps ∙ are;
+      each = steps_enter setting [] steps tt;
+    })
+
+pub answer_entered : (setting : Setting) (events : List Event) (journal : List Item)
+    → Answers setting events journal → AreEntered (step_rows 1 events) journal
+answer_entered setting events journal answers = search (rules, steps_entered, all_steps_rows)
+
+pub play_entered : (setting : Setting) (events : List Event) (journal : List Item) (full : Option ℕ)
+    → IsPlay setting events journal full → AreEntered (rows_played full events) journal
+play_entered setting events journal None play = answer_entered setting events journal play.answers
+play_entered setting events journal (Some row) play = steps_entered setting play.steps journal _
+    play.written ((steps_in_front setting 1 events [] play.steps play.next play.allowed).rows
+    ∙ ap (λ r. step_rows 1 (take (r - 1) events)) play.of_row)

@@ -1,14 +1,159 @@
 -- Each list of events has a play: all their steps, or those before the first that would begin full.
-use Rattle.std.proofs.Common.{[], ◌++◌, ◌+◌, ◌<◌, ◌∷◌, ◌≤◌, ◌⊎◌, All, List, None, Option, Some, append_assoc, arith, get_or, inl, inr, refl, subst, suc, sym, ℕ}
-use Rattle.base.proofs.Exports.{cases_lt}
-use Rattle.update_machine.specs.Exports.{AreAll, AreFirstSteps, AreFirstStepsOf, AreSome, AreSteps, AreStepsOf, Drain, Event, Flush, HasPlay, HaveRoom, IsFull, IsSetting, Item, One, Setting, Step, StepOfRow, after_steps, full_at, next_delivery, next_hop, next_message, piece}
+use Rattle.std.proofs.Common.{[], ◌++◌, ◌+◌, ◌<◌, ◌∙◌, ◌∷◌, ◌≡◌, ◌≤◌, ◌⊎◌, All, List, None, Option, Some, ap, append_assoc, arith, get_or, inl, inr, length, option_map, refl, subst, suc, sym, take, zero, ℕ, rules}
+use Rattle.base.proofs.Exports.{cases_lt, take-append_seam}
+use Rattle.update_machine.specs.Exports.{AreAll, AreFirstSteps, AreFirstStepsOf, AreSome, AreSteps, AreStepsOf, Deliver, Drain, Event, Flush, HasPlay, HaveCauses, HaveRoom, IsFull, IsSetting, Item, One, Setting, Step, StepOfRow, after_steps, full_at, next_delivery, next_hop, next_message, next_waiting, piece}
+use Rattle.control_laws.specs.Exports.{AcksHold, AreEvents, BootsAreKnown, HasItemCause, HoldsAlways, HoldsReached, IsAckedFirst, MarksAreBounded, MembersAcknowledged, OpensAtOneVersion, ServingHold, ServingIsKnown, StampsSayTouched, TablesArePlanned}
+use Rattle.packet_laws.specs.Exports.{ChangesLeaveOthers, GoesOrStops, KeepVersionsWhole, RulesAreRight, UntouchedStay}
+use Rattle.packet_laws.proofs.WaitingMessages.{next_is, numbers_rise}
 use Rattle.update_machine.proofs.Exports.{IsEventOf, after_append, event_steps_are, rooms_append}
-use Rattle.control_laws.specs.Exports.{AreEvents}
 use Rattle.control_laws.proofs.Exports.{NamesOwn, has_nexts, own_event}
-use Rattle.packet_laws.specs.Exports.{GoesOrStops}
-use Rattle.packet_laws.proofs.DrainHops.{drain_ends}
-use Rattle.packet_laws.proofs.FlushEnds.{flush_goes}
-use Rattle.packet_laws.proofs.ReadySteps.{IsReady, ready_at_first, steps_ready}
+use Rattle.packet_laws.proofs.DrainHops.{IsReady, drain_ends, ready_at_first, steps_ready}
+
+-- ---- what always holds, holds of journals that are reached, within a step too; so all that keeps
+-- versions whole holds of them.
+
+-- what always holds, holds where a journal is reached
+pub always_reached : (Holds : Setting → List Item → Type 0) → HoldsAlways Holds → HoldsReached Holds
+always_reached Holds law = record {
+  reached = λ setting journal at. rw at.written (law.behind.ends.stepped setting at.steps);
+  within = λ setting journal rest at. subst (Holds setting)
+      (ap (take (length journal)) (sym at.written) ∙ take-append_seam journal rest)
+      (law.behind.items setting at.steps (length journal));
+  answered = λ setting events journal own answers.
+      law.behind.ends.answered setting events journal answers;
+  begun = λ setting events journal own begins. law.behind.begun setting events journal begins;
+}
+
+-- a fact of the journals of settings, within a step too
+abbrev pub OfReached : (Setting → List Item → Type 0) → Type 0
+OfReached Holds = HoldsReached (λ setting journal. IsSetting setting → Holds setting journal)
+
+-- the laws of boots, versions and marks, and of cache rules
+pub record Laws : Type 0 where
+  pub causes : HoldsAlways (λ setting journal. HaveCauses (HasItemCause setting) [] journal)
+  pub boots : HoldsAlways (λ setting journal. BootsAreKnown journal)
+  pub serving : HoldsAlways (λ setting journal. ServingIsKnown journal)
+  pub heard : HoldsAlways (λ setting journal. (s : ℕ) → AcksHold journal s)
+  pub acknowledged : HoldsAlways (λ setting journal. HaveCauses (IsAckedFirst setting) [] journal)
+  pub opened : HoldsAlways (λ setting journal. OpensAtOneVersion journal)
+  pub tables : HoldsAlways (λ setting journal. TablesArePlanned setting journal)
+  pub members : HoldsAlways (λ setting journal. MembersAcknowledged setting journal)
+  pub marks : HoldsAlways (λ setting journal. MarksAreBounded setting journal)
+  pub holding : HoldsAlways (λ setting journal. ServingHold setting journal)
+  pub touched : HoldsAlways (λ setting journal. StampsSayTouched setting journal)
+  pub rules : OfReached RulesAreRight
+  pub untouched : OfReached UntouchedStay
+  pub alike : OfReached ChangesLeaveOthers
+
+module _ (laws : Laws) (setting : Setting) (journal : List Item) where
+  -- each item has its cause, and most of it follows
+  whole : HaveCauses (HasItemCause setting) [] journal → RulesAreRight setting journal
+      → UntouchedStay setting journal → ChangesLeaveOthers setting journal
+      → KeepVersionsWhole setting journal
+  whole causes rules untouched alike = record {
+    causes = causes;
+    boots = laws.boots.caused setting journal causes;
+    serving = laws.serving.caused setting journal causes;
+    heard = laws.heard.caused setting journal causes;
+    acknowledged = laws.acknowledged.caused setting journal causes;
+    opened = laws.opened.caused setting journal causes;
+    tables = laws.tables.caused setting journal causes;
+    members = laws.members.caused setting journal causes;
+    marks = laws.marks.caused setting journal causes;
+    holding = laws.holding.caused setting journal causes;
+    touched = laws.touched.caused setting journal causes;
+    rules = rules;
+    untouched = untouched;
+    alike = alike;
+  }
+
+pub together : Laws → OfReached KeepVersionsWhole
+together laws = let causes = always_reached _ laws.causes in record {
+  reached = λ setting journal at is. whole laws setting journal
+      (causes.reached setting journal at) (laws.rules.reached setting journal at is)
+      (laws.untouched.reached setting journal at is) (laws.alike.reached setting journal at is);
+  within = λ setting journal rest at is. whole laws setting journal
+      (causes.within setting journal rest at) (laws.rules.within setting journal rest at is)
+      (laws.untouched.within setting journal rest at is)
+      (laws.alike.within setting journal rest at is);
+  answered = λ setting events journal own answers is. whole laws setting journal
+      (causes.answered setting events journal own answers)
+      (laws.rules.answered setting events journal own answers is)
+      (laws.untouched.answered setting events journal own answers is)
+      (laws.alike.answered setting events journal own answers is);
+  begun = λ setting events journal own begins is. whole laws setting journal
+      (causes.begun setting events journal own begins)
+      (laws.rules.begun setting events journal own begins is)
+      (laws.untouched.begun setting events journal own begins is)
+      (laws.alike.begun setting events journal own begins is);
+}
+
+-- ---- in a play a flush comes to its end, or to a full journal
+
+-- the next message that waits is among the last of those that a journal with room may number
+abbrev IsAmong : ℕ → List Item → Type 0
+IsAmong most journal = (n : ℕ) → next_waiting journal ≡ Some n → full_at < n + most
+
+none_left : (setting : Setting) (row : ℕ) (before : List Item) → next_waiting before ≡ None
+    → GoesOrStops setting next_delivery row before
+none_left setting row before none = search rules
+
+stops_here : (setting : Setting) (row : ℕ) (before : List Item) (n : ℕ) → next_waiting before
+    ≡ Some n → IsFull before → GoesOrStops setting next_delivery row before
+stops_here setting row before n is full = record {
+  steps = [];
+  room = tt;
+  how = inr (record {
+    more = record { row = row; step = Deliver n };
+    allowed = (refl, ap (option_map Deliver) is, tt);
+    full = full;
+  });
+}
+
+one_more : (setting : Setting) (row : ℕ) (before : List Item) (n : ℕ)
+    → next_waiting before ≡ Some n → next_message before ≤ full_at
+    → GoesOrStops setting next_delivery row (before ++ piece setting before row (Deliver n))
+    → GoesOrStops setting next_delivery row before
+one_more setting row before n is room rest =
+    let first : StepOfRow = record { row = row; step = Deliver n } in
+    let goes = ap (option_map Deliver) is in record {
+      steps = first ∷ rest.steps;
+      room = (room, rest.room);
+      how = elim rest.how [
+        | inl all ↦ inl (refl, goes, all)
+        | inr stop ↦ inr (record {
+          more = stop.more;
+          allowed = (refl, goes, stop.allowed);
+          full = stop.full;
+        })
+      ];
+    }
+
+flush_within : (setting : Setting) (row most : ℕ) (before : List Item) → IsAmong most before
+    → GoesOrStops setting next_delivery row before
+flush_within setting row zero before among = by_next (next_waiting before) refl where
+  by_next : (o : Option ℕ) → next_waiting before ≡ o → GoesOrStops setting next_delivery row before
+  by_next None e = none_left setting row before e
+  by_next (Some n) e = stops_here _ row _ n e (omega (arith, among n e, (next_is before n e).sent))
+flush_within setting row (suc most) before among =
+    by_next (next_waiting before) refl (flush_within setting row most)
+  where
+    by_next : (o : Option ℕ) → next_waiting before ≡ o → ((journal : List Item)
+        → IsAmong most journal → GoesOrStops setting next_delivery row journal)
+        → GoesOrStops setting next_delivery row before
+    by_next None e rest = none_left setting row before e
+    by_next (Some n) e rest = elim (cases_lt full_at (next_message before)) [
+      | inl full ↦ stops_here setting row before n e full
+      | inr room ↦ one_more _ row _ n e room (rest (before ++ piece setting before row (Deliver n))
+          (λ m later. omega (arith, among n e, numbers_rise setting before row n m e later)))
+    ]
+
+pub flush_goes : (setting : Setting) (journal : List Item) (row : ℕ)
+    → GoesOrStops setting next_delivery row journal
+flush_goes setting journal row =
+    flush_within setting row (full_at + 1) journal (λ n is. omega arith)
+
+-- ---- play existence
 
 -- ---- an event
 
@@ -60,18 +205,7 @@ goes_as : (setting : Setting) (next : List Item → Option Step) (row : ℕ) (ev
     → ((steps : List StepOfRow) → AreSome setting next row before steps
     → AreFirstStepsOf setting row event before steps)
     → GoesOrStops setting next row before → EventGoes setting row event before
-goes_as setting next row event before all_of some_of goes = record {
-  steps = goes.steps;
-  room = goes.room;
-  how = elim goes.how [
-    | inl all ↦ inl (all_of goes.steps all)
-    | inr stop ↦ inr (record {
-      more = stop.more;
-      allowed = some_of (goes.steps ++ stop.more ∷ []) stop.allowed;
-      full = stop.full;
-    })
-  ];
-}
+goes_as setting next row event before all_of some_of goes = search rules
 
 event_goes : (setting : Setting) (row : ℕ) (event : Event) (before : List Item)
     → IsSetting setting → IsReady setting before → EventGoes setting row event before
@@ -156,9 +290,8 @@ events_go setting row (event ∷ events) before is own ready =
         → EventsGo setting (row + 1) events journal) → EventsGo setting row (event ∷ events) before
     by_first first rest = elim first.how [
       | inl all ↦ go_on setting row event events before first.steps first.room all
-          (rest (after_steps setting before first.steps) (steps_ready setting before first.steps is
-          (event_steps_are (NamesOwn setting) (has_nexts setting) setting row event before
-          first.steps (own 0 event (omega arith)) all) ready))
+          (rest (after_steps setting before first.steps) (steps_ready _ before _ is (event_steps_are
+          _ (has_nexts setting) setting row event before _ (own 0 event (omega arith)) all) ready))
       | inr stop ↦ stop_first setting row event events before first.steps first.room stop
     ]
 
@@ -166,11 +299,8 @@ events_go setting row (event ∷ events) before is own ready =
 
 pub has_play : (setting : Setting) (events : List Event) → IsSetting setting
     → AreEvents setting events → HasPlay setting events
-has_play setting events is own = by (events_go setting 1 events [] is
-    (λ k d within. own_event setting (get_or events k d) (own k d within)) (ready_at_first setting))
-  where
-    by : EventsGo setting 1 events [] → HasPlay setting events
-    by all = elim all.how [
+has_play setting events is own =
+    let by : EventsGo setting 1 events [] → HasPlay setting events = λ all. elim all.how [
       | inl answers ↦ (
         after_steps setting [] all.steps,
         None,
@@ -192,4 +322,6 @@ has_play setting events is own = by (events_go setting 1 events [] is
           of_row = refl;
         },
       )
-    ]
+    ] in
+    by (events_go setting 1 events [] is
+    (λ k d within. own_event setting (get_or events k d) (own k d within)) (ready_at_first setting))

@@ -1,7 +1,7 @@
 -- Moves that the abstract machine doesn't make: what a journal that is a run never says.
-use Rattle.std.proofs.Common.{◌∙◌, ◌≡◌, List, None, Option, Some, ap, arith, length, option_map, subst, sym, ℕ}
+use Rattle.std.proofs.Common.{◌≡◌, List, None, Option, Some, arith, length, option_map, ℕ, rules}
 use Rattle.base.proofs.Exports.{slice_get_within, some_same}
-use Rattle.update_machine.specs.Exports.{Action, Decides, Drop, Dropped, End, Ends, Enters, Header, Hit, LeftBy, Machine, Out, Retires, Row, Submits}
+use Rattle.update_machine.specs.Exports.{Action, Decides, Dropped, End, Ends, Enters, Header, Hit, LeftBy, Machine, Out, Retires, Row, Submits}
 use Rattle.update_machine.specs.Machine.{Packet}
 
 -- ---- policies and the mark
@@ -25,34 +25,28 @@ not_again old new one retires = omega (arith, one, retires.rises)
 
 not_in_twice : (old new : Machine) (packet : Packet) (header : Header)
     → old.packets 1 ≡ Some packet → Enters old 1 header new → ⊥
-not_in_twice old new packet header entered enters =
-    let none : None ≡ Some packet = sym enters.unknown ∙ entered in cc
+not_in_twice old new packet header entered enters = search rules
 
 not_decided_before_it_is_in : (old new : Machine) (version : ℕ) (hit : Hit)
     → old.packets 1 ≡ None → Decides old 1 version hit new → ⊥
-not_decided_before_it_is_in old new version hit unknown decides =
-    let none : None ≡ Some decides.packet = sym unknown ∙ decides.entered in cc
+not_decided_before_it_is_in old new version hit unknown decides = search rules
 
 -- who is decided is undecided, and hasn't ended
 open_until_decided : (old new : Machine) (packet : Packet) (version : ℕ) (hit : Hit)
     → old.packets 1 ≡ Some packet → Decides old 1 version hit new
     → (packet.decision ≡ None) × (packet.end ≡ None)
-open_until_decided old new packet version hit entered decides =
-    subst (λ (p : Packet). (p.decision ≡ None) × (p.end ≡ None)) (some_same (old.packets 1)
-    decides.packet packet decides.entered entered) (decides.undecided, decides.not_ended)
+open_until_decided old new packet version hit entered decides = search (rules, some_same)
 
 not_decided_twice : (old new : Machine) (packet : Packet) (version : ℕ) (first hit : Hit)
     → old.packets 1 ≡ Some packet → packet.decision ≡ Some first → Decides old 1 version hit new → ⊥
 not_decided_twice old new packet version first hit entered decided decides =
-    let was = open_until_decided old new packet version hit entered decides in
-    let none : None ≡ Some first = sym was.0 ∙ decided in cc
+    search (rules, open_until_decided)
 
 not_decided_once_it_ended : (old new : Machine) (packet : Packet) (version : ℕ) (hit : Hit)
     (end : End) → old.packets 1 ≡ Some packet → packet.end ≡ Some end
     → Decides old 1 version hit new → ⊥
 not_decided_once_it_ended old new packet version hit end entered ended decides =
-    let was = open_until_decided old new packet version hit entered decides in
-    let none : None ≡ Some end = sym was.1 ∙ ended in cc
+    search (rules, open_until_decided)
 
 not_by_a_version_to_come : (old new : Machine) (hit : Hit) → length old.policies ≡ 1
     → Decides old 1 3 hit new → ⊥
@@ -60,10 +54,7 @@ not_by_a_version_to_come old new hit one decides = omega (arith, slice_get_withi
 
 not_ended_twice : (old new : Machine) (packet : Packet) (first other : End)
     → old.packets 1 ≡ Some packet → packet.end ≡ Some first → Ends old 1 other new → ⊥
-not_ended_twice old new packet first other entered ended ends =
-    let none : None ≡ Some first = sym ends.not_ended ∙ ap (λ (p : Packet). p.end)
-    (some_same (old.packets 1) ends.packet packet ends.entered entered) ∙ ended in
-    cc
+not_ended_twice old new packet first other entered ended ends = search (rules, some_same)
 
 -- ---- ends are as they were decided
 
@@ -73,11 +64,7 @@ action_of packet = option_map (λ (hit : Hit). hit.action) packet.decision
 
 not_dropped_undecided : (old new : Machine) (packet : Packet) → old.packets 1 ≡ Some packet
     → packet.decision ≡ None → Ends old 1 Dropped new → ⊥
-not_dropped_undecided old new packet entered undecided ends =
-    let none : Some Drop ≡ None =
-    sym ends.may ∙ ap action_of (some_same (old.packets 1) ends.packet packet ends.entered entered)
-    ∙ ap (option_map (λ (hit : Hit). hit.action)) undecided in
-    cc
+not_dropped_undecided old new packet entered undecided ends = search (rules, some_same)
 
 same_port : (port other : ℕ) → Some (Out port) ≡ Some (Out other) → port ≡ other
 same_port port other same = cc
@@ -85,15 +72,8 @@ same_port port other same = cc
 not_out_by_another_port : (old new : Machine) (packet : Packet) (hit : Hit) → old.packets 1
     ≡ Some packet → packet.decision ≡ Some hit → hit.action ≡ Out 2 → Ends old 1 (LeftBy 3) new → ⊥
 not_out_by_another_port old new packet hit entered decided by ends =
-    let other : Some (Out 3) ≡ Some (Out 2) =
-    sym ends.may ∙ ap action_of (some_same (old.packets 1) ends.packet packet ends.entered entered)
-    ∙ ap (option_map (λ (h : Hit). h.action)) decided ∙ ap Some by in
-    omega (arith, same_port 3 2 other)
+    search (rules, some_same, same_port)
 
 not_dropped_that_is_let_out : (old new : Machine) (packet : Packet) (hit : Hit) → old.packets 1
     ≡ Some packet → packet.decision ≡ Some hit → hit.action ≡ Out 2 → Ends old 1 Dropped new → ⊥
-not_dropped_that_is_let_out old new packet hit entered decided by ends =
-    let other : Some Drop ≡ Some (Out 2) =
-    sym ends.may ∙ ap action_of (some_same (old.packets 1) ends.packet packet ends.entered entered)
-    ∙ ap (option_map (λ (h : Hit). h.action)) decided ∙ ap Some by in
-    cc
+not_dropped_that_is_let_out old new packet hit entered decided by ends = search (rules, some_same)

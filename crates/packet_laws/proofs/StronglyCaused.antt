@@ -1,19 +1,215 @@
 -- The strong causes follow from those that are read off the items, and from what is kept.
-use Rattle.std.proofs.Common.{[], ◌<◌, ◌∙◌, ◌≡◌, ◌⊎◌, IsFalse, IsTrue, List, None, Option, Some, arith, inl, inr, length, subst, sym, ℕ}
-use Rattle.base.proofs.Exports.{some_same}
-use Rattle.update_machine.specs.Exports.{Action, Cause, Exit, HaveCauses, How, IsSetting, Item, Leg, Seek, Setting, found_down, holds_version, leg_of, route_for, stamp_of, standing, targets_of}
-use Rattle.journal.specs.declared.item.Item.TheVariants as item
-use Rattle.update_machine.proofs.Exports.{known_link_laws}
-use Rattle.control_laws.specs.Exports.{HasItemCause}
-use Rattle.control_laws.proofs.Exports.{Behind, have_weaker, serving_hold}
-use Rattle.packet_laws.specs.Exports.{AllKept, FindsLinkDown, FindsNoRoute, FurtherCause, IsAt, IsBlockedOn, IsDecided, IsLeastRoute, IsLookedUp, IsOnLeg, IsOnRightLeg, IsRedirected, IsStuckOnLeg, MeetsDown, PacketCause, PacketFacts, RaisesOnLeg, RaisesUnheld, RaisesVersion, SeeksRightly, StrongCause, TakesLeg, stage_of, what_is_known}
+use Rattle.std.proofs.Common.{[], ◌++◌, ◌+◌, ◌<◌, ◌==◌, ◌∙◌, ◌∷◌, ◌≡◌, ◌≤◌, ◌⊎◌, Bool, IsFalse, IsTrue, List, None, Option, Some, ap, arith, eqb-true, false, if◌then◌else◌, inl, inr, length, nat_eq, refl, subst, sym, true, unwrap_or, ℕ, rules}
+use Rattle.base.proofs.Exports.{list_any, option_or, some_same}
+use Rattle.update_machine.specs.Exports.{Action, Cause, Decision, Exit, HasCause, HaveCauses, Header, How, IsSetting, Item, Leg, Row, Seek, Setting, current_mark, decision_of, found_down, gives_decision, gives_header, header_in, holds_version, leg_of, next_packet, policy_at, policy_in, route_for, stamp_of, targets_of}
+use Rattle.control_laws.specs.Exports.{EndsAt, HasItemCause}
+use Rattle.packet_laws.specs.Exports.{AllKept, ChangesLeaveOthers, EndsAtTarget, FindsLinkDown, FindsNoRoute, FurtherCause, IsAt, IsAtEnd, IsBlockedOn, IsDecided, IsLeastRoute, IsLookedUp, IsOnLeg, IsOnRightLeg, IsOnWay, IsRedirected, IsStuckOnLeg, MeetsDown, PacketCause, PacketFacts, PacketsArrive, RaisesOnLeg, RaisesUnheld, RaisesVersion, SeeksRightly, StrongCause, TakesLeg, hit_in, stage_of, what_is_known}
+use Rattle.packet_laws.proofs.PacketEnds.{decision_out, end_caused, last_here, leaves_rightly, mark_in, meets_link, one_target, seeks_rightly, stands_known, stuck_rightly}
+use Rattle.packet_laws.proofs.PacketHeaderLookups.{IsHere, header_in_facts, here_of, leg_in, next_in, seeking_of, stands_in, travels_in}
+use Rattle.control_laws.proofs.Exports.{AreKept, Behind, caused_known, fact_on, have_weaker, serving_hold}
 use Rattle.packet_laws.proofs.AllKept.{Before, kept_before, known_before, knows}
-use Rattle.packet_laws.proofs.PacketEnds.{decision_out, leaves_rightly, mark_in, meets_link, seeks_rightly, stands_known, stuck_rightly}
-use Rattle.packet_laws.proofs.PacketsHere.{IsHere, here_of, leg_in, seeking_of}
+use Rattle.packet_laws.proofs.RestingPackets.{IsWayItem, Past, switches_of_all}
+use Rattle.policy_rules.specs.Exports.{AmendmentLaws, IsPolicy, scan}
+use Rattle.policy_rules.proofs.CallerLemmas.{first_match-scan}
+use Rattle.update_machine.proofs.Exports.{known_link_laws, last_given_append, versions_own}
+use Rattle.packet_laws.proofs.CacheRules.{Grows, first_match_by_scan, grows}
 use Rattle.packet_laws.proofs.KeptPacketFacts.{IsDecidedNow, Knows, decided_now, stage_when, undecided_of}
 use Rattle.packet_laws.proofs.PacketBlocks.{WhenDecided}
-use Rattle.packet_laws.proofs.RestingPackets.{IsWayItem, Past}
 use Rattle.packet_laws.proofs.PacketKnownRoutes.{route_way}
+
+-- ---- a packet at the end of its route is where its leg leads
+
+-- it stands at a target of its leg
+at_target : (setting : Setting) (journal : List Item) (i s : ℕ) (header : Header) (leg : Leg)
+    (targets : List ℕ) (way : IsOnWay setting journal (what_is_known journal i))
+    → IsAtEnd journal i s header leg → EndsAtTarget (what_is_known journal i).route targets
+    → IsTrue (list_any (nat_eq s) targets)
+at_target setting journal i s header leg targets way at ends =
+    search (rules, last_here, next_in, some_same, stands_in)
+
+by_leg : (setting : Setting) (journal : List Item) (i s : ℕ) (header : Header) (leg : Leg)
+    (way : IsOnWay setting journal (what_is_known journal i)) → IsAtEnd journal i s header leg
+    → IsOnLeg setting journal (what_is_known journal i) header leg
+    → EndsAt setting journal s header leg
+by_leg setting journal i s header (Seek version partition) way at on = record {
+  hosted = on.hosted;
+  found = on.own.found;
+  number = on.own.number;
+  holds = on.own.holds;
+  target = at_target setting journal i s header _ on.hosted.1 way at on.leads.ends;
+}
+by_leg setting journal i s header (Exit port) way at on = on.has_port ∙ ap Some (sym (one_target s
+    on.owner (at_target setting journal i s header (Exit port) _ way at on.leads.ends)))
+
+pub packets_arrive : (setting : Setting) (journal : List Item) → AllKept setting journal
+    → PacketsArrive setting journal
+packets_arrive setting journal kept i s header leg at =
+    let facts : PacketFacts = what_is_known journal i in
+    let way : IsOnWay setting journal facts =
+    (kept.packets i).on_way (travels_in journal i at.travelling) (inl at.arrives.moving) in
+    let own : way.under_way.header ≡ header = some_same (header_in journal i) way.under_way.header
+    header (header_in_facts journal i way.under_way.header way.under_way.entered) at.with_header in
+    by_leg setting journal i s header leg way at
+    (rw own at (rw (some_same _ way.leg leg way.takes (leg_in journal i _ at.takes)) at way.on_leg))
+
+-- ---- in a journal whose items have their causes the ends of packets do, and what fails
+
+pub ends_caused : (setting : Setting) (journal : List Item) → IsSetting setting
+    → HaveCauses (IsWayItem setting) [] journal → HaveCauses (HasCause setting) [] journal
+ends_caused setting journal is have = have_weaker _ (HasCause setting)
+    (λ before next behind. end_caused setting before next
+    (λ i. knows setting before i (known_before setting is before next behind))
+    (caused_known setting before (switches_of_all setting [] before behind.caused.past))
+    behind.caused.caused.switches behind.caused.caused.way) [] journal
+    (kept_before setting journal is have)
+
+-- ---- each packet got the first match of its header under the version that decided it, and a
+-- change leaves the first match of each header that it doesn't touch.
+
+-- ---- decisions are first matches
+
+-- the version of the decision is at most the current one, and its policy decides the header so
+pub record IsRightly (setting : Setting) (journal : List Item) (header : Header) (decision : Decision)
+    : Type 0 where
+  pub known : 1 ≤ decision.version
+  pub current : decision.version ≤ current_mark journal
+  pub first_match : scan (policy_at setting journal decision.version) header ≡ hit_in decision
+
+-- of each packet, as long as it has a header and a decision
+abbrev pub AreRight : Setting → List Item → Type 0
+AreRight setting journal = (i : ℕ) (header : Header) (decision : Decision)
+    → header_in journal i ≡ Some header → decision_of journal i ≡ Some decision
+    → IsRightly setting journal header decision
+
+rightly_on : (setting : Setting) (before after : List Item) (header : Header)
+    (decision : Decision) → Grows setting before after → IsRightly setting before header decision
+    → IsRightly setting after header decision
+rightly_on setting before after header decision grow right = search rules
+
+header_more : (before : List Item) (next : Item) (i : ℕ)
+    → header_in (before ++ next ∷ []) i ≡ option_or (gives_header i next) (header_in before i)
+unfolding header_in
+header_more before next i = last_given_append (gives_header i) before (next ∷ [])
+
+decision_more : (before : List Item) (next : Item) (i : ℕ) → decision_of (before ++ next ∷ []) i
+    ≡ option_or (gives_decision i next) (decision_of before i)
+unfolding decision_of
+decision_more before next i = last_given_append (gives_decision i) before (next ∷ [])
+
+-- what didn't enter is undecided
+new_undecided : (setting : Setting) (before : List Item) (packet : ℕ) (decision : Decision)
+    → Before setting before → decision_of before packet ≡ Some decision
+    → next_packet before ≤ packet → ⊥
+unfolding what_is_known
+new_undecided setting before packet decision known decided past = search rules
+
+decides_rightly : (setting : Setting) (before : List Item) (i version : ℕ) (rule : Option ℕ)
+    (act : Action) (by : How) (header : Header) → Before setting before
+    → IsDecided setting before i version rule act by → header_in before i ≡ Some header
+    → IsRightly setting before header (record { version = version; rule = rule; action = act })
+unfolding what_is_known
+decides_rightly setting before i version rule act by header known way entered =
+    let knows_it : Knows setting before i (stage_of before i) = knows setting before i known in
+    let s : ℕ = way.switch in
+    let here : IsHere setting before i s =
+    here_of setting before i s (stage_of before i) known.is knows_it.have knows_it.kept way.at in
+    let now = decided_now _ _ i s _ _ act by knows_it here (known.kept.cached s) way.by in record {
+      known = omega (arith, now.rightly.not_retired);
+      current = now.rightly.current;
+      first_match = ap (scan (policy_at setting before version))
+          (sym (some_same _ _ header here.under.entered entered)) ∙ now.rightly.first_match;
+    }
+
+right_next : (setting : Setting) (before : List Item) (next : Item) → Before setting before
+    → PacketCause setting before next → AreRight setting before
+    → (i : ℕ) (header : Header) (decision : Decision)
+    → option_or (gives_header i next) (header_in before i) ≡ Some header
+    → option_or (gives_decision i next) (decision_of before i) ≡ Some decision
+    → IsRightly setting before header decision
+right_next setting before (Item.Entered packet s entering) known way are i header decision =
+    by (packet == i) refl
+  where
+    by : (b : Bool) → (packet == i) ≡ b
+        → option_or (if b then Some entering else None) (header_in before i) ≡ Some header
+        → decision_of before i ≡ Some decision → IsRightly setting before header decision
+    by true same entered decided = absurd (new_undecided setting before i decision known decided
+        (omega (arith, eqb-true packet i same, way.0.number)))
+    by false other entered decided = are i header decision entered decided
+right_next setting before (Item.Decided packet version rule act how) known way are i header decision =
+    by (packet == i) refl
+  where
+    new : Decision
+    new = record { version = version; rule = rule; action = act }
+
+    by : (b : Bool) → (packet == i) ≡ b → header_in before i ≡ Some header
+        → option_or (if b then Some new else None) (decision_of before i) ≡ Some decision
+        → IsRightly setting before header decision
+    by true same entered decided = subst (IsRightly setting before header) (cc decided)
+        (decides_rightly _ _ _ _ rule act how _ known way (rw (eqb-true packet i same) entered))
+    by false other entered decided = are i header decision entered decided
+right_next setting before next known way are i header decision = are i header decision
+
+right_kept : (setting : Setting) → IsSetting setting
+    → AreKept (Behind (Past (IsWayItem setting)) (AllKept setting)) (AreRight setting)
+right_kept setting is before next behind are i header decision entered decided =
+    let known : Before setting before = known_before setting is before next behind in
+    let past : Past (IsWayItem setting) before next = behind.caused in
+    rightly_on setting before (before ++ next ∷ []) header decision
+    (grows setting before next (switches_of_all setting [] before known.have) past.caused.switches)
+    (right_next setting before next known past.caused.way are i header decision
+    (sym (header_more before next i) ∙ entered) (sym (decision_more before next i) ∙ decided))
+
+right_at_first : (setting : Setting) → AreRight setting []
+unfolding decision_of
+right_at_first setting i header decision entered decided = absurd cc
+
+pub all_right : (setting : Setting) (journal : List Item) → IsSetting setting
+    → HaveCauses (IsWayItem setting) [] journal → AreRight setting journal
+all_right setting journal is have = fact_on _ (AreRight setting) (right_kept setting is) [] journal
+    (kept_before setting journal is have) (right_at_first setting)
+
+-- ---- the policies of two versions
+
+own_policy : (setting : Setting) (journal : List Item) (version : ℕ) (rows : List Row)
+    → policy_in setting journal version ≡ Some rows → policy_at setting journal version ≡ rows
+unfolding policy_at
+own_policy setting journal version rows is = ap (λ o. unwrap_or o []) is
+
+-- ---- changes
+
+module _ (laws : AmendmentLaws) (setting : Setting) (journal : List Item) (is : IsSetting setting)
+    (have : HaveCauses (IsWayItem setting) [] journal) where
+  pub changes_leave : ChangesLeaveOthers setting journal
+  changes_leave version header leaves =
+      let old : List Row = leaves.rows in
+      let new : List Row = leaves.changed in
+      let own = own_policy setting journal version old leaves.policy in
+      let same : scan new header ≡ scan old header = laws.same old new leaves.change header
+      (subst IsPolicy own (versions_own setting journal version is).0) leaves.makes leaves.apart in
+      let either : (v : ℕ) → (v ≡ version) ⊎ (v ≡ version + 1)
+      → scan (policy_at setting journal v) header ≡ scan old header = λ v under. elim under [
+        | inl this ↦ ap (λ n. scan (policy_at setting journal n) header) this
+            ∙ ap (λ rows. scan rows header) own
+        | inr later ↦ ap (λ n. scan (policy_at setting journal n) header) later
+            ∙ ap (λ rows. scan rows header) (own_policy setting journal _ new leaves.next) ∙ same
+      ] in record {
+        hit = scan old header;
+        before = record {
+          rows = old;
+          policy = leaves.policy;
+          first_match = first_match-scan old header;
+        };
+        after = record {
+          rows = new;
+          policy = leaves.next;
+          first_match = first_match_by_scan new header (scan old header) same;
+        };
+        decided = λ packet decision entered decided under.
+            sym (all_right setting journal is have packet header decision entered decided).first_match
+            ∙ either decision.version under;
+      }
+
+-- ---- strongly caused
 
 finds_link : (setting : Setting) (before : List Item) (i one two : ℕ)
     → Knows setting before i (stage_of before i) → MeetsDown setting before i one two
@@ -54,12 +250,10 @@ below_stamp setting before i s earlier part knows_it at looked seeks = by_lookup
       let none : facts.leg ≡ None = (knows_it.kept.came_in here.travelling came).1 in
       let clash : None ≡ Some (Seek earlier part) = sym none ∙ sought in absurd cc
   by_lookup (inr misses) =
-      let on : IsOnLeg setting before facts here.under.header (Seek earlier part) =
-      seeking_of setting before facts here.under.header earlier part
-      (knows_it.kept.on_way here.travelling (inl misses.arrives.moving)) here.under.entered
-      sought in
-      let same = some_same (leg_of before i) (Seek misses.version misses.partition)
-      (Seek earlier part) misses.seeks seeks in
+      let on : IsOnLeg setting before facts here.under.header (Seek earlier part) = seeking_of _
+      before facts _ earlier part (knows_it.kept.on_way here.travelling (inl misses.arrives.moving))
+      here.under.entered sought in
+      let same = some_same (leg_of before i) _ (Seek earlier part) misses.seeks seeks in
       let version_same : misses.version ≡ earlier = cc in
       by_held
       ((serving_hold setting before knows_it.have s there at.serving).held earlier on.current)
@@ -91,8 +285,7 @@ raises_unheld setting before i s version knows_it at when earlier part switch se
         let same : Seek version reaches.partition ≡ Seek earlier part = some_same (leg_of before i)
         (Seek version reaches.partition) (Seek earlier part) reaches.seeks seeks in
         let version_same : version ≡ earlier = cc in
-        let switch_same : s ≡ switch = some_same (standing before i) s switch
-        (stands_known setting before i s knows_it at) stands in
+        let switch_same : s ≡ switch = some_same _ s _ (stands_known _ _ i s knows_it at) stands in
         let held : IsTrue (holds_version before switch earlier) =
         subst (λ v. IsTrue (holds_version before switch v)) version_same
         (subst (λ x. IsTrue (holds_version before x version)) switch_same reaches.held) in
@@ -120,13 +313,11 @@ stuck_on_leg setting before i s cause leg down knows_it finds = record {
   raises = raises_on_leg setting before i s leg knows_it finds.at finds.on;
 } where
   here : IsHere setting before i s
-  here = here_of setting before i s (stage_of before i) knows_it.is knows_it.have knows_it.kept
-      finds.at
+  here = here_of setting before i s _ knows_it.is knows_it.have knows_it.kept finds.at
 
   by_leg : (leg : Leg) → TakesLeg setting before i s leg ⊎ IsBlockedOn before i leg
       → IsOnRightLeg before i leg
-  by_leg (Seek version partition) on =
-      seeks_rightly setting before i s version partition knows_it here on
+  by_leg (Seek version partition) on = seeks_rightly setting before i s version _ knows_it here on
   by_leg (Exit port) on = tt
 
 decided_rightly : (setting : Setting) (before : List Item) (i version : ℕ) (rule : Option ℕ)
@@ -163,40 +354,35 @@ least_route setting before i s leg route knows_it at leads =
 further : (setting : Setting) (before : List Item) (next : Item) → Before setting before
     → HasItemCause setting before next → PacketCause setting before next
     → FurtherCause setting before next
-further setting before (item.Submitted file version) known cause way = cause
-further setting before (item.Retired version) known cause way = cause
-further setting before (item.Seeking packet version partition route) known cause way = (
-  raises_version setting before packet way.switch version partition
-      (knows setting before packet known) way.at way.takes,
-  least_route setting before packet way.switch (Seek version partition) route
-      (knows setting before packet known) way.at way.leads,
+further setting before (Item.Submitted file version) known cause way = cause
+further setting before (Item.Retired version) known cause way = cause
+further setting before (Item.Seeking packet version partition route) known cause way = (
+  raises_version _ before packet _ version _ (knows setting before packet known) way.at way.takes,
+  least_route setting before packet _ _ route (knows setting before packet known) way.at way.leads,
 )
-further setting before (item.Exiting packet route) known cause way = record {
+further setting before (Item.Exiting packet route) known cause way = record {
   port = way.port;
   own_leg = (way.by.takes.decision, way.by.takes.decided, way.by.takes.action);
-  by = least_route setting before packet way.by.switch (Exit way.port) route
-      (knows setting before packet known) way.by.at way.by.leads;
+  by = least_route _ before packet _ _ route (knows _ before packet known) way.by.at way.by.leads;
 }
-further setting before (item.Rerouted packet route) known cause way = record {
+further setting before (Item.Rerouted packet route) known cause way = record {
   leg = way.leg;
   own_leg = way.blocked.takes;
-  by = least_route setting before packet way.switch way.leg route
-      (knows setting before packet known) way.at way.leads;
+  by = least_route _ before packet _ _ route (knows setting before packet known) way.at way.leads;
 }
-further setting before (item.FoundDown packet one two) known cause way =
+further setting before (Item.FoundDown packet one two) known cause way =
     finds_link setting before packet one two (knows setting before packet known) way
-further setting before (item.Decided packet version rule act by) known cause way =
+further setting before (Item.Decided packet version rule act by) known cause way =
     decided_rightly setting before packet version rule act by known way
-further setting before (item.Left packet port leaving) known cause way =
+further setting before (Item.Left packet port leaving) known cause way =
     leaves_rightly setting before packet port leaving (knows setting before packet known) way
-further setting before (item.Stuck packet switch why leg down) known cause way =
+further setting before (Item.Stuck packet switch why leg down) known cause way =
     stuck_on_leg setting before packet switch why leg down (knows setting before packet known) way
 further setting before next known cause way = tt
 
 pub strongly_caused : (setting : Setting) (journal : List Item) → IsSetting setting
     → HaveCauses (IsWayItem setting) [] journal → HaveCauses (StrongCause setting) [] journal
-strongly_caused setting journal is have =
-    have_weaker (Behind (Past (IsWayItem setting)) (AllKept setting)) (StrongCause setting)
+strongly_caused setting journal is have = have_weaker _ (StrongCause setting)
     (λ before next behind. (
       behind.caused.caused.way,
       further setting before next (known_before setting is before next behind)

@@ -1,11 +1,133 @@
 -- A flush delivers messages of rising numbers.
-use Rattle.std.proofs.Common.{[], if◌then◌else◌, ◌&&◌, ◌++◌, ◌+◌, ◌<◌, ◌==◌, ◌∙◌, ◌∷◌, ◌≡◌, ◌≤◌, Bool, List, Some, ap, append_assoc, arith, eq-eqb, eqb-true, false, find, inl, inr, lt-ltb, nat_lt, not, refl, subst, suc, sym, true, zero, ℕ}
-use Rattle.base.proofs.Exports.{and_parts, and_right, cases_eq, cases_lt, range_with_len}
-use Rattle.update_machine.specs.Exports.{Deliver, HaveCauses, Item, Setting, TakesNext, concerns_message, count_of, deliver_items, delivery_items, is_deliverable, is_delivery, is_forgetting, is_forgotten, is_sending, is_waiting, next_message, next_waiting, piece, was_delivered}
-use Rattle.journal.specs.declared.item.Item.TheVariants as item
-use Rattle.update_machine.proofs.Exports.{message_keeps, next_rises, piece_next}
+use Rattle.std.proofs.Common.{[], ◌&&◌, ◌++◌, ◌+◌, ◌<◌, ◌==◌, ◌||◌, ◌∙◌, ◌∷◌, ◌≡◌, ◌≢◌, ◌≤◌, Bool, IsFalse, IsTrue, List, Some, add-zero, ap, append_assoc, arith, cond, count_by, eq-eqb, eqb-true, false, find, if◌then◌else◌, inl, inr, length, lt-ltb, nat_lt, not, refl, subst, suc, sym, true, zero, ℕ, rules}
+use Rattle.base.proofs.Exports.{Any-from_list_any, and_parts, and_right, cases_eq, cases_lt, count_by-le-length, list_any, nat_tests, range_with_len, sum_by-cons}
+use Rattle.failover.specs.Exports.{IsLinkSet, has_link, is_link_of, with_link}
+use Rattle.failover.proofs.LinkSets.{has_link-turned, has_link-with_link, with_link_is_link_set}
+use Rattle.net_file.specs.Exports.{IsLink, IsNet, are_linked, joins}
+use Rattle.update_machine.specs.Exports.{Deliver, HaveCauses, Item, LinkRow, Net, Setting, TakesNext, concerns_message, count_of, deliver_items, delivery_items, is_deliverable, is_delivery, is_forgetting, is_forgotten, is_sending, is_waiting, next_message, next_waiting, piece, was_delivered}
+use Rattle.update_machine.proofs.Exports.{count_of_append, message_keeps, next_rises, piece_next}
 use Rattle.control_laws.proofs.Exports.{AreKept, fact_on}
-use Rattle.packet_laws.proofs.PacketItemCounts.{count_more}
+
+-- ---- the links of the network that a packet has not found down: each one that it finds is one
+-- less
+
+-- the link isn't in the set
+abbrev pub is_unfound : List ℕ → LinkRow → Bool
+is_unfound found link = not (has_link found link.one link.two)
+
+-- how many of the links aren't
+abbrev pub unfound : List LinkRow → List ℕ → ℕ
+unfound links found = count_by (is_unfound found) links
+
+-- ---- one more
+
+-- the set holds one more link, which it didn't hold
+record IsOneMore (before after : List ℕ) (one two : ℕ) : Type 0 where
+  added : (x y : ℕ) → has_link after x y ≡ (has_link before x y || is_link_of one two x y)
+  new : (x y : ℕ) → is_link_of one two x y ≡ true → has_link before x y ≡ false
+
+part : (b c : Bool) → cond (not (b || c)) 1 0 ≤ cond (not b) 1 0
+part b c = search rules
+
+one_link : (before after : List ℕ) (one two : ℕ) (link : LinkRow) → IsOneMore before after one two
+    → cond (is_unfound after link) 1 0 ≤ cond (is_unfound before link) 1 0
+one_link before after one two link more = search rules
+
+stays : (before after : List ℕ) (one two : ℕ) → IsOneMore before after one two
+    → (links : List LinkRow) → unfound links after ≤ unfound links before
+stays before after one two more [] = omega arith
+stays before after one two more (link ∷ links) = omega (
+  arith,
+  sum_by-cons (λ l. cond (is_unfound after l) 1 0) link links,
+  sum_by-cons (λ l. cond (is_unfound before l) 1 0) link links,
+  one_link before after one two link more,
+  stays before after one two more links,
+)
+
+this_link : (before after : List ℕ) (one two : ℕ) (link : LinkRow)
+    → IsOneMore before after one two → is_link_of one two link.one link.two ≡ true
+    → cond (is_unfound after link) 1 0 + 1 ≤ cond (is_unfound before link) 1 0
+this_link before after one two link more is = search rules
+
+falls : (before after : List ℕ) (one two : ℕ) → IsOneMore before after one two
+    → (links : List LinkRow) → IsTrue (are_linked links one two)
+    → unfound links after + 1 ≤ unfound links before
+falls before after one two more [] linked = absurd cc
+falls before after one two more (link ∷ links) linked =
+    by_test (joins one two link) refl (falls before after one two more links) linked
+  where
+    by_test : (b : Bool) → joins one two link ≡ b
+        → (IsTrue (are_linked links one two) → unfound links after + 1 ≤ unfound links before)
+        → IsTrue (b || list_any (joins one two) links)
+        → unfound (link ∷ links) after + 1 ≤ unfound (link ∷ links) before
+    by_test true e rest any = omega (
+      arith,
+      sum_by-cons (λ l. cond (is_unfound after l) 1 0) link links,
+      sum_by-cons (λ l. cond (is_unfound before l) 1 0) link links,
+      this_link before after one two link more e,
+      stays before after one two more links,
+    )
+    by_test false e rest any = omega (
+      arith,
+      sum_by-cons (λ l. cond (is_unfound after l) 1 0) link links,
+      sum_by-cons (λ l. cond (is_unfound before l) 1 0) link links,
+      one_link before after one two link more,
+      rest any,
+    )
+
+-- ---- links of a network
+
+record AreEnds (one two : ℕ) : Type 0 where
+  one_fits : one < 64
+  two_fits : two < 64
+  apart : one ≢ two
+
+joined_ends : (count one two : ℕ) (link : LinkRow) → count ≤ 64 → IsLink count link
+    → joins one two link ≡ true → AreEnds one two
+joined_ends count one two link few is joined = search (rules, nat_tests)
+
+ends : (net : Net) (one two : ℕ) → IsNet net → IsTrue (are_linked net.links one two)
+    → AreEnds one two
+ends net one two is linked = search (rules, Any-from_list_any, joined_ends)
+
+same_ends : (found : List ℕ) (one two x y : ℕ) → has_link found one two ≡ false
+    → is_link_of one two x y ≡ true → has_link found x y ≡ false
+same_ends found one two x y none is = search (rules, eqb-true, has_link-turned)
+
+-- what one more link of the network leaves of a set
+pub record FindsOne (net : Net) (found : List ℕ) (one two : ℕ) : Type 0 where
+  pub set : IsLinkSet (with_link found one two)
+  pub fewer : unfound net.links (with_link found one two) + 1 ≤ unfound net.links found
+
+pub finds_one : (net : Net) (found : List ℕ) (one two : ℕ) → IsNet net → IsLinkSet found
+    → IsTrue (are_linked net.links one two) → IsFalse (has_link found one two)
+    → FindsOne net found one two
+finds_one net found one two is set linked none =
+    let at : AreEnds one two = ends net one two is linked in record {
+      set = with_link_is_link_set found one two set at.apart at.one_fits at.two_fits;
+      fewer = falls found (with_link found one two) one two (record {
+        added = λ x y. has_link-with_link found one two x y set at.one_fits at.two_fits;
+        new = λ x y same. same_ends found one two x y none same;
+      }) net.links linked;
+    }
+
+pub few_unfound : (net : Net) (found : List ℕ) → unfound net.links found ≤ length net.links
+few_unfound net found = count_by-le-length (is_unfound found) net.links
+
+-- ---- what one more item makes of a count
+
+-- one more, where it counts
+abbrev pub one_more : Bool → ℕ → ℕ
+one_more b n = if b then n + 1 else n
+
+counted : (b : Bool) (n : ℕ) → n + (0 + (if b then 1 else 0)) ≡ one_more b n
+counted b n = search (rules, add-zero)
+
+pub count_more : (test : Item → Bool) (before : List Item) (item : Item)
+    → count_of test (before ++ item ∷ []) ≡ one_more (test item) (count_of test before)
+count_more test before item = search (rules, count_of_append)
+
+-- ---- waiting messages
 
 -- ---- the least number
 
@@ -19,26 +141,7 @@ pub record IsLeast (test : ℕ → Bool) (from count n : ℕ) : Type 0 where
 pub least : (test : ℕ → Bool) (from count n : ℕ) → find test (range_with_len from count) ≡ Some n
     → IsLeast test from count n
 least test from zero n is = absurd cc
-least test from (suc count) n is = by_test (test from) refl (least test (from + 1) count n) is where
-  by_test : (b : Bool) → test from ≡ b
-      → (find test (range_with_len (from + 1) count) ≡ Some n → IsLeast test (from + 1) count n)
-      → (if b then Some from else find test (range_with_len (from + 1) count)) ≡ Some n
-      → IsLeast test from (suc count) n
-  by_test true e rest is = let same : from ≡ n = cc in record {
-    above = omega (arith, same);
-    below = omega (arith, same);
-    holds = subst (λ k. test k ≡ true) same e;
-    before = λ k low high. absurd (omega (arith, same, low, high));
-  }
-  by_test false e rest is = let later : IsLeast test (from + 1) count n = rest is in record {
-    above = omega (arith, later.above);
-    below = omega (arith, later.below);
-    holds = later.holds;
-    before = λ k low high. elim (cases_eq k from) [
-      | inl own ↦ subst (λ j. test j ≡ false) (sym own) e
-      | inr apart ↦ later.before k (omega (arith, low, apart)) high
-    ];
-  }
+least test from (suc count) n is = search (rules, cases_eq, least test (from + 1) count n)
 
 pub record IsNext (journal : List Item) (n : ℕ) : Type 0 where
   pub first : 1 ≤ n
@@ -60,35 +163,28 @@ record AreOver (bound : ℕ) (journal : List Item) : Type 0 where
 
 counted_now : (test : Item → Bool) (before : List Item) (next : Item) → test next ≡ true
     → nat_lt 0 (count_of test (before ++ next ∷ [])) ≡ true
-counted_now test before next is =
-    rw (count_more test before next, is) (lt-ltb 0 (count_of test before + 1) (omega arith))
+counted_now test before next is = search (rules, count_more, lt-ltb)
 
 forgotten_now : (before : List Item) (number k : ℕ) → (number == k) ≡ true
-    → is_forgotten (before ++ item.Forgotten number ∷ []) k ≡ true
+    → is_forgotten (before ++ Item.Forgotten number ∷ []) k ≡ true
 unfolding is_forgotten
-forgotten_now before number k e = counted_now (is_forgetting k) before (item.Forgotten number) e
+forgotten_now before number k e = counted_now (is_forgetting k) before (Item.Forgotten number) e
 
 delivered_now : (before : List Item) (number k : ℕ) → (number == k) ≡ true
-    → was_delivered (before ++ item.Delivered number ∷ []) k ≡ true
+    → was_delivered (before ++ Item.Delivered number ∷ []) k ≡ true
 unfolding was_delivered
-delivered_now before number k e = counted_now (is_delivery k) before (item.Delivered number) e
+delivered_now before number k e = counted_now (is_delivery k) before (Item.Delivered number) e
 
 inner_not : (b c : Bool) → ((b && not true) && c) ≡ false
-inner_not true c = refl
-inner_not false c = refl
+inner_not b c = search rules
 
 -- what an item leaves of a message that it concerns
 over_by : (bound k : ℕ) (before : List Item) (next : Item) → TakesNext before next
     → AreOver bound before → k < bound → concerns_message k before next ≡ true
     → is_waiting (before ++ next ∷ []) k ≡ false
 unfolding is_deliverable
-over_by bound k before (item.Sent number message) takes are below e =
-    absurd (omega (arith, eqb-true number k e, takes, are.sent, below))
-over_by bound k before (item.Forgotten number) takes are below e =
-    rw (forgotten_now before number k e) (inner_not _ _)
-over_by bound k before (item.Delivered number) takes are below e =
-    rw (delivered_now before number k e) (and_right _ false refl)
-over_by bound k before next takes are below e = absurd cc
+over_by bound k before next takes are below e =
+    search (rules, eqb-true, forgotten_now, inner_not, delivered_now)
 
 over_kept : (bound : ℕ) → AreKept TakesNext (AreOver bound)
 over_kept bound before next takes are = record {
@@ -106,28 +202,27 @@ over_kept bound before next takes are = record {
 -- what a delivery writes behind its row and itself
 abbrev rest_of : Setting → List Item → ℕ → ℕ → List Item
 rest_of setting journal row n = delivery_items setting journal n
-    ((journal ++ item.Row row (Deliver n) ∷ []) ++ item.Delivered n ∷ [])
+    ((journal ++ Item.Row row (Deliver n) ∷ []) ++ Item.Delivered n ∷ [])
 
 deliver_is : (setting : Setting) (before journal : List Item) (n : ℕ) → is_deliverable before n
     ≡ true → deliver_items setting before n journal
-    ≡ item.Delivered n ∷ delivery_items setting before n (journal ++ item.Delivered n ∷ [])
+    ≡ Item.Delivered n ∷ delivery_items setting before n (journal ++ Item.Delivered n ∷ [])
 unfolding deliver_items
 deliver_is setting before journal n may = rw (may, deliver_items) refl
 
 delivery_is : (setting : Setting) (journal : List Item) (row n : ℕ) → is_deliverable journal n
     ≡ true → piece setting journal row (Deliver n)
-    ≡ item.Row row (Deliver n) ∷ item.Delivered n ∷ rest_of setting journal row n
+    ≡ Item.Row row (Deliver n) ∷ Item.Delivered n ∷ rest_of setting journal row n
 unfolding piece
-delivery_is setting journal row n may = ap (λ items. item.Row row (Deliver n) ∷ items)
-    (deliver_is setting journal (journal ++ item.Row row (Deliver n) ∷ []) n may)
+delivery_is setting journal row n may = search (rules, deliver_is)
 
 -- behind the delivery of the next message, it doesn't wait, nor does one before it
 over_now : (setting : Setting) (journal : List Item) (row n : ℕ) → IsNext journal n
-    → AreOver (n + 1) ((journal ++ item.Row row (Deliver n) ∷ []) ++ item.Delivered n ∷ [])
+    → AreOver (n + 1) ((journal ++ Item.Row row (Deliver n) ∷ []) ++ Item.Delivered n ∷ [])
 over_now setting journal row n next =
-    let at : List Item = journal ++ item.Row row (Deliver n) ∷ [] in
-    let before : AreOver n (at ++ item.Delivered n ∷ []) = over_kept n at (item.Delivered n) tt
-    (over_kept n journal (item.Row row (Deliver n)) tt (record {
+    let at : List Item = journal ++ Item.Row row (Deliver n) ∷ [] in
+    let before : AreOver n (at ++ Item.Delivered n ∷ []) = over_kept n at (Item.Delivered n) tt
+    (over_kept n journal (Item.Row row (Deliver n)) tt (record {
       sent = omega (arith, next.sent);
       over = next.least;
     })) in record {
@@ -141,15 +236,14 @@ over_now setting journal row n next =
 over_behind : (setting : Setting) (journal : List Item) (row n : ℕ) → IsNext journal n
     → AreOver (n + 1) (journal ++ piece setting journal row (Deliver n))
 over_behind setting journal row n next =
-    let row_item : Item = item.Row row (Deliver n) in
+    let row_item : Item = Item.Row row (Deliver n) in
     let rest : List Item = rest_of setting journal row n in
     let is = delivery_is setting journal row n (and_parts _ _ next.waits).0 in
-    let whole = append_assoc (journal ++ row_item ∷ []) (item.Delivered n ∷ []) rest
-    ∙ append_assoc journal (row_item ∷ []) (item.Delivered n ∷ rest)
+    let whole = append_assoc (journal ++ row_item ∷ []) (Item.Delivered n ∷ []) rest
+    ∙ append_assoc journal (row_item ∷ []) (Item.Delivered n ∷ rest)
     ∙ ap (λ items. journal ++ items) (sym is) in
     subst (AreOver (n + 1)) whole
-    (fact_on TakesNext
-    (AreOver (n + 1)) (over_kept (n + 1)) ((journal ++ row_item ∷ []) ++ item.Delivered n ∷ []) rest
+    (fact_on TakesNext (AreOver (n + 1)) (over_kept (n + 1)) _ rest
     (subst (HaveCauses TakesNext journal) is (piece_next setting journal row (Deliver n))).1.1
     (over_now setting journal row n next))
 
@@ -161,7 +255,6 @@ numbers_rise setting journal row n m first later =
     elim (cases_lt n m) [
       | inl rises ↦ rises
       | inr falls ↦ let over : is_waiting after m ≡ false =
-          (over_behind setting journal row n (next_is journal n first)).over m next.first
-          (omega (arith, falls)) in
+          (over_behind _ _ row n (next_is _ n first)).over m next.first (omega (arith, falls)) in
           absurd (cc (sym next.waits ∙ over))
     ]

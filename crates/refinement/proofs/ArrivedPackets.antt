@@ -6,7 +6,6 @@ use Rattle.five_tuple.specs.Exports.{IsHeader, number_of}
 use Rattle.update_machine.specs.Exports.{Exit, Header, Item, Leg, NoneConcern, Ports, Seek, Setting, Tables, arrive_by, arrive_items, authority_items, authority_rule, concerns_policies, decision_of, first_place as first_place_in, header_at, holds_version, lookup_items, next_message, plan_at, policy_at, tables_at, targets_of}
 use Rattle.net_file.specs.Exports.{owner_of}
 use Rattle.policy_rules.specs.Exports.{is_held}
-use Rattle.journal.specs.declared.item.Item.TheVariants as item
 use Rattle.switch_core.specs.Exports.{Arrival, SwitchValue, around, arrived_on, decided_at, decided_in, held_tables, looked_up, part_numbered, place_of_first}
 use Rattle.switch_core.specs.Answers as arrived
 use Rattle.switch_core.specs.declared.tunnel_calls.Packet.{Packet}
@@ -16,14 +15,11 @@ use Rattle.packet_laws.specs.Exports.{IsOnLeg, PacketFacts, what_is_known}
 use Rattle.packet_laws.proofs.Exports.{Finds, current_planned, in_plan, last_here, one_target}
 use Rattle.world_log.specs.Exports.{arrived_flight, arrived_items}
 use Rattle.travelling.specs.Travelling.{Flight, Standing}
-use Rattle.refinement.proofs.AuthorityDecisions.{header_is}
+use Rattle.refinement.proofs.AuthorityDecisions.{IsAsked, IsOurs, header_is, looked_law, own_numbered, ruled_law}
 use Rattle.refinement.proofs.OnwardPackets.{AreOfFacts, IsComing, answer_goes, looked_goes, ruled_goes}
-use Rattle.refinement.proofs.RefinedReach.{Known}
+use Rattle.refinement.proofs.StepRefines.{Known}
 use Rattle.refinement.proofs.TakenLegs.{at_switch}
-use Rattle.refinement.proofs.LookupRefines.{IsAsked, IsOurs, looked_law, ruled_law}
-use Rattle.refinement.proofs.OwnPacketAnswers.{IsSeen}
-use Rattle.refinement.proofs.RefinedPartitions.{own_numbered}
-use Rattle.refinement.proofs.RefinedPacketFacts.{Targets, flight_by, facts_along}
+use Rattle.refinement.proofs.RefinedPacketFacts.{IsSeen, Targets, facts_along, flight_by}
 
 -- ---- where a route ends
 
@@ -148,7 +144,7 @@ module _ (setting : Setting) (journal : List Item) (s : ℕ) (w : SwitchValue) (
   unfolding arrive_items what_is_known
   arrive_law t (Exit port) of takes end =
       let i : ℕ = packet.number in
-      let left : Header → ℕ → Option ℕ → List Item = λ header version rule. item.Left i port
+      let left : Header → ℕ → Option ℕ → List Item = λ header version rule. Item.Left i port
       (record { packet = i; header = header; version = version; rule = rule }) ∷ [] in
       ap (λ leg. arrive_by setting i s leg journal) takes
       ∙ ap (λ header. left header

@@ -1,15 +1,17 @@
 -- What the bag says of a message, and a message that is forgotten.
-use Rattle.std.proofs.Common.{[], if◌then◌else◌, ◌&&◌, ◌++◌, ◌∙◌, ◌∷◌, ◌≡◌, Bool, IfSome, IsFalse, List, None, Option, Some, ap, append_assoc, false, is_some, length, not, option_and_then, option_map, refl, rules, subst, sym, true, ℕ}
+use Rattle.std.proofs.Common.{[], ◌&&◌, ◌++◌, ◌<◌, ◌∙◌, ◌∷◌, ◌≡◌, Bool, IfSome, IsFalse, List, None, Option, Some, ap, append_assoc, arith, false, get_or, if◌then◌else◌, is_some, length, not, option_and_then, option_map, refl, rules, subst, sym, true, ℕ}
 use Rattle.message_bag.specs.Exports.{IsMessageOf, Post, is_post_deliverable, posted_frames, remembered_frames, with_forgotten}
 use Rattle.message_bag.proofs.FramedMessages.{known_by_frames}
-use Rattle.update_machine.specs.Exports.{Forget, Item, Message, Setting, Step, concerns_calls, forget_items, is_deliverable, is_forgotten, message_of, nothing, piece, was_delivered}
-use Rattle.journal.specs.declared.item.Item.TheVariants as item
+use Rattle.update_machine.specs.Exports.{Forget, Item, Message, Place, Setting, Step, concerns_calls, forget_items, is_deliverable, is_forgotten, message_of, near, nothing, piece, to_switch, was_delivered}
 use Rattle.steps.specs.Exports.{IsStep}
 use Rattle.update_machine.proofs.Exports.{message_keeps}
-use Rattle.refinement.specs.Exports.{IsBagOf, NetworkState, RefineJournal, post_in}
-use Rattle.refinement.proofs.OneItem.{WroteOne, refines_one}
+use Rattle.refinement.specs.Exports.{IsBagOf, NetworkState, RefineJournal, TablesAreKnown, post_in}
+use Rattle.refinement.proofs.StepRefines.{Known, WroteOne, reached_known, refines_one, switches_stay}
 use Rattle.refinement.proofs.PostedFrames.{bag_forgotten, bag_on, some_within}
-use Rattle.refinement.proofs.StepRefines.{switches_stay}
+use Rattle.control_laws.specs.Exports.{StepsSendFew}
+use Rattle.control_laws.proofs.Exports.{piece_few, versions_few}
+use Rattle.switch_core.specs.Exports.{IsSoundBody}
+use Rattle.refinement.proofs.SwitchKnowledge.{requirements_hold}
 
 -- ---- what the bag says of a message
 
@@ -52,17 +54,17 @@ found_there posts n message o is all = subst (λ o. IfSome o (IsMessageOf posts 
 -- ---- pieces
 
 forget_piece : (setting : Setting) (journal : List Item) (row n : ℕ)
-    → piece setting journal row (Forget n) ≡ item.Row row (Forget n)
-    ∷ (if is_deliverable journal n then item.Forgotten n ∷ [] else nothing)
+    → piece setting journal row (Forget n) ≡ Item.Row row (Forget n)
+    ∷ (if is_deliverable journal n then Item.Forgotten n ∷ [] else nothing)
 unfolding piece forget_items
 forget_piece setting journal row n =
-    ap (λ b. item.Row row (Forget n) ∷ elim b [ false ↦ nothing | true ↦ item.Forgotten n ∷ [] ])
-    (message_keeps n journal (item.Row row (Forget n) ∷ []) (refl, tt)).deliverable
+    ap (λ b. Item.Row row (Forget n) ∷ elim b [ false ↦ nothing | true ↦ Item.Forgotten n ∷ [] ])
+    (message_keeps n journal (Item.Row row (Forget n) ∷ []) (refl, tt)).deliverable
     ∙ by_test (is_deliverable journal n)
   where
-    by_test : (b : Bool) → item.Row row (Forget n)
-        ∷ elim b [ false ↦ nothing | true ↦ item.Forgotten n ∷ [] ]
-        ≡ item.Row row (Forget n) ∷ (if b then item.Forgotten n ∷ [] else nothing)
+    by_test : (b : Bool) → Item.Row row (Forget n)
+        ∷ elim b [ false ↦ nothing | true ↦ Item.Forgotten n ∷ [] ]
+        ≡ Item.Row row (Forget n) ∷ (if b then Item.Forgotten n ∷ [] else nothing)
     by_test false = refl
     by_test true = refl
 
@@ -71,12 +73,12 @@ forget_piece setting journal row n =
 module _ {setting : Setting} {journal : List Item} {state : NetworkState}
     (refines : RefineJournal setting journal state) where
   pub nothing_happens : (row : ℕ) (step : Step) → IsStep setting.net (length setting.files) step
-      → ((q : ℕ) → IsFalse (concerns_calls q journal (item.Row row step)))
-      → piece setting journal row step ≡ item.Row row step ∷ nothing
-      → WroteOne setting journal row step item.Nothing state
+      → ((q : ℕ) → IsFalse (concerns_calls q journal (Item.Row row step)))
+      → piece setting journal row step ≡ Item.Row row step ∷ nothing
+      → WroteOne setting journal row step Item.Nothing state
   nothing_happens row step may uncalled is = (
     is,
-    refines_one refines state.posts state.switches row step item.Nothing
+    refines_one refines state.posts state.switches row step Item.Nothing
         (search (rules, switches_stay, bag_on)),
   )
 
@@ -86,10 +88,10 @@ module _ {setting : Setting} {journal : List Item} {state : NetworkState}
     (refines : RefineJournal setting journal state) (row n : ℕ)
     (may : IsStep setting.net (length setting.files) (Forget n)) where
   abbrev first : Item
-  first = item.Row row (Forget n)
+  first = Item.Row row (Forget n)
 
   abbrev one : Item
-  one = item.Forgotten n
+  one = Item.Forgotten n
 
   -- by whether the bag has it
   piece_by : (b : Bool) → is_post_deliverable state.posts n ≡ b
@@ -112,5 +114,34 @@ module _ {setting : Setting} {journal : List Item} {state : NetworkState}
 
   -- no such message may be forgotten
   pub unforgotten : is_post_deliverable state.posts n ≡ false
-      → WroteOne setting journal row (Forget n) item.Nothing state
+      → WroteOne setting journal row (Forget n) Item.Nothing state
   unforgotten none = nothing_happens refines row (Forget n) may (λ q. refl) (piece_by false none)
+
+-- ---- what a delivered message finds: few messages are sent upon it, and its switch can hear it
+
+pub sends_few : (setting : Setting) (journal : List Item) → Known setting journal
+    → StepsSendFew setting journal
+sends_few setting journal knows = λ row step. piece_few setting knows.is.net journal
+    (versions_few setting journal knows.caused) row step
+
+module _ {setting : Setting} {journal : List Item} {state : NetworkState}
+    (refines : RefineJournal setting journal state) where
+  -- a message's switch is there, and the body is sound
+  pub hear_ready : (n s : ℕ) (message : Message) → IsMessageOf state.posts n message
+      → message.to ≡ Place.Switch s
+      → (s < length state.switches) × (s < 64) × IsSoundBody message.body
+  hear_ready n s message there to =
+      let sent = sent_as journal state.posts n message refines.bag there
+      ∙ ap (λ p. Some (record { to = p; body = message.body })) to in
+      let tables : TablesAreKnown setting journal =
+      (reached_known setting journal refines.sound refines.reached).tables in
+      let own : s < length setting.net.switches =
+      (tables.names.sent n (to_switch s message.body) sent).addressed.0 in (
+        omega (arith, own, refines.many),
+        omega (arith, own, refines.sound.net.few_switches),
+        requirements_hold.hear setting journal n s message.body tables sent,
+      )
+
+  -- the mask of its links
+  pub usable_here : (s : ℕ) → s < 64 → get_or state.near s 0 ≡ near setting journal s
+  usable_here s below = refines.usable s below

@@ -3,7 +3,6 @@ use Rattle.std.proofs.Common.{[], if◌then◌else◌, ◌++◌, ◌+◌, ◌-�
 use Rattle.base.proofs.Exports.{length-map, map_twice, range_with_len}
 use Rattle.update_machine.specs.Exports.{Body, Confirm, Deliver, Hello, Item, Setting, Step, after_hello, body_to_controller, confirm_items, controller_items, current_mark, deliver_items, delivery_items, install_for, installs_to, is_deliverable, is_new_boot, is_to_controller, is_up, items_then, known_boot, message_of, nothing, piece, received_items, settling, version_count, versions_from_current}
 use Rattle.ctrl_msg.specs.Exports.{to_controller}
-use Rattle.journal.specs.declared.item.Item.TheVariants as item
 use Rattle.update_machine.proofs.Exports.{controller_keeps, first_touched, have_append, start_laws}
 use Rattle.control_laws.specs.Exports.{HasItemCause}
 use Rattle.control_laws.proofs.Exports.{count_more, current_more, in_two, installs_reopen, leaves_keep, message_more, sends_leave, up_more}
@@ -17,10 +16,9 @@ use Rattle.controller.specs.declared.sends.Act.{Act}
 use Rattle.controller.specs.declared.sends.Act.TheVariants.{Post}
 use Rattle.refinement.specs.Exports.{AreWritten, IsControllerOf, plan_to_keep, written_items}
 use Rattle.refinement.proofs.ControllerHears.{marks_over, marks_told}
-use Rattle.refinement.proofs.KeptController.{marks_begun}
+use Rattle.refinement.proofs.KeptController.{marks_begun, posted, written_in_two}
 use Rattle.refinement.proofs.ControllerPlans.{controller_on, plans_on, plans_stay, settles_with}
 use Rattle.refinement.proofs.RefinedSettling.{AreCaused, settled_boot, settling_caused}
-use Rattle.refinement.proofs.WrittenActs.{posted, written_in_two}
 use Rattle.ternary.specs.Exports.{WordValue}
 use Rattle.switch_table.specs.Exports.{all_touched}
 
@@ -41,17 +39,17 @@ begins setting plan is = record {
 -- ---- behind a row
 
 pub behind_row : (setting : Setting) (before : List Item) (row : ℕ) (step : Step)
-    → AreCaused setting before → AreCaused setting (before ++ item.Row row step ∷ [])
+    → AreCaused setting before → AreCaused setting (before ++ Item.Row row step ∷ [])
 behind_row setting before row step have =
-    have_append (HasItemCause setting) [] before (item.Row row step ∷ []) have (tt, tt)
+    have_append (HasItemCause setting) [] before (Item.Row row step ∷ []) have (tt, tt)
 
 pub row_on : (setting : Setting) (before : List Item) (row : ℕ) (step : Step)
     (controller : ControllerValue) → AreCaused setting before
     → IsControllerOf setting before controller
-    → IsControllerOf setting (before ++ item.Row row step ∷ []) controller
+    → IsControllerOf setting (before ++ Item.Row row step ∷ []) controller
 row_on setting before row step controller have is =
-    controller_on setting before (item.Row row step ∷ []) controller have
-    (controller_keeps before (item.Row row step ∷ []) (refl, tt)) is
+    controller_on setting before (Item.Row row step ∷ []) controller have
+    (controller_keeps before (Item.Row row step ∷ []) (refl, tt)) is
 
 -- items that stand behind two others
 behind_two : (before : List Item) (one two : Item) (items : List Item)
@@ -151,10 +149,10 @@ module _ (setting : Setting) (before : List Item) (row n : ℕ) (body : Body)
     (sent : message_of before n ≡ Some (to_controller body)) (there : NamesThere body old.marks)
     (settles : SettlesWith (marks_after body old.marks) old.plans new) where
   abbrev here : List Item
-  here = before ++ item.Row row (Deliver n) ∷ []
+  here = before ++ Item.Row row (Deliver n) ∷ []
 
   abbrev now : List Item
-  now = here ++ item.Delivered n ∷ []
+  now = here ++ Item.Delivered n ∷ []
 
   abbrev one : List Item
   one = now ++ settling setting now
@@ -163,7 +161,7 @@ module _ (setting : Setting) (before : List Item) (row n : ℕ) (body : Body)
   here_have = behind_row setting before row (Deliver n) have
 
   now_have : AreCaused setting now
-  now_have = have_append (HasItemCause setting) [] here (item.Delivered n ∷ []) here_have (tt, tt)
+  now_have = have_append (HasItemCause setting) [] here (Item.Delivered n ∷ []) here_have (tt, tt)
 
   here_is : IsControllerOf setting here old
   here_is = row_on setting before row (Deliver n) old have is
@@ -172,14 +170,14 @@ module _ (setting : Setting) (before : List Item) (row n : ℕ) (body : Body)
   said = ap (λ o. elim o [
     | None ↦ None
     | Some message ↦ if is_to_controller message.to then Some message.body else None
-  ]) (message_more before (item.Row row (Deliver n)) n ∙ sent)
+  ]) (message_more before (Item.Row row (Deliver n)) n ∙ sent)
 
   heard_settles : (written_items now (acts.settling_acts (current_touched new) (marks_after body old.marks) new.marks)
       ≡ settling setting now) × IsControllerOf setting one new
   heard_settles = settles_with setting now (marks_after body old.marks) old.plans new now_have
       (marks_told setting here n body old.marks here_have said there here_is.marks)
-      (plans_on setting here (item.Delivered n ∷ []) old.plans here_have
-      (count_more here (item.Delivered n)) (current_more here (item.Delivered n)) here_is.plans)
+      (plans_on setting here (Item.Delivered n ∷ []) old.plans here_have
+      (count_more here (Item.Delivered n)) (current_more here (Item.Delivered n)) here_is.plans)
       settles
 
   hello_told : (s boot : ℕ) → body ≡ Hello s boot
@@ -206,13 +204,13 @@ module _ (setting : Setting) (before : List Item) (row n : ℕ) (body : Body)
 
 deliver_piece : (setting : Setting) (before : List Item) (row n : ℕ) (body : Body)
     → IsTrue (is_deliverable before n) → message_of before n ≡ Some (to_controller body)
-    → let now = (before ++ item.Row row (Deliver n) ∷ []) ++ item.Delivered n ∷ [] in
-    item.Row row (Deliver n) ∷ item.Delivered n ∷ controller_items setting before body now
+    → let now = (before ++ Item.Row row (Deliver n) ∷ []) ++ Item.Delivered n ∷ [] in
+    Item.Row row (Deliver n) ∷ Item.Delivered n ∷ controller_items setting before body now
     ≡ piece setting before row (Deliver n)
 unfolding piece deliver_items delivery_items
 deliver_piece setting before row n body may sent =
-    let here : List Item = before ++ item.Row row (Deliver n) ∷ [] in
-    let now : List Item = here ++ item.Delivered n ∷ [] in
+    let here : List Item = before ++ Item.Row row (Deliver n) ∷ [] in
+    let now : List Item = here ++ Item.Delivered n ∷ [] in
     let told : elim (message_of before n) [
       | None ↦ []
       | Some message ↦ received_items setting before n message now
@@ -220,23 +218,23 @@ deliver_piece setting before row n body may sent =
       | None ↦ []
       | Some message ↦ received_items setting before n message now
     ]) sent in
-    ap (λ items. item.Row row (Deliver n) ∷ item.Delivered n ∷ items) (sym told)
-    ∙ ap (λ b. item.Row row (Deliver n) ∷ elim b [
+    ap (λ items. Item.Row row (Deliver n) ∷ Item.Delivered n ∷ items) (sym told)
+    ∙ ap (λ b. Item.Row row (Deliver n) ∷ elim b [
       | false ↦ nothing
-      | true ↦ items_then (item.Delivered n ∷ []) (delivery_items setting before n) here
+      | true ↦ items_then (Item.Delivered n ∷ []) (delivery_items setting before n) here
     ]) (sym may)
 
 pub hears : (setting : Setting) (before : List Item) (row n : ℕ) (body : Body)
     (old new : ControllerValue) → AreCaused setting before → IsControllerOf setting before old
     → IsTrue (is_deliverable before n) → message_of before n ≡ Some (to_controller body)
     → NamesThere body old.marks → SettlesWith (marks_after body old.marks) old.plans new
-    → AreWritten setting before (item.Row row (Deliver n) ∷ item.Delivered n ∷ [])
+    → AreWritten setting before (Item.Row row (Deliver n) ∷ Item.Delivered n ∷ [])
     (hear_acts body old.marks new) new (piece setting before row (Deliver n))
 hears setting before row n body old new have is may sent there settles =
     let so = heard_so setting before row n body old new have is sent there settles in
-    subst (AreWritten setting before (item.Row row (Deliver n) ∷ item.Delivered n ∷ [])
+    subst (AreWritten setting before (Item.Row row (Deliver n) ∷ Item.Delivered n ∷ [])
     (hear_acts body old.marks new) new) (deliver_piece setting before row n body may sent)
-    (are_written setting before (item.Row row (Deliver n)) (item.Delivered n) _
+    (are_written setting before (Item.Row row (Deliver n)) (Item.Delivered n) _
     (hear_acts body old.marks new) new so.0 so.1)
 
 -- ---- a switch that is over
@@ -244,28 +242,28 @@ hears setting before row n body old new have is may sent there settles =
 pub confirms : (setting : Setting) (before : List Item) (row s : ℕ) (old new : ControllerValue)
     → AreCaused setting before → IsControllerOf setting before old → IsFalse (is_up before s)
     → s < length old.marks.switches → SettlesWith (at_switch s after_over old.marks) old.plans new
-    → AreWritten setting before (item.Row row (Confirm s) ∷ item.OverNow s ∷ [])
+    → AreWritten setting before (Item.Row row (Confirm s) ∷ Item.OverNow s ∷ [])
     (acts.settling_acts (current_touched new) (at_switch s after_over old.marks) new.marks) new
     (piece setting before row (Confirm s))
 unfolding piece confirm_items
 confirms setting before row s old new have is down there settles =
-    subst (λ b. AreWritten setting before (item.Row row (Confirm s) ∷ item.OverNow s ∷ [])
-    (acts.settling_acts (current_touched new) (at_switch s after_over old.marks) new.marks) new (item.Row row (Confirm s)
+    subst (λ b. AreWritten setting before (Item.Row row (Confirm s) ∷ Item.OverNow s ∷ [])
+    (acts.settling_acts (current_touched new) (at_switch s after_over old.marks) new.marks) new (Item.Row row (Confirm s)
     ∷ elim b [
       | true ↦ nothing
-      | false ↦ items_then (item.OverNow s ∷ []) (settling setting) here
+      | false ↦ items_then (Item.OverNow s ∷ []) (settling setting) here
     ])) (sym still)
-    (are_written setting before (item.Row row (Confirm s)) (item.OverNow s) (settling setting now)
+    (are_written setting before (Item.Row row (Confirm s)) (Item.OverNow s) (settling setting now)
     (acts.settling_acts (current_touched new) (at_switch s after_over old.marks) new.marks) new so.0 so.1)
   where
     here : List Item
-    here = before ++ item.Row row (Confirm s) ∷ []
+    here = before ++ Item.Row row (Confirm s) ∷ []
 
     now : List Item
-    now = here ++ item.OverNow s ∷ []
+    now = here ++ Item.OverNow s ∷ []
 
     still : is_up here s ≡ false
-    still = up_more before (item.Row row (Confirm s)) s ∙ down
+    still = up_more before (Item.Row row (Confirm s)) s ∙ down
 
     here_have : AreCaused setting here
     here_have = behind_row setting before row (Confirm s) have
@@ -276,8 +274,8 @@ confirms setting before row s old new have is down there settles =
     so : (written_items now (acts.settling_acts (current_touched new) (at_switch s after_over old.marks) new.marks)
         ≡ settling setting now) × IsControllerOf setting (now ++ settling setting now) new
     so = settles_with setting now (at_switch s after_over old.marks) old.plans new
-        (have_append (HasItemCause setting) [] here (item.OverNow s ∷ []) here_have (still, tt))
+        (have_append (HasItemCause setting) [] here (Item.OverNow s ∷ []) here_have (still, tt))
         (marks_over setting here s old.marks there here_is.marks)
-        (plans_on setting here (item.OverNow s ∷ []) old.plans here_have
-        (count_more here (item.OverNow s)) (current_more here (item.OverNow s)) here_is.plans)
+        (plans_on setting here (Item.OverNow s ∷ []) old.plans here_have
+        (count_more here (Item.OverNow s)) (current_more here (Item.OverNow s)) here_is.plans)
         settles

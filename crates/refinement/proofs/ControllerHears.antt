@@ -4,7 +4,6 @@ use Rattle.base.proofs.Exports.{and-true, bit_at-zero, fold-append, list_any, na
 use Rattle.packet_laws.proofs.Exports.{other_number}
 use Rattle.failover.proofs.KnownLinkRows.{turned_number}
 use Rattle.update_machine.specs.Exports.{Body, HaveCauses, Hello, Installed, Item, Setting, Stamped, acked_stamp, body_to_controller, hello_boot, installed_in, known_boot, open_version, opened_at, stamped_in}
-use Rattle.journal.specs.declared.item.Item.TheVariants as item
 use Rattle.update_machine.specs.Marks as machine
 use Rattle.control_laws.specs.Exports.{HasItemCause}
 use Rattle.control_laws.proofs.Exports.{StampsAreCurrent, acked_more, count_more, current_at_first, current_kept, current_more, fact_on, known_first, known_more, member_same, opened_in, opened_is, opened_more, opened_same, over_more, raised, retired_more, tells, told_by, told_by_more, told_more}
@@ -15,10 +14,10 @@ use Rattle.version_update.proofs.AcknowledgedVersions.{installed_acked}
 use Rattle.controller.specs.Exports.{NamesThere, marks_after}
 use Rattle.refinement.specs.Exports.{AreMarksOf, IsKnown}
 use Rattle.refinement.proofs.KeptController.{StaysKnown, known_on, quiet_stays, stay_on, switch_on}
-use Rattle.refinement.proofs.RefinedAcknowledgements.{acks_past}
+use Rattle.refinement.proofs.ControllerPlans.{acks_past}
 
 abbrev delivered : ℕ → Item
-delivered n = item.Delivered n
+delivered n = Item.Delivered n
 
 -- ---- facts behind a message that is told
 
@@ -310,7 +309,7 @@ told_on setting here n s marks change others there own are =
 pub marks_told : (setting : Setting) (here : List Item) (n : ℕ) (body : Body) (marks : MarksValue)
     → HaveCauses (HasItemCause setting) [] here → body_to_controller here n ≡ Some body
     → NamesThere body marks → AreMarksOf setting here marks
-    → AreMarksOf setting (here ++ item.Delivered n ∷ []) (marks_after body marks)
+    → AreMarksOf setting (here ++ Item.Delivered n ∷ []) (marks_after body marks)
 marks_told setting here n (Hello s boot) marks have said there are = told_on setting here n s marks
     (hello_recorded boot) (λ t other. untold here n t (Hello s boot) said
     (ap (λ b. if b then Some boot else None) (other_number s t other)) refl refl) there
@@ -335,10 +334,10 @@ marks_told setting here n body marks have said there are =
 -- ---- a switch that is over
 
 over_known : (here : List Item) (s : ℕ) (known : SwitchRecord) → IsKnown here s known
-    → IsKnown (here ++ item.OverNow s ∷ []) s (after_over known)
+    → IsKnown (here ++ Item.OverNow s ∷ []) s (after_over known)
 unfolding machine.is_member
 over_known here s known is =
-    let next : Item = item.OverNow s in
+    let next : Item = Item.OverNow s in
     let over : machine.is_over (here ++ next ∷ []) s ≡ true = over_more here next s
     ∙ ap (λ b. if b then true else machine.is_over here s) (eq-eqb s s refl) in
     let member : machine.is_member (here ++ next ∷ []) s ≡ false = rw over refl in record {
@@ -352,8 +351,8 @@ over_known here s known is =
 
 pub marks_over : (setting : Setting) (here : List Item) (s : ℕ) (marks : MarksValue)
     → s < length marks.switches → AreMarksOf setting here marks
-    → AreMarksOf setting (here ++ item.OverNow s ∷ []) (at_switch s after_over marks)
-marks_over setting here s marks there are = let next : Item = item.OverNow s in
+    → AreMarksOf setting (here ++ Item.OverNow s ∷ []) (at_switch s after_over marks)
+marks_over setting here s marks there are = let next : Item = Item.OverNow s in
     switch_on setting here next marks s after_over (count_more here next)
     (current_more here next) (retired_more here next)
     (λ t other. quiet_stays here next t (told_more here next) (known_more here next t)

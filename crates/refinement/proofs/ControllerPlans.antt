@@ -1,18 +1,56 @@
 -- The plans that a controller keeps are those of the versions from the current one to the last.
-use Rattle.std.proofs.Common.{[], ◌++◌, ◌+◌, ◌-◌, ◌<◌, ◌∙◌, ◌∷◌, ◌≡◌, ◌≤◌, List, ap, append-nil, arith, find, map, max, nat_le, refl, sym, ℕ}
-use Rattle.base.proofs.Exports.{filter_made, later_same, map-range_same, map-range_with_len_more, option_map_or, range_with_len}
-use Rattle.update_machine.specs.Exports.{ControllerKeeps, Item, Setting, VersionsAreNumbered, current_mark, settling, touched_by, version_count, versions_from_current}
-use Rattle.update_machine.proofs.Exports.{plan_stays, policy_stays, touched_stays}
-use Rattle.control_laws.proofs.Exports.{bounded, caused_numbered}
+use Rattle.std.proofs.Common.{[], ◌++◌, ◌+◌, ◌-◌, ◌<◌, ◌==◌, ◌∙◌, ◌∷◌, ◌≡◌, ◌≤◌, Bool, List, None, Option, Some, ap, append-nil, arith, eq-eqb, false, find, inl, inr, map, max, nat_le, ne_eqb, option_and_then, option_map, option_to_list, refl, subst, suc, sym, true, zero, ℕ}
+use Rattle.base.proofs.Exports.{cases_eq, filter_made, later_same, map-range_same, map-range_with_len_more, option_map_or, range_with_len}
+use Rattle.controller.specs.Exports.{ControllerValue, KeptPlan, SettlesWith, current_touched, newest_policy, plans_from}
+use Rattle.update_machine.specs.Exports.{ControllerKeeps, HasPlan, Installed, IsSetting, Item, Setting, VersionsAreNumbered, body_to_controller, controller_heard, current_mark, installed_in, known_boot, message_of, policy_in, settling, touched_by, version_count, versions_from_current}
+use Rattle.update_machine.proofs.Exports.{begins_planned, plan_stays, policy_stays, start_laws, touched_stays}
+use Rattle.control_laws.specs.Exports.{HasItemCause, MarksAreBounded}
+use Rattle.control_laws.proofs.Exports.{AreKept, FromCauses, HeardAreKnown, IsKnown, bounded, by_number, caused_numbered, from_causes, heard_known, installed_is, known_at_first, known_kept, known_rises, tells, told_by, told_by_more, told_sent, versions_planned}
+use Rattle.refinement.specs.Exports.{AreMarksOf, IsControllerOf, plan_to_keep, written_items}
+use Rattle.refinement.proofs.RefinedSettling.{AreCaused, settles_so}
 use Rattle.version_update.specs.Exports.{MarksValue}
-use Rattle.controller.specs.Exports.{ControllerValue, KeptPlan, SettlesWith, current_touched, plans_from}
 use Rattle.controller.specs.Sends as acts
 use Rattle.controller.proofs.NewestPolicy.{still_found}
-use Rattle.refinement.specs.Exports.{AreMarksOf, IsControllerOf, plan_to_keep, written_items}
 use Rattle.refinement.proofs.KeptController.{marks_on}
-use Rattle.refinement.proofs.RefinedSettling.{AreCaused, settles_so}
-use Rattle.refinement.proofs.NewestKeptPolicy.{find_kept, is_of}
 use Rattle.switch_table.specs.Exports.{all_touched}
+use Rattle.ctrl_msg.specs.Exports.{to_controller}
+
+-- ---- the policy of the newest version, which the controller keeps
+
+abbrev pub is_of : ℕ → KeptPlan → Bool
+is_of version kept = kept.version == version
+
+-- of the plans of a stretch of versions each is found by its version
+pub find_kept : (setting : Setting) (journal : List Item) (low many version : ℕ) → low ≤ version
+    → version < low + many
+    → find (is_of version) (map (plan_to_keep setting journal) (range_with_len low many))
+    ≡ Some (plan_to_keep setting journal version)
+find_kept setting journal low zero version above below = absurd (omega (arith, above, below))
+find_kept setting journal low (suc many) version above below = elim (cases_eq low version) [
+  | inl same ↦ rw (eq-eqb low version same) (ap (λ v. Some (plan_to_keep setting journal v)) same)
+  | inr apart ↦ rw (ne_eqb low version apart) (find_kept setting journal (low + 1) many version
+      (omega (arith, above, apart)) (omega (arith, below)))
+]
+
+-- the newest version has a plan, so its policy is there
+pub newest_in : (setting : Setting) (journal : List Item) (controller : ControllerValue)
+    → IsSetting setting → AreCaused setting journal → IsControllerOf setting journal controller
+    → newest_policy controller ≡ policy_in setting journal (version_count journal)
+newest_in setting journal controller is have refines =
+    ap (option_map (λ (kept : KeptPlan). kept.plan.policy))
+    (ap (λ n. find (is_of n) controller.plans) refines.marks.count
+    ∙ ap (find (is_of (version_count journal))) refines.plans ∙ find_kept setting journal
+    (current_mark journal) (version_count journal + 1 - current_mark journal)
+    (version_count journal) marks.there (omega (arith, marks.there))) ∙ sym planned.policy
+  where
+    marks : MarksAreBounded setting journal
+    marks = bounded setting journal have
+
+    planned : HasPlan setting journal (version_count journal)
+    planned = (versions_planned setting journal have).planned (begins_planned setting is)
+        (version_count journal) (omega (arith, marks.first, marks.there)) (omega arith)
+
+-- ---- controller plans
 
 -- ---- plans
 
@@ -162,3 +200,73 @@ settles_with setting now before plans new have marks are settles =
             (omega (arith, marks.count, current, is.current.bound)) are;
       },
     )
+
+-- ---- no switch acknowledged tables in a boot that isn't known yet: none were sent to it in that
+-- boot
+
+-- the boot in which a switch heard tables is known; acknowledgements that were sent, and those that
+-- the controller was told, are of boots that are
+pub record AcksArePast (journal : List Item) : Type 0 where
+  pub boots : IsKnown journal
+  pub heard : HeardAreKnown journal
+  pub sent : (s boot v n : ℕ) → message_of journal n ≡ Some (to_controller (Installed s boot v))
+      → boot ≤ known_boot journal s
+  pub told : (s boot : ℕ) → known_boot journal s < boot → told_by (installed_in s boot) journal ≡ []
+
+-- ---- acknowledgements
+
+sent_on : (setting : Setting) (before : List Item) (next : Item) (s boot v n : ℕ)
+    → HasItemCause setting before next → AcksArePast before
+    → message_of (before ++ next ∷ []) n ≡ Some (to_controller (Installed s boot v))
+    → boot ≤ known_boot (before ++ next ∷ []) s
+sent_on setting before next s boot v n cause past is = let rises = known_rises before next s in
+    elim (by_number before next n (to_controller (Installed s boot v)) is) [
+      | inl new ↦ let right = subst (HasItemCause setting before) new cause in
+          omega (arith, past.heard s v right.heard, right.present.own, rises)
+      | inr old ↦ omega (arith, past.sent s boot v n old, rises)
+    ]
+
+-- what the controller is told was sent
+told_one : (before : List Item) (next : Item) (s boot : ℕ) → AcksArePast before
+    → known_boot before s < boot → tells (installed_in s boot) before next ≡ []
+told_one before (Item.Delivered number) s boot past later =
+    by_told (option_and_then (installed_in s boot) (body_to_controller before number)) refl
+  where
+    by_told : (o : Option ℕ)
+        → option_and_then (installed_in s boot) (body_to_controller before number) ≡ o
+        → option_to_list o ≡ []
+    by_told None e = refl
+    by_told (Some v) e =
+        let is = past.sent s boot v number (told_sent (installed_in s boot) (Installed s boot)
+        (installed_is s boot) before number v e) in
+        absurd (omega (arith, is, later))
+told_one before next s boot past later = refl
+
+told_on : (before : List Item) (next : Item) (s boot : ℕ) → AcksArePast before
+    → known_boot (before ++ next ∷ []) s < boot
+    → told_by (installed_in s boot) (before ++ next ∷ []) ≡ []
+told_on before next s boot past later =
+    let was : known_boot before s < boot = omega (arith, later, known_rises before next s) in
+    told_by_more (installed_in s boot) before next
+    ∙ ap (λ xs. xs ++ tells (installed_in s boot) before next) (past.told s boot was)
+    ∙ told_one before next s boot past was
+
+past_kept : (setting : Setting) → AreKept (HasItemCause setting) AcksArePast
+past_kept setting before next cause past = record {
+  boots = known_kept setting before next cause past.boots;
+  heard = heard_known before next past.boots.boots past.heard;
+  sent = λ s boot v n is. sent_on setting before next s boot v n cause past is;
+  told = λ s boot later. told_on before next s boot past later;
+}
+
+past_at_first : AcksArePast []
+unfolding controller_heard
+past_at_first = record {
+  boots = known_at_first;
+  heard = λ s v is. let no : false ≡ true = rw (start_laws.heard s) at is in absurd cc;
+  sent = λ s boot v n is. absurd (cc (rw (start_laws.message n).message at is));
+  told = λ s boot later. refl;
+}
+
+pub acks_past : FromCauses (λ setting. AcksArePast)
+acks_past = from_causes (λ setting. AcksArePast) past_kept (λ setting. past_at_first)

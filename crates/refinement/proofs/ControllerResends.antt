@@ -1,11 +1,11 @@
 -- What the controller sends again, and what it is told of is there.
-use Rattle.std.proofs.Common.{[], if◌then◌else◌, ◌&&◌, ◌++◌, ◌+◌, ◌-◌, ◌<◌, ◌==◌, ◌∙◌, ◌∷◌, ◌≡◌, ◌≤◌, Bool, IsFalse, IsTrue, List, Some, ap, arith, false, filter, find, length, map, nat_le, nat_lt, not, refl, suc, sym, true, ℕ}
+use Rattle.std.proofs.Common.{[], ◌&&◌, ◌++◌, ◌+◌, ◌-◌, ◌<◌, ◌==◌, ◌∙◌, ◌∷◌, ◌≡◌, ◌≢◌, ◌≤◌, Bool, IsFalse, IsTrue, List, Some, ap, arith, false, filter, find, if◌then◌else◌, length, map, nat_le, nat_lt, not, refl, suc, sym, true, ℕ}
 use Rattle.base.proofs.Exports.{filter_made, map-append, map_twice, nat_tests, option_map_or, picked_same, range_with_len}
-use Rattle.update_machine.specs.Exports.{Body, Collect, Hello, Installed, Item, Message, OpenAt, Setting, Stamp, Stamped, acked_stamp, collect_for, current_mark, install_for, message_of, open_for, open_version, resent_by_controller, resent_to_member, retired_mark, stamp_for, to_switch, touched_by, unacked_installs, version_count, versions_from_current}
+use Rattle.update_machine.specs.Exports.{Body, Collect, Hello, Installed, Item, Message, NoneConcern, OpenAt, Resend, Setting, Stamp, Stamped, Step, acked_stamp, collect_for, concerns_controller, current_mark, install_for, message_of, open_for, open_version, piece, resend_items, resent_by_controller, resent_by_switch, resent_to_member, retired_mark, sends_or_nothing, stamp_for, to_switch, touched_by, unacked_installs, version_count, versions_from_current}
 use Rattle.ctrl_msg.specs.Exports.{to_controller}
 use Rattle.update_machine.specs.Marks as machine
-use Rattle.control_laws.proofs.Exports.{bounded}
-use Rattle.control_laws.specs.Exports.{BodiesNameThere}
+use Rattle.control_laws.proofs.Exports.{bounded, others_keep}
+use Rattle.control_laws.specs.Exports.{BodiesNameThere, asks_controller}
 use Rattle.version_update.specs.Exports.{MarksValue, has_acked, is_member, is_over, record_of}
 use Rattle.version_update.specs.declared.record.Phase.{Phase}
 use Rattle.version_update.specs.declared.record.Phase.TheVariants.{Joining, Member, Over}
@@ -14,11 +14,14 @@ use Rattle.controller.specs.Exports.{ControllerValue, KeptPlan, NamesBoth, Names
 use Rattle.controller.specs.Sends as acts
 use Rattle.controller.specs.declared.sends.Act.{Act}
 use Rattle.controller.specs.declared.sends.Act.TheVariants.{Post}
-use Rattle.refinement.specs.Exports.{AreMarksOf, IsControllerOf, IsKnown, plan_to_keep}
+use Rattle.refinement.specs.Exports.{AreMarksOf, AreWritten, IsControllerOf, IsKnown, acts_of_resend, plan_to_keep, written_items}
 use Rattle.refinement.proofs.RefinedSettling.{AreCaused}
-use Rattle.refinement.proofs.NewestKeptPolicy.{find_kept, is_of}
+use Rattle.refinement.proofs.ControllerPlans.{controller_on, find_kept, is_of}
 use Rattle.switch_table.specs.Exports.{all_touched}
 use Rattle.ternary.specs.Exports.{WordValue}
+use Rattle.update_machine.proofs.Exports.{controller_keeps}
+use Rattle.refinement.proofs.ControllerCalls.{behind_row, row_on}
+use Rattle.refinement.proofs.KeptController.{posted}
 
 -- ---- what is told to the controller names what it knows
 
@@ -195,3 +198,67 @@ pub resends : (setting : Setting) (journal : List Item) (s : ℕ) (controller : 
     → resend_acts controller s ≡ map Post (resent_by_controller setting journal s)
 resends setting journal s controller have is there = by_phase setting journal s controller have is
     (is.marks.each s there) (record_of controller.marks s).phase refl
+
+-- ---- what a resend writes, and the steps that leave the controller as it was
+
+-- ---- what leaves the controller
+
+pub items_leave : (setting : Setting) (before items : List Item) (controller : ControllerValue)
+    → AreCaused setting before → NoneConcern concerns_controller before items
+    → IsControllerOf setting before controller → IsControllerOf setting (before ++ items) controller
+items_leave setting before items controller have none is =
+    controller_on setting before items controller have (controller_keeps before items none) is
+
+pub steps_leave : (setting : Setting) (before : List Item) (row : ℕ) (step : Step)
+    (controller : ControllerValue) → AreCaused setting before
+    → IsFalse (asks_controller before step) → IsControllerOf setting before controller
+    → IsControllerOf setting (before ++ piece setting before row step) controller
+steps_leave setting before row step controller have none is = controller_on setting before
+    (piece setting before row step) controller have (others_keep setting before row step none) is
+
+-- ---- a resend
+
+module _ (setting : Setting) (before : List Item) (row s : ℕ) (controller : ControllerValue)
+    (have : AreCaused setting before) (is : IsControllerOf setting before controller)
+    (there : s < length controller.marks.switches) where
+  abbrev here : List Item
+  here = before ++ Item.Row row (Resend s) ∷ []
+
+  abbrev messages : List Message
+  messages = resent_by_switch setting here s ++ resent_by_controller setting here s
+
+  acts_are : acts_of_resend setting here s controller ≡ map Post messages
+  acts_are = ap (λ xs. map Post (resent_by_switch setting here s) ++ xs) (resends setting here s
+      controller (behind_row setting before row (Resend s) have)
+      (row_on setting before row (Resend s) controller have is) there) ∙ sym (map-append Post
+      (resent_by_switch setting here s) (resent_by_controller setting here s))
+
+  after : IsControllerOf setting (before ++ piece setting before row (Resend s)) controller
+  after = steps_leave setting before row (Resend s) controller have refl is
+
+  pub resends_nothing : acts_of_resend setting here s controller ≡ []
+      → AreWritten setting before (Item.Row row (Resend s) ∷ Item.Nothing ∷ []) [] controller
+      (piece setting before row (Resend s))
+  unfolding piece resend_items
+  resends_nothing none = record {
+    same = cc (by_messages messages (sym acts_are ∙ none));
+    after = after;
+  } where
+    by_messages : (told : List Message) → map Post told ≡ []
+        → sends_or_nothing here told ≡ Item.Nothing ∷ []
+    by_messages [] e = refl
+    by_messages (message ∷ told) e = absurd cc
+
+  pub resends_some : acts_of_resend setting here s controller ≢ []
+      → AreWritten setting before (Item.Row row (Resend s) ∷ [])
+      (acts_of_resend setting here s controller) controller (piece setting before row (Resend s))
+  unfolding piece resend_items
+  resends_some some = record {
+    same = ap (λ items. Item.Row row (Resend s) ∷ items)
+        (by_messages messages (λ e. some (acts_are ∙ e)) ∙ ap (written_items here) (sym acts_are));
+    after = after;
+  } where
+    by_messages : (told : List Message) → map Post told ≢ []
+        → sends_or_nothing here told ≡ written_items here (map Post told)
+    by_messages [] none = absurd (none refl)
+    by_messages (message ∷ told) e = sym (posted (message ∷ told) here)

@@ -6,7 +6,6 @@ use Rattle.update_machine.specs.Exports.{Drop, Hello, Inapplicable, Install, Ite
 use Rattle.ctrl_msg.specs.Exports.{to_controller}
 use Rattle.partition.specs.Plan.{Hosted}
 use Rattle.switch_table.specs.Exports.{all_touched, tables_of}
-use Rattle.journal.specs.declared.item.Item.TheVariants as item
 use Rattle.update_machine.specs.Marks as machine
 use Rattle.update_machine.proofs.Exports.{all_to, first_plan, first_policy, first_touched, open_net, plan_p, plan_q, second_plan, second_policy, to, versions}
 use Rattle.version_update.specs.Exports.{first_record}
@@ -19,9 +18,9 @@ use Rattle.refinement.proofs.ControllerCalls.{begins}
 -- ---- acts
 
 -- each message has the next number
-numbered : written_items (item.Sent 1 (to 0 (Stamp 1 1 [])) ∷ []) (Current 2
-    ∷ Post (to 0 (Stamp 1 2 [])) ∷ Retired 1 ∷ Post (to 1 (Stamp 1 2 [])) ∷ []) ≡ item.Current 2
-    ∷ item.Sent 2 (to 0 (Stamp 1 2 [])) ∷ item.Retired 1 ∷ item.Sent 3 (to 1 (Stamp 1 2 [])) ∷ []
+numbered : written_items (Item.Sent 1 (to 0 (Stamp 1 1 [])) ∷ []) (Current 2
+    ∷ Post (to 0 (Stamp 1 2 [])) ∷ Retired 1 ∷ Post (to 1 (Stamp 1 2 [])) ∷ []) ≡ Item.Current 2
+    ∷ Item.Sent 2 (to 0 (Stamp 1 2 [])) ∷ Item.Retired 1 ∷ Item.Sent 3 (to 1 (Stamp 1 2 [])) ∷ []
 unfolding next_message
 numbered = refl
 
@@ -41,7 +40,7 @@ of_first : (journal : List Item) → outs ≡ (plan_to_keep open_net journal 1).
 of_first journal = cc (first_policy journal, first_plan journal)
 
 of_second : (items : List Item)
-    → drops ≡ (plan_to_keep open_net (item.Submitted 2 2 ∷ items) 2).plan
+    → drops ≡ (plan_to_keep open_net (Item.Submitted 2 2 ∷ items) 2).plan
 of_second items = cc (second_policy [] items tt, second_plan [] items tt)
 
 next_drops : IsPlanOfNext open_net [] 2 drops all_touched
@@ -77,11 +76,11 @@ not_begun is =
 
 -- of two versions both are kept while the first one is current, and then the second one alone
 abbrev submitted : List Item
-submitted = item.Submitted 2 2 ∷ []
+submitted = Item.Submitted 2 2 ∷ []
 
 -- each file is a policy of its own, which touches everything
 second_touches : (items : List Item)
-    → touched_by open_net (item.Submitted 2 2 ∷ items) 2 ≡ all_touched
+    → touched_by open_net (Item.Submitted 2 2 ∷ items) 2 ≡ all_touched
 unfolding touched_by file_of
 second_touches items = refl
 
@@ -92,7 +91,7 @@ abbrev both : PlanValue → List WordValue → KeptPlan → List KeptPlan
 both plan touched second = (record { version = 1; plan = plan; touched = touched }) ∷ second ∷ []
 
 second_is : (items : List Item) → second_kept drops all_touched
-    ≡ plan_to_keep open_net (item.Submitted 2 2 ∷ items) 2
+    ≡ plan_to_keep open_net (Item.Submitted 2 2 ∷ items) 2
 second_is items = cc (of_second items, second_touches items)
 
 both_kept : map (plan_to_keep open_net submitted) (versions_from_current submitted)
@@ -105,18 +104,18 @@ both_kept =
     ∙ ap (λ second. plan_to_keep open_net submitted 1 ∷ second ∷ []) (second_is []))
 
 abbrev risen : List Item
-risen = submitted ++ item.Current 2 ∷ []
+risen = submitted ++ Item.Current 2 ∷ []
 
 one_kept : map (plan_to_keep open_net risen) (versions_from_current risen)
     ≡ second_kept drops all_touched ∷ []
 unfolding current_mark version_count
-one_kept = sym (ap (λ second. second ∷ []) (second_is (item.Current 2 ∷ [])))
+one_kept = sym (ap (λ second. second ∷ []) (second_is (Item.Current 2 ∷ [])))
 
 -- ---- switches
 
 -- a switch that is over isn't known as at first
 abbrev over : List Item
-over = item.OverNow 0 ∷ []
+over = Item.OverNow 0 ∷ []
 
 is_over : machine.is_over over 0 ≡ true
 unfolding machine.is_over known_boot controller_heard message_of
@@ -129,7 +128,7 @@ not_as_first is = let no : false ≡ true = is.over ∙ is_over in absurd cc
 
 -- a hello of a boot that is known brings no tables
 abbrev late : List Item
-late = item.Sent 1 (to_controller (Hello 0 1)) ∷ []
+late = Item.Sent 1 (to_controller (Hello 0 1)) ∷ []
 
 nothing_late : after_hello open_net late (Hello 0 1) late ≡ []
 unfolding known_boot controller_heard message_of
@@ -142,10 +141,10 @@ not_installed same = cc same
 
 -- a new version isn't sent to a switch that is over
 abbrev later : List Item
-later = over ++ item.Submitted 2 2 ∷ []
+later = over ++ Item.Submitted 2 2 ∷ []
 
 abbrev second : ℕ → Item
-second s = item.Sent 1 (to s (Install 1 (tables_of plan_q 2 s)))
+second s = Item.Sent 1 (to s (Install 1 (tables_of plan_q 2 s)))
 
 to_other_alone : installs_to_all open_net later ≡ second 1 ∷ []
 unfolding installs_to_all machine.is_over known_boot controller_heard message_of next_message

@@ -4,18 +4,15 @@ use Rattle.base.proofs.Exports.{AllByRecursion, and_parts, filter_more, or-false
 use Rattle.update_machine.specs.Exports.{Advert, Advertise, Body, Deliver, Install, Item, LinkRow, LinksKeep, Message, OpenAt, Setting, Stamp, advert_to, boot_of, delivery_items, gives_boot, gives_up, has_changed, heard, is_for_boot, is_message_to, is_news_to, is_up, items_then, link_changes, message_of, near, own_advert, own_seq, passed_on, received_items, send_items, sent_from, serves, stamp_of, switch_items, switches_of, to_switch, touched_by}
 use Rattle.base.specs.Exports.{has, switches}
 use Rattle.net_file.specs.Exports.{IsLink, IsNet, are_linked}
-use Rattle.journal.specs.declared.item.Item.TheVariants as item
 use Rattle.switch_core.specs.Exports.{SwitchValue, flood, is_news_here as is_news_at, next_advert, opened_by, opening_stamp, replies, replies_to, with_message}
 use Rattle.switch_core.proofs.SwitchLaws.{heard_keeps}
 use Rattle.update_machine.proofs.Exports.{last_given_append, links_keep, policies_keep}
 use Rattle.control_laws.proofs.Exports.{each_weaker, heard_more, message_more, near_linked}
 use Rattle.control_laws.specs.Exports.{BodiesNameThere, NamesOnlyThere}
 use Rattle.refinement.specs.Exports.{HearingRefines, IsSentTo, relinked_switch, switch_of, within_delivery}
-use Rattle.refinement.proofs.RefinedHearing.{by_obeying, controller_shut, controller_silent, heard_is, is_meant, open_kept, opens_as, said_is}
-use Rattle.refinement.proofs.SwitchFactItems.{facts_opened}
+use Rattle.refinement.proofs.RefinedHearing.{by_obeying, controller_shut, controller_silent, facts_opened, heard_is, is_meant, open_kept, opens_as, said_is}
 use Rattle.refinement.proofs.SwitchLinkChanges.{kept_is, one_if, relinks, seq_more, unchanged}
-use Rattle.refinement.proofs.RefinedTables.{AreVersioned, IsVersioned}
-use Rattle.refinement.proofs.SwitchFacts.{SwitchFacts, advert_of, boot_shown, by_facts, number_shown, seq_shown, stamp_shown, switch_is, facts_of}
+use Rattle.refinement.proofs.SwitchFacts.{AreVersioned, IsVersioned, SwitchFacts, advert_of, boot_shown, by_facts, facts_of, number_shown, seq_shown, stamp_shown, switch_is}
 use Rattle.refinement.proofs.SwitchHears.{SaysTouched}
 
 -- ---- versions that messages name
@@ -44,23 +41,23 @@ all_versioned setting journal s names =
 -- ---- within the step
 
 abbrev rowed : List Item → ℕ → ℕ → List Item
-rowed before row n = before ++ item.Row row (Deliver n) ∷ []
+rowed before row n = before ++ Item.Row row (Deliver n) ∷ []
 
 -- the delivery behind its row, and what comes then
 delivering_is : (before : List Item) (row n : ℕ)
-    → within_delivery before row n [] ≡ rowed before row n ++ item.Delivered n ∷ []
-delivering_is before row n = sym (append_assoc before (item.Row row (Deliver n) ∷ [])
-    (item.Delivered n ∷ []))
+    → within_delivery before row n [] ≡ rowed before row n ++ Item.Delivered n ∷ []
+delivering_is before row n = sym (append_assoc before (Item.Row row (Deliver n) ∷ [])
+    (Item.Delivered n ∷ []))
 
 delivering_more : (before : List Item) (row n : ℕ) (next : Item)
     → within_delivery before row n (next ∷ []) ≡ within_delivery before row n [] ++ next ∷ []
 delivering_more before row n next = sym (append_assoc before
-    (item.Row row (Deliver n) ∷ item.Delivered n ∷ []) (next ∷ []))
+    (Item.Row row (Deliver n) ∷ Item.Delivered n ∷ []) (next ∷ []))
 
 row_keeps : (setting : Setting) (before : List Item) (row n s : ℕ)
     → switch_of setting (rowed before row n) s ≡ switch_of setting before s
 row_keeps setting before row n s =
-    kept_is setting s before (item.Row row (Deliver n) ∷ []) (refl, tt) (refl, tt)
+    kept_is setting s before (Item.Row row (Deliver n) ∷ []) (refl, tt) (refl, tt)
 
 -- the switch behind the delivery in its step, open or closed as it was
 delivered_is : (setting : Setting) (before : List Item) (row n s : ℕ) (body : Body)
@@ -70,14 +67,14 @@ delivered_is : (setting : Setting) (before : List Item) (row n s : ℕ) (body : 
     }
 delivered_is setting before row n s body is =
     let here : List Item = rowed before row n in
-    let bodies : heard here s ≡ heard before s = heard_more before (item.Row row (Deliver n)) s in
+    let bodies : heard here s ≡ heard before s = heard_more before (Item.Row row (Deliver n)) s in
     ap (λ js. switch_of setting js s) (delivering_is before row n)
     ∙ heard_is setting here n s body
-    (message_more before (item.Row row (Deliver n)) n ∙ is.sent)
+    (message_more before (Item.Row row (Deliver n)) n ∙ is.sent)
     (subst AreVersioned (sym bodies) (all_versioned setting before s is.names))
     (versioned setting before s body (is.names.sent n (to_switch s body) is.sent))
     (says_touched setting before here n s body
-    ((policies_keep before (item.Row row (Deliver n) ∷ []) (refl, tt)).touched setting) is)
+    ((policies_keep before (Item.Row row (Deliver n) ∷ []) (refl, tt)).touched setting) is)
     ∙ ap (λ (switch : SwitchValue). record (with_message switch n body) { is_open = switch.is_open })
     (row_keeps setting before row n s)
 
@@ -94,7 +91,7 @@ shut_is setting before row n s body is shut =
 
 -- the items of the step
 abbrev opening : ℕ → ℕ → ℕ → ℕ → List Item
-opening row n s stamp = item.Row row (Deliver n) ∷ item.Delivered n ∷ item.Opened s stamp ∷ []
+opening row n s stamp = Item.Row row (Deliver n) ∷ Item.Delivered n ∷ Item.Opened s stamp ∷ []
 
 same_boot : (before : List Item) (row n s stamp : ℕ)
     → boot_of (before ++ opening row n s stamp) s ≡ boot_of before s
@@ -111,7 +108,7 @@ same_up before row n s stamp = cc (last_given_append (gives_up s) before (openin
 kept_until : (setting : Setting) (before : List Item) (row n : ℕ)
     → LinksKeep setting before (within_delivery before row n [])
 kept_until setting before row n = links_keep setting before
-    (item.Row row (Deliver n) ∷ item.Delivered n ∷ []) (refl, (refl, tt))
+    (Item.Row row (Deliver n) ∷ Item.Delivered n ∷ []) (refl, (refl, tt))
 
 opened_seq : (setting : Setting) (before : List Item) (row n s stamp : ℕ)
     → let now = before ++ opening row n s stamp in
@@ -119,7 +116,7 @@ opened_seq : (setting : Setting) (before : List Item) (row n s stamp : ℕ)
     ≡ own_seq setting (within_delivery before row n []) s + one_if
     (has_changed setting before now s)
 opened_seq setting before row n s stamp =
-    seq_more setting before row s (Deliver n) (item.Delivered n ∷ item.Opened s stamp ∷ [])
+    seq_more setting before row s (Deliver n) (Item.Delivered n ∷ Item.Opened s stamp ∷ [])
     (tt, (tt, tt)) (same_boot before row n s stamp) (same_up before row n s stamp)
     ∙ ap (λ k. k + one_if (has_changed setting before (before ++ opening row n s stamp) s))
     (sym ((kept_until setting before row n).seq s))
@@ -135,7 +132,7 @@ opened_facts : (setting : Setting) (before : List Item) (row n s stamp : ℕ)
     }
 opened_facts setting before row n s stamp =
     let here : List Item = within_delivery before row n [] in
-    let split = delivering_more before row n (item.Opened s stamp) in
+    let split = delivering_more before row n (Item.Opened s stamp) in
     ap (λ js. facts_of setting js s) split
     ∙ facts_opened setting here s stamp
     ∙ ap (λ js. record (facts_of setting here s) {
@@ -162,7 +159,7 @@ stamp_behind setting before row n s stamp body is opens =
 opening_is : (setting : Setting) (before : List Item) (row n s stamp : ℕ) (body : Body)
     → IsSentTo setting before n s body → opening_stamp (switch_of setting before s) body
     ≡ Some stamp
-    → let now = within_delivery before row n (item.Opened s stamp ∷ []) in
+    → let now = within_delivery before row n (Item.Opened s stamp ∷ []) in
     switch_of setting now s
     ≡ relinked_switch setting before now s (with_message (switch_of setting before s) n body)
 opening_is setting before row n s stamp body is opens =
@@ -177,7 +174,7 @@ opening_is setting before row n s stamp body is opens =
     here = within_delivery before row n []
 
     now : List Item
-    now = within_delivery before row n (item.Opened s stamp ∷ [])
+    now = within_delivery before row n (Item.Opened s stamp ∷ [])
 
     w : SwitchFacts
     w = facts_of setting here s
@@ -193,7 +190,7 @@ opening_is setting before row n s stamp body is opens =
     ]
 
 opening_advert : (setting : Setting) (before : List Item) (row n s stamp : ℕ) (body : Body)
-    → let now = within_delivery before row n (item.Opened s stamp ∷ []) in
+    → let now = within_delivery before row n (Item.Opened s stamp ∷ []) in
     IsTrue (has_changed setting before now s)
     → own_advert setting now s
     ≡ next_advert (with_message (switch_of setting before s) n body) (near setting now s)
@@ -293,7 +290,7 @@ obeyed_items setting before now s (OpenAt boot version) net same own shut =
     by_open : (b : Bool) → (if b then None else Some (max (stamp_of before s) version)) ≡ None
         → elim b [
           | true ↦ []
-          | false ↦ items_then (item.Opened s (stamp_of now s) ∷ []) (link_changes setting before)
+          | false ↦ items_then (Item.Opened s (stamp_of now s) ∷ []) (link_changes setting before)
               now
         ] ≡ send_items now []
     by_open true shut = sends_nothing now
@@ -312,7 +309,7 @@ obeyed_items setting before now s _ net same own shut = sends_nothing now
 obeyed_opens : (setting : Setting) (before now : List Item) (s stamp : ℕ) (body : Body)
     → stamp ≡ stamp_of now s → opened_by (switch_of setting before s) body ≡ Some stamp
     → switch_items setting before s body now
-    ≡ items_then (item.Opened s stamp ∷ []) (link_changes setting before) now
+    ≡ items_then (Item.Opened s stamp ∷ []) (link_changes setting before) now
 unfolding switch_items switch_of
 obeyed_opens setting before now s stamp (OpenAt boot version) is opens =
     by_open (serves before s) opens
@@ -320,9 +317,9 @@ obeyed_opens setting before now s stamp (OpenAt boot version) is opens =
     by_open : (b : Bool) → (if b then None else Some (max (stamp_of before s) version)) ≡ Some stamp
         → elim b [
           | true ↦ []
-          | false ↦ items_then (item.Opened s (stamp_of now s) ∷ []) (link_changes setting before)
+          | false ↦ items_then (Item.Opened s (stamp_of now s) ∷ []) (link_changes setting before)
               now
-        ] ≡ items_then (item.Opened s stamp ∷ []) (link_changes setting before) now
+        ] ≡ items_then (Item.Opened s stamp ∷ []) (link_changes setting before) now
     by_open true opens = absurd cc
     by_open false opens = cc is
 obeyed_opens setting before now s stamp _ is opens = absurd cc
@@ -395,7 +392,7 @@ opening_items : (setting : Setting) (before : List Item) (row n s stamp : ℕ) (
     → IsSentTo setting before n s body
     → opening_stamp (switch_of setting before s) body ≡ Some stamp
     → delivery_items setting before n (within_delivery before row n []) ≡ items_then
-    (item.Opened s stamp ∷ []) (link_changes setting before) (within_delivery before row n [])
+    (Item.Opened s stamp ∷ []) (link_changes setting before) (within_delivery before row n [])
 opening_items setting before row n s stamp body is opens =
     items_are setting before now n s body is.sent
     ∙ by_meant (is_meant before s body) (sym (opened_as setting before s body) ∙ opens)
@@ -406,7 +403,7 @@ opening_items setting before row n s stamp body is opens =
     by_meant : (b : Bool)
         → (if b then opened_by (switch_of setting before s) body else None) ≡ Some stamp
         → (if b then switch_items setting before s body now else [])
-        ≡ items_then (item.Opened s stamp ∷ []) (link_changes setting before) now
+        ≡ items_then (Item.Opened s stamp ∷ []) (link_changes setting before) now
     by_meant true mine = obeyed_opens setting before now s stamp body
         (stamp_behind setting before row n s stamp body is opens) mine
     by_meant false mine = absurd cc
@@ -427,5 +424,5 @@ hearing_refines = record {
     items = λ row. opening_items setting before row n s stamp body is opens;
   };
   other = λ setting before n s apart. kept_is setting s before
-      (item.Delivered n ∷ []) (or-false (is_message_to before s n) ∙ apart, tt) (refl, tt);
+      (Item.Delivered n ∷ []) (or-false (is_message_to before s n) ∙ apart, tt) (refl, tt);
 }

@@ -6,22 +6,17 @@ use Rattle.refinement.proofs.ControllerCalls.{confirms}
 use Rattle.controller.specs.Exports.{ControllerValue, SettlesWith, current_touched, settling_acts}
 use Rattle.controller.specs.declared.sends.Act.{Act}
 use Rattle.update_machine.specs.Exports.{Confirm, Item, Setting, confirm_items, is_up, items_then, nothing, piece}
-use Rattle.journal.specs.declared.item.Item.TheVariants as item
 use Rattle.switch_core.specs.Exports.{SwitchValue}
 use Rattle.steps.specs.Exports.{IsStep}
 use Rattle.update_machine.specs.Settling as machine
 use Rattle.update_machine.proofs.Exports.{switch_keeps}
 use Rattle.version_update.specs.Exports.{after_over, at_switch}
 use Rattle.world_log.specs.Exports.{MayNote, act_items, act_posts}
-use Rattle.refinement.proofs.ActItems.{written_is}
+use Rattle.refinement.proofs.RefinedActs.{may_note, refines_told, written_is}
 use Rattle.refinement.proofs.BagDeliveries.{nothing_happens}
-use Rattle.refinement.proofs.RefinedReach.{reached_known}
-use Rattle.refinement.proofs.OneItem.{WroteOne}
+use Rattle.refinement.proofs.StepRefines.{WroteOne, links_stay, reached_known, switches_stay, up_stay}
 use Rattle.refinement.proofs.PostedFrames.{bag_on}
 use Rattle.refinement.proofs.NetworkSwitches.{switch_is, switch_known}
-use Rattle.refinement.proofs.RefinedActs.{refines_told}
-use Rattle.refinement.proofs.StepRefines.{links_stay, switches_stay, up_stay}
-use Rattle.refinement.proofs.SendableMessages.{may_note}
 
 -- a switch is up as the journal says
 pub up_as : (setting : Setting) (journal : List Item) (s : ℕ)
@@ -36,17 +31,17 @@ module _ {setting : Setting} {journal : List Item} {state : NetworkState}
   own_up : is_up journal s ≡ own.is_up
   own_up = cc (up_as setting journal s, switch_is refines s own may own_at)
 
-  pub still_up : own.is_up ≡ true → WroteOne setting journal row (Confirm s) item.Nothing state
+  pub still_up : own.is_up ≡ true → WroteOne setting journal row (Confirm s) Item.Nothing state
   unfolding piece confirm_items
   still_up up =
-      let rowed : List Item = journal ++ item.Row row (Confirm s) ∷ [] in
+      let rowed : List Item = journal ++ Item.Row row (Confirm s) ∷ [] in
       let here : is_up rowed s ≡ true =
-      (switch_keeps setting s journal (item.Row row (Confirm s) ∷ []) (refl, tt)).up
+      (switch_keeps setting s journal (Item.Row row (Confirm s) ∷ []) (refl, tt)).up
       ∙ own_up ∙ up in
       nothing_happens refines row (Confirm s) may
-      (λ q. refl) (ap (λ b. item.Row row (Confirm s) ∷ elim b [
+      (λ q. refl) (ap (λ b. Item.Row row (Confirm s) ∷ elim b [
         | true ↦ nothing
-        | false ↦ items_then (item.OverNow s ∷ []) (machine.settling setting) rowed
+        | false ↦ items_then (Item.OverNow s ∷ []) (machine.settling setting) rowed
       ]) here)
 
   module _ (new : ControllerValue) (down : own.is_up ≡ false) (settles : SettlesWith (at_switch s
@@ -56,7 +51,7 @@ module _ {setting : Setting} {journal : List Item} {state : NetworkState}
         (at_switch s after_over state.controller.marks) new.marks
 
     abbrev first : List Item
-    first = item.Row row (Confirm s) ∷ item.OverNow s ∷ []
+    first = Item.Row row (Confirm s) ∷ Item.OverNow s ∷ []
 
     bag_behind : IsBagOf (journal ++ first) state.posts
     bag_behind = bag_on journal first state.posts (refl, (refl, tt)) refines.bag
@@ -66,17 +61,17 @@ module _ {setting : Setting} {journal : List Item} {state : NetworkState}
         (reached_known setting journal refines.sound refines.reached).caused refines.controller
         (own_up ∙ down) (switch_known refines s may) settles
 
-    pub gone_piece : piece setting journal row (Confirm s) ≡ item.Row row (Confirm s)
-        ∷ item.OverNow s ∷ act_items (length state.posts + 1) acts
+    pub gone_piece : piece setting journal row (Confirm s) ≡ Item.Row row (Confirm s)
+        ∷ Item.OverNow s ∷ act_items (length state.posts + 1) acts
     gone_piece = cc (confirms_so.same, written_is (journal ++ first) acts, bag_behind.many)
 
-    pub gone_refines : RefineJournal setting (journal ++ item.Row row (Confirm s) ∷ item.OverNow s
+    pub gone_refines : RefineJournal setting (journal ++ Item.Row row (Confirm s) ∷ Item.OverNow s
         ∷ act_items (length state.posts + 1) acts)
         (record state { controller = new; posts = state.posts ++ act_posts acts })
     gone_refines = refines_told refines (record state { controller = new }) row (Confirm s)
-        (item.OverNow s ∷ []) acts
+        (Item.OverNow s ∷ []) acts
         (search (rules, gone_piece, bag_behind, confirms_so, switches_stay, links_stay, up_stay))
 
     pub gone_may : length state.posts < 990_000 → MayNote state.posts acts
-    gone_may = may_note refines row (Confirm s) (item.OverNow s ∷ []) state.posts acts may
+    gone_may = may_note refines row (Confirm s) (Item.OverNow s ∷ []) state.posts acts may
         gone_piece refl

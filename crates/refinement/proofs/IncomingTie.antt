@@ -1,24 +1,86 @@
 -- A packet that enters: its whole step keeps the tie.
-use Rattle.std.proofs.Common.{[], ◌++◌, ◌+◌, ◌<◌, ◌==◌, ◌∙◌, ◌∷◌, ◌≡◌, ◌≤◌, List, Option, ap, arith, cond, eq-eqb, false, get_or, length, length-set, refl, set, slice_index, subst, sym, true, ℕ}
-use Rattle.base.proofs.Exports.{sum_by-cons}
-use Rattle.update_machine.specs.Exports.{Header, Item, Packet as PacketStep, Ports, Setting, Step, count_of, is_packet, next_message, next_packet, packet_items, piece, targets_of}
+use Rattle.std.proofs.Common.{[], ◌++◌, ◌+◌, ◌<◌, ◌==◌, ◌∙◌, ◌∷◌, ◌≡◌, ◌≤◌, Bool, List, None, Option, Some, ap, arith, cond, eq-eqb, eqb-true, false, get_or, if◌then◌else◌, length, length-set, refl, set, slice_index, subst, sym, true, ℕ}
+use Rattle.base.proofs.Exports.{nat_tests, sum_by-cons}
+use Rattle.update_machine.specs.Exports.{Header, Item, Leg, NoneConcern, Packet as PacketStep, Ports, Setting, Step, concerns_policies, count_of, is_packet, next_message, next_packet, packet_items, piece, targets_of}
+use Rattle.switch_core.specs.Exports.{Answer, SwitchValue, call_counted}
+use Rattle.refinement.specs.Exports.{AreInStep, NetworkState, RefineJournal, flight_in, switch_of}
+use Rattle.refinement.proofs.SwitchSteps.{calls_refine}
+use Rattle.packet_laws.specs.Exports.{IsUnknown, what_is_known}
+use Rattle.world_log.specs.Exports.{answer_items, coming_in, entered_flight, entered_items, entered_posts, entry}
+use Rattle.travelling.specs.Travelling.{Flight, Flights, Standing, WithOne, flight}
+use Rattle.refinement.proofs.OnwardPackets.{ComesTo, GoesIn, come_goes, come_law, entered_goes, looking}
+use Rattle.refinement.proofs.StepRefines.{Known, Steps, flight_stays, numbered, one_changes, packets_are, refines_more, switches_are}
+use Rattle.refinement.proofs.RefinedPacketFacts.{Targets, answer_later, by_targets, entered_other, entered_sends, facts_along, flight_along, later_packets, same_targets}
+use Rattle.refinement.proofs.PostedFrames.{SendFrom, are_apart, posts_in}
 use Rattle.net_file.specs.Exports.{AreOwners}
 use Rattle.message_bag.specs.Exports.{Post}
-use Rattle.journal.specs.declared.item.Item.TheVariants as item
-use Rattle.switch_core.specs.Exports.{Answer, SwitchValue, call_counted}
-use Rattle.refinement.specs.Exports.{NetworkState, RefineJournal, switch_of}
 use Rattle.steps.specs.Exports.{IsStep}
-use Rattle.packet_laws.specs.Exports.{IsUnknown, what_is_known}
-use Rattle.world_log.specs.Exports.{coming_in, entered_flight, entered_items, entered_posts, entry}
-use Rattle.travelling.specs.Travelling.{Flights, WithOne, flight, Standing}
-use Rattle.refinement.proofs.RefinedEntries.{come_along, come_called, entered_once}
-use Rattle.refinement.proofs.AskingSwitch.{known_of, seen}
-use Rattle.refinement.proofs.IncomingWrites.{ComesTo, come_goes, come_law, looking}
-use Rattle.refinement.proofs.RefinedReach.{Known}
-use Rattle.refinement.proofs.AnswerItems.{entered_sends}
-use Rattle.refinement.proofs.PostedFrames.{SendFrom, are_apart, posts_in}
-use Rattle.refinement.proofs.StepRefines.{Steps, numbered, one_changes, packets_are, switches_are, refines_more}
-use Rattle.refinement.proofs.RefinedPacketFacts.{same_targets}
+use Rattle.refinement.proofs.HopPieces.{known_of, seen}
+
+-- ---- a packet that enters: the calls that its step counts, and where each packet is then
+
+-- ---- one packet enters, and then none
+
+once : (first : Item) (items : List Item) → is_packet first ≡ true → AreInStep items
+    → count_of is_packet (first ∷ items) ≡ 1
+once first items packet later =
+    let sum = sum_by-cons (λ x. cond (is_packet x) 1 0) first items in
+    let one : ◌≡◌ {A = ℕ} (cond (is_packet first) 1 0) 1 = ap (λ b. cond b 1 0) packet in
+    omega (arith, sum, one, later_packets items later)
+
+pub entered_once : (number : ℕ) (at : Standing) (what : Option Answer)
+    → count_of is_packet (entered_items number at what) ≡ 1
+entered_once number at None = once (Item.Closed at.packet at.switch) [] refl tt
+entered_once number at (Some what) = once (Item.Entered at.packet at.switch at.header)
+    (answer_items number at what) refl (answer_later number at what)
+
+-- ---- the switches
+
+-- the switch where it enters is called, and no other
+pub come_called : (setting : Setting) (journal : List Item) (row number q : ℕ) (at : Standing)
+    (what : Option Answer) (b : Bool) → SendFrom number (entered_items number at what)
+    → (at.switch == q) ≡ b → switch_of setting
+    (journal ++ Item.Row row (PacketStep at.switch at.header) ∷ entered_items number at what) q
+    ≡ (if b then call_counted (switch_of setting journal q) else switch_of setting journal q)
+come_called setting journal row number q at what b sends is = cc (by_answer what sends, is) where
+  by_answer : (what : Option Answer) → SendFrom number (entered_items number at what)
+      → switch_of setting (journal ++ Item.Row row (PacketStep at.switch at.header)
+      ∷ entered_items number at what) q ≡ (if at.switch == q
+      then call_counted (switch_of setting journal q) else switch_of setting journal q)
+  by_answer None sends = calls_refine.closed setting journal row at.packet at.switch q at.header
+  by_answer (Some what) sends = calls_refine.entered setting journal row at.packet at.switch q
+      at.header (answer_items number at what) (answer_later number at what)
+      ((are_apart number journal (Item.Row row (PacketStep at.switch at.header)
+      ∷ Item.Entered at.packet at.switch at.header ∷ answer_items number at what) sends).known q)
+
+-- ---- the packets
+
+pub come_along : (setting : Setting) (journal : List Item)
+    (row number : ℕ) (taken : Step) (targets : Targets) (at : Standing) (answer : Option Answer)
+    (kept : Option Flight) (q : ℕ) (b : Bool) → Known setting journal
+    → (q == at.packet) ≡ b → IsUnknown (what_is_known journal at.packet)
+    → (what_is_known journal at.packet).found ≡ at.down → GoesIn targets at answer
+    → ((leg : Leg) → targets leg ≡ targets_of setting journal leg)
+    → NoneConcern concerns_policies journal (Item.Row row taken ∷ entered_items number at answer)
+    → kept ≡ flight_in setting journal q → (if b then entered_flight answer else kept)
+    ≡ flight_in setting (journal ++ Item.Row row taken ∷ entered_items number at answer) q
+come_along setting journal row number taken targets at answer kept q true knows is unknown unmarked
+    comes same none was =
+    let first : Item = Item.Row row taken in
+    let i : ℕ = at.packet in
+    entered_goes targets (journal ++ first ∷ []) number at answer (what_is_known journal i) unknown
+    unmarked comes
+    ∙ by_targets targets (targets_of setting journal) i
+    (facts_along i journal (first ∷ entered_items number at answer) (what_is_known journal i)) (same _)
+    ∙ sym (flight_along setting journal (first ∷ entered_items number at answer) i none)
+    ∙ ap (flight_in setting (journal ++ first ∷ entered_items number at answer))
+    (sym (eqb-true q i is))
+come_along setting journal row number taken targets at answer kept q false knows is unknown unmarked
+    comes same none was =
+    was ∙ sym (flight_stays setting journal (Item.Row row taken ∷ entered_items number at answer) q
+    knows (refl, entered_other q number at answer (grind (arith, nat_tests))))
+
+-- ---- incoming tie
 
 -- ---- the step
 
@@ -45,7 +107,7 @@ module _ {setting : Setting} {journal : List Item} {state : NetworkState}
   taken = PacketStep s header
 
   abbrev first : Item
-  first = item.Row row (PacketStep s header)
+  first = Item.Row row (PacketStep s header)
 
   abbrev number : ℕ
   number = next_message journal
@@ -108,7 +170,7 @@ module _ {setting : Setting} {journal : List Item} {state : NetworkState}
         (targets_of setting (looking journal row taken i s header)) (coming_in i header s) answer
         (flight state.travelling q) q (q == i) knows refl unknown unknown.found
         (come_goes setting journal row i s taken header own near ports comes) (λ leg. same_targets
-        setting (journal ++ first ∷ []) (item.Entered i s header ∷ []) (refl, tt) leg
+        setting (journal ++ first ∷ []) (Item.Entered i s header ∷ []) (refl, tt) leg
         ∙ same_targets setting journal (first ∷ []) (refl, tt) leg)
         (refl, (are_apart number (journal ++ first ∷ []) items sends).policies)
         (packets_are refines q);
@@ -119,7 +181,7 @@ module _ {setting : Setting} {journal : List Item} {state : NetworkState}
   at = coming_in i header own.number
 
   pub come_piece : piece setting journal row (PacketStep s header)
-      ≡ item.Row row (PacketStep s header)
+      ≡ Item.Row row (PacketStep s header)
       ∷ entered_items (length state.posts + 1) (coming_in (state.packets + 1) header own.number)
       (entry own (slice_index state.near s) ports (state.packets + 1) header)
   come_piece = cc (piece_is, number_is, numbered refines)
@@ -128,7 +190,7 @@ module _ {setting : Setting} {journal : List Item} {state : NetworkState}
       → own ≡ switch_of setting journal s → changed ≡ call_counted own
       → WithOne state.travelling (state.packets + 1) (entered_flight
       (entry own (slice_index state.near s) ports (state.packets + 1) header)) after
-      → RefineJournal setting (journal ++ item.Row row (PacketStep s header)
+      → RefineJournal setting (journal ++ Item.Row row (PacketStep s header)
       ∷ entered_items (length state.posts + 1) (coming_in (state.packets + 1) header own.number)
       (entry own (slice_index state.near s) ports (state.packets + 1) header)) (record state {
         switches = set state.switches s changed;

@@ -1,14 +1,15 @@
 -- What leaves the controller as it was, and the start.
-use Rattle.std.proofs.Common.{[], ◌++◌, ◌+◌, ◌<◌, ◌∙◌, ◌∷◌, ◌≡◌, ◌≢◌, IsFalse, IsTrue, List, Some, ap, arith, get_or-set_other, get_or-set_same, inl, inr, length, length-set, refl, replicate, subst, sym, unwrap_or, ℕ}
+use Rattle.std.proofs.Common.{[], ◌++◌, ◌+◌, ◌<◌, ◌∙◌, ◌∷◌, ◌≡◌, ◌≢◌, IsFalse, IsTrue, List, Some, ap, append-nil, append_assoc, arith, get_or-set_other, get_or-set_same, inl, inr, length, length-set, map, refl, replicate, subst, sym, unwrap_or, ℕ}
 use Rattle.base.proofs.Exports.{cases_eq, get_or-replicate, length-replicate}
-use Rattle.update_machine.specs.Exports.{ControllerKeeps, Item, Setting, acked_stamp, controller_heard, current_mark, has_acked, is_member, is_over, known_boot, open_sent, opened_at, retired_mark, version_count}
-use Rattle.journal.specs.declared.item.Item.TheVariants as item
-use Rattle.update_machine.proofs.Exports.{start_laws}
+use Rattle.update_machine.specs.Exports.{ControllerKeeps, Item, Message, Setting, acked_stamp, controller_heard, current_mark, has_acked, in_turn, is_member, is_over, known_boot, next_message, open_sent, opened_at, retired_mark, send_items, sent_from, version_count}
+use Rattle.update_machine.proofs.Exports.{next_sent, start_laws}
 use Rattle.control_laws.proofs.Exports.{acked_same, count_more, current_more, known_more, member_same, opened_same, over_more, retired_more, stamp_same, told_more}
 use Rattle.version_update.specs.Exports.{MarksValue, at_switch, first_marks, first_record, record_of, unknown_switch}
 use Rattle.version_update.specs.declared.record.SwitchRecord.{SwitchRecord}
 use Rattle.version_update.proofs.AcknowledgedVersions.{first_acked}
-use Rattle.refinement.specs.Exports.{AreMarksOf, IsKnown}
+use Rattle.refinement.specs.Exports.{AreMarksOf, IsKnown, item_of, written_items}
+use Rattle.controller.specs.declared.sends.Act.{Act}
+use Rattle.controller.specs.declared.sends.Act.TheVariants.{Post}
 
 -- ---- one switch
 
@@ -81,8 +82,8 @@ marks_on setting before after marks keeps are = stay_on setting before after mar
 -- current rises
 pub current_on : (setting : Setting) (journal : List Item) (version : ℕ) (marks : MarksValue)
     → AreMarksOf setting journal marks → AreMarksOf setting
-    (journal ++ item.Current version ∷ []) (record marks { current = version })
-current_on setting journal version marks are = let next : Item = item.Current version in
+    (journal ++ Item.Current version ∷ []) (record marks { current = version })
+current_on setting journal version marks are = let next : Item = Item.Current version in
     stay_on setting journal (journal ++ next ∷ []) marks marks.count version marks.retired
     (λ s. quiet_stays journal next s (told_more journal next) (known_more journal next s)
     (over_more journal next s) refl) (are.count ∙ sym (count_more journal next))
@@ -91,8 +92,8 @@ current_on setting journal version marks are = let next : Item = item.Current ve
 -- retired rises
 pub retired_on : (setting : Setting) (journal : List Item) (version : ℕ) (marks : MarksValue)
     → AreMarksOf setting journal marks → AreMarksOf setting
-    (journal ++ item.Retired version ∷ []) (record marks { retired = version })
-retired_on setting journal version marks are = let next : Item = item.Retired version in
+    (journal ++ Item.Retired version ∷ []) (record marks { retired = version })
+retired_on setting journal version marks are = let next : Item = Item.Retired version in
     stay_on setting journal (journal ++ next ∷ []) marks marks.count marks.current version
     (λ s. quiet_stays journal next s (told_more journal next) (known_more journal next s)
     (over_more journal next s) refl) (are.count ∙ sym (count_more journal next))
@@ -101,8 +102,8 @@ retired_on setting journal version marks are = let next : Item = item.Retired ve
 -- one more version
 pub count_on : (setting : Setting) (journal : List Item) (file version : ℕ) (marks : MarksValue)
     → AreMarksOf setting journal marks → AreMarksOf setting
-    (journal ++ item.Submitted file version ∷ []) (record marks { count = marks.count + 1 })
-count_on setting journal file version marks are = let next : Item = item.Submitted file version in
+    (journal ++ Item.Submitted file version ∷ []) (record marks { count = marks.count + 1 })
+count_on setting journal file version marks are = let next : Item = Item.Submitted file version in
     stay_on setting journal (journal ++ next ∷ []) marks (marks.count + 1) marks.current
     marks.retired
     (λ s. quiet_stays journal next s (told_more journal next) (known_more journal next s)
@@ -166,3 +167,44 @@ marks_begun setting =
       each = λ s there. subst (IsKnown [] s)
           (sym (get_or-replicate n s first_record unknown_switch (omega arith))) (known_first s);
     }
+
+-- ---- what acts write, one part after another
+
+pub written_append : (journal : List Item) (xs ys : List Act) → written_items journal (xs ++ ys)
+    ≡ written_items journal xs ++ written_items (journal ++ written_items journal xs) ys
+written_append journal [] ys = ap (λ js. written_items js ys) (sym (append-nil journal))
+written_append journal (act ∷ xs) ys =
+    let next : Item = item_of journal act in
+    let here : List Item = journal ++ next ∷ [] in
+    ap (λ items. next ∷ items)
+    (written_append here xs ys ∙ ap (λ js. written_items here xs ++ written_items js ys)
+    (append_assoc journal (next ∷ []) (written_items here xs)))
+
+-- acts of several parts write blocks in turn
+pub written_in_two : (journal : List Item) (a b : List Item → List Item) (xs ys : List Act)
+    → let one = journal ++ a journal in
+    written_items journal xs ≡ a journal → written_items one ys ≡ b one
+    → written_items journal (xs ++ ys) ≡ in_turn (a ∷ b ∷ []) journal
+written_in_two journal a b xs ys first second =
+    cc (written_append journal xs ys, first, second, append-nil (b (journal ++ a journal)))
+
+pub written_in_three : (journal : List Item) (a b c : List Item → List Item)
+    (xs ys zs : List Act) → let one = journal ++ a journal in let two = one ++ b one in
+    written_items journal xs ≡ a journal → written_items one ys ≡ b one → written_items two zs
+    ≡ c two
+    → written_items journal (xs ++ ys ++ zs) ≡ in_turn (a ∷ b ∷ c ∷ []) journal
+written_in_three journal a b c xs ys zs first second third =
+    let one : List Item = journal ++ a journal in
+    ap (written_items journal) (append_assoc xs ys zs) ∙ written_append journal xs (ys ++ zs)
+    ∙ ap (λ items. items ++ written_items (journal ++ items) (ys ++ zs)) first
+    ∙ ap (λ items. a journal ++ items) (written_in_two one b c ys zs second third)
+
+-- messages are sent
+pub posted : (messages : List Message) (journal : List Item)
+    → written_items journal (map Post messages) ≡ send_items journal messages
+unfolding sent_from
+posted [] journal = refl
+posted (message ∷ messages) journal = let next : Item = Item.Sent (next_message journal) message in
+    ap (λ items. next ∷ items)
+    (posted messages (journal ++ next ∷ [])
+    ∙ ap (λ n. sent_from n messages) (next_sent journal (next_message journal) message))

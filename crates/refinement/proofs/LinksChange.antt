@@ -8,37 +8,33 @@ use Rattle.control_laws.specs.Exports.{HasItemCause, NumbersFit, asks_controller
 use Rattle.controller.specs.declared.sends.Act.{Act}
 use Rattle.controller.specs.declared.sends.Act.TheVariants.{Post as PostAct}
 use Rattle.update_machine.specs.Exports.{HasRoom, HaveCauses, Item, Message, Setting, Step, count_of, has_changed, is_packet, link_changes, messages_of, near, own_advert, piece, sent_from, switches_of}
-use Rattle.journal.specs.declared.item.Item.TheVariants as item
 use Rattle.refinement.specs.Exports.{AreUp, AreUsable, HasNextSeq, IsBagOf, LeavesSwitch, NetworkState, RefineJournal, flight_in, relinked_switch, switch_of, up_links}
-use Rattle.refinement.proofs.RefinedReach.{reached_known, reached_more, flight_stays}
-use Rattle.refinement.proofs.OtherPackets.{NoneName, none_more}
+use Rattle.refinement.proofs.StepRefines.{controller_stays, flight_stays, reached_known, reached_more, refines_taken}
+use Rattle.refinement.proofs.RefinedPacketFacts.{NoneName, none_more}
 use Rattle.refinement.proofs.PostedFrames.{bag_sends}
 use Rattle.base.specs.Exports.{has}
 use Rattle.net_file.specs.Exports.{are_linked}
 use Rattle.steps.specs.Exports.{IsStep}
 use Rattle.switch_core.specs.Exports.{SwitchValue, next_advert}
-use Rattle.refinement.proofs.AskedRequirements.{requirements_hold}
+use Rattle.refinement.proofs.SwitchKnowledge.{requirements_hold}
 use Rattle.refinement.proofs.SwitchLinkChanges.{links_refine}
 use Rattle.travelling.specs.Travelling.{Flights, flight}
 use Rattle.update_machine.proofs.Exports.{count_of_append}
 use Rattle.world_log.specs.Exports.{AreRelinked, MaySend, act_items, act_posts, all_adverts_sent, near_all}
 use Rattle.world_log.proofs.MessageLogs.{posts_as_acts, sent_as_acts}
-use Rattle.refinement.proofs.ActItems.{acts_bring_none, acts_posted, acts_send, acts_unnamed}
+use Rattle.refinement.proofs.RefinedActs.{acts_bring_none, acts_leave, acts_posted, acts_send, acts_unnamed, links_left, may_note, may_send}
 use Rattle.refinement.proofs.RelinkedItems.{CanRelink, near_now, switches_now, told_now, up_ends}
-use Rattle.refinement.proofs.RefinedActs.{acts_leave, links_left}
-use Rattle.refinement.proofs.StepRefines.{controller_stays, refines_taken}
-use Rattle.refinement.proofs.SendableMessages.{may_note, may_send}
 
 module _ {setting : Setting} {journal : List Item} {state : NetworkState}
     (refines : RefineJournal setting journal state) where
   -- so have those behind the row
   pub caused_first : (row : ℕ) (step : Step) (first rest : List Item)
       → IsStep setting.net (length setting.files) step
-      → piece setting journal row step ≡ item.Row row step ∷ first ++ rest
-      → HaveCauses (HasItemCause setting) [] (journal ++ item.Row row step ∷ first)
+      → piece setting journal row step ≡ Item.Row row step ∷ first ++ rest
+      → HaveCauses (HasItemCause setting) [] (journal ++ Item.Row row step ∷ first)
   caused_first row step first rest may is = have_front (HasItemCause setting) []
-      (journal ++ item.Row row step ∷ first) rest (rw (ap (λ items. journal ++ items) is
-      ∙ sym (append_assoc journal (item.Row row step ∷ first) rest)) at
+      (journal ++ Item.Row row step ∷ first) rest (rw (ap (λ items. journal ++ items) is
+      ∙ sym (append_assoc journal (Item.Row row step ∷ first) rest)) at
       (reached_known setting (journal ++ piece setting journal row step) refines.sound
       (reached_more setting journal row step refines.reached may)).caused)
 
@@ -62,7 +58,7 @@ module _ {setting : Setting} {journal : List Item} {state : NetworkState}
     (s : ℕ) (changed : SwitchValue) (within : s < length state.switches)
     (leaves : (q : ℕ) → (s == q) ≡ false → LeavesSwitch q journal row step first) where
   abbrev behind : List Item
-  behind = journal ++ item.Row row step ∷ first
+  behind = journal ++ Item.Row row step ∷ first
 
   abbrev with_one : List SwitchValue
   with_one = set state.switches s changed
@@ -129,21 +125,21 @@ pub record LinksChange (setting : Setting) (journal : List Item) (row : ℕ) (st
     (first : List Item) (state : NetworkState) (others : List SwitchValue) (links : List ℕ)
     (posts : List Post) : Type 0 where
   pub may : IsStep setting.net (length setting.files) step
-  pub piece_is : piece setting journal row step ≡ item.Row row step
-      ∷ first ++ link_changes setting journal (journal ++ item.Row row step ∷ first)
+  pub piece_is : piece setting journal row step ≡ Item.Row row step
+      ∷ first ++ link_changes setting journal (journal ++ Item.Row row step ∷ first)
   pub not_told : IsFalse (asks_controller journal step)
-  pub none_come : count_of is_packet (item.Row row step ∷ first) ≡ 0
+  pub none_come : count_of is_packet (Item.Row row step ∷ first) ≡ 0
   pub as_many : length others ≡ length state.switches
   pub number : length posts ≡ length state.posts
-  pub bag : IsBagOf (journal ++ item.Row row step ∷ first) posts
-  pub up : AreUp setting (journal ++ item.Row row step ∷ first) links
+  pub bag : IsBagOf (journal ++ Item.Row row step ∷ first) posts
+  pub up : AreUp setting (journal ++ Item.Row row step ∷ first) links
   pub relinks : (q : ℕ) (d : SwitchValue) → q < length state.switches
-      → switch_of setting (journal ++ item.Row row step ∷ first) q
-      ≡ relinked_switch setting journal (journal ++ item.Row row step ∷ first) q (get_or others q d)
+      → switch_of setting (journal ++ Item.Row row step ∷ first) q
+      ≡ relinked_switch setting journal (journal ++ Item.Row row step ∷ first) q (get_or others q d)
   pub own : (q : ℕ) (d : SwitchValue) → q < length state.switches
-      → has_changed setting journal (journal ++ item.Row row step ∷ first) q ≡ true
-      → own_advert setting (journal ++ item.Row row step ∷ first) q
-      ≡ next_advert (get_or others q d) (near setting (journal ++ item.Row row step ∷ first) q)
+      → has_changed setting journal (journal ++ Item.Row row step ∷ first) q ≡ true
+      → own_advert setting (journal ++ Item.Row row step ∷ first) q
+      ≡ next_advert (get_or others q d) (near setting (journal ++ Item.Row row step ∷ first) q)
 
 -- the state behind it, where these are the switches then, and the packets on their way
 abbrev pub relinked_state : NetworkState → List SwitchValue → List ℕ → List Post
@@ -161,7 +157,7 @@ module _ {setting : Setting} {journal : List Item} {row : ℕ} {step : Step} {fi
     (refines : RefineJournal setting journal state)
     (changes : LinksChange setting journal row step first state others links posts) where
   abbrev now : List Item
-  now = journal ++ item.Row row step ∷ first
+  now = journal ++ Item.Row row step ∷ first
 
   abbrev any : SwitchValue
   any = switch_of setting journal 0
@@ -198,11 +194,11 @@ module _ {setting : Setting} {journal : List Item} {row : ℕ} {step : Step} {fi
       (changes.bag.many ∙ ap (λ k. k + 1) changes.number)
       ∙ ap (sent_from number) (sym (told_now setting journal now links state.near others any can))
 
-  pub change_piece : piece setting journal row step ≡ item.Row row step ∷ first ++ sent_from
+  pub change_piece : piece setting journal row step ≡ Item.Row row step ∷ first ++ sent_from
       (length state.posts + 1) (all_adverts_sent state.near (near_all links others) others)
-  change_piece = changes.piece_is ∙ ap (λ items. item.Row row step ∷ first ++ items) changes_are
+  change_piece = changes.piece_is ∙ ap (λ items. Item.Row row step ∷ first ++ items) changes_are
 
-  acts_piece : piece setting journal row step ≡ item.Row row step ∷ first ++ act_items number acts
+  acts_piece : piece setting journal row step ≡ Item.Row row step ∷ first ++ act_items number acts
   acts_piece = cc (change_piece, sent_as_acts number messages)
 
   pub change_may : length state.posts < 990_000
@@ -216,25 +212,25 @@ module _ {setting : Setting} {journal : List Item} {row : ℕ} {step : Step} {fi
   items = first ++ act_items number acts
 
   abbrev all : List Item
-  all = item.Row row step ∷ items
+  all = Item.Row row step ∷ items
 
   split : now ++ act_items number acts ≡ journal ++ all
-  split = append_assoc journal (item.Row row step ∷ first) (act_items number acts)
+  split = append_assoc journal (Item.Row row step ∷ first) (act_items number acts)
 
   -- the packets on their way, where none is named
-  pub unmoved : ((i : ℕ) → NoneName i (item.Row row step ∷ first)) → (i : ℕ)
-      → flight state.travelling i ≡ flight_in setting (journal ++ (item.Row row step ∷ first
+  pub unmoved : ((i : ℕ) → NoneName i (Item.Row row step ∷ first)) → (i : ℕ)
+      → flight state.travelling i ≡ flight_in setting (journal ++ (Item.Row row step ∷ first
       ++ act_items (length state.posts + 1)
       (map PostAct (all_adverts_sent state.near (near_all links others) others)))) i
   unmoved none i = refines.packet i ∙ sym (flight_stays setting journal all i
       (reached_known setting journal refines.sound refines.reached) (none_more i
-      (item.Row row step ∷ first) (act_items number acts) (none i) (acts_unnamed i number acts)))
+      (Item.Row row step ∷ first) (act_items number acts) (none i) (acts_unnamed i number acts)))
 
   pub change_refines : (later : List SwitchValue) (after : Flights) → AreRelinked state.near
       (near_all links others) others later → ((i : ℕ) → flight after i
-      ≡ flight_in setting (journal ++ (item.Row row step ∷ first ++ act_items (length state.posts
+      ≡ flight_in setting (journal ++ (Item.Row row step ∷ first ++ act_items (length state.posts
       + 1) (map PostAct (all_adverts_sent state.near (near_all links others) others)))) i)
-      → RefineJournal setting (journal ++ (item.Row row step ∷ first ++ sent_from
+      → RefineJournal setting (journal ++ (Item.Row row step ∷ first ++ sent_from
       (length state.posts + 1) (all_adverts_sent state.near (near_all links others) others)))
       (relinked_state state others links posts later after)
   change_refines later after are travels =
@@ -242,7 +238,7 @@ module _ {setting : Setting} {journal : List Item} {row : ℕ} {step : Step} {fi
       (near_now setting journal now links state.near others any can) in
       let with : List Post → NetworkState = λ more.
       record (relinked_state state others links posts later after) { posts = posts ++ more } in
-      subst (λ rest. RefineJournal setting (journal ++ (item.Row row step ∷ first ++ rest))
+      subst (λ rest. RefineJournal setting (journal ++ (Item.Row row step ∷ first ++ rest))
       (with (map new_post messages))) (sent_as_acts number messages)
       (subst (λ more. RefineJournal setting (journal ++ all) (with more)) (posts_as_acts messages)
       (refines_taken refines (with (act_posts acts)) row step items (record {
@@ -255,7 +251,7 @@ module _ {setting : Setting} {journal : List Item} {row : ℕ} {step : Step} {fi
         travels = travels;
         counted = omega (
           arith,
-          count_of_append is_packet (item.Row row step ∷ first) (act_items number acts),
+          count_of_append is_packet (Item.Row row step ∷ first) (act_items number acts),
           changes.none_come,
           acts_bring_none number acts,
         );

@@ -5,10 +5,8 @@ use Rattle.failover.specs.Exports.{route_of, with_link}
 use Rattle.update_machine.specs.Exports.{Cause, Exit, HaveCauses, Header, Hop, Item, Leg, Ports, Seek, Setting, arrive_items, cause_at, found_down, go_on, items_then, leg_of, move_items, near, next_message, next_switch, no_switch, owner, reroute_by, reroute_items, route_for, route_from, serves, stays_on_way, stuck_on, targets_of}
 use Rattle.base.specs.Exports.{has}
 use Rattle.net_file.specs.Exports.{AreOwners}
-use Rattle.journal.specs.declared.item.Item.TheVariants as item
 use Rattle.switch_core.specs.Exports.{Arrival, Moved, SwitchValue, around, arrived_on, call_counted, cause_of, hop_answer, hopped_to, link_found_down as found_by, move_answer, moved_along, received, rerouted_here}
 use Rattle.switch_core.specs.declared.tunnel_calls.HopEnd.{HopEnd}
-use Rattle.switch_core.specs.declared.tunnel_calls.HopEnd.TheVariants as hop
 use Rattle.switch_core.specs.declared.tunnel_calls.Packet.{Packet}
 use Rattle.switch_table.specs.Exports.{Hosted}
 use Rattle.tunnel.specs.Exports.{TunnelValue, here, next}
@@ -21,13 +19,11 @@ use Rattle.world_log.specs.Exports.{arrival, arrival_items, arrived_items, ended
 use Rattle.travelling.specs.Travelling.{Flight, standing_at, Standing}
 use Rattle.refinement.proofs.ArrivedPackets.{IsAtEnd, arrival_goes, arrive_comes, arrive_law, at_end_on, end_of_route, ours_of}
 use Rattle.refinement.proofs.OnwardPackets.{AreOfFacts}
-use Rattle.refinement.proofs.RefinedReach.{before_of}
-use Rattle.refinement.proofs.AnswerItems.{arrived_still}
-use Rattle.refinement.proofs.TakenLegs.{at_switch, cause_law}
-use Rattle.refinement.proofs.LookupRefines.{IsAsked}
+use Rattle.refinement.proofs.StepRefines.{before_of}
+use Rattle.refinement.proofs.RefinedPacketFacts.{Targets, arrived_still, by_targets, facts_along, flight_by, same_targets}
+use Rattle.refinement.proofs.TakenLegs.{Sees, at_switch, cause_law, sees_counted, sees_one}
+use Rattle.refinement.proofs.AuthorityDecisions.{IsAsked}
 use Rattle.refinement.proofs.RefinedFlights.{Stands, got, on_leg, on_route_of, tunnel_on}
-use Rattle.refinement.proofs.SeenWithinStep.{Sees, sees_counted, sees_one}
-use Rattle.refinement.proofs.RefinedPacketFacts.{Targets, by_targets, same_targets, flight_by, facts_along}
 
 leg_in_facts : (journal : List Item) (i : ℕ) → leg_of journal i ≡ (what_is_known journal i).leg
 unfolding what_is_known
@@ -35,7 +31,7 @@ leg_in_facts journal i = refl
 
 -- the packet goes on, or is stuck before it arrives
 abbrev pub stays_by : HopEnd → Bool
-stays_by hop.Arrive = false
+stays_by HopEnd.Arrive = false
 stays_by _ = true
 
 -- where the packet and its switch are, and what its switch knows
@@ -70,13 +66,13 @@ module _ (setting : Setting) (journal : List Item) (row i s : ℕ) (header : Hea
     (ingress : ℕ) (leg : Leg) (w : SwitchValue) (mask : ℕ) (ports : Ports)
     (hops : Hops setting journal i s header ingress leg w mask ports) where
   abbrev begun : List Item
-  begun = journal ++ item.Row row (Hop i) ∷ []
+  begun = journal ++ Item.Row row (Hop i) ∷ []
 
   abbrev met : ℕ → List Item
-  met two = begun ++ item.FoundDown i s two ∷ []
+  met two = begun ++ Item.FoundDown i s two ∷ []
 
   abbrev turned : ℕ → List ℕ → List Item
-  turned two route = met two ++ item.Rerouted i route ∷ []
+  turned two route = met two ++ Item.Rerouted i route ∷ []
 
   abbrev facts : PacketFacts
   facts = what_is_known journal i
@@ -106,19 +102,19 @@ module _ (setting : Setting) (journal : List Item) (row i s : ℕ) (header : Hea
 
   stays_begun : Stays begun
   stays_begun = record {
-    caused = have_append (HasItemCause setting) [] journal (item.Row row (Hop i) ∷ [])
+    caused = have_append (HasItemCause setting) [] journal (Item.Row row (Hop i) ∷ [])
         hops.stands.knows.caused (tt, tt);
-    serving = (switch_keeps setting s journal (item.Row row (Hop i) ∷ []) (refl, tt)).serving
+    serving = (switch_keeps setting s journal (Item.Row row (Hop i) ∷ []) (refl, tt)).serving
         ∙ hops.stands.serving;
-    sees = sees_one setting journal (item.Row row (Hop i)) s w mask
+    sees = sees_one setting journal (Item.Row row (Hop i)) s w mask
         (record { switch = refl; links = refl; policies = refl }) hops.sees;
-    numbered = (messages_keep journal (item.Row row (Hop i) ∷ []) (refl, tt)).next;
-    leads = same_targets setting journal (item.Row row (Hop i) ∷ []) (refl, tt);
-    at_end = at_end_on setting journal (item.Row row (Hop i) ∷ []) s header leg (refl, tt);
+    numbered = (messages_keep journal (Item.Row row (Hop i) ∷ []) (refl, tt)).next;
+    leads = same_targets setting journal (Item.Row row (Hop i) ∷ []) (refl, tt);
+    at_end = at_end_on setting journal (Item.Row row (Hop i) ∷ []) s header leg (refl, tt);
   }
 
   stays_met : (two : ℕ) → Stays (met two)
-  stays_met two = let one : Item = item.FoundDown i s two in record {
+  stays_met two = let one : Item = Item.FoundDown i s two in record {
     caused = have_append (HasItemCause setting) [] begun (one ∷ []) stays_begun.caused (tt, tt);
     serving = (switch_keeps setting s begun (one ∷ []) (refl, tt)).serving ∙ stays_begun.serving;
     sees = sees_one setting begun one s w mask
@@ -130,7 +126,7 @@ module _ (setting : Setting) (journal : List Item) (row i s : ℕ) (header : Hea
   }
 
   stays_turned : (two : ℕ) (route : List ℕ) → Stays (turned two route)
-  stays_turned two route = let one : Item = item.Rerouted i route in record {
+  stays_turned two route = let one : Item = Item.Rerouted i route in record {
     caused = have_append (HasItemCause setting) [] (met two) (one ∷ []) (stays_met two).caused
         (tt, tt);
     serving = (switch_keeps setting s (met two) (one ∷ []) (refl, tt)).serving
@@ -147,20 +143,20 @@ module _ (setting : Setting) (journal : List Item) (row i s : ℕ) (header : Hea
   -- ---- the packet's facts there
 
   facts_begun : what_is_known begun i ≡ facts
-  facts_begun = facts_grow i journal (item.Row row (Hop i))
+  facts_begun = facts_grow i journal (Item.Row row (Hop i))
 
   abbrev facts_met : ℕ → PacketFacts
   facts_met two = record facts { found = down two }
 
   met_is : (two : ℕ) → what_is_known (met two) i ≡ facts_met two
-  met_is two = facts_grow i begun (item.FoundDown i s two) ∙ rw (own i, facts_begun) refl
+  met_is two = facts_grow i begun (Item.FoundDown i s two) ∙ rw (own i, facts_begun) refl
 
   abbrev facts_turned : ℕ → List ℕ → PacketFacts
   facts_turned two route = record facts { found = down two; route = route; hops = 0 }
 
   turned_is : (two : ℕ) (route : List ℕ)
       → what_is_known (turned two route) i ≡ facts_turned two route
-  turned_is two route = facts_grow i (met two) (item.Rerouted i route) ∙ rw (own i, met_is two) refl
+  turned_is two route = facts_grow i (met two) (Item.Rerouted i route) ∙ rw (own i, met_is two) refl
 
   -- ---- where it arrives
 
@@ -253,8 +249,8 @@ module _ (setting : Setting) (journal : List Item) (row i s : ℕ) (header : Hea
   move_by o = elim o [
     | None ↦ arrive_items setting i s begun
     | Some next ↦ elim (has (near setting begun s) next) [
-      | true ↦ item.Hopped i next ∷ []
-      | false ↦ items_then (item.FoundDown i s next ∷ []) (reroute_items setting i s) begun
+      | true ↦ Item.Hopped i next ∷ []
+      | false ↦ items_then (Item.FoundDown i s next ∷ []) (reroute_items setting i s) begun
     ]
   ]
 
@@ -286,8 +282,8 @@ module _ (setting : Setting) (journal : List Item) (row i s : ℕ) (header : Hea
       → Outcome s None (move_answer t.tunnel (Some two))
   moves two goes usable = (
     moves_are (Some two) goes ∙ ap (λ b. elim b [
-      | true ↦ item.Hopped i two ∷ []
-      | false ↦ items_then (item.FoundDown i s two ∷ []) (reroute_items setting i s) begun
+      | true ↦ Item.Hopped i two ∷ []
+      | false ↦ items_then (Item.FoundDown i s two ∷ []) (reroute_items setting i s) begun
     ]) (links_are two true usable),
     search (rules, own i),
     refl,
@@ -332,7 +328,7 @@ module _ (setting : Setting) (journal : List Item) (row i s : ℕ) (header : Hea
   abbrev reroute_by_route : ℕ → Option (List ℕ) → List Item
   reroute_by_route two o = elim o [
     | None ↦ stuck_on setting (met two) i s leg ∷ []
-    | Some route ↦ items_then (item.Rerouted i route ∷ []) (go_on setting i s) (met two)
+    | Some route ↦ items_then (Item.Rerouted i route ∷ []) (go_on setting i s) (met two)
   ]
 
   reroutes : (two : ℕ) (o : Option (List ℕ)) → route_down two leg ≡ o
@@ -343,15 +339,15 @@ module _ (setting : Setting) (journal : List Item) (row i s : ℕ) (header : Hea
 
   blocked_items : (two : ℕ) (o : Option (List ℕ)) → next t.tunnel ≡ Some two
       → has mask two ≡ false → route_down two leg ≡ o → move_items setting i s begun
-      ≡ item.FoundDown i s two ∷ reroute_by_route two o
+      ≡ Item.FoundDown i s two ∷ reroute_by_route two o
   blocked_items two o goes off is = moves_are (Some two) goes ∙ ap (λ b. elim b [
-    | true ↦ item.Hopped i two ∷ []
-    | false ↦ items_then (item.FoundDown i s two ∷ []) (reroute_items setting i s) begun
+    | true ↦ Item.Hopped i two ∷ []
+    | false ↦ items_then (Item.FoundDown i s two ∷ []) (reroute_items setting i s) begun
   ]) (links_are two false off)
-      ∙ ap (λ more. item.FoundDown i s two ∷ more) (reroutes two o is)
+      ∙ ap (λ more. Item.FoundDown i s two ∷ more) (reroutes two o is)
 
   abbrev written_stuck : ℕ → ℕ → Cause → List ℕ → List Item
-  written_stuck two n cause found = item.FoundDown i s two ∷ item.Stuck i n cause leg found ∷ []
+  written_stuck two n cause found = Item.FoundDown i s two ∷ Item.Stuck i n cause leg found ∷ []
 
   -- there is no other route
   stuck : (two : ℕ) → next t.tunnel ≡ Some two → has mask two ≡ false → route_down two leg ≡ None
@@ -374,7 +370,7 @@ module _ (setting : Setting) (journal : List Item) (row i s : ℕ) (header : Hea
   abbrev go_by : ℕ → List ℕ → Option ℕ → List Item
   go_by two route o = elim o [
     | None ↦ arrive_items setting i s (turned two route)
-    | Some next ↦ item.Hopped i next ∷ []
+    | Some next ↦ Item.Hopped i next ∷ []
   ]
 
   -- it moves on along another route
@@ -418,7 +414,7 @@ module _ (setting : Setting) (journal : List Item) (row i s : ℕ) (header : Hea
   are_turned two route = search (rules, turned_is)
 
   turned_along : (two : ℕ) (route : List ℕ) (items : List Item)
-      → facts_along i begun (item.FoundDown i s two ∷ item.Rerouted i route ∷ items) facts
+      → facts_along i begun (Item.FoundDown i s two ∷ Item.Rerouted i route ∷ items) facts
       ≡ facts_along i (turned two route) items (facts_turned two route)
   turned_along two route items = rw (own i) refl
 
@@ -431,9 +427,9 @@ module _ (setting : Setting) (journal : List Item) (row i s : ℕ) (header : Hea
       let items : List Item =
       arrival_items number (call_counted w) mask ports (at_place route 0 (down two)) in (
         blocked_items two (Some route) goes off is
-            ∙ ap (λ o. item.FoundDown i s two ∷ item.Rerouted i route ∷ go_by two route o)
+            ∙ ap (λ o. Item.FoundDown i s two ∷ Item.Rerouted i route ∷ go_by two route o)
             (next_turned two route ∙ last)
-            ∙ ap (λ more. item.FoundDown i s two ∷ item.Rerouted i route ∷ more)
+            ∙ ap (λ more. Item.FoundDown i s two ∷ Item.Rerouted i route ∷ more)
             (arrival_is now (facts_turned two route) route 0 (down two) (stays_turned two route)
             (are_turned two route)
             ((stays_turned two route).at_end (ends_there two route leg hops.stands.on_leg is last))),
@@ -487,9 +483,9 @@ module _ (setting : Setting) (journal : List Item) (row i s : ℕ) (header : Hea
   -- where it arrives its switch is asked once more
   pub arrives_at_end : (hop_answer w mask (on_leg (targets_of setting journal) i
       (what_is_known journal i)
-      header ingress leg).tunnel).end ≡ hop.Arrive → IsAtEnd setting journal s header leg
+      header ingress leg).tunnel).end ≡ HopEnd.Arrive → IsAtEnd setting journal s header leg
   arrives_at_end arrive = by_next (next t.tunnel) refl where
-    ended : (m : Moved) → hop_answer w mask t.tunnel ≡ m → m.end ≡ hop.Arrive
+    ended : (m : Moved) → hop_answer w mask t.tunnel ≡ m → m.end ≡ HopEnd.Arrive
     ended m is = ap (λ (m : Moved). m.end) (sym is) ∙ arrive
 
     by_link : (two : ℕ) (b : Bool) → next t.tunnel ≡ Some two → has mask two ≡ b
@@ -516,7 +512,7 @@ module _ (setting : Setting) (journal : List Item) (row i s : ℕ) (header : Hea
     by_next (Some two) goes = by_link two (has mask two) goes refl
 
   -- what it writes
-  pub hop_law : move_items setting i s (journal ++ item.Row row (Hop i) ∷ [])
+  pub hop_law : move_items setting i s (journal ++ Item.Row row (Hop i) ∷ [])
       ≡ hop_written (next_message journal) w mask ports
       (on_leg (targets_of setting journal) i (what_is_known journal i) header ingress leg)
   hop_law = outcome.0
@@ -524,7 +520,7 @@ module _ (setting : Setting) (journal : List Item) (row i s : ℕ) (header : Hea
   -- where the packet is then
   pub hop_goes : hop_flight w mask ports
       (on_leg (targets_of setting journal) i (what_is_known journal i) header ingress leg)
-      ≡ flight_by (targets_of setting journal) i (facts_along i (journal ++ item.Row row (Hop i)
+      ≡ flight_by (targets_of setting journal) i (facts_along i (journal ++ Item.Row row (Hop i)
       ∷ []) (hop_written (next_message journal) w mask ports (on_leg (targets_of setting journal) i
       (what_is_known journal i) header ingress leg)) (what_is_known journal i))
   hop_goes = outcome.1

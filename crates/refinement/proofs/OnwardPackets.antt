@@ -1,33 +1,32 @@
 -- Where a packet goes on by its switch's answer: by its port, or to the targets of its partition.
-use Rattle.std.proofs.Common.{[], if◌then◌else◌, ◌++◌, ◌==◌, ◌∷◌, ◌≡◌, Bool, List, None, Option, Some, ap, eq-eqb, false, ok_or, option_map, refl, subst, sym, true, unwrap_or, ℕ}
+use Rattle.std.proofs.Common.{[], ◌++◌, ◌<◌, ◌==◌, ◌∙◌, ◌∷◌, ◌≡◌, Bool, List, None, Option, Some, ap, eq-eqb, false, if◌then◌else◌, length, ok_or, option_map, refl, subst, sym, true, unwrap_or, ℕ}
 use Rattle.base.proofs.Exports.{⊤}
-use Rattle.failover.specs.Exports.{route_of}
+use Rattle.failover.specs.Exports.{no_links, route_of}
 use Rattle.net_file.specs.Exports.{AreOwners, owner_of, port_owner}
-use Rattle.update_machine.specs.Exports.{Action, Cause, Exit, Found, Item, Partition, Ports, Rule, Seek, Setting, lookup_at, no_switch, owner, retired_mark, sent_from, stamp_of, tables_at, targets_of}
-use Rattle.policy_rules.specs.declared.policy.Action.TheVariants as action
-use Rattle.journal.specs.declared.item.Item.TheVariants as item
-use Rattle.switch_core.specs.Exports.{Answer, SwitchValue, answer_by, around, by_entry, by_rule, cause_of, decided_at, exit_by, leave_by, looked_up, next_of, part_numbered, rule_in, seek_by, set_out, stamp_tables}
+use Rattle.update_machine.specs.Exports.{Action, Cause, Exit, Found, Header, Item, Partition, Ports, Rule, Seek, Setting, Step, lookup_at, lookup_items, next_message, no_switch, owner, packet_items, retired_mark, sent_from, serves, stamp_of, tables_at, targets_of}
+use Rattle.switch_core.specs.Exports.{Answer, SwitchValue, admitted, answer_by, around, by_entry, by_rule, cause_of, decided_at, exit_by, incoming_packet, leave_by, looked_up, next_of, part_numbered, rule_in, seek_by, serves as serves_now, set_out, stamp_tables}
 use Rattle.switch_core.specs.Answers as answer
 use Rattle.switch_core.specs.declared.deciding.Decision.{Decision}
 use Rattle.switch_core.specs.declared.tunnel_calls.Next.TheVariants.{Out}
 use Rattle.switch_core.specs.declared.tunnel_calls.Packet.{Packet}
-use Rattle.switch_table.specs.declared.search.Found.TheVariants as found
 use Rattle.tunnel.specs.Exports.{TunnelValue, tunnel_begun}
-use Rattle.packet_laws.specs.Exports.{IsUnknown, PacketFacts, facts_after}
-use Rattle.packet_laws.proofs.Exports.{FindsTargets, redirect_found}
-use Rattle.world_log.specs.Exports.{answer_flight, answer_items, cache_message, entered_flight, entered_items, message_list}
+use Rattle.packet_laws.specs.Exports.{IsUnknown, PacketFacts, facts_after, what_is_known}
+use Rattle.packet_laws.proofs.Exports.{FindsTargets, facts_grow, redirect_found}
+use Rattle.world_log.specs.Exports.{answer_flight, answer_items, cache_message, coming_in, entered_flight, entered_items, entry, message_list}
 use Rattle.travelling.specs.Travelling.{Standing}
-use Rattle.refinement.proofs.TakenLegs.{at_switch}
-use Rattle.refinement.proofs.LookupRefines.{IsAsked, targets_are, its_stamp}
-use Rattle.refinement.proofs.OtherPackets.{sends_unnamed}
-use Rattle.refinement.proofs.OwnPacketAnswers.{GoesOnward, IsSeen, decided_goes}
-use Rattle.refinement.proofs.RefinedPacketFacts.{Targets, flight_by, facts_along}
+use Rattle.refinement.proofs.TakenLegs.{Sees, at_switch, sees_one}
+use Rattle.refinement.proofs.AuthorityDecisions.{IsAsked, IsPacket, its_stamp, looked_law, targets_are}
+use Rattle.refinement.proofs.RefinedPacketFacts.{GoesOnward, IsSeen, Targets, decided_goes, facts_along, flight_by, sends_unnamed}
+use Rattle.five_tuple.specs.Exports.{IsHeader}
+use Rattle.update_machine.proofs.Exports.{have_append, messages_keep, switch_keeps}
+use Rattle.control_laws.specs.Exports.{HasItemCause}
+use Rattle.refinement.proofs.StepRefines.{Known}
 
 -- ---- once it is decided
 
 exit_goes : (setting : Setting) (journal : List Item) (s : SwitchValue) (near : ℕ) (packet : Packet)
     (at : ℕ) (port its : ℕ) (decision : Decision) (cause : Cause) (route : Option (List ℕ))
-    → decision.action ≡ action.Out port
+    → decision.action ≡ Action.Out port
     → owner setting port ≡ its → GoesOnward (targets_of setting journal) (at_switch at packet)
     packet.ingress decision (exit_by (ok_or (option_map (λ way. tunnel_begun packet.number
     packet.header packet.ingress (Exit port) (its ∷ []) way packet.down) route) cause))
@@ -40,7 +39,7 @@ exit_goes setting journal s near packet at port its decision cause (Some route) 
 
 leave_goes : (setting : Setting) (journal : List Item) (s : SwitchValue) (near : ℕ) (packet : Packet) (at : ℕ) (port : ℕ)
     (decision : Decision) (its : Option ℕ)
-    → decision.action ≡ action.Out port → owner_of setting.net.switches port ≡ its
+    → decision.action ≡ Action.Out port → owner_of setting.net.switches port ≡ its
     → GoesOnward (targets_of setting journal) (at_switch at packet) packet.ingress decision
     (leave_by s near packet port its)
 unfolding leave_by set_out
@@ -63,8 +62,8 @@ pub next_goes : (setting : Setting) (journal : List Item) (s : SwitchValue) (nea
     → GoesOnward (targets_of setting journal) (at_switch at packet) packet.ingress decision
     (next_of s (around near ports) packet what)
 unfolding next_of
-next_goes setting journal s near ports packet at decision action.Drop owners acts = tt
-next_goes setting journal s near ports packet at decision (action.Out port) owners acts =
+next_goes setting journal s near ports packet at decision Action.Drop owners acts = tt
+next_goes setting journal s near ports packet at decision (Action.Out port) owners acts =
     leave_goes setting journal s near packet at port decision (port_owner ports port) acts
     (sym (owners port))
 
@@ -117,12 +116,12 @@ module _ (setting : Setting) (journal : List Item) (s : ℕ) (w : SwitchValue) (
       → IsComing leads (at_switch s packet) (answer_by w (around mask ports) packet
       (tables_at setting journal (stamp_of journal s) s) what)
   unfolding answer_by set_out
-  found_goes (found.Cached entry) answer =
+  found_goes (Found.Cached entry) answer =
       next_goes setting journal w mask ports packet s (by_entry entry) entry.action asked.owners refl
-  found_goes (found.Authority partition place) answer =
+  found_goes (Found.Authority partition place) answer =
       ruled_goes setting journal s (stamp_of journal s) place w mask ports packet
       (part_numbered (tables_at setting journal (stamp_of journal s) s) partition) asked.owners
-  found_goes (found.Redirect partition to) answer =
+  found_goes (Found.Redirect partition to) answer =
       let version : ℕ = stamp_of journal s in
       let own = redirect_found setting journal s packet.header partition to
       (its_stamp setting journal s w mask ports packet asked) asked.sound answer in
@@ -189,7 +188,7 @@ pub entered_goes : (targets : Targets) (before : List Item)
     at.packet (facts_along at.packet before (entered_items number at what) facts)
 entered_goes targets before number at None facts unknown unmarked comes = rw unknown.travels refl
 entered_goes targets before number at (Some what) facts unknown unmarked comes =
-    let came : Item = item.Entered at.packet at.switch at.header in
+    let came : Item = Item.Entered at.packet at.switch at.header in
     let seen : PacketFacts = facts_after (retired_mark before) came facts in
     let P : Bool → Type 0 = λ b. answer_flight 0 None what ≡ flight_by targets at.packet
     (facts_along at.packet (before ++ came ∷ []) (answer_items number at what)
@@ -200,3 +199,116 @@ entered_goes targets before number at (Some what) facts unknown unmarked comes =
       its_version = rw unknown.decision refl;
       its_rule = rw unknown.decision refl;
     }) comes.1)
+
+-- ---- a packet that enters: what its step writes
+
+-- the journal as the packet's switch looks it up
+abbrev pub looking : List Item → ℕ → Step → ℕ → ℕ → Header → List Item
+looking journal row taken i s header =
+    journal ++ Item.Row row taken ∷ [] ++ Item.Entered i s header ∷ []
+
+abbrev pub coming : ℕ → Header → ℕ → Packet
+coming i header s = record { number = i; header = header; ingress = s; down = no_links }
+
+-- the packet has its header there, and found no link down
+coming_packet : (journal : List Item) (row i s : ℕ) (taken : Step) (header : Header)
+    → (what_is_known journal i).found ≡ no_links
+    → IsPacket (looking journal row taken i s header) (coming i header s)
+coming_packet journal row i s taken header unmarked =
+    let own : (i == i) ≡ true = eq-eqb i i refl in
+    let grown = facts_grow i (journal ++ Item.Row row taken ∷ []) (Item.Entered i s header) in
+    record {
+      entered = ap (λ facts. facts.header) grown ∙ rw own refl;
+      came = ap (λ facts. facts.ingress) grown ∙ rw own refl;
+      found = ap (λ facts. facts.found) grown ∙ rw own
+          (ap (λ facts. facts.found) (facts_grow i journal (Item.Row row taken)) ∙ unmarked);
+    }
+
+-- where it enters, and what is known of its switch
+pub record ComesTo (setting : Setting) (journal : List Item) (i s : ℕ) (header : Header)
+    (w : SwitchValue) (mask : ℕ) (ports : Ports) : Type 0 where
+  pub knows : Known setting journal
+  pub sees : Sees setting journal s w mask
+  pub there : s < length setting.net.switches
+  pub owners : AreOwners setting.net.switches ports
+  pub sound : IsHeader header
+  pub unmarked : (what_is_known journal i).found ≡ no_links
+
+module _ (setting : Setting) (journal : List Item) (row i s : ℕ) (taken : Step)
+    (header : Header) (w : SwitchValue) (mask : ℕ) (ports : Ports)
+    (comes : ComesTo setting journal i s header w mask ports) where
+  abbrev begun : List Item
+  begun = journal ++ Item.Row row taken ∷ []
+
+  abbrev full : List Item
+  full = looking journal row taken i s header
+
+  abbrev packet : Packet
+  packet = coming i header s
+
+  same_packet : incoming_packet w i header ≡ packet
+  same_packet = ap (coming i header) comes.sees.number
+
+  serving_begun : serves begun s ≡ serves journal s
+  serving_begun = (switch_keeps setting s journal (Item.Row row taken ∷ []) (refl, tt)).serving
+
+  asked : serves journal s ≡ true → IsAsked setting full s w mask ports packet
+  asked serving = record {
+    is = comes.knows.is;
+    caused = have_append (HasItemCause setting) [] begun (Item.Entered i s header ∷ [])
+        (have_append (HasItemCause setting) [] journal (Item.Row row taken ∷ []) comes.knows.caused
+        (tt, tt)) (tt, tt);
+    there = comes.there;
+    serving = (switch_keeps setting s begun (Item.Entered i s header ∷ []) (refl, tt)).serving
+        ∙ serving_begun ∙ serving;
+    sees = sees_one setting begun (Item.Entered i s header) s w mask
+        (record { switch = refl; links = refl; policies = refl })
+        (sees_one setting journal (Item.Row row taken) s w mask
+        (record { switch = refl; links = refl; policies = refl }) comes.sees);
+    owners = comes.owners;
+    sound = comes.sound;
+    of_packet = coming_packet journal row i s taken header comes.unmarked;
+  }
+
+  same_number : next_message full ≡ next_message journal
+  same_number = (messages_keep begun (Item.Entered i s header ∷ []) (refl, tt)).next
+      ∙ (messages_keep journal (Item.Row row taken ∷ []) (refl, tt)).next
+
+  -- what its switch answers is what the journal's definitions say
+  pub come_law : packet_items setting i s header (journal ++ Item.Row row taken ∷ [])
+      ≡ entered_items (next_message journal) (coming_in i header s) (entry w mask ports i header)
+  unfolding packet_items admitted
+  come_law = by_serving (serves journal s) refl where
+    answer : Bool → Option Answer
+    answer b = if b then Some (looked_up w (around mask ports) packet) else None
+
+    items : Bool → List Item
+    items b = elim b [
+      | false ↦ Item.Closed i s ∷ []
+      | true ↦ Item.Entered i s header ∷ lookup_items setting i s full
+    ]
+
+    by_serving : (b : Bool) → serves journal s ≡ b → items (serves begun s)
+        ≡ entered_items (next_message journal) (coming_in i header s) (if serves_now w
+        then Some (looked_up w (around mask ports) (incoming_packet w i header)) else None)
+    by_serving false off = cc (serving_begun, off, comes.sees.serving)
+    by_serving true on = ap items (serving_begun ∙ on) ∙ ap (λ more. Item.Entered i s header
+        ∷ more) (looked_law setting full s w mask ports packet (asked on) ∙ ap (λ n. answer_items
+        n (coming_in i header s) (looked_up w (around mask ports) packet)) same_number)
+        ∙ ap (λ (p : Packet). entered_items (next_message journal) (coming_in i header s)
+        (Some (looked_up w (around mask ports) p))) (sym same_packet)
+        ∙ ap (λ b. entered_items (next_message journal) (coming_in i header s)
+        (if b then Some (looked_up w (around mask ports) (incoming_packet w i header)) else None))
+        (sym (comes.sees.serving ∙ on))
+
+  -- and it goes on by it
+  pub come_goes : GoesIn (targets_of setting (looking journal row taken i s header))
+      (coming_in i header s) (entry w mask ports i header)
+  unfolding admitted
+  come_goes = by_serving (serves journal s) refl where
+    by_serving : (b : Bool) → serves journal s ≡ b
+        → GoesIn (targets_of setting full) (coming_in i header s) (if serves_now w
+        then Some (looked_up w (around mask ports) (incoming_packet w i header)) else None)
+    by_serving false off = rw (comes.sees.serving ∙ off) tt
+    by_serving true on = rw (comes.sees.serving ∙ on) (rw same_packet
+        (refl, looked_goes setting full s w mask ports packet (asked on)))

@@ -4,7 +4,6 @@ use Rattle.base.proofs.Exports.{option_or, slice_get_within, ⊤}
 use Rattle.message_bag.specs.Exports.{Post, frames_posted, is_post_deliverable, item_numbered, new_post, posted_frames, remembered_frames, with_changed, with_delivered, with_forgotten}
 use Rattle.message_bag.proofs.NumberedPosts.{length_changed, numbered_changed, numbered_pushed}
 use Rattle.update_machine.specs.Exports.{Item, Message, MessageKeeps, NoneConcern, concerns_known, concerns_links, concerns_message, concerns_messages, concerns_policies, count_of, gives_message, is_delivery, is_forgetting, is_forgotten, is_sending, last_given, message_of, next_message, was_delivered}
-use Rattle.journal.specs.declared.item.Item.TheVariants as item
 use Rattle.update_machine.proofs.Exports.{count_of_append, each_silent, fewer, last_given_append, message_keeps, messages_keep, next_sent, start_laws}
 use Rattle.control_laws.proofs.Exports.{some_more}
 use Rattle.refinement.specs.Exports.{IsBagOf, post_in}
@@ -48,34 +47,34 @@ other_number n k apart = ne_eqb k n (λ same. let yes : (n == k) ≡ true = eq-e
 -- ---- a message is sent
 
 sent_facts : (before : List Item) (n : ℕ) (message : Message)
-    → message_of (before ++ item.Sent n message ∷ []) n ≡ Some message
+    → message_of (before ++ Item.Sent n message ∷ []) n ≡ Some message
 unfolding message_of
 sent_facts before n message =
-    cc (last_given_append (gives_message n) before (item.Sent n message ∷ []), eq-eqb n n refl)
+    cc (last_given_append (gives_message n) before (Item.Sent n message ∷ []), eq-eqb n n refl)
 
 sent_post : (n : ℕ) (before : List Item) (posts : List Post) (message : Message) (b : Bool)
     → (n == length posts + 1) ≡ b → IsBagOf before posts
     → (if b then Some (new_post message) else item_numbered posts n)
-    ≡ post_in (before ++ item.Sent (length posts + 1) message ∷ []) n
+    ≡ post_in (before ++ Item.Sent (length posts + 1) message ∷ []) n
 unfolding post_in was_delivered is_forgotten
 sent_post n before posts message true is bag = let k : ℕ = length posts + 1 in
     rw (
       (eqb-true n k is),
       sent_facts before k message,
-      some_more (is_delivery k) before (item.Sent k message),
-      some_more (is_forgetting k) before (item.Sent k message),
+      some_more (is_delivery k) before (Item.Sent k message),
+      some_more (is_forgetting k) before (Item.Sent k message),
       bag.undelivered k (omega arith),
       bag.remembered k (omega arith),
     ) refl
 sent_post n before posts message false is bag = bag.each n
-    ∙ sym (same_post n before (before ++ item.Sent (length posts + 1) message ∷ []) (number_on n
-    before (item.Sent (length posts + 1) message) (other_number n (length posts + 1) is)))
+    ∙ sym (same_post n before (before ++ Item.Sent (length posts + 1) message ∷ []) (number_on n
+    before (Item.Sent (length posts + 1) message) (other_number n (length posts + 1) is)))
 
 pub bag_sent : (before : List Item) (posts : List Post) (message : Message)
-    → BagGoesOn before posts (item.Sent (length posts + 1) message) (posts ++ new_post message ∷ [])
+    → BagGoesOn before posts (Item.Sent (length posts + 1) message) (posts ++ new_post message ∷ [])
 bag_sent before posts message bag =
     let k : ℕ = length posts + 1 in
-    let sent : Item = item.Sent k message in
+    let sent : Item = Item.Sent k message in
     let more = length-append posts (new_post message ∷ []) in
     let keeps : (n : ℕ) → length (posts ++ new_post message ∷ []) < n
     → MessageKeeps n before (before ++ sent ∷ []) =
@@ -181,12 +180,12 @@ bag_flagged change k before posts item apart untold unsent flags posted_it bag =
     by_told (Some m) = ap Some (flags m)
 
 pub bag_delivered : (before : List Item) (posts : List Post) (k : ℕ) → k ≤ length posts
-    → BagGoesOn before posts (item.Delivered k) (with_delivered posts k)
+    → BagGoesOn before posts (Item.Delivered k) (with_delivered posts k)
 bag_delivered before posts k =
     bag_flagged _ k before posts _ (λ n apart. apart) refl refl (λ m. rw (eq-eqb k k refl) refl)
 
 pub bag_forgotten : (before : List Item) (posts : List Post) (k : ℕ) → k ≤ length posts
-    → BagGoesOn before posts (item.Forgotten k) (with_forgotten posts k)
+    → BagGoesOn before posts (Item.Forgotten k) (with_forgotten posts k)
 bag_forgotten before posts k =
     bag_flagged _ k before posts _ (λ n apart. apart) refl refl (λ m. rw (eq-eqb k k refl) refl)
 
@@ -196,21 +195,21 @@ bag_forgotten before posts k =
 -- from this number
 abbrev pub SendFrom : ℕ → List Item → Type 0
 SendFrom number [] = ⊤
-SendFrom number (item.Sent n message ∷ items) = (n ≡ number) × SendFrom (number + 1) items
-SendFrom number (item.Delivered n ∷ items) = ⊥
-SendFrom number (item.Forgotten n ∷ items) = ⊥
-SendFrom number (item.Expired switch place message ∷ items) = ⊥
-SendFrom number (item.Down switch ∷ items) = ⊥
-SendFrom number (item.Booted switch boot ∷ items) = ⊥
-SendFrom number (item.Opened switch version ∷ items) = ⊥
-SendFrom number (item.LinkIs one two up ∷ items) = ⊥
-SendFrom number (item.Submitted file version ∷ items) = ⊥
+SendFrom number (Item.Sent n message ∷ items) = (n ≡ number) × SendFrom (number + 1) items
+SendFrom number (Item.Delivered n ∷ items) = ⊥
+SendFrom number (Item.Forgotten n ∷ items) = ⊥
+SendFrom number (Item.Expired switch place message ∷ items) = ⊥
+SendFrom number (Item.Down switch ∷ items) = ⊥
+SendFrom number (Item.Booted switch boot ∷ items) = ⊥
+SendFrom number (Item.Opened switch version ∷ items) = ⊥
+SendFrom number (Item.LinkIs one two up ∷ items) = ⊥
+SendFrom number (Item.Submitted file version ∷ items) = ⊥
 SendFrom number (_ ∷ items) = SendFrom number items
 
 -- what they post
 abbrev pub posts_in : List Item → List Post
 posts_in [] = []
-posts_in (item.Sent n message ∷ items) = new_post message ∷ posts_in items
+posts_in (Item.Sent n message ∷ items) = new_post message ∷ posts_in items
 posts_in (_ ∷ items) = posts_in items
 
 -- they concern no switch, no link and no policy
@@ -233,17 +232,17 @@ apart_next before items item known links policies rest = record {
 pub are_apart : (number : ℕ) (before items : List Item) → SendFrom number items
     → AreApart before items
 are_apart number before [] of = record { known = λ s. tt; links = tt; policies = tt }
-are_apart number before (item.Sent n message ∷ items) of =
-    apart_next before items (item.Sent n message) (λ s. refl) refl refl
-    (are_apart (number + 1) (before ++ item.Sent n message ∷ []) items of.1)
-are_apart number before (item.Delivered n ∷ items) of = absurd of
-are_apart number before (item.Forgotten n ∷ items) of = absurd of
-are_apart number before (item.Expired switch place message ∷ items) of = absurd of
-are_apart number before (item.Down switch ∷ items) of = absurd of
-are_apart number before (item.Booted switch boot ∷ items) of = absurd of
-are_apart number before (item.Opened switch version ∷ items) of = absurd of
-are_apart number before (item.LinkIs one two up ∷ items) of = absurd of
-are_apart number before (item.Submitted file version ∷ items) of = absurd of
+are_apart number before (Item.Sent n message ∷ items) of =
+    apart_next before items (Item.Sent n message) (λ s. refl) refl refl
+    (are_apart (number + 1) (before ++ Item.Sent n message ∷ []) items of.1)
+are_apart number before (Item.Delivered n ∷ items) of = absurd of
+are_apart number before (Item.Forgotten n ∷ items) of = absurd of
+are_apart number before (Item.Expired switch place message ∷ items) of = absurd of
+are_apart number before (Item.Down switch ∷ items) of = absurd of
+are_apart number before (Item.Booted switch boot ∷ items) of = absurd of
+are_apart number before (Item.Opened switch version ∷ items) of = absurd of
+are_apart number before (Item.LinkIs one two up ∷ items) of = absurd of
+are_apart number before (Item.Submitted file version ∷ items) of = absurd of
 are_apart number before (x ∷ items) of = apart_next before items x (λ s. refl) refl refl
     (are_apart number (before ++ x ∷ []) items of)
 
@@ -262,23 +261,23 @@ pub bag_sends : (number : ℕ) (before items : List Item) (posts : List Post)
     → SendFrom number items → number ≡ next_message before → IsBagOf before posts
     → IsBagOf (before ++ items) (posts ++ posts_in items)
 bag_sends number before [] posts of is bag = rw (append-nil before) (rw (append-nil posts) bag)
-bag_sends number before (item.Sent n message ∷ items) posts of is bag =
-    let sent : Item = item.Sent n message in
+bag_sends number before (Item.Sent n message ∷ items) posts of is bag =
+    let sent : Item = Item.Sent n message in
     let rest = bag_sends (number + 1) (before ++ sent ∷ []) items
     (posts ++ new_post message ∷ []) of.1 (ap (λ k. k + 1) is ∙ sym (next_sent before n message))
-    (subst (λ k. IsBagOf (before ++ item.Sent k message ∷ []) (posts ++ new_post message ∷ []))
+    (subst (λ k. IsBagOf (before ++ Item.Sent k message ∷ []) (posts ++ new_post message ∷ []))
     (sym (of.0 ∙ is ∙ bag.many)) (bag_sent before posts message bag)) in
     subst (λ js. IsBagOf js (posts ++ new_post message ∷ posts_in items))
     (append_assoc before (sent ∷ []) items)
     (rw (append_assoc posts (new_post message ∷ []) (posts_in items)) at rest)
-bag_sends number before (item.Delivered n ∷ items) posts of is bag = absurd of
-bag_sends number before (item.Forgotten n ∷ items) posts of is bag = absurd of
-bag_sends number before (item.Expired switch place message ∷ items) posts of is bag = absurd of
-bag_sends number before (item.Down switch ∷ items) posts of is bag = absurd of
-bag_sends number before (item.Booted switch boot ∷ items) posts of is bag = absurd of
-bag_sends number before (item.Opened switch version ∷ items) posts of is bag = absurd of
-bag_sends number before (item.LinkIs one two up ∷ items) posts of is bag = absurd of
-bag_sends number before (item.Submitted file version ∷ items) posts of is bag = absurd of
+bag_sends number before (Item.Delivered n ∷ items) posts of is bag = absurd of
+bag_sends number before (Item.Forgotten n ∷ items) posts of is bag = absurd of
+bag_sends number before (Item.Expired switch place message ∷ items) posts of is bag = absurd of
+bag_sends number before (Item.Down switch ∷ items) posts of is bag = absurd of
+bag_sends number before (Item.Booted switch boot ∷ items) posts of is bag = absurd of
+bag_sends number before (Item.Opened switch version ∷ items) posts of is bag = absurd of
+bag_sends number before (Item.LinkIs one two up ∷ items) posts of is bag = absurd of
+bag_sends number before (Item.Submitted file version ∷ items) posts of is bag = absurd of
 bag_sends number before (x ∷ items) posts of is bag = bag_next before items x posts (posts_in items)
     refl number (λ next more. bag_sends number (before ++ x ∷ []) items posts of next more) is bag
 

@@ -5,28 +5,24 @@ use Rattle.base.proofs.Exports.{None, Some, length-set, option_or, unwrap_or}
 use Rattle.update_machine.specs.Exports.{HasRoom, HaveCauses, Hello, Item, LinkRow, Message, Restart, Setting, boot_of, gives_boot, gives_serving, has_changed, hello_of, is_link_up, is_up, is_usable, items_then, last_given, near, next_message, nothing, piece, restart_items, send_items, sent_from, serves}
 use Rattle.message_bag.specs.Exports.{new_post}
 use Rattle.control_laws.proofs.Exports.{caused_known, fit_in_room, serving_known}
-use Rattle.refinement.proofs.ControllerUntouched.{steps_leave}
+use Rattle.refinement.proofs.ControllerResends.{steps_leave}
 use Rattle.controller.specs.declared.sends.Act.TheVariants.{Post as PostAct}
 use Rattle.ctrl_msg.specs.Exports.{to_controller}
-use Rattle.journal.specs.declared.item.Item.TheVariants as item
 use Rattle.net_file.specs.Exports.{links_of}
 use Rattle.control_laws.specs.Exports.{HasItemCause, NumbersFit}
 use Rattle.switch_core.specs.Exports.{SwitchValue, near_changed, restarted_switch}
 use Rattle.refinement.specs.Exports.{CanRestart, NetworkState, RefineJournal, is_up_link, switch_of}
-use Rattle.refinement.proofs.AskedRequirements.{requirements_hold}
-use Rattle.refinement.proofs.ForgottenState.{lives_refine}
-use Rattle.refinement.proofs.SwitchLinkChanges.{kept_is, links_refine}
+use Rattle.refinement.proofs.SwitchKnowledge.{requirements_hold}
+use Rattle.refinement.proofs.SwitchLinkChanges.{kept_is, links_refine, lives_refine}
 use Rattle.steps.specs.Exports.{IsStep}
 use Rattle.update_machine.proofs.Exports.{last_given_append, messages_keep, switch_keeps}
 use Rattle.world_log.specs.Exports.{act_items, act_posts}
 use Rattle.refinement.proofs.BagDeliveries.{nothing_happens}
 use Rattle.refinement.proofs.GoneSwitches.{up_as}
-use Rattle.refinement.proofs.RefinedReach.{reached_known}
-use Rattle.refinement.proofs.OneItem.{WroteOne}
+use Rattle.refinement.proofs.StepRefines.{WroteOne, one_changes, reached_known, same_links}
 use Rattle.refinement.proofs.PostedFrames.{bag_on}
 use Rattle.refinement.proofs.NetworkSwitches.{switch_is, switch_there}
 use Rattle.refinement.proofs.RefinedActs.{refines_told}
-use Rattle.refinement.proofs.StepRefines.{one_changes, same_links}
 use Rattle.refinement.proofs.LinksChange.{caused_first}
 
 same_filter : (now before : LinkRow → Bool) (links : List LinkRow)
@@ -48,17 +44,17 @@ module _ {setting : Setting} {journal : List Item} {state : NetworkState}
   own_up = sym (up_as setting journal s) ∙ ap (λ (w : SwitchValue). w.is_up) (sym own_is)
 
   abbrev rowed : List Item
-  rowed = journal ++ item.Row row (Restart s) ∷ []
+  rowed = journal ++ Item.Row row (Restart s) ∷ []
 
   rowed_up : is_up rowed s ≡ own.is_up
-  rowed_up = (switch_keeps setting s journal (item.Row row (Restart s) ∷ []) (refl, tt)).up ∙ own_up
+  rowed_up = (switch_keeps setting s journal (Item.Row row (Restart s) ∷ []) (refl, tt)).up ∙ own_up
 
-  pub up_already : own.is_up ≡ true → WroteOne setting journal row (Restart s) item.Nothing state
+  pub up_already : own.is_up ≡ true → WroteOne setting journal row (Restart s) Item.Nothing state
   unfolding piece restart_items
   up_already up = nothing_happens refines row (Restart s) may (λ q. refl)
-      (ap (λ b. item.Row row (Restart s) ∷ elim b [
+      (ap (λ b. Item.Row row (Restart s) ∷ elim b [
         | true ↦ nothing
-        | false ↦ items_then (item.Booted s (boot_of rowed s + 1) ∷ [])
+        | false ↦ items_then (Item.Booted s (boot_of rowed s + 1) ∷ [])
             (λ booted. send_items booted (hello_of booted s ∷ [])) rowed
       ]) (rowed_up ∙ up))
 
@@ -75,13 +71,13 @@ module _ {setting : Setting} {journal : List Item} {state : NetworkState}
   boot = own.boot + 1
 
   abbrev booted : Item
-  booted = item.Booted s boot
+  booted = Item.Booted s boot
 
   abbrev now : List Item
-  now = journal ++ item.Row row (Restart s) ∷ booted ∷ []
+  now = journal ++ Item.Row row (Restart s) ∷ booted ∷ []
 
   split : rowed ++ booted ∷ [] ≡ now
-  split = append_assoc journal (item.Row row (Restart s) ∷ []) (booted ∷ [])
+  split = append_assoc journal (Item.Row row (Restart s) ∷ []) (booted ∷ [])
 
   own_boot : boot_of journal s ≡ own.boot
   unfolding switch_of
@@ -96,24 +92,24 @@ module _ {setting : Setting} {journal : List Item} {state : NetworkState}
 
   number_is : next_message now ≡ length state.posts + 1
   number_is =
-      (messages_keep journal (item.Row row (Restart s) ∷ booted ∷ []) (refl, (refl, tt))).next
+      (messages_keep journal (Item.Row row (Restart s) ∷ booted ∷ []) (refl, (refl, tt))).next
       ∙ refines.bag.many
 
   pub boot_piece : own.is_up ≡ false → piece setting journal row (Restart s)
-      ≡ item.Row row (Restart s) ∷ booted ∷ item.Sent (length state.posts + 1) hello ∷ []
+      ≡ Item.Row row (Restart s) ∷ booted ∷ Item.Sent (length state.posts + 1) hello ∷ []
   unfolding piece restart_items sent_from
-  boot_piece down = ap (λ b. item.Row row (Restart s) ∷ elim b [
+  boot_piece down = ap (λ b. Item.Row row (Restart s) ∷ elim b [
     | true ↦ nothing
-    | false ↦ items_then (item.Booted s (boot_of rowed s + 1) ∷ [])
+    | false ↦ items_then (Item.Booted s (boot_of rowed s + 1) ∷ [])
         (λ later. send_items later (hello_of later s ∷ [])) rowed
   ]) (rowed_up ∙ down)
-      ∙ ap (λ b. item.Row row (Restart s) ∷ items_then (item.Booted s (b + 1) ∷ [])
+      ∙ ap (λ b. Item.Row row (Restart s) ∷ items_then (Item.Booted s (b + 1) ∷ [])
       (λ later. send_items later (hello_of later s ∷ [])) rowed)
-      ((switch_keeps setting s journal (item.Row row (Restart s) ∷ []) (refl, tt)).boot ∙ own_boot)
-      ∙ ap (λ js. item.Row row (Restart s) ∷ booted ∷ send_items js (hello_of js s ∷ [])) split
-      ∙ ap (λ k. item.Row row (Restart s) ∷ booted ∷ item.Sent k (hello_of now s) ∷ []) number_is
-      ∙ ap (λ b. item.Row row (Restart s) ∷ booted
-      ∷ item.Sent (length state.posts + 1) (to_controller (Hello s b)) ∷ []) boot_now
+      ((switch_keeps setting s journal (Item.Row row (Restart s) ∷ []) (refl, tt)).boot ∙ own_boot)
+      ∙ ap (λ js. Item.Row row (Restart s) ∷ booted ∷ send_items js (hello_of js s ∷ [])) split
+      ∙ ap (λ k. Item.Row row (Restart s) ∷ booted ∷ Item.Sent k (hello_of now s) ∷ []) number_is
+      ∙ ap (λ b. Item.Row row (Restart s) ∷ booted
+      ∷ Item.Sent (length state.posts + 1) (to_controller (Hello s b)) ∷ []) boot_now
 
   -- a switch that is down serves not, nor does one that just booted
   serves_now : (x : ℕ) (b : Bool) → own.is_up ≡ false → (s == x) ≡ b
@@ -136,7 +132,7 @@ module _ {setting : Setting} {journal : List Item} {state : NetworkState}
           (last_given (gives_serving x) rowed)) true ≡ serves journal x
       by_own true same = sym (closed x same)
       by_own false other =
-          (switch_keeps setting x journal (item.Row row (Restart s) ∷ []) (refl, tt)).serving
+          (switch_keeps setting x journal (Item.Row row (Restart s) ∷ []) (refl, tt)).serving
 
   up_now : (link : LinkRow) → is_up_link now link ≡ is_up_link journal link
   unfolding is_link_up
@@ -151,18 +147,18 @@ module _ {setting : Setting} {journal : List Item} {state : NetworkState}
       && serves journal link.one && u) (serves_now link.two (s == link.two) down refl)))
 
   abbrev items : List Item
-  items = item.Row row (Restart s) ∷ booted ∷ item.Sent (length state.posts + 1) hello ∷ []
+  items = Item.Row row (Restart s) ∷ booted ∷ Item.Sent (length state.posts + 1) hello ∷ []
 
   caused_rowed : own.is_up ≡ false → HaveCauses (HasItemCause setting) [] rowed
   caused_rowed down = caused_first refines row (Restart s) []
-      (booted ∷ item.Sent (length state.posts + 1) hello ∷ []) may (boot_piece down)
+      (booted ∷ Item.Sent (length state.posts + 1) hello ∷ []) may (boot_piece down)
 
   own_now : own.is_up ≡ false → restarted_switch own ≡ switch_of setting now s
   own_now down = ap restarted_switch (own_is
-      ∙ sym (kept_is setting s journal (item.Row row (Restart s) ∷ []) (refl, tt) (refl, tt)))
+      ∙ sym (kept_is setting s journal (Item.Row row (Restart s) ∷ []) (refl, tt) (refl, tt)))
       ∙ sym (lives_refine.restart setting rowed s (caused_rowed down))
-      ∙ ap (λ b. switch_of setting (rowed ++ item.Booted s (b + 1) ∷ []) s)
-      ((switch_keeps setting s journal (item.Row row (Restart s) ∷ []) (refl, tt)).boot ∙ own_boot)
+      ∙ ap (λ b. switch_of setting (rowed ++ Item.Booted s (b + 1) ∷ []) s)
+      ((switch_keeps setting s journal (Item.Row row (Restart s) ∷ []) (refl, tt)).boot ∙ own_boot)
       ∙ ap (λ js. switch_of setting js s) split
 
   other_now : own.is_up ≡ false → (q : ℕ) → (s == q) ≡ false
@@ -201,7 +197,7 @@ module _ {setting : Setting} {journal : List Item} {state : NetworkState}
     as_many = length-set state.switches s changed;
     each = λ q d below. one_changes setting journal now state.switches s q changed d (s == q)
         refl boot_there (changed_is ∙ own_now down) (other_now down q) (refines.each q d below);
-    bag = bag_on journal (item.Row row (Restart s) ∷ booted ∷ []) state.posts
+    bag = bag_on journal (Item.Row row (Restart s) ∷ booted ∷ []) state.posts
         (refl, (refl, tt)) refines.bag;
     number = refl;
     controller = steps_leave setting journal row (Restart s) state.controller

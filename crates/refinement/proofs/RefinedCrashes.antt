@@ -1,59 +1,168 @@
 -- A switch goes down: which packets are lost, which links change, what is told of that, and what
 -- the parts are behind it.
-use Rattle.std.proofs.Common.{[], if◌then◌else◌, ◌&&◌, ◌++◌, ◌+◌, ◌-◌, ◌<◌, ◌==◌, ◌^◌, ◌∙◌, ◌∷◌, ◌≡◌, All, List, None, ap, append_assoc, arith, false, get_or, length, length-set, map, refl, set, subst, sym, true, ℕ}
-use Rattle.base.proofs.Exports.{get_or_default, not, sum_by-cons}
+use Rattle.std.proofs.Common.{[], ◌&&◌, ◌++◌, ◌+◌, ◌-◌, ◌<◌, ◌==◌, ◌^◌, ◌||◌, ◌∙◌, ◌∷◌, ◌≡◌, All, List, None, Option, Some, ap, append_assoc, arith, false, get_or, if◌then◌else◌, length, length-set, map, option_map, refl, rules, set, slice_get, subst, sym, true, ℕ}
+use Rattle.base.proofs.Exports.{get_or_default, none_removed, not, sum_by-cons}
+use Rattle.update_machine.specs.Exports.{CacheEntry, Crash, Expire, Item, LinkRow, Message, Setting, concerns_calls, concerns_known, concerns_links, concerns_messages, concerns_policies, concerns_switch, count_of, crash_items, has_changed, is_link_up, is_packet, is_up, items_then, link_changes, near, nothing, packets_at, piece, sent_from, targets_of}
+use Rattle.switch_core.specs.Exports.{SwitchValue, crashed_switch, entry_expired, near_changed}
+use Rattle.switch_table.specs.Exports.{CacheValue, after_expire}
+use Rattle.refinement.specs.Exports.{IsBagOf, LeavesSwitch, NetworkState, RefineJournal, expired_by, flight_in, is_up_link, message_at, switch_of, up_links}
+use Rattle.refinement.proofs.SwitchLinkChanges.{crash_is, expiry_is, kept_is, lives_refine}
+use Rattle.steps.specs.Exports.{IsStep}
+use Rattle.refinement.proofs.StepRefines.{WritesOne, WroteOne, grown, one_changes, refines_one, same_links}
+use Rattle.refinement.proofs.PostedFrames.{bag_on}
+use Rattle.refinement.proofs.NetworkSwitches.{switch_is, switch_there}
 use Rattle.controller.specs.declared.sends.Act.{Act}
 use Rattle.controller.specs.declared.sends.Act.TheVariants.{Post as PostAct}
-use Rattle.update_machine.specs.Exports.{Crash, Item, LinkRow, Message, Setting, concerns_calls, concerns_known, concerns_links, concerns_messages, concerns_policies, concerns_switch, count_of, crash_items, has_changed, is_link_up, is_packet, is_up, items_then, link_changes, near, nothing, packets_at, piece, sent_from, targets_of}
-use Rattle.journal.specs.declared.item.Item.TheVariants as item
 use Rattle.net_file.specs.Exports.{links_of}
-use Rattle.switch_core.specs.Exports.{SwitchValue, crashed_switch, near_changed}
-use Rattle.refinement.specs.Exports.{LeavesSwitch, NetworkState, RefineJournal, flight_in, is_up_link, switch_of, up_links}
-use Rattle.refinement.proofs.ForgottenState.{crash_is}
-use Rattle.refinement.proofs.SwitchLinkChanges.{kept_is}
 use Rattle.update_machine.proofs.Exports.{have_append, last_given_append, links_keep}
 use Rattle.world_log.specs.Exports.{AreRelinked, MaySend, act_items, all_adverts_sent, near_all}
-use Rattle.steps.specs.Exports.{IsStep}
-use Rattle.travelling.specs.Travelling.{Flights, WithoutAt, numbers_at, flight}
-use Rattle.refinement.proofs.ActItems.{SparesActs, acts_apart, acts_unnamed}
+use Rattle.travelling.specs.Travelling.{Flights, WithoutAt, flight, numbers_at}
+use Rattle.refinement.proofs.RefinedActs.{SparesActs, acts_apart, acts_unnamed}
 use Rattle.refinement.proofs.BagDeliveries.{nothing_happens}
-use Rattle.refinement.proofs.SwitchLosses.{losts_apart, losts_bring_none, losts_no_rows, flight_lost}
-use Rattle.refinement.proofs.OneItem.{WroteOne, grown}
-use Rattle.refinement.proofs.PostedFrames.{bag_on}
-use Rattle.refinement.proofs.RefinedPacketTable.{among, among_numbers, numbers_are}
-use Rattle.refinement.proofs.NetworkSwitches.{switch_is}
-use Rattle.refinement.proofs.StepRefines.{same_links}
+use Rattle.refinement.proofs.RefinedPacketTable.{among, among_numbers, flight_lost, losts_apart, losts_bring_none, losts_no_rows, numbers_are}
 use Rattle.refinement.proofs.RefinedPacketFacts.{flight_along, flight_now}
-use Rattle.refinement.proofs.LinksChange.{relinked_state, one_relinks, one_advert, one_next, LinksChange, change_piece, change_may, change_refines}
+use Rattle.refinement.proofs.LinksChange.{LinksChange, change_may, change_piece, change_refines, one_advert, one_next, one_relinks, relinked_state}
+
+-- ---- a cached rule times out
+
+-- what the step writes, by the number of the message that brought the entry
+abbrev expired_item : ℕ → ℕ → Option ℕ → Item
+expired_item s place None = Item.Nothing
+expired_item s place (Some message) = Item.Expired s place message
+
+abbrev entry_message : CacheEntry → ℕ
+entry_message entry = entry.message
+
+one_item : (s place : ℕ) (found : Option ℕ)
+    → expired_by s place found ≡ expired_item s place found ∷ []
+one_item s place None = refl
+one_item s place (Some message) = refl
+
+-- a row leaves the switch
+row_leaves : (setting : Setting) (journal : List Item) (row s place q : ℕ) → switch_of setting
+    (journal ++ Item.Row row (Expire s place) ∷ []) q ≡ switch_of setting journal q
+row_leaves setting journal row s place q =
+    kept_is setting q journal (Item.Row row (Expire s place) ∷ []) (refl, tt) (refl, tt)
+
+expire_piece : (setting : Setting) (journal : List Item) (row s place : ℕ)
+    → piece setting journal row (Expire s place)
+    ≡ Item.Row row (Expire s place) ∷ expired_item s place (message_at setting journal s place) ∷ []
+unfolding piece
+expire_piece setting journal row s place = let first : Item = Item.Row row (Expire s place) in
+    ap (λ items. first ∷ items) (lives_refine.expires setting (journal ++ first ∷ []) s place
+    ∙ ap (λ (w : SwitchValue). expired_by s place (option_map entry_message
+    (slice_get w.cache.entries place))) (row_leaves setting journal row s place s)
+    ∙ one_item s place (message_at setting journal s place))
+
+-- ---- caches
+
+none_expired : (cache : CacheValue) (place : ℕ) → option_map entry_message
+    (slice_get cache.entries place) ≡ None → after_expire place cache ≡ cache
+none_expired cache place none = ap (λ entries. record cache { entries = entries })
+    (none_removed cache.entries place (by_entry (slice_get cache.entries place) none))
+  where
+    by_entry : (o : Option CacheEntry) → option_map entry_message o ≡ None → o ≡ None
+    by_entry None e = refl
+    by_entry (Some entry) e = absurd cc
+
+-- ---- the step
+
+-- the switch itself behind the step
+expired_own : (setting : Setting) (journal : List Item) (row s place : ℕ) (found : Option ℕ)
+    → message_at setting journal s place ≡ found → entry_expired (switch_of setting journal s) place
+    ≡ switch_of setting (grown journal row (Expire s place) (expired_item s place found)) s
+expired_own setting journal row s place None none =
+    let switch : SwitchValue = switch_of setting journal s in
+    ap (λ cache. record switch { cache = cache }) (none_expired switch.cache place none)
+    ∙ sym (kept_is setting s journal (Item.Row row (Expire s place) ∷ Item.Nothing ∷ [])
+    (refl, (refl, tt)) (refl, (refl, tt)))
+expired_own setting journal row s place (Some message) there =
+    let first : Item = Item.Row row (Expire s place) in
+    let one : Item = Item.Expired s place message in
+    ap (λ w. entry_expired w place) (sym (row_leaves setting journal row s place s))
+    ∙ sym (expiry_is setting (journal ++ first ∷ []) s place message)
+    ∙ ap (λ js. switch_of setting js s) (append_assoc journal (first ∷ []) (one ∷ []))
+
+-- and any other one
+expired_other : (setting : Setting) (journal : List Item) (row s q place : ℕ) (found : Option ℕ)
+    → (s == q) ≡ false
+    → switch_of setting (grown journal row (Expire s place) (expired_item s place found)) q
+    ≡ switch_of setting journal q
+expired_other setting journal row s q place None other = kept_is setting q journal
+    (Item.Row row (Expire s place) ∷ Item.Nothing ∷ []) (refl, (refl, tt)) (refl, (refl, tt))
+expired_other setting journal row s q place (Some message) other =
+    kept_is setting q journal (Item.Row row (Expire s place) ∷ Item.Expired s place message ∷ [])
+    (refl, (ap (λ b. b || false) other, tt)) (refl, (refl, tt))
+
+module _ {setting : Setting} {journal : List Item} {state : NetworkState}
+    (refines : RefineJournal setting journal state) where
+  -- the item concerns no packet, no message and no call
+  expired_writes : (row s place : ℕ) (changed : SwitchValue) (found : Option ℕ)
+      → IsStep setting.net (length setting.files) (Expire s place) → IsBagOf journal state.posts
+      → piece setting journal row (Expire s place) ≡ Item.Row row (Expire s place)
+      ∷ expired_item s place found ∷ [] → ((q : ℕ) (d : SwitchValue) → q < length state.switches
+      → get_or (set state.switches s changed) q d
+      ≡ switch_of setting (grown journal row (Expire s place) (expired_item s place found)) q)
+      → WritesOne setting journal row (Expire s place) (expired_item s place found) state.switches
+      (set state.switches s changed) state.posts
+  expired_writes row s place changed None may bag is each = search (rules, bag_on, length-set)
+  expired_writes row s place changed (Some message) may bag is each =
+      search (rules, bag_on, length-set)
+
+  pub expired_refines : (row s place : ℕ) (own changed : SwitchValue) (found : Option ℕ)
+      → IsStep setting.net (length setting.files) (Expire s place)
+      → own ≡ get_or state.switches s own → changed ≡ entry_expired own place
+      → found ≡ option_map (λ entry. entry.message) (slice_get own.cache.entries place)
+      → WroteOne setting journal row (Expire s place) (expired_item s place found)
+      (record state { switches = set state.switches s changed })
+  expired_refines row s place own changed found may own_at changed_is found_is =
+      let own_is : own ≡ switch_of setting journal s = switch_is refines s own may.0 own_at in
+      let at = ap (λ (w : SwitchValue). option_map entry_message (slice_get w.cache.entries place))
+      (sym own_is) ∙ sym found_is in
+      let is : piece setting journal row (Expire s place)
+      ≡ Item.Row row (Expire s place) ∷ expired_item s place found ∷ [] =
+      expire_piece setting journal row s place
+      ∙ ap (λ o. Item.Row row (Expire s place) ∷ expired_item s place o ∷ []) at in (
+        is,
+        refines_one refines state.posts (set state.switches s changed) row (Expire s place)
+            (expired_item s place found) (expired_writes row s place changed found may refines.bag
+            is (λ q d below. one_changes setting journal (grown journal row (Expire s place)
+            (expired_item s place found)) state.switches s q changed d (s == q) refl
+            (switch_there refines s may.0) (changed_is ∙ ap (λ w. entry_expired w place) own_is
+            ∙ expired_own setting journal row s place found at)
+            (expired_other setting journal row s q place found) (refines.each q d below))),
+      )
+
+-- ---- refined crashes
 
 -- ---- what it writes
 
 -- a switch that is down stays as it is
 pub down_piece : (setting : Setting) (journal : List Item) (row s : ℕ) → is_up journal s ≡ false
-    → piece setting journal row (Crash s) ≡ item.Row row (Crash s) ∷ item.Nothing ∷ []
+    → piece setting journal row (Crash s) ≡ Item.Row row (Crash s) ∷ Item.Nothing ∷ []
 unfolding piece crash_items
-down_piece setting journal row s down = ap (λ b. item.Row row (Crash s) ∷ elim b [
+down_piece setting journal row s down = ap (λ b. Item.Row row (Crash s) ∷ elim b [
   | false ↦ nothing
-  | true ↦ items_then (item.Down s ∷ map item.Lost (packets_at journal s))
-      (link_changes setting journal) (journal ++ item.Row row (Crash s) ∷ [])
+  | true ↦ items_then (Item.Down s ∷ map Item.Lost (packets_at journal s))
+      (link_changes setting journal) (journal ++ Item.Row row (Crash s) ∷ [])
 ]) down
 
 -- another one loses its packets with it, and its neighbours tell that
 pub up_piece : (setting : Setting) (journal : List Item) (row s : ℕ) → is_up journal s ≡ true
-    → let first = item.Down s ∷ map item.Lost (packets_at journal s) in
+    → let first = Item.Down s ∷ map Item.Lost (packets_at journal s) in
     piece setting journal row (Crash s)
-    ≡ item.Row row (Crash s) ∷ first
-    ++ link_changes setting journal (journal ++ item.Row row (Crash s) ∷ first)
+    ≡ Item.Row row (Crash s) ∷ first
+    ++ link_changes setting journal (journal ++ Item.Row row (Crash s) ∷ first)
 unfolding piece crash_items
 up_piece setting journal row s up =
-    let first : List Item = item.Down s ∷ map item.Lost (packets_at journal s) in
-    ap (λ b. item.Row row (Crash s) ∷ elim b [
+    let first : List Item = Item.Down s ∷ map Item.Lost (packets_at journal s) in
+    ap (λ b. Item.Row row (Crash s) ∷ elim b [
       | false ↦ nothing
       | true ↦ items_then first (link_changes setting journal)
-          (journal ++ item.Row row (Crash s) ∷ [])
+          (journal ++ Item.Row row (Crash s) ∷ [])
     ]) up
-    ∙ ap (λ js. item.Row row (Crash s) ∷ first ++ link_changes setting journal js)
-    (append_assoc journal (item.Row row (Crash s) ∷ []) first)
+    ∙ ap (λ js. Item.Row row (Crash s) ∷ first ++ link_changes setting journal js)
+    (append_assoc journal (Item.Row row (Crash s) ∷ []) first)
 
 -- no policy comes by marks and messages
 spares_policies : SparesActs concerns_policies
@@ -77,7 +186,7 @@ module _ {setting : Setting} {journal : List Item} {state : NetworkState}
   -- nothing happens where it is down
   pub stays_down : (row s : ℕ) (own : SwitchValue)
       → IsStep setting.net (length setting.files) (Crash s) → own ≡ get_or state.switches s own
-      → own.is_up ≡ false → WroteOne setting journal row (Crash s) item.Nothing state
+      → own.is_up ≡ false → WroteOne setting journal row (Crash s) Item.Nothing state
   unfolding switch_of
   stays_down row s own may own_at down = nothing_happens refines row (Crash s) may (λ q. refl)
       (down_piece setting journal row s
@@ -87,7 +196,7 @@ module _ {setting : Setting} {journal : List Item} {state : NetworkState}
 
 -- links are up as before
 fallen_up : (journal : List Item) (row s : ℕ) (link : LinkRow)
-    → is_up_link (grown journal row (Crash s) (item.Down s)) link ≡ is_up_link journal link
+    → is_up_link (grown journal row (Crash s) (Item.Down s)) link ≡ is_up_link journal link
 unfolding is_link_up
 fallen_up journal row s link = search (last_given_append)
 
@@ -100,22 +209,22 @@ module _ {setting : Setting} {journal : List Item} {state : NetworkState}
   packets = packets_at journal s
 
   abbrev losts : List Item
-  losts = map item.Lost packets
+  losts = map Item.Lost packets
 
   abbrev told : List Item
-  told = item.Down s ∷ losts
+  told = Item.Down s ∷ losts
 
   abbrev begun : List Item
-  begun = journal ++ item.Row row (Crash s) ∷ []
+  begun = journal ++ Item.Row row (Crash s) ∷ []
 
   abbrev fallen : List Item
-  fallen = grown journal row (Crash s) (item.Down s)
+  fallen = grown journal row (Crash s) (Item.Down s)
 
   abbrev now : List Item
-  now = journal ++ item.Row row (Crash s) ∷ told
+  now = journal ++ Item.Row row (Crash s) ∷ told
 
   split : fallen ++ losts ≡ now
-  split = append_assoc journal (item.Row row (Crash s) ∷ item.Down s ∷ []) losts
+  split = append_assoc journal (Item.Row row (Crash s) ∷ Item.Down s ∷ []) losts
 
   own_is : own ≡ switch_of setting journal s
   own_is = own_at ∙ refines.each s own within
@@ -126,15 +235,15 @@ module _ {setting : Setting} {journal : List Item} {state : NetworkState}
 
   -- the switch has lost what it learnt
   crashed_is : changed ≡ switch_of setting now s
-  crashed_is = let down : List Item = begun ++ item.Down s ∷ [] in
+  crashed_is = let down : List Item = begun ++ Item.Down s ∷ [] in
       changed_is ∙ ap crashed_switch own_is
-      ∙ ap crashed_switch (sym (kept_is setting s journal (item.Row row (Crash s) ∷ []) (refl, tt)
+      ∙ ap crashed_switch (sym (kept_is setting s journal (Item.Row row (Crash s) ∷ []) (refl, tt)
       (refl, tt)))
       ∙ sym (crash_is setting begun s)
       ∙ sym (kept_is setting s down losts (losts_apart (concerns_known s) (λ before k. refl) down
       packets) (losts_apart (concerns_calls s) (λ before k. refl) down packets))
-      ∙ ap (λ js. switch_of setting js s) (append_assoc begun (item.Down s ∷ []) losts
-      ∙ append_assoc journal (item.Row row (Crash s) ∷ []) told)
+      ∙ ap (λ js. switch_of setting js s) (append_assoc begun (Item.Down s ∷ []) losts
+      ∙ append_assoc journal (Item.Row row (Crash s) ∷ []) told)
 
   unchanged : has_changed setting journal now s ≡ false
   unfolding switch_of
@@ -149,12 +258,12 @@ module _ {setting : Setting} {journal : List Item} {state : NetworkState}
       refl,
       (
         other,
-        losts_apart (concerns_switch q) (λ before k. refl) (begun ++ item.Down s ∷ []) packets,
+        losts_apart (concerns_switch q) (λ before k. refl) (begun ++ Item.Down s ∷ []) packets,
       ),
     );
     calls = (
       refl,
-      (refl, losts_apart (concerns_calls q) (λ before k. refl) (begun ++ item.Down s ∷ []) packets),
+      (refl, losts_apart (concerns_calls q) (λ before k. refl) (begun ++ Item.Down s ∷ []) packets),
     );
   }
 
@@ -167,10 +276,10 @@ module _ {setting : Setting} {journal : List Item} {state : NetworkState}
       (losts_apart concerns_links (λ before k. refl) fallen packets)).up link.one link.two
       ∙ fallen_up journal row s link)
 
-  none_come : count_of is_packet (item.Row row (Crash s) ∷ told) ≡ 0
+  none_come : count_of is_packet (Item.Row row (Crash s) ∷ told) ≡ 0
   none_come =
-      let row_sum = sum_by-cons (λ x. if is_packet x then 1 else 0) (item.Row row (Crash s)) told in
-      let down_sum = sum_by-cons (λ x. if is_packet x then 1 else 0) (item.Down s) losts in
+      let row_sum = sum_by-cons (λ x. if is_packet x then 1 else 0) (Item.Row row (Crash s)) told in
+      let down_sum = sum_by-cons (λ x. if is_packet x then 1 else 0) (Item.Down s) losts in
       omega (arith, row_sum, down_sum, losts_bring_none packets)
 
   changes : LinksChange setting journal row (Crash s) told state others state.links state.posts
@@ -181,9 +290,9 @@ module _ {setting : Setting} {journal : List Item} {state : NetworkState}
     none_come = none_come;
     as_many = length-set state.switches s changed;
     number = refl;
-    bag = bag_on journal (item.Row row (Crash s) ∷ told) state.posts (
+    bag = bag_on journal (Item.Row row (Crash s) ∷ told) state.posts (
       refl,
-      (refl, losts_apart concerns_messages (λ before k. refl) (begun ++ item.Down s ∷ []) packets),
+      (refl, losts_apart concerns_messages (λ before k. refl) (begun ++ Item.Down s ∷ []) packets),
     ) refines.bag;
     up = λ q below. refines.up q below ∙ ap (λ rows. links_of rows q) (sym same_up);
     relinks = one_relinks refines row (Crash s) told s changed within leaves (sym crashed_is ∙ sym
@@ -201,8 +310,8 @@ module _ {setting : Setting} {journal : List Item} {state : NetworkState}
   numbers : numbers_at state.travelling s ≡ packets
   numbers = numbers_are refines s
 
-  pub crash_piece : piece setting journal row (Crash s) ≡ item.Row row (Crash s) ∷ item.Down s
-      ∷ map item.Lost (numbers_at state.travelling s) ++ sent_from number messages
+  pub crash_piece : piece setting journal row (Crash s) ≡ Item.Row row (Crash s) ∷ Item.Down s
+      ∷ map Item.Lost (numbers_at state.travelling s) ++ sent_from number messages
   crash_piece = cc (change_piece refines changes, numbers)
 
   pub crash_may : length state.posts < 990_000 → MaySend state.posts messages
@@ -220,7 +329,7 @@ module _ {setting : Setting} {journal : List Item} {state : NetworkState}
   acts = map PostAct messages
 
   abbrev all : List Item
-  all = item.Row row (Crash s) ∷ told ++ act_items number acts
+  all = Item.Row row (Crash s) ∷ told ++ act_items number acts
 
   -- the packets on their way
   left : (after : Flights) → WithoutAt state.travelling s after → (i : ℕ)
@@ -229,21 +338,21 @@ module _ {setting : Setting} {journal : List Item} {state : NetworkState}
       (sym (among_numbers state.travelling s i) ∙ ap (among i) numbers) ∙ ap
       (λ o. if among i packets then None else o) (refines.packet i ∙ flight_now setting journal i)
       ∙ sym (flight_along setting journal all i (have_append (λ js one. concerns_policies js one
-      ≡ false) journal (item.Row row (Crash s) ∷ told) (act_items number acts) (
+      ≡ false) journal (Item.Row row (Crash s) ∷ told) (act_items number acts) (
         refl,
         (
           refl,
-          losts_apart concerns_policies (λ before k. refl) (begun ++ item.Down s ∷ []) packets,
+          losts_apart concerns_policies (λ before k. refl) (begun ++ Item.Down s ∷ []) packets,
         ),
       ) (acts_apart concerns_policies spares_policies now number acts))
       ∙ flight_lost (targets_of setting journal) i journal
-      (item.Row row (Crash s) ∷ item.Down s ∷ []) packets (act_items number acts) _
+      (Item.Row row (Crash s) ∷ Item.Down s ∷ []) packets (act_items number acts) _
       (refl, (refl, tt)) (acts_unnamed i number acts))
 
   pub crash_refines : (others_now : List SwitchValue) (after : Flights) → AreRelinked state.near
       (near_all state.links others) others others_now → WithoutAt state.travelling s after
-      → RefineJournal setting (journal ++ (item.Row row (Crash s) ∷ item.Down s
-      ∷ map item.Lost (numbers_at state.travelling s) ++ sent_from number messages))
+      → RefineJournal setting (journal ++ (Item.Row row (Crash s) ∷ Item.Down s
+      ∷ map Item.Lost (numbers_at state.travelling s) ++ sent_from number messages))
       (relinked_state state others state.links state.posts others_now after)
   crash_refines others_now after are without = rw numbers
       (change_refines refines changes others_now after are (left after without))

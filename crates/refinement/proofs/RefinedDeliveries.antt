@@ -5,15 +5,12 @@ use Rattle.message_bag.specs.Exports.{IsMessageOf, Post, delivered_status, is_po
 use Rattle.message_bag.proofs.NumberedPosts.{length_changed}
 use Rattle.refinement.specs.Exports.{AreWritten, HearsShut, IsBagOf, NetworkState, RefineJournal, switch_of}
 use Rattle.refinement.proofs.ControllerCalls.{hears}
-use Rattle.refinement.proofs.ControllerResends.{names_there}
-use Rattle.refinement.proofs.ControllerUntouched.{steps_leave}
+use Rattle.refinement.proofs.ControllerResends.{names_there, steps_leave}
 use Rattle.controller.specs.Exports.{ControllerValue, NamesThere, SettlesWith, hear_acts, marks_after}
 use Rattle.controller.specs.declared.sends.Act.{Act}
 use Rattle.controller.specs.declared.sends.Act.TheVariants.{Post as PostAct}
-use Rattle.update_machine.specs.Exports.{Deliver, Item, Message, Setting, deliver_items, delivery_items, is_deliverable, is_message_to, is_message_to_controller, is_to_controller, is_to_switch, message_of, near, next_message, nothing, piece, sent_from, to_switch}
+use Rattle.update_machine.specs.Exports.{Deliver, Item, Message, Place, Setting, deliver_items, delivery_items, is_deliverable, is_message_to, is_message_to_controller, is_to_controller, is_to_switch, message_of, near, next_message, nothing, piece, sent_from, to_switch}
 use Rattle.ctrl_msg.specs.Exports.{to_controller}
-use Rattle.ctrl_msg.specs.declared.message.Place.TheVariants as receiver
-use Rattle.journal.specs.declared.item.Item.TheVariants as item
 use Rattle.switch_core.specs.Exports.{SwitchValue, opening_stamp, replies, with_message}
 use Rattle.refinement.proofs.DeliveredRecords.{hearing_refines}
 use Rattle.refinement.proofs.SwitchLinkChanges.{kept_is}
@@ -21,34 +18,30 @@ use Rattle.steps.specs.Exports.{IsStep}
 use Rattle.update_machine.proofs.Exports.{message_keeps}
 use Rattle.world_log.specs.Exports.{MayNote, MaySend, act_items, act_posts}
 use Rattle.world_log.proofs.MessageLogs.{posts_as_acts, sent_as_acts}
-use Rattle.refinement.proofs.ActItems.{written_is}
+use Rattle.refinement.proofs.RefinedActs.{IsTold, may_note, may_send, refines_told, written_is}
 use Rattle.refinement.proofs.BagDeliveries.{deliverable_as, nothing_happens, sent_as}
-use Rattle.refinement.proofs.RefinedReach.{reached_known}
-use Rattle.refinement.proofs.OneItem.{WroteOne, grown}
+use Rattle.refinement.proofs.StepRefines.{WroteOne, grown, links_stay, one_changes, reached_known, up_stay}
 use Rattle.refinement.proofs.PostedFrames.{bag_delivered, bag_on, within_posts}
-use Rattle.refinement.proofs.RefinedActs.{IsTold, refines_told}
-use Rattle.refinement.proofs.StepRefines.{links_stay, one_changes, up_stay}
-use Rattle.refinement.proofs.SendableMessages.{may_note, may_send}
 
 -- ---- what a delivery writes
 
 -- by whether the message may be delivered
 abbrev delivered_if : Setting → List Item → ℕ → ℕ → Bool → List Item
-delivered_if setting journal row n may = item.Row row (Deliver n) ∷ elim may [
+delivered_if setting journal row n may = Item.Row row (Deliver n) ∷ elim may [
   | false ↦ nothing
-  | true ↦ item.Delivered n ∷ delivery_items setting journal n
-      (journal ++ item.Row row (Deliver n) ∷ [] ++ item.Delivered n ∷ [])
+  | true ↦ Item.Delivered n ∷ delivery_items setting journal n
+      (journal ++ Item.Row row (Deliver n) ∷ [] ++ Item.Delivered n ∷ [])
 ]
 
 pub deliver_piece : (setting : Setting) (journal : List Item) (row n : ℕ) → is_deliverable journal n
-    ≡ true → piece setting journal row (Deliver n) ≡ item.Row row (Deliver n) ∷ item.Delivered n
-    ∷ delivery_items setting journal n (grown journal row (Deliver n) (item.Delivered n))
+    ≡ true → piece setting journal row (Deliver n) ≡ Item.Row row (Deliver n) ∷ Item.Delivered n
+    ∷ delivery_items setting journal n (grown journal row (Deliver n) (Item.Delivered n))
 unfolding piece deliver_items
 deliver_piece setting journal row n may =
-    cc (may, append_assoc journal (item.Row row (Deliver n) ∷ []) (item.Delivered n ∷ []))
+    cc (may, append_assoc journal (Item.Row row (Deliver n) ∷ []) (Item.Delivered n ∷ []))
 
 none_piece : (setting : Setting) (journal : List Item) (row n : ℕ) → is_deliverable journal n
-    ≡ false → piece setting journal row (Deliver n) ≡ item.Row row (Deliver n) ∷ nothing
+    ≡ false → piece setting journal row (Deliver n) ≡ Item.Row row (Deliver n) ∷ nothing
 unfolding piece deliver_items
 none_piece setting journal row n may = ap (delivered_if setting journal row n) may
 
@@ -57,7 +50,7 @@ module _ {setting : Setting} {journal : List Item} {state : NetworkState}
   -- no such message may be delivered
   pub undelivered : (row n : ℕ) → IsStep setting.net (length setting.files) (Deliver n)
       → is_post_deliverable state.posts n ≡ false
-      → WroteOne setting journal row (Deliver n) item.Nothing state
+      → WroteOne setting journal row (Deliver n) Item.Nothing state
   undelivered row n may none = nothing_happens refines row (Deliver n) may (λ q. refl)
       (none_piece setting journal row n (deliverable_as journal state.posts n refines.bag ∙ none))
 
@@ -68,7 +61,7 @@ pub record IsThere (setting : Setting) (journal : List Item) (posts : List Post)
     (message : Message) : Type 0 where
   pub sent : message_of journal n ≡ Some message
   pub deliverable : is_deliverable journal n ≡ true
-  pub bag : IsBagOf (grown journal row (Deliver n) (item.Delivered n)) (with_delivered posts n)
+  pub bag : IsBagOf (grown journal row (Deliver n) (Item.Delivered n)) (with_delivered posts n)
   pub as_many : length (with_delivered posts n) ≡ length posts
 
 module _ {setting : Setting} {journal : List Item} {state : NetworkState}
@@ -78,39 +71,39 @@ module _ {setting : Setting} {journal : List Item} {state : NetworkState}
   is_there row n message there = record {
     sent = sent_as journal state.posts n message refines.bag there;
     deliverable = deliverable_as journal state.posts n refines.bag ∙ ap is_some there.frames_are;
-    bag = rw (append_assoc journal (item.Row row (Deliver n) ∷ []) (item.Delivered n ∷ [])) at
-        (bag_delivered (journal ++ item.Row row (Deliver n) ∷ []) state.posts n
+    bag = rw (append_assoc journal (Item.Row row (Deliver n) ∷ []) (Item.Delivered n ∷ [])) at
+        (bag_delivered (journal ++ Item.Row row (Deliver n) ∷ []) state.posts n
         (within_posts state.posts n _ there.frames_are)
-        (bag_on journal (item.Row row (Deliver n) ∷ []) state.posts (refl, tt) refines.bag));
+        (bag_on journal (Item.Row row (Deliver n) ∷ []) state.posts (refl, tt) refines.bag));
     as_many = length_changed (with_status delivered_status) state.posts n;
   }
 
   -- it is delivered, and then more is written
   pub first_piece : (row n : ℕ) (message : Message) → IsMessageOf state.posts n message
-      → piece setting journal row (Deliver n) ≡ item.Row row (Deliver n) ∷ item.Delivered n
-      ∷ delivery_items setting journal n (grown journal row (Deliver n) (item.Delivered n))
+      → piece setting journal row (Deliver n) ≡ Item.Row row (Deliver n) ∷ Item.Delivered n
+      ∷ delivery_items setting journal n (grown journal row (Deliver n) (Item.Delivered n))
   first_piece row n message there =
       deliver_piece setting journal row n (is_there row n message there).deliverable
 
 -- a row leaves a message
 pub row_keeps : (journal : List Item) (row n : ℕ)
-    → message_of (journal ++ item.Row row (Deliver n) ∷ []) n ≡ message_of journal n
+    → message_of (journal ++ Item.Row row (Deliver n) ∷ []) n ≡ message_of journal n
 row_keeps journal row n =
-    (message_keeps n journal (item.Row row (Deliver n) ∷ []) (refl, tt)).message
+    (message_keeps n journal (Item.Row row (Deliver n) ∷ []) (refl, tt)).message
 
 -- a switch to which the message isn't stays
 not_to : (setting : Setting) (journal : List Item) (row n q : ℕ) (message : Message)
     → message_of journal n ≡ Some message → is_to_switch q message.to ≡ false → switch_of setting
-    (grown journal row (Deliver n) (item.Delivered n)) q ≡ switch_of setting journal q
+    (grown journal row (Deliver n) (Item.Delivered n)) q ≡ switch_of setting journal q
 not_to setting journal row n q message sent other =
     let to_other = ap (λ o. option_map_or (λ (m : Message). is_to_switch q m.to) o false)
     (row_keeps journal row n ∙ sent) ∙ other in
-    kept_is setting q journal (item.Row row (Deliver n) ∷ item.Delivered n ∷ [])
+    kept_is setting q journal (Item.Row row (Deliver n) ∷ Item.Delivered n ∷ [])
     (refl, (ap (λ b. b || false) to_other, tt)) (refl, (refl, tt))
 
 -- ---- at the controller
 
-as_told : (message : Message) → message.to ≡ receiver.Controller
+as_told : (message : Message) → message.to ≡ Place.Controller
     → message ≡ to_controller message.body
 as_told message to = ap (λ p. record { to = p; body = message.body }) to
 
@@ -118,7 +111,7 @@ module _ {setting : Setting} {journal : List Item} {state : NetworkState}
     (refines : RefineJournal setting journal state) where
   -- what it names is there
   pub names_known : (n : ℕ) (message : Message) → IsMessageOf state.posts n message
-      → message.to ≡ receiver.Controller → NamesThere message.body state.controller.marks
+      → message.to ≡ Place.Controller → NamesThere message.body state.controller.marks
   names_known n message there to = names_there setting journal n message.body state.controller.marks
       (reached_known setting journal refines.sound refines.reached).tables.names
       refines.controller.marks
@@ -127,7 +120,7 @@ module _ {setting : Setting} {journal : List Item} {state : NetworkState}
 module _ {setting : Setting} {journal : List Item} {state : NetworkState}
     (refines : RefineJournal setting journal state) (row n : ℕ) (message : Message)
     (new : ControllerValue) (may : IsStep setting.net (length setting.files) (Deliver n))
-    (there : IsMessageOf state.posts n message) (to : message.to ≡ receiver.Controller)
+    (there : IsMessageOf state.posts n message) (to : message.to ≡ Place.Controller)
     (settles : SettlesWith (marks_after message.body state.controller.marks) state.controller.plans
     new) where
   its : IsThere setting journal state.posts row n message
@@ -137,7 +130,7 @@ module _ {setting : Setting} {journal : List Item} {state : NetworkState}
   acts = hear_acts message.body state.controller.marks new
 
   abbrev first : List Item
-  first = item.Row row (Deliver n) ∷ item.Delivered n ∷ []
+  first = Item.Row row (Deliver n) ∷ Item.Delivered n ∷ []
 
   heard_so : AreWritten setting journal first acts new (piece setting journal row (Deliver n))
   heard_so = hears setting journal row n message.body state.controller new
@@ -146,34 +139,34 @@ module _ {setting : Setting} {journal : List Item} {state : NetworkState}
       (names_known refines n message there to) settles
 
   pub control_piece : piece setting journal row (Deliver n)
-      ≡ item.Row row (Deliver n) ∷ item.Delivered n ∷ act_items (length state.posts + 1) acts
+      ≡ Item.Row row (Deliver n) ∷ Item.Delivered n ∷ act_items (length state.posts + 1) acts
   control_piece = cc (heard_so.same, written_is (journal ++ first) acts, its.bag.many, its.as_many)
 
-  control_told : IsTold setting journal row (Deliver n) (item.Delivered n ∷ []) acts state
+  control_told : IsTold setting journal row (Deliver n) (Item.Delivered n ∷ []) acts state
       (record state { controller = new; posts = with_delivered state.posts n })
   control_told =
       let each : (s : ℕ) (d : SwitchValue) → s < length state.switches → get_or state.switches s d
-      ≡ switch_of setting (grown journal row (Deliver n) (item.Delivered n)) s =
+      ≡ switch_of setting (grown journal row (Deliver n) (Item.Delivered n)) s =
       λ s d below. refines.each s d below
       ∙ sym (not_to setting journal row n s message its.sent (ap (is_to_switch s) to)) in
       search (rules, control_piece, its.bag, its.as_many, heard_so.after, links_stay, up_stay)
 
-  pub control_refines : RefineJournal setting (journal ++ item.Row row (Deliver n)
-      ∷ item.Delivered n ∷ act_items (length state.posts + 1) acts)
+  pub control_refines : RefineJournal setting (journal ++ Item.Row row (Deliver n)
+      ∷ Item.Delivered n ∷ act_items (length state.posts + 1) acts)
       (record state { controller = new; posts = with_delivered state.posts n ++ act_posts acts })
   control_refines = refines_told refines (record state {
     controller = new;
     posts = with_delivered state.posts n;
-  }) row (Deliver n) (item.Delivered n ∷ []) acts control_told
+  }) row (Deliver n) (Item.Delivered n ∷ []) acts control_told
 
   -- and it may be written
   pub control_may : length state.posts < 990_000 → MayNote (with_delivered state.posts n) acts
-  control_may = may_note refines row (Deliver n) (item.Delivered n ∷ [])
+  control_may = may_note refines row (Deliver n) (Item.Delivered n ∷ [])
       (with_delivered state.posts n) acts may control_piece its.as_many
 
 -- ---- at a switch that doesn't open
 
-pub as_sent : (message : Message) (s : ℕ) → message.to ≡ receiver.Switch s
+pub as_sent : (message : Message) (s : ℕ) → message.to ≡ Place.Switch s
     → message ≡ to_switch s message.body
 as_sent message s to = ap (λ p. record { to = p; body = message.body }) to
 
@@ -181,7 +174,7 @@ module _ {setting : Setting} {journal : List Item} {state : NetworkState}
     (refines : RefineJournal setting journal state) (row n s : ℕ) (message : Message)
     (own changed : SwitchValue) (mask : ℕ)
     (may : IsStep setting.net (length setting.files) (Deliver n))
-    (there : IsMessageOf state.posts n message) (to : message.to ≡ receiver.Switch s)
+    (there : IsMessageOf state.posts n message) (to : message.to ≡ Place.Switch s)
     (within : s < length state.switches) (own_at : own ≡ get_or state.switches s own)
     (near_is : mask ≡ near setting journal s)
     (changed_is : changed ≡ with_message own n message.body)
@@ -205,11 +198,11 @@ module _ {setting : Setting} {journal : List Item} {state : NetworkState}
     touched = (reached_known setting journal refines.sound refines.reached).touched;
   }) (ap (λ w. opening_stamp w message.body) (sym own_is) ∙ shut)
 
-  number_is : next_message (grown journal row (Deliver n) (item.Delivered n))
+  number_is : next_message (grown journal row (Deliver n) (Item.Delivered n))
       ≡ length state.posts + 1
   number_is = mine.bag.many ∙ ap (λ k. k + 1) mine.as_many
 
-  items_are : delivery_items setting journal n (grown journal row (Deliver n) (item.Delivered n))
+  items_are : delivery_items setting journal n (grown journal row (Deliver n) (Item.Delivered n))
       ≡ act_items (length state.posts + 1) reply_acts
   items_are = hears_shut.items row ∙ ap (λ k. sent_from k
       (replies (switch_of setting journal s) (near setting journal s) message.body)) number_is
@@ -219,13 +212,13 @@ module _ {setting : Setting} {journal : List Item} {state : NetworkState}
       ∙ sym (sent_as_acts (length state.posts + 1) messages)
 
   shut_piece_acts : piece setting journal row (Deliver n)
-      ≡ item.Row row (Deliver n) ∷ item.Delivered n ∷ act_items (length state.posts + 1) reply_acts
+      ≡ Item.Row row (Deliver n) ∷ Item.Delivered n ∷ act_items (length state.posts + 1) reply_acts
   shut_piece_acts = cc (deliver_piece setting journal row n mine.deliverable, items_are)
 
   not_controller : is_message_to_controller journal n ≡ false
   not_controller = cc (mine.sent, to)
 
-  shut_told : IsTold setting journal row (Deliver n) (item.Delivered n ∷ []) reply_acts state
+  shut_told : IsTold setting journal row (Deliver n) (Item.Delivered n ∷ []) reply_acts state
       (record state {
         switches = set state.switches s changed;
         posts = with_delivered state.posts n;
@@ -233,8 +226,8 @@ module _ {setting : Setting} {journal : List Item} {state : NetworkState}
   shut_told =
       let each : (q : ℕ) (d : SwitchValue) → q < length state.switches
       → get_or (set state.switches s changed) q d
-      ≡ switch_of setting (grown journal row (Deliver n) (item.Delivered n)) q = λ q d below.
-      one_changes setting journal (grown journal row (Deliver n) (item.Delivered n)) state.switches
+      ≡ switch_of setting (grown journal row (Deliver n) (Item.Delivered n)) q = λ q d below.
+      one_changes setting journal (grown journal row (Deliver n) (Item.Delivered n)) state.switches
       s q changed d (s == q) refl within
       (changed_is ∙ ap (λ w. with_message w n message.body) own_is ∙ sym (hears_shut.record_of row))
       (λ other. not_to setting journal row n q message mine.sent
@@ -245,10 +238,10 @@ module _ {setting : Setting} {journal : List Item} {state : NetworkState}
       search (rules, shut_piece_acts, mine.bag, mine.as_many, length-set, links_stay, up_stay)
 
   pub shut_piece : piece setting journal row (Deliver n)
-      ≡ item.Row row (Deliver n) ∷ item.Delivered n ∷ sent_from (length state.posts + 1) messages
+      ≡ Item.Row row (Deliver n) ∷ Item.Delivered n ∷ sent_from (length state.posts + 1) messages
   shut_piece = cc (shut_piece_acts, sent_as_acts (length state.posts + 1) messages)
 
-  pub shut_refines : RefineJournal setting (journal ++ item.Row row (Deliver n) ∷ item.Delivered n
+  pub shut_refines : RefineJournal setting (journal ++ Item.Row row (Deliver n) ∷ Item.Delivered n
       ∷ sent_from (length state.posts + 1) messages) (record state {
         switches = set state.switches s changed;
         posts = with_delivered state.posts n ++ map new_post messages;
@@ -259,13 +252,13 @@ module _ {setting : Setting} {journal : List Item} {state : NetworkState}
         posts = posts;
       } in
       let posts : List Post = with_delivered state.posts n in
-      subst (λ items. RefineJournal setting (journal ++ item.Row row (Deliver n)
-      ∷ item.Delivered n ∷ items) (with (posts ++ map new_post messages)))
+      subst (λ items. RefineJournal setting (journal ++ Item.Row row (Deliver n)
+      ∷ Item.Delivered n ∷ items) (with (posts ++ map new_post messages)))
       (sent_as_acts (length state.posts + 1) messages)
       (rw (posts_as_acts messages) at (refines_told refines (with posts) row (Deliver n)
-      (item.Delivered n ∷ []) reply_acts shut_told))
+      (Item.Delivered n ∷ []) reply_acts shut_told))
 
   pub shut_may : length state.posts < 990_000 → MaySend (with_delivered state.posts n) messages
   shut_may room = may_send (with_delivered state.posts n) messages
-      (may_note refines row (Deliver n) (item.Delivered n ∷ []) (with_delivered state.posts n)
+      (may_note refines row (Deliver n) (Item.Delivered n ∷ []) (with_delivered state.posts n)
       reply_acts may shut_piece_acts mine.as_many room)

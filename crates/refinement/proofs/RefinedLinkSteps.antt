@@ -3,7 +3,6 @@
 use Rattle.std.proofs.Common.{[], if◌then◌else◌, ◌&&◌, ◌++◌, ◌+◌, ◌<◌, ◌==◌, ◌^◌, ◌||◌, ◌∙◌, ◌∷◌, ◌≡◌, Bool, List, None, Option, Some, ap, append_assoc, arith, eqb-true, false, get_or, length, max, min, refl, sym, true, unwrap_or, ℕ}
 use Rattle.base.proofs.Exports.{and_parts, any_filter_by, beq, has_mask, mask_of_is, nat_tests, option_or}
 use Rattle.update_machine.specs.Exports.{Item, LinkRow, Message, Net, Setting, Step, concerns_calls, gives_link, is_link_up, items_then, last_given, link_changes, link_items, near, nothing, piece, sent_from}
-use Rattle.journal.specs.declared.item.Item.TheVariants as item
 use Rattle.base.specs.Exports.{has}
 use Rattle.net_file.specs.Exports.{are_linked, joins}
 use Rattle.net_file.proofs.RowPlaces.{links as link_laws}
@@ -15,7 +14,7 @@ use Rattle.refinement.proofs.SwitchLinkChanges.{links_refine}
 use Rattle.update_machine.proofs.Exports.{last_given_append}
 use Rattle.world_log.specs.Exports.{AreRelinked, MaySend, SetsLink, all_adverts_sent, near_all}
 use Rattle.refinement.proofs.BagDeliveries.{nothing_happens}
-use Rattle.refinement.proofs.OneItem.{WroteOne}
+use Rattle.refinement.proofs.StepRefines.{WroteOne}
 use Rattle.refinement.proofs.PostedFrames.{bag_on}
 use Rattle.refinement.proofs.LinksChange.{relinked_state, LinksChange, change_piece, change_may, unmoved, change_refines}
 
@@ -55,13 +54,13 @@ same_ends one two s k = grind (arith, nat_tests)
 
 -- behind the item that tells of it, the link is as that says, and others are as before
 up_behind : (journal : List Item) (row : ℕ) (step : Step) (one two s k : ℕ) (up : Bool)
-    → is_link_up (journal ++ item.Row row step ∷ item.LinkIs (min one two) (max one two) up ∷ [])
+    → is_link_up (journal ++ Item.Row row step ∷ Item.LinkIs (min one two) (max one two) up ∷ [])
     s k ≡ (if joins s k (record { one = one; two = two }) then up else is_link_up journal s k)
 unfolding is_link_up
 up_behind journal row step one two s k up =
     let tells : Item → Option Bool = gives_link (min s k) (max s k) in
     ap (λ o. unwrap_or o true) (last_given_append tells journal
-    (item.Row row step ∷ item.LinkIs (min one two) (max one two) up ∷ []))
+    (Item.Row row step ∷ Item.LinkIs (min one two) (max one two) up ∷ []))
     ∙ ap (λ b. unwrap_or (option_or (option_or (if b then Some up else None) None)
     (last_given tells journal)) true) (same_ends one two s k)
     ∙ by_test (joins s k (record { one = one; two = two })) (last_given tells journal)
@@ -82,7 +81,7 @@ row_link net files one two false own = own
 
 -- no call of a switch is made, and the controller isn't told
 uncalled : (journal : List Item) (q row one two : ℕ) (up : Bool)
-    → concerns_calls q journal (item.Row row (link_step up one two)) ≡ false
+    → concerns_calls q journal (Item.Row row (link_step up one two)) ≡ false
 uncalled journal q row one two true = refl
 uncalled journal q row one two false = refl
 
@@ -92,8 +91,8 @@ untold journal one two true = refl
 untold journal one two false = refl
 
 link_piece : (setting : Setting) (journal : List Item) (row one two : ℕ) (up : Bool)
-    → piece setting journal row (link_step up one two) ≡ item.Row row (link_step up one two)
-    ∷ link_items setting journal one two up (journal ++ item.Row row (link_step up one two) ∷ [])
+    → piece setting journal row (link_step up one two) ≡ Item.Row row (link_step up one two)
+    ∷ link_items setting journal one two up (journal ++ Item.Row row (link_step up one two) ∷ [])
 unfolding piece
 link_piece setting journal row one two true = refl
 link_piece setting journal row one two false = refl
@@ -102,7 +101,7 @@ link_piece setting journal row one two false = refl
 abbrev items_if : Setting → List Item → List Item → ℕ → ℕ → Bool → Bool → List Item
 items_if setting before journal one two up same = elim same [
   | true ↦ nothing
-  | false ↦ items_then (item.LinkIs (min one two) (max one two) up ∷ [])
+  | false ↦ items_then (Item.LinkIs (min one two) (max one two) up ∷ [])
       (link_changes setting before) journal
 ]
 
@@ -116,8 +115,8 @@ same_items setting before journal one two up same = cc same
 -- or it changes
 other_items : (setting : Setting) (before journal : List Item) (one two : ℕ) (up : Bool)
     → beq (is_link_up before one two) up ≡ false → link_items setting before one two up journal
-    ≡ item.LinkIs (min one two) (max one two) up
-    ∷ link_changes setting before (journal ++ item.LinkIs (min one two) (max one two) up ∷ [])
+    ≡ Item.LinkIs (min one two) (max one two) up
+    ∷ link_changes setting before (journal ++ Item.LinkIs (min one two) (max one two) up ∷ [])
 unfolding link_items
 other_items setting before journal one two up other = cc other
 
@@ -157,11 +156,11 @@ module _ {setting : Setting} {journal : List Item} {state : NetworkState}
 
   -- nothing happens where it is so already
   pub same_refines : beq (has (get_or state.links one 0) two) up ≡ true
-      → WroteOne setting journal row step item.Nothing state
+      → WroteOne setting journal row step Item.Nothing state
   same_refines same = nothing_happens refines row step may (λ q. uncalled journal q row one two up)
       (link_piece setting journal row one two up
-      ∙ ap (λ items. item.Row row step ∷ items) (same_items setting journal
-      (journal ++ item.Row row step ∷ []) one two up (ap (λ b. beq b up) (sym end_is) ∙ same)))
+      ∙ ap (λ items. Item.Row row step ∷ items) (same_items setting journal
+      (journal ++ Item.Row row step ∷ []) one two up (ap (λ b. beq b up) (sym end_is) ∙ same)))
 
   module _ (links : List ℕ) (other : beq (has (get_or state.links one 0) two) up ≡ false)
       (sets : SetsLink state.links one two up links)
@@ -170,23 +169,23 @@ module _ {setting : Setting} {journal : List Item} {state : NetworkState}
     link = record { one = one; two = two }
 
     abbrev first : Item
-    first = item.LinkIs (min one two) (max one two) up
+    first = Item.LinkIs (min one two) (max one two) up
 
     abbrev told : List Item
     told = first ∷ []
 
     abbrev now : List Item
-    now = journal ++ item.Row row step ∷ told
+    now = journal ++ Item.Row row step ∷ told
 
-    split : (journal ++ item.Row row step ∷ []) ++ told ≡ now
-    split = append_assoc journal (item.Row row step ∷ []) told
+    split : (journal ++ Item.Row row step ∷ []) ++ told ≡ now
+    split = append_assoc journal (Item.Row row step ∷ []) told
 
     piece_so : piece setting journal row step
-        ≡ item.Row row step ∷ first ∷ link_changes setting journal now
+        ≡ Item.Row row step ∷ first ∷ link_changes setting journal now
     piece_so = link_piece setting journal row one two up
-        ∙ ap (λ items. item.Row row step ∷ items) (other_items setting journal
-        (journal ++ item.Row row step ∷ []) one two up (ap (λ b. beq b up) (sym end_is) ∙ other))
-        ∙ ap (λ js. item.Row row step ∷ first ∷ link_changes setting journal js) split
+        ∙ ap (λ items. Item.Row row step ∷ items) (other_items setting journal
+        (journal ++ Item.Row row step ∷ []) one two up (ap (λ b. beq b up) (sym end_is) ∙ other))
+        ∙ ap (λ js. Item.Row row step ∷ first ∷ link_changes setting journal js) split
 
     -- no switch hears of it but by its links
     leaves : (q : ℕ) → LeavesSwitch q journal row step told
@@ -235,7 +234,7 @@ module _ {setting : Setting} {journal : List Item} {state : NetworkState}
       none_come = refl;
       as_many = refl;
       number = refl;
-      bag = bag_on journal (item.Row row step ∷ told) state.posts (refl, (refl, tt)) refines.bag;
+      bag = bag_on journal (Item.Row row step ∷ told) state.posts (refl, (refl, tt)) refines.bag;
       up = λ q below. mask_of_is (get_or links q 0) (are_linked (up_links setting now) q) (fit q)
           (λ k small. up_now q k below small);
       relinks = λ q d below. links_refine.relinked setting q journal row step told (leaves q)
@@ -248,7 +247,7 @@ module _ {setting : Setting} {journal : List Item} {state : NetworkState}
     messages = all_adverts_sent state.near (near_all links state.switches) state.switches
 
     pub set_piece : piece setting journal row step
-        ≡ item.Row row step ∷ first ∷ sent_from (length state.posts + 1) messages
+        ≡ Item.Row row step ∷ first ∷ sent_from (length state.posts + 1) messages
     set_piece = change_piece refines changes
 
     pub set_may : length state.posts < 990_000 → MaySend state.posts messages
@@ -257,7 +256,7 @@ module _ {setting : Setting} {journal : List Item} {state : NetworkState}
     -- the parts behind the step, where these are the switches
     pub set_refines : (others : List SwitchValue)
         → AreRelinked state.near (near_all links state.switches) state.switches others
-        → RefineJournal setting (journal ++ item.Row row step ∷ first
+        → RefineJournal setting (journal ++ Item.Row row step ∷ first
         ∷ sent_from (length state.posts + 1) messages)
         (relinked_state state state.switches links state.posts others state.travelling)
     set_refines others are = change_refines refines changes others state.travelling are

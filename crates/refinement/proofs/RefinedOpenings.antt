@@ -3,9 +3,7 @@
 use Rattle.std.proofs.Common.{[], ◌++◌, ◌+◌, ◌-◌, ◌<◌, ◌==◌, ◌^◌, ◌∙◌, ◌∷◌, ◌≡◌, All, List, Some, ap, append_assoc, false, get_or, length, length-set, refl, set, subst, sym, ℕ}
 use Rattle.base.proofs.Exports.{option_map_or}
 use Rattle.message_bag.specs.Exports.{IsMessageOf, Post, with_delivered}
-use Rattle.update_machine.specs.Exports.{Deliver, Item, LinkRow, Message, Setting, is_link_up, is_to_controller, is_to_switch, link_changes, near, piece, sent_from}
-use Rattle.ctrl_msg.specs.declared.message.Place.TheVariants as receiver
-use Rattle.journal.specs.declared.item.Item.TheVariants as item
+use Rattle.update_machine.specs.Exports.{Deliver, Item, LinkRow, Message, Place, Setting, is_link_up, is_to_controller, is_to_switch, link_changes, near, piece, sent_from}
 use Rattle.net_file.specs.Exports.{links_of}
 use Rattle.switch_core.specs.Exports.{SwitchValue, next_advert, opening_stamp, with_message}
 use Rattle.refinement.specs.Exports.{HearsOpening, IsBagOf, LeavesSwitch, NetworkState, RefineJournal, is_up_link, relinked_switch, switch_of, up_links}
@@ -14,15 +12,13 @@ use Rattle.steps.specs.Exports.{IsStep}
 use Rattle.update_machine.proofs.Exports.{last_given_append}
 use Rattle.world_log.specs.Exports.{AreRelinked, MaySend, all_adverts_sent, near_all}
 use Rattle.refinement.proofs.RefinedDeliveries.{IsThere, as_sent, deliver_piece, is_there, row_keeps}
-use Rattle.refinement.proofs.OneItem.{grown}
-use Rattle.refinement.proofs.RefinedReach.{reached_known}
+use Rattle.refinement.proofs.StepRefines.{grown, reached_known, same_links}
 use Rattle.refinement.proofs.PostedFrames.{bag_on}
-use Rattle.refinement.proofs.StepRefines.{same_links}
 use Rattle.refinement.proofs.LinksChange.{relinked_state, one_relinks, one_advert, one_next, LinksChange, change_piece, change_may, unmoved, change_refines}
 
 -- links are up as before, where none is told to be up or down
 same_up : (journal : List Item) (row n s stamp : ℕ) (link : LinkRow)
-    → is_up_link (grown journal row (Deliver n) (item.Delivered n) ++ item.Opened s stamp ∷ []) link
+    → is_up_link (grown journal row (Deliver n) (Item.Delivered n) ++ Item.Opened s stamp ∷ []) link
     ≡ is_up_link journal link
 unfolding is_link_up
 same_up journal row n s stamp link = search (last_given_append, append_assoc)
@@ -30,7 +26,7 @@ same_up journal row n s stamp link = search (last_given_append, append_assoc)
 module _ {setting : Setting} {journal : List Item} {state : NetworkState}
     (refines : RefineJournal setting journal state) (row n s stamp : ℕ) (message : Message)
     (own changed : SwitchValue) (may : IsStep setting.net (length setting.files) (Deliver n))
-    (there : IsMessageOf state.posts n message) (to : message.to ≡ receiver.Switch s)
+    (there : IsMessageOf state.posts n message) (to : message.to ≡ Place.Switch s)
     (within : s < length state.switches) (own_at : own ≡ get_or state.switches s own)
     (changed_is : changed ≡ with_message own n message.body)
     (opens : opening_stamp own message.body ≡ Some stamp) where
@@ -44,14 +40,14 @@ module _ {setting : Setting} {journal : List Item} {state : NetworkState}
   changed_so = changed_is ∙ ap (λ w. with_message w n message.body) own_is
 
   abbrev told : List Item
-  told = item.Delivered n ∷ item.Opened s stamp ∷ []
+  told = Item.Delivered n ∷ Item.Opened s stamp ∷ []
 
   abbrev now : List Item
-  now = journal ++ item.Row row (Deliver n) ∷ told
+  now = journal ++ Item.Row row (Deliver n) ∷ told
 
-  split : grown journal row (Deliver n) (item.Delivered n) ++ item.Opened s stamp ∷ [] ≡ now
-  split = append_assoc journal (item.Row row (Deliver n) ∷ item.Delivered n ∷ [])
-      (item.Opened s stamp ∷ [])
+  split : grown journal row (Deliver n) (Item.Delivered n) ++ Item.Opened s stamp ∷ [] ≡ now
+  split = append_assoc journal (Item.Row row (Deliver n) ∷ Item.Delivered n ∷ [])
+      (Item.Opened s stamp ∷ [])
 
   hears_open : HearsOpening setting journal n s message.body stamp
   hears_open = hearing_refines.opening setting journal n s stamp message.body (record {
@@ -61,7 +57,7 @@ module _ {setting : Setting} {journal : List Item} {state : NetworkState}
   }) (ap (λ w. opening_stamp w message.body) (sym own_is) ∙ opens)
 
   piece_so : piece setting journal row (Deliver n)
-      ≡ item.Row row (Deliver n) ∷ told ++ link_changes setting journal now
+      ≡ Item.Row row (Deliver n) ∷ told ++ link_changes setting journal now
   piece_so = cc (deliver_piece setting journal row n its.deliverable, hears_open.items row, split)
 
   -- another switch hears nothing
@@ -90,8 +86,8 @@ module _ {setting : Setting} {journal : List Item} {state : NetworkState}
     none_come = refl;
     as_many = length-set state.switches s changed;
     number = its.as_many;
-    bag = rw split at (bag_on (grown journal row (Deliver n) (item.Delivered n))
-        (item.Opened s stamp ∷ []) posts (refl, tt) its.bag);
+    bag = rw split at (bag_on (grown journal row (Deliver n) (Item.Delivered n))
+        (Item.Opened s stamp ∷ []) posts (refl, tt) its.bag);
     up = λ q below. refines.up q below ∙ ap (λ rows. links_of rows q) (sym same);
     relinks = one_relinks refines row (Deliver n) told s changed within leaves
         (hears_open.record_of row ∙ ap (relinked_switch setting journal now s) (sym changed_so));
@@ -103,8 +99,8 @@ module _ {setting : Setting} {journal : List Item} {state : NetworkState}
   abbrev messages : List Message
   messages = all_adverts_sent state.near (near_all state.links others) others
 
-  pub opening_piece : piece setting journal row (Deliver n) ≡ item.Row row (Deliver n)
-      ∷ item.Delivered n ∷ item.Opened s stamp ∷ sent_from (length state.posts + 1) messages
+  pub opening_piece : piece setting journal row (Deliver n) ≡ Item.Row row (Deliver n)
+      ∷ Item.Delivered n ∷ Item.Opened s stamp ∷ sent_from (length state.posts + 1) messages
   opening_piece = change_piece refines changes
 
   pub opening_may : length state.posts < 990_000 → MaySend (with_delivered state.posts n) messages
@@ -119,8 +115,8 @@ module _ {setting : Setting} {journal : List Item} {state : NetworkState}
   -- the parts behind the step, where these are the switches
   pub opening_refines : (relinked_switch : List SwitchValue)
       → AreRelinked state.near (near_all state.links others) others relinked_switch
-      → RefineJournal setting (journal ++ item.Row row (Deliver n) ∷ item.Delivered n
-      ∷ item.Opened s stamp ∷ sent_from (length state.posts + 1) messages)
+      → RefineJournal setting (journal ++ Item.Row row (Deliver n) ∷ Item.Delivered n
+      ∷ Item.Opened s stamp ∷ sent_from (length state.posts + 1) messages)
       (relinked_state state others state.links posts relinked_switch state.travelling)
   opening_refines relinked_switch are = change_refines refines changes relinked_switch
       state.travelling are (unmoved refines changes (λ i. (refl, (refl, (refl, tt)))))

@@ -1,16 +1,25 @@
 -- The packets that stand at a switch: those of the table are those of the journal.
-use Rattle.std.proofs.Common.{[], if◌then◌else◌, ◌&&◌, ◌+◌, ◌<◌, ◌==◌, ◌∙◌, ◌≡◌, ◌≤◌, ◌⊎◌, Bool, List, None, Some, ap, arith, eqb-true, false, filter, get_or, inl, inr, length, refl, suc, sym, true, ℕ}
-use Rattle.base.proofs.Exports.{any-filter_same, cases_lt, filter_agree, list_any, range_with_len}
-use Rattle.update_machine.specs.Exports.{Item, Setting, count_of, is_at, is_packet, next_packet, packets_at, standing, travels, travels_at}
-use Rattle.packet_laws.specs.Exports.{what_is_known}
+use Rattle.std.proofs.Common.{[], ◌&&◌, ◌++◌, ◌+◌, ◌<◌, ◌==◌, ◌∙◌, ◌∷◌, ◌≡◌, ◌≤◌, ◌⊎◌, Bool, IsFalse, List, None, Option, Some, ap, arith, cond, eq-eqb, eqb-true, false, filter, get_or, if◌then◌else◌, inl, inr, length, map, refl, rules, suc, sym, true, ℕ}
+use Rattle.base.proofs.Exports.{any-filter_same, cases_lt, filter_agree, list_any, range_with_len, sum_by-cons}
+use Rattle.update_machine.specs.Exports.{Header, Item, NoneConcern, Packet, Ports, Setting, Step, count_of, is_at, is_packet, near, next_message, next_packet, packets_at, piece, retired_mark, standing, targets_of, travels, travels_at}
+use Rattle.packet_laws.specs.Exports.{IsUnknown, PacketFacts, facts_after, what_is_known}
 use Rattle.packet_laws.proofs.Exports.{numbered, ways_of_all}
-use Rattle.refinement.specs.Exports.{NetworkState, RefineJournal, flight_in, flight_of}
-use Rattle.travelling.specs.Travelling.{Flight, Flights, numbers_at, stands_at, flight}
+use Rattle.refinement.specs.Exports.{BagsRefine, Comes, EntriesRefine, HopsRefine, IsOfNet, NetworkState, NoRows, RefineJournal, entry_at, flight_in, flight_of, switch_of}
+use Rattle.travelling.specs.Travelling.{Flight, Flights, flight, numbers_at, stands_at}
 use Rattle.travelling.proofs.SlotNumbers.{beyond, none_between}
-use Rattle.refinement.proofs.RefinedReach.{Known, reached_known}
-use Rattle.refinement.proofs.RefinedFlights.{IsStanding, got}
+use Rattle.refinement.proofs.StepRefines.{Known, reached_known}
+use Rattle.refinement.proofs.RefinedFlights.{IsStanding, got, standing_by}
 use Rattle.refinement.proofs.RefinedRanges.{any_picked}
-use Rattle.refinement.proofs.AskingSwitch.{standing_of}
+use Rattle.refinement.proofs.HopPieces.{CanAsk, can_be_asked, hop_others, hop_own, hop_piece, looks_up_as, standing_of}
+use Rattle.refinement.proofs.RefinedPacketFacts.{NoneName, Targets, entered_sends, facts_along, flight_by, flight_now, same_targets, unnamed}
+use Rattle.five_tuple.specs.Exports.{IsHeader}
+use Rattle.switch_core.specs.Exports.{Answer, SwitchValue}
+use Rattle.tunnel.specs.Exports.{here}
+use Rattle.world_log.specs.Exports.{coming_in, entered_flight, entered_items}
+use Rattle.refinement.proofs.IncomingTie.{come_along}
+use Rattle.refinement.proofs.OnwardPackets.{ComesTo, come_goes, come_law, looking}
+use Rattle.refinement.proofs.PostedFrames.{are_apart, bag_begun, bag_delivered, bag_forgotten, bag_on, bag_sent}
+use Rattle.refinement.proofs.TakenLegs.{sees}
 
 -- ---- numbers that pass a test
 
@@ -93,3 +102,175 @@ module _ {setting : Setting} {journal : List Item} {state : NetworkState}
           → travels_at journal s i ≡ false
       unnumbered i true on never = absurd (never on)
       unnumbered i false off never = rw off refl
+
+-- ---- packets that are lost with a switch: what that leaves, and what the packets on their way are
+
+-- what losses don't concern stays
+pub losts_apart : (concerns : List Item → Item → Bool)
+    → ((before : List Item) (k : ℕ) → IsFalse (concerns before (Item.Lost k)))
+    → (before : List Item) (packets : List ℕ) → NoneConcern concerns before (map Item.Lost packets)
+losts_apart concerns spares before [] = tt
+losts_apart concerns spares before (k ∷ packets) =
+    (spares before k, losts_apart concerns spares (before ++ Item.Lost k ∷ []) packets)
+
+pub losts_no_rows : (packets : List ℕ) → NoRows (map Item.Lost packets)
+losts_no_rows [] = tt
+losts_no_rows (k ∷ packets) = (tt, losts_no_rows packets)
+
+-- no packet enters by them
+pub losts_bring_none : (packets : List ℕ) → count_of is_packet (map Item.Lost packets) ≡ 0
+losts_bring_none [] = refl
+losts_bring_none (k ∷ packets) =
+    let sum = sum_by-cons (λ x. cond (is_packet x) 1 0) (Item.Lost k) (map Item.Lost packets) in
+    omega (arith, sum, losts_bring_none packets)
+
+-- ---- the packets on their way
+
+-- a packet that travels no more
+abbrev ended : PacketFacts → PacketFacts
+ended facts = record facts { travels = false }
+
+-- those among them travel no more, and the rest is said of no packet
+facts_lost : (i : ℕ) (before : List Item) (packets : List ℕ) (more : List Item)
+    (facts : PacketFacts) → NoneName i more
+    → facts_along i before (map Item.Lost packets ++ more) facts
+    ≡ (if among i packets then ended facts else facts)
+facts_lost i before [] more facts none = unnamed i before more facts none
+facts_lost i before (k ∷ packets) more facts none =
+    by_same (k == i) refl (λ now. facts_lost i (before ++ Item.Lost k ∷ []) packets more now none)
+  where
+    after : List Item
+    after = before ++ Item.Lost k ∷ []
+
+    still : (b : Bool) → (if b then ended (ended facts) else ended facts) ≡ ended facts
+    still true = refl
+    still false = refl
+
+    by_same : (b : Bool) → (k == i) ≡ b → ((now : PacketFacts) → facts_along i after
+        (map Item.Lost packets ++ more) now ≡ (if among i packets then ended now else now))
+        → facts_along i before (Item.Lost k ∷ map Item.Lost packets ++ more) facts
+        ≡ (if among i (k ∷ packets) then ended facts else facts)
+    by_same true e rest = ap (λ b. facts_along i after (map Item.Lost packets ++ more) (if b
+        then facts_after (retired_mark before) (Item.Lost k) facts else facts)) e
+        ∙ rest (ended facts) ∙ still (among i packets) ∙ sym (rw e refl)
+    by_same false e rest = ap (λ b. facts_along i after (map Item.Lost packets ++ more) (if b
+        then facts_after (retired_mark before) (Item.Lost k) facts else facts)) e ∙ rest facts
+        ∙ sym (rw e refl)
+
+-- a packet is gone where it is among them, behind items that don't name it
+pub flight_lost : (targets : Targets) (i : ℕ) (before first : List Item) (packets : List ℕ)
+    (more : List Item) (facts : PacketFacts) → NoneName i first → NoneName i more
+    → flight_by targets i (facts_along i before (first ++ map Item.Lost packets ++ more) facts)
+    ≡ (if among i packets then None else flight_by targets i facts)
+flight_lost targets i before [] packets more facts none last =
+    cc (facts_lost i before packets more facts last, by_among (among i packets))
+  where
+    by_among : (b : Bool) → flight_by targets i (if b then ended facts else facts)
+        ≡ (if b then None else flight_by targets i facts)
+    by_among true = refl
+    by_among false = refl
+flight_lost targets i before (one ∷ first) packets more facts none last =
+    cc (none.0, flight_lost targets i (before ++ one ∷ []) first packets more facts none.1 last)
+
+-- ---- the laws of this crate, of what is known within a step
+
+module _ (setting : Setting) (journal : List Item) (row s : ℕ) (header : Header) (ports : Ports)
+    (of : IsOfNet setting journal ports) (there : s < length setting.net.switches)
+    (sound : IsHeader header) where
+  abbrev w : SwitchValue
+  w = switch_of setting journal s
+
+  abbrev mask : ℕ
+  mask = near setting journal s
+
+  abbrev i : ℕ
+  i = next_packet journal
+
+  abbrev taken : Step
+  taken = Packet s header
+
+  abbrev first : Item
+  first = Item.Row row (Packet s header)
+
+  abbrev answer : Option Answer
+  answer = entry_at setting journal ports s header
+
+  abbrev items : List Item
+  items = entered_items (next_message journal) (coming_in i header s) answer
+
+  knows : Known setting journal
+  knows = reached_known setting journal of.sound of.reached
+
+  unknown : IsUnknown (what_is_known journal i)
+  unknown = knows.kept.unknown i (omega arith)
+
+  comes : ComesTo setting journal i s header w mask ports
+  comes = record {
+    knows = knows;
+    sees = sees setting journal s knows there;
+    there = there;
+    owners = of.owners;
+    sound = sound;
+    unmarked = unknown.found;
+  }
+
+  piece_is : piece setting journal row taken ≡ first ∷ items
+  unfolding piece
+  piece_is = cc (come_law setting journal row i s taken header w mask ports comes)
+
+  along : (q : ℕ) (b : Bool) → (q == i) ≡ b
+      → (if b then entered_flight answer else flight_in setting journal q)
+      ≡ flight_in setting (journal ++ first ∷ items) q
+  along q b is = come_along setting journal row (next_message journal) taken
+      (targets_of setting (looking journal row taken i s header)) (coming_in i header s) answer
+      (flight_in setting journal q) q b knows is unknown unknown.found
+      (come_goes setting journal row i s taken header w mask ports comes)
+      (λ leg. same_targets setting (journal ++ first ∷ []) (Item.Entered i s header ∷ []) (refl, tt)
+      leg ∙ same_targets setting journal (first ∷ []) (refl, tt) leg) (
+        refl,
+        (are_apart (next_message journal) (journal ++ first ∷ []) items
+            (entered_sends (next_message journal) (coming_in i header s) answer).0).policies,
+      ) refl
+
+  come : Comes setting journal row s header ports
+  come = record {
+    may = looks_up_as setting journal s w knows there refl;
+    written = piece_is;
+    goes = cc (piece_is, along i true (eq-eqb i i refl));
+    others = λ q apart. ap (λ more. flight_in setting (journal ++ more) q) piece_is
+        ∙ sym (along q false apart);
+  }
+
+pub entries_refine : EntriesRefine
+entries_refine = come
+
+-- ---- a packet moves on
+
+pub hops_refine : HopsRefine
+hops_refine setting journal row i t ports of its =
+    let s : ℕ = here t.tunnel in
+    let w : SwitchValue = switch_of setting journal s in
+    let mask : ℕ = near setting journal s in
+    let knows : Known setting journal = reached_known setting journal of.sound of.reached in
+    let standing : IsStanding setting journal i t =
+    standing_by setting journal i t knows (sym (flight_now setting journal i) ∙ its) in
+    let can : CanAsk setting journal i t s mask w ports =
+    can_be_asked setting journal i t s mask w ports knows of.owners standing refl refl refl in
+    let written = hop_piece setting journal row i t s mask w ports can in record {
+      may = record {
+        there = omega (arith, can.at, can.standing.stands.there);
+        stands = can.stands;
+        serving = can.serving;
+        stamped = can.stamped;
+        authority = can.authority;
+      };
+      written = written;
+      goes = cc (written, hop_own setting journal row i t s mask w ports can);
+      others = λ k apart. ap (λ more. flight_in setting (journal ++ more) k) written
+          ∙ hop_others setting journal row i t s mask w ports can knows k apart;
+    }
+
+-- ---- messages
+
+pub bags_refine : BagsRefine
+bags_refine = search (rules, bag_begun, bag_sent, bag_delivered, bag_forgotten, bag_on)

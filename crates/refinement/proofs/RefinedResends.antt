@@ -3,28 +3,23 @@
 use Rattle.std.proofs.Common.{[], if◌then◌else◌, ◌++◌, ◌+◌, ◌<◌, ◌==◌, ◌∙◌, ◌∷◌, ◌≡◌, ◌≢◌, Bool, List, ap, arith, eqb-true, false, flat_map, get_or, length, map, refl, sym, true, ℕ}
 use Rattle.message_bag.specs.Exports.{Post as BagPost}
 use Rattle.refinement.specs.Exports.{AreWritten, IsBagOf, NetworkState, RefineJournal, acts_of_resend, switch_of}
-use Rattle.refinement.proofs.ControllerUntouched.{resends_nothing, resends_some}
+use Rattle.refinement.proofs.ControllerResends.{resends_nothing, resends_some}
 use Rattle.controller.specs.Exports.{ControllerValue, resend_acts}
 use Rattle.controller.specs.declared.sends.Act.{Act}
 use Rattle.controller.specs.declared.sends.Act.TheVariants.{Post}
 use Rattle.update_machine.specs.Exports.{Advert, Hello, Item, Message, Resend, Setting, advert_to, boot_of, held_adverts, is_up, near, piece, resent_by_switch, switches_in}
 use Rattle.ctrl_msg.specs.Exports.{to_controller}
-use Rattle.journal.specs.declared.item.Item.TheVariants as item
 use Rattle.switch_core.specs.Exports.{SwitchValue}
 use Rattle.refinement.proofs.SwitchLinkChanges.{kept_is, links_refine}
 use Rattle.update_machine.proofs.Exports.{near_stays}
 use Rattle.world_log.specs.Exports.{MayNote, act_items, act_posts, adverts_again}
 use Rattle.steps.specs.Exports.{IsStep}
 use Rattle.travelling.specs.Travelling.{Flights}
-use Rattle.refinement.proofs.ActItems.{written_is}
+use Rattle.refinement.proofs.RefinedActs.{may_note, refines_told, written_is}
 use Rattle.refinement.proofs.BagDeliveries.{nothing_happens}
-use Rattle.refinement.proofs.RefinedReach.{reached_known}
-use Rattle.refinement.proofs.OneItem.{WroteOne}
+use Rattle.refinement.proofs.StepRefines.{WroteOne, links_stay, reached_known, up_stay}
 use Rattle.refinement.proofs.PostedFrames.{bag_on}
 use Rattle.refinement.proofs.NetworkSwitches.{switch_is, switch_known}
-use Rattle.refinement.proofs.RefinedActs.{refines_told}
-use Rattle.refinement.proofs.StepRefines.{links_stay, up_stay}
-use Rattle.refinement.proofs.SendableMessages.{may_note}
 
 -- nothing is there to send, or something
 none_there : (acts : List Act) → (length acts == 0) ≡ true → acts ≡ []
@@ -78,7 +73,7 @@ module _ {setting : Setting} {journal : List Item} {state : NetworkState}
     (may : IsStep setting.net (length setting.files) (Resend s))
     (own_at : own ≡ get_or state.switches s own) where
   abbrev rowed : List Item
-  rowed = journal ++ item.Row row (Resend s) ∷ []
+  rowed = journal ++ Item.Row row (Resend s) ∷ []
 
   abbrev messages : List Message
   messages = adverts_again s (length state.switches) (get_or state.near s 0) own
@@ -88,11 +83,11 @@ module _ {setting : Setting} {journal : List Item} {state : NetworkState}
 
   own_is : own ≡ switch_of setting rowed s
   own_is = switch_is refines s own may own_at
-      ∙ sym (kept_is setting s journal (item.Row row (Resend s) ∷ []) (refl, tt) (refl, tt))
+      ∙ sym (kept_is setting s journal (Item.Row row (Resend s) ∷ []) (refl, tt) (refl, tt))
 
   near_is : get_or state.near s 0 ≡ near setting rowed s
   near_is = refines.usable s (omega (arith, may, refines.sound.net.few_switches))
-      ∙ sym (near_stays setting s journal (item.Row row (Resend s) ∷ []) (refl, tt))
+      ∙ sym (near_stays setting s journal (Item.Row row (Resend s) ∷ []) (refl, tt))
 
   -- what a switch tells again, as the journal says
   by_switch : adverts_again s (length setting.net.switches) (near setting rowed s)
@@ -112,7 +107,7 @@ module _ {setting : Setting} {journal : List Item} {state : NetworkState}
   -- ---- nothing is sent
 
   pub silent : (length acts == 0) ≡ true
-      → WroteOne setting journal row (Resend s) item.Nothing state
+      → WroteOne setting journal row (Resend s) Item.Nothing state
   silent none = nothing_happens refines row (Resend s) may (λ q. refl)
       (resends_nothing setting journal row s state.controller
       (reached_known setting journal refines.sound refines.reached).caused refines.controller
@@ -122,9 +117,9 @@ module _ {setting : Setting} {journal : List Item} {state : NetworkState}
 
   module _ (some : (length acts == 0) ≡ false) where
     bag_behind : IsBagOf rowed state.posts
-    bag_behind = bag_on journal (item.Row row (Resend s) ∷ []) state.posts (refl, tt) refines.bag
+    bag_behind = bag_on journal (Item.Row row (Resend s) ∷ []) state.posts (refl, tt) refines.bag
 
-    resent_so : AreWritten setting journal (item.Row row (Resend s) ∷ [])
+    resent_so : AreWritten setting journal (Item.Row row (Resend s) ∷ [])
         (acts_of_resend setting rowed s state.controller) state.controller
         (piece setting journal row (Resend s))
     resent_so = resends_some setting journal row s state.controller
@@ -132,13 +127,13 @@ module _ {setting : Setting} {journal : List Item} {state : NetworkState}
         (switch_known refines s may) (λ e. some_there acts some (acts_are ∙ e))
 
     pub again_piece : piece setting journal row (Resend s)
-        ≡ item.Row row (Resend s) ∷ act_items (length state.posts + 1) acts
-    again_piece = resent_so.same ∙ ap (λ items. item.Row row (Resend s) ∷ items)
+        ≡ Item.Row row (Resend s) ∷ act_items (length state.posts + 1) acts
+    again_piece = resent_so.same ∙ ap (λ items. Item.Row row (Resend s) ∷ items)
         (written_is rowed (acts_of_resend setting rowed s state.controller)
         ∙ ap (λ k. act_items k (acts_of_resend setting rowed s state.controller)) bag_behind.many
         ∙ ap (act_items (length state.posts + 1)) (sym acts_are))
 
-    pub again_refines : RefineJournal setting (journal ++ item.Row row (Resend s)
+    pub again_refines : RefineJournal setting (journal ++ Item.Row row (Resend s)
         ∷ act_items (length state.posts + 1) acts)
         (record state { posts = state.posts ++ act_posts acts })
     again_refines = refines_told refines state row (Resend s) [] acts (record {
@@ -148,12 +143,12 @@ module _ {setting : Setting} {journal : List Item} {state : NetworkState}
       packets = (refl, tt);
       as_many = refl;
       each = λ q d below. refines.each q d below
-          ∙ sym (kept_is setting q journal (item.Row row (Resend s) ∷ []) (refl, tt) (refl, tt));
+          ∙ sym (kept_is setting q journal (Item.Row row (Resend s) ∷ []) (refl, tt) (refl, tt));
       bag = bag_behind;
       number = refl;
       controller = resent_so.after;
-      up = up_stay refines (item.Row row (Resend s) ∷ []) (refl, tt);
-      usable = links_stay refines (item.Row row (Resend s) ∷ []) (refl, tt);
+      up = up_stay refines (Item.Row row (Resend s) ∷ []) (refl, tt);
+      usable = links_stay refines (Item.Row row (Resend s) ∷ []) (refl, tt);
     })
 
     pub again_may : length state.posts < 990_000 → MayNote state.posts acts

@@ -2,7 +2,6 @@
 use Rattle.std.proofs.Common.{[], if◌then◌else◌, ◌&&◌, ◌++◌, ◌+◌, ◌-◌, ◌<◌, ◌==◌, ◌||◌, ◌∙◌, ◌∷◌, ◌≡◌, ◌≤◌, Bool, IsFalse, IsTrue, List, None, Option, Some, ap, append-nil, append_assoc, arith, eq-eqb, eqb-true, false, filter, is_some, length, map, nat_lt, not, refl, rules, slice_get, subst, sym, true, unwrap_or, ℕ}
 use Rattle.base.proofs.Exports.{each_always, each_map, fill_by_all, filter_made, get_or-map, length-map, list_all, list_all-map, list_any, map_twice, nat_tests, option_map_or, option_or, picked_same, range_with_len, slice_get-get_or}
 use Rattle.update_machine.specs.Exports.{Body, Collect, HaveCauses, Item, Message, OpenAt, Setting, Stamp, acked_stamp, controller_heard, current_items, current_mark, first_number, items_then, known_boot, least_number, next_current, next_message, next_retired, open_for, open_in, open_items, open_version, opened_at, opening_switches, retired_items, retired_mark, send_items, sent_from, settling, switches_of, to_switch, touched_by, version_count}
-use Rattle.journal.specs.declared.item.Item.TheVariants as item
 use Rattle.update_machine.specs.Marks as machine
 use Rattle.update_machine.proofs.Exports.{have_append}
 use Rattle.control_laws.specs.Exports.{HasItemCause, MarksAreBounded}
@@ -19,9 +18,8 @@ use Rattle.controller.specs.Exports.{boot_recorded, posts_to, switches_where}
 use Rattle.controller.specs.declared.sends.Act.{Act}
 use Rattle.controller.specs.declared.sends.Act.TheVariants.{Current, Post, Retired}
 use Rattle.refinement.specs.Exports.{AreMarksOf, IsKnown, item_of, written_items}
-use Rattle.refinement.proofs.KeptController.{current_on, known_on, marks_on, retired_on}
+use Rattle.refinement.proofs.KeptController.{current_on, known_on, marks_on, posted, retired_on, written_in_three}
 use Rattle.refinement.proofs.RefinedRanges.{any_picked, passing_is}
-use Rattle.refinement.proofs.WrittenActs.{posted, written_in_three}
 use Rattle.ternary.specs.Exports.{WordValue}
 
 -- ---- members, and what is told
@@ -234,7 +232,7 @@ sent_stay [] journal n = subst (SentStay journal) (sym (append-nil journal)) (re
   retired = refl;
 })
 sent_stay (message ∷ messages) journal n =
-    let next : Item = item.Sent n message in
+    let next : Item = Item.Sent n message in
     let rest = sent_stay messages (journal ++ next ∷ []) (n + 1) in
     subst (SentStay journal) (append_assoc journal (next ∷ []) (sent_from (n + 1) messages))
     (record {
@@ -279,7 +277,7 @@ opened_many base journal n version s (t ∷ switches) same =
     ∙ or_twice (opened_at journal s) (t == s) (list_any (λ u. u == s) switches) version
   where
     next : Item
-    next = item.Sent n (open_for base version t)
+    next = Item.Sent n (open_for base version t)
 
     messages : List Message
     messages = map (open_for base version) switches

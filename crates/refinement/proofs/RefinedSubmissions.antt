@@ -2,7 +2,6 @@
 use Rattle.std.proofs.Common.{[], if◌then◌else◌, ◌++◌, ◌+◌, ◌-◌, ◌==◌, ◌∙◌, ◌∷◌, ◌≡◌, ◌≢◌, IsOk, List, None, Option, Some, ap, arith, eq-eqb, map, ne_eqb, not, refl, subst, sym, ℕ}
 use Rattle.base.proofs.Exports.{filter}
 use Rattle.update_machine.specs.Exports.{Item, Setting, Step, Update, file_at, hosted_in, install_for, installs_to_all, items_then, known_boot, next_touched, piece, plan_at, policy_at, policy_in, settling, submitted_items, switches_of, touched_of, update_code, update_items, version_count, versions_from_current}
-use Rattle.journal.specs.declared.item.Item.TheVariants as item
 use Rattle.update_machine.specs.Marks as machine
 use Rattle.update_machine.proofs.Exports.{controller_keeps, have_append, next_is, next_touched_is, planned_code, policies_keep}
 use Rattle.control_laws.specs.Exports.{HasItemCause, SubmitsRightly}
@@ -14,30 +13,29 @@ use Rattle.controller.specs.declared.sends.Act.{Act}
 use Rattle.controller.specs.declared.sends.Act.TheVariants.{Post}
 use Rattle.refinement.specs.Exports.{AreMarksOf, AreWritten, IsControllerOf, IsPlanOfNext, plan_to_keep, written_items}
 use Rattle.refinement.proofs.ControllerCalls.{are_written, behind_row, row_on}
-use Rattle.refinement.proofs.KeptController.{count_on}
+use Rattle.refinement.proofs.KeptController.{count_on, written_in_two}
 use Rattle.refinement.proofs.ControllerPlans.{controller_on, plans_on, plans_pushed, settles_with}
 use Rattle.refinement.proofs.RefinedSettling.{AreCaused, leave_on, told_posted}
-use Rattle.refinement.proofs.WrittenActs.{written_in_two}
 use Rattle.ternary.specs.Exports.{WordValue}
 
 -- ---- a plan that is refused
 
 -- and what its file touches
 next_stays : (setting : Setting) (before : List Item) (row file : ℕ) (step : Step)
-    → next_touched setting (before ++ item.Row row step ∷ []) file
+    → next_touched setting (before ++ Item.Row row step ∷ []) file
     ≡ next_touched setting before file
 next_stays setting before row file step =
-    let keep = policies_keep before (item.Row row step ∷ []) (refl, tt) in
+    let keep = policies_keep before (Item.Row row step ∷ []) (refl, tt) in
     ap (λ v. touched_of (file_at setting file)
-    (policy_in setting (before ++ item.Row row step ∷ []) v)) keep.count
+    (policy_in setting (before ++ Item.Row row step ∷ []) v)) keep.count
     ∙ ap (touched_of (file_at setting file)) (keep.rows setting (version_count before))
 
 -- a row leaves the next version's plan
 next_on : (setting : Setting) (before : List Item) (row file : ℕ) (step : Step)
     (plan : PlanValue) (touched : List WordValue) → IsPlanOfNext setting before file plan touched
-    → IsPlanOfNext setting (before ++ item.Row row step ∷ []) file plan touched
+    → IsPlanOfNext setting (before ++ Item.Row row step ∷ []) file plan touched
 next_on setting before row file step plan touched of = record {
-  policy = (policies_keep before (item.Row row step ∷ []) (refl, tt)).next setting file ∙ of.policy;
+  policy = (policies_keep before (Item.Row row step ∷ []) (refl, tt)).next setting file ∙ of.policy;
   hosted = of.hosted;
   touches = of.touches ∙ sym (next_stays setting before row file step);
 }
@@ -58,17 +56,17 @@ code_is setting journal file plan touched old of is =
 
 refused : (setting : Setting) (before : List Item) (row file code : ℕ) (old : ControllerValue)
     → AreCaused setting before → IsControllerOf setting before old
-    → update_code setting (before ++ item.Row row (Update file) ∷ []) file ≡ Some code
-    → AreWritten setting before (item.Row row (Update file) ∷ item.Refused file code ∷ []) [] old
+    → update_code setting (before ++ Item.Row row (Update file) ∷ []) file ≡ Some code
+    → AreWritten setting before (Item.Row row (Update file) ∷ Item.Refused file code ∷ []) [] old
     (piece setting before row (Update file))
 unfolding piece update_items
 refused setting before row file code old have is coded =
-    let items : List Item = item.Row row (Update file) ∷ item.Refused file code ∷ [] in
-    let here : List Item = before ++ item.Row row (Update file) ∷ [] in
-    subst (λ o. AreWritten setting before items [] old (item.Row row (Update file) ∷ elim o [
-      | Some code ↦ item.Refused file code ∷ []
+    let items : List Item = Item.Row row (Update file) ∷ Item.Refused file code ∷ [] in
+    let here : List Item = before ++ Item.Row row (Update file) ∷ [] in
+    subst (λ o. AreWritten setting before items [] old (Item.Row row (Update file) ∷ elim o [
+      | Some code ↦ Item.Refused file code ∷ []
       | None ↦ items_then
-          (item.Submitted file (version_count here + 1) ∷ []) (submitted_items setting) here
+          (Item.Submitted file (version_count here + 1) ∷ []) (submitted_items setting) here
     ])) (sym coded)
     (record {
       same = refl;
@@ -80,10 +78,10 @@ pub too_many_live : (setting : Setting) (before : List Item)
     (row file : ℕ) (old : ControllerValue) (plan : PlanValue) (touched : List WordValue)
     → AreCaused setting before → IsControllerOf setting before old
     → IsPlanOfNext setting before file plan touched → old.marks.count - old.marks.retired ≡ 8
-    → AreWritten setting before (item.Row row (Update file) ∷ item.Refused file 16 ∷ []) [] old
+    → AreWritten setting before (Item.Row row (Update file) ∷ Item.Refused file 16 ∷ []) [] old
     (piece setting before row (Update file))
 too_many_live setting before row file old plan touched have is of live = refused setting before row
-    file 16 old have is (code_is setting (before ++ item.Row row (Update file) ∷ []) file plan
+    file 16 old have is (code_is setting (before ++ Item.Row row (Update file) ∷ []) file plan
     touched old (next_on setting before row file (Update file) plan touched of) (row_on setting
     before row (Update file) old have is) ∙ ap (λ b. if b then Some 16 else if old.marks.count == 64
     then Some 17 else None) (eq-eqb (old.marks.count - old.marks.retired) 8 live))
@@ -93,10 +91,10 @@ pub too_many_versions : (setting : Setting) (before : List Item) (row file : ℕ
     → AreCaused setting before → IsControllerOf setting before old
     → IsPlanOfNext setting before file plan touched
     → old.marks.count - old.marks.retired ≢ 8 → old.marks.count ≡ 64
-    → AreWritten setting before (item.Row row (Update file) ∷ item.Refused file 17 ∷ []) [] old
+    → AreWritten setting before (Item.Row row (Update file) ∷ Item.Refused file 17 ∷ []) [] old
     (piece setting before row (Update file))
 too_many_versions setting before row file old plan touched have is of live count = refused setting
-    before row file 17 old have is (code_is setting (before ++ item.Row row (Update file) ∷ []) file
+    before row file 17 old have is (code_is setting (before ++ Item.Row row (Update file) ∷ []) file
     plan touched old (next_on setting before row file (Update file) plan touched of) (row_on setting
     before row (Update file) old have is) ∙ ap (λ b. if b then Some 16 else if old.marks.count == 64
     then Some 17 else None) (ne_eqb (old.marks.count - old.marks.retired) 8 live)
@@ -110,13 +108,13 @@ module _ (setting : Setting) (before : List Item) (row file : ℕ) (old new : Co
     (live : old.marks.count - old.marks.retired ≢ 8) (few : old.marks.count ≢ 64)
     (taken : SubmitsPlan old (next_kept old plan touched) new) where
   abbrev here : List Item
-  here = before ++ item.Row row (Update file) ∷ []
+  here = before ++ Item.Row row (Update file) ∷ []
 
   abbrev version : ℕ
   version = old.marks.count + 1
 
   abbrev now : List Item
-  now = here ++ item.Submitted file version ∷ []
+  now = here ++ Item.Submitted file version ∷ []
 
   abbrev kept : KeptPlan
   kept = next_kept old plan touched
@@ -144,7 +142,7 @@ module _ (setting : Setting) (before : List Item) (row file : ℕ) (old new : Co
   }
 
   now_have : AreCaused setting now
-  now_have = have_append (HasItemCause setting) [] here (item.Submitted file version ∷ [])
+  now_have = have_append (HasItemCause setting) [] here (Item.Submitted file version ∷ [])
       here_have (cause, tt)
 
   now_marks : AreMarksOf setting now (with_version old.marks)
@@ -164,8 +162,8 @@ module _ (setting : Setting) (before : List Item) (row file : ℕ) (old new : Co
   ) refl
 
   now_plans : old.plans ++ kept ∷ [] ≡ map (plan_to_keep setting now) (versions_from_current now)
-  now_plans = plans_pushed setting here (item.Submitted file version ∷ []) old.plans kept here_have
-      (sym now_marks.count ∙ number) (current_more here (item.Submitted file version))
+  now_plans = plans_pushed setting here (Item.Submitted file version ∷ []) old.plans kept here_have
+      (sym now_marks.count ∙ number) (current_more here (Item.Submitted file version))
       (kept_is ∙ ap (plan_to_keep setting now) number) here_is.plans
 
   installed : written_items now (map (λ s. install_act s (boot_recorded old.marks s) kept)
@@ -203,11 +201,11 @@ module _ (setting : Setting) (before : List Item) (row file : ℕ) (old new : Co
       (sym one_marks.count ∙ now_marks.count) (sym one_marks.current ∙ now_marks.current)
       now_plans) taken
 
-  behind_row_written : AreWritten setting before (item.Row row (Update file)
-      ∷ item.Submitted file version ∷ []) (submit_acts old.marks kept new) new
-      (item.Row row (Update file) ∷ item.Submitted file version ∷ submitted_items setting now)
-  behind_row_written = are_written setting before (item.Row row (Update file))
-      (item.Submitted file version) (submitted_items setting now) (submit_acts old.marks kept new)
+  behind_row_written : AreWritten setting before (Item.Row row (Update file)
+      ∷ Item.Submitted file version ∷ []) (submit_acts old.marks kept new) new
+      (Item.Row row (Update file) ∷ Item.Submitted file version ∷ submitted_items setting now)
+  behind_row_written = are_written setting before (Item.Row row (Update file))
+      (Item.Submitted file version) (submitted_items setting now) (submit_acts old.marks kept new)
       new (written_in_two now (installs_to_all setting) (settling setting) _
       (acts.settling_acts (current_touched new) (with_version old.marks) new.marks) installed
       settled.0) (rw (in_two (installs_to_all setting) (settling setting) now) settled.1)
@@ -219,17 +217,17 @@ module _ (setting : Setting) (before : List Item) (row file : ℕ) (old new : Co
       ∙ ap (λ b. if b then Some 17 else None) (ne_eqb old.marks.count 64 few)
 
   pub submits : AreWritten setting before
-      (item.Row row (Update file) ∷ item.Submitted file (old.marks.count + 1) ∷ [])
+      (Item.Row row (Update file) ∷ Item.Submitted file (old.marks.count + 1) ∷ [])
       (submit_acts old.marks kept new) new (piece setting before row (Update file))
   unfolding piece update_items
   submits =
-      let first : List Item = item.Row row (Update file) ∷ item.Submitted file version ∷ [] in
+      let first : List Item = Item.Row row (Update file) ∷ Item.Submitted file version ∷ [] in
       let acts : List Act = submit_acts old.marks kept new in
-      subst (λ o. AreWritten setting before first acts new (item.Row row (Update file) ∷ elim o [
-        | Some code ↦ item.Refused file code ∷ []
+      subst (λ o. AreWritten setting before first acts new (Item.Row row (Update file) ∷ elim o [
+        | Some code ↦ Item.Refused file code ∷ []
         | None ↦ items_then
-            (item.Submitted file (version_count here + 1) ∷ []) (submitted_items setting) here
+            (Item.Submitted file (version_count here + 1) ∷ []) (submitted_items setting) here
       ])) (sym coded)
-      (subst (λ k. AreWritten setting before first acts new (item.Row row (Update file)
-      ∷ items_then (item.Submitted file k ∷ []) (submitted_items setting) here)) number
+      (subst (λ k. AreWritten setting before first acts new (Item.Row row (Update file)
+      ∷ items_then (Item.Submitted file k ∷ []) (submitted_items setting) here)) number
       behind_row_written)

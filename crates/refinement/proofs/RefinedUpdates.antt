@@ -1,27 +1,25 @@
 -- A policy is submitted or refused: what is written then, and what the parts are behind it.
-use Rattle.std.proofs.Common.{[], if◌then◌else◌, ◌++◌, ◌+◌, ◌-◌, ◌<◌, ◌==◌, ◌∙◌, ◌∷◌, ◌≡◌, ◌≢◌, ◌≤◌, Err, List, None, Ok, Some, ap, append-nil, arith, false, length, refl, rules, slice_get, subst, sym, ℕ}
-use Rattle.base.proofs.Exports.{nat_tests}
-use Rattle.refinement.specs.Exports.{AreWritten, IsBagOf, IsControllerOf, IsPlanOfNext, NetworkState, RefineJournal}
-use Rattle.refinement.proofs.ControllerUntouched.{items_leave}
+use Rattle.std.proofs.Common.{[], ◌++◌, ◌+◌, ◌-◌, ◌<◌, ◌==◌, ◌∙◌, ◌∷◌, ◌≡◌, ◌≢◌, ◌≤◌, All, Err, List, None, Ok, Some, ap, append-nil, arith, cond, false, filter, get_or, if◌then◌else◌, length, map, refl, rules, slice_get, subst, sym, ℕ}
+use Rattle.base.proofs.Exports.{All-nil, get_or-map-range_with_len, length-map-range_with_len, nat_tests, range_with_len}
+use Rattle.refinement.specs.Exports.{AreWritten, IsBagOf, IsControllerOf, IsPlanOfNext, NetworkState, RefineJournal, flight_in, is_up_link, plan_to_keep, switch_begun, switch_of}
+use Rattle.refinement.proofs.ControllerResends.{items_leave}
 use Rattle.refinement.proofs.RefinedSubmissions.{submits, too_many_live, too_many_versions}
-use Rattle.controller.specs.Exports.{ControllerValue, PlanValue, SubmitsPlan, newest_policy, next_kept, submit_acts}
+use Rattle.controller.specs.Exports.{ControllerValue, PlanValue, SubmitsPlan, first_controller, newest_policy, next_kept, submit_acts}
 use Rattle.controller.specs.declared.sends.Act.{Act}
-use Rattle.update_machine.specs.Exports.{Inapplicable, Item, Net, PoliciesKeep, PolicyFile, Row, Setting, Step, Update, apply_code, items_then, made_by, piece, plan_code, policy_in, setting_of, submitted_items, touched_of, update_code, update_items, version_count}
-use Rattle.journal.specs.declared.item.Item.TheVariants as item
-use Rattle.partition.specs.Plan.{plan_of}
-use Rattle.policy_rules.specs.Exports.{NoPlan}
+use Rattle.update_machine.specs.Exports.{Inapplicable, IsSetting, Item, LinkRow, NamesOwnPort, Net, PoliciesKeep, PolicyFile, Row, Setting, Step, Update, Whole, apply_code, items_then, made_by, next_packet, piece, plan_at, plan_code, policy_at, policy_in, setting_of, submitted_items, touched_of, travels, update_code, update_items, version_count}
+use Rattle.partition.specs.Plan.{Hosted, plan_of}
+use Rattle.policy_rules.specs.Exports.{GivesOnly, IsPolicyFile, NoPlan}
 use Rattle.steps.specs.Exports.{IsStep}
-use Rattle.update_machine.proofs.Exports.{next_by, policies_keep, unapplied_code, unplanned_code}
-use Rattle.world_log.specs.Exports.{MayNote, act_items, act_posts}
-use Rattle.refinement.proofs.ActItems.{written_is}
-use Rattle.refinement.proofs.RefinedReach.{reached_known}
-use Rattle.refinement.proofs.NewestKeptPolicy.{newest_in}
-use Rattle.refinement.proofs.OneItem.{grown}
-use Rattle.refinement.proofs.PostedFrames.{bag_on}
-use Rattle.refinement.proofs.RefinedActs.{refines_told}
-use Rattle.refinement.proofs.StepRefines.{links_stay, switches_stay, up_stay}
-use Rattle.refinement.proofs.SendableMessages.{may_note}
+use Rattle.update_machine.proofs.Exports.{first_version_is, next_by, policies_keep, setting_begun, start_laws, unapplied_code, unplanned_code}
+use Rattle.world_log.specs.Exports.{AreNear, MayNote, act_items, act_posts}
+use Rattle.refinement.proofs.RefinedActs.{may_note, refines_told, written_is}
+use Rattle.refinement.proofs.StepRefines.{grown, links_stay, reached_known, switches_stay, up_stay}
+use Rattle.refinement.proofs.ControllerPlans.{newest_in}
+use Rattle.refinement.proofs.PostedFrames.{bag_begun, bag_on}
 use Rattle.ternary.specs.Exports.{WordValue}
+use Rattle.refinement.proofs.ControllerCalls.{begins}
+use Rattle.net_file.specs.Exports.{IsNet, links_of}
+use Rattle.switch_core.specs.Exports.{SwitchValue}
 
 -- ---- the file of an update
 
@@ -31,11 +29,11 @@ module _ {setting : Setting} {journal : List Item} {state : NetworkState}
   pub newest_refines : (row : ℕ) (step : Step) (newest : List Row)
       → newest_policy state.controller ≡ Some newest
       → (policy_in setting journal (version_count journal) ≡ Some newest)
-      × (policy_in setting (journal ++ item.Row row step ∷ [])
-      (version_count (journal ++ item.Row row step ∷ [])) ≡ Some newest)
+      × (policy_in setting (journal ++ Item.Row row step ∷ [])
+      (version_count (journal ++ Item.Row row step ∷ [])) ≡ Some newest)
   newest_refines row step newest is =
-      let here : List Item = journal ++ item.Row row step ∷ [] in
-      let keep = policies_keep journal (item.Row row step ∷ []) (refl, tt) in
+      let here : List Item = journal ++ Item.Row row step ∷ [] in
+      let keep = policies_keep journal (Item.Row row step ∷ []) (refl, tt) in
       let own : policy_in setting journal (version_count journal) ≡ Some newest =
       sym (newest_in setting journal state.controller refines.sound (reached_known setting journal
       refines.sound refines.reached).caused refines.controller) ∙ is in (
@@ -80,15 +78,15 @@ unplanned_next net files journal file newest rows why first is made none =
     (next_by (setting_of net files) journal file newest first is ∙ made) none
 
 pub refused_piece : (setting : Setting) (journal : List Item) (row file code : ℕ)
-    → update_code setting (journal ++ item.Row row (Update file) ∷ []) file ≡ Some code
+    → update_code setting (journal ++ Item.Row row (Update file) ∷ []) file ≡ Some code
     → piece setting journal row (Update file)
-    ≡ item.Row row (Update file) ∷ item.Refused file code ∷ []
+    ≡ Item.Row row (Update file) ∷ Item.Refused file code ∷ []
 unfolding piece update_items
 refused_piece setting journal row file code is =
-    let rowed : List Item = journal ++ item.Row row (Update file) ∷ [] in
-    ap (λ o. item.Row row (Update file) ∷ elim o [
-      | Some k ↦ item.Refused file k ∷ []
-      | None ↦ items_then (item.Submitted file (version_count rowed + 1) ∷ [])
+    let rowed : List Item = journal ++ Item.Row row (Update file) ∷ [] in
+    ap (λ o. Item.Row row (Update file) ∷ elim o [
+      | Some k ↦ Item.Refused file k ∷ []
+      | None ↦ items_then (Item.Submitted file (version_count rowed + 1) ∷ [])
           (submitted_items setting) rowed
     ]) is
 
@@ -98,15 +96,15 @@ module _ {setting : Setting} {journal : List Item} {state : NetworkState}
     (refines : RefineJournal setting journal state) (row file : ℕ)
     (may : IsStep setting.net (length setting.files) (Update file)) where
   abbrev first : Item → List Item
-  first one = item.Row row (Update file) ∷ one ∷ []
+  first one = Item.Row row (Update file) ∷ one ∷ []
 
   -- nothing is sent, and the controller stays
   pub refused_refines : (code : ℕ) → piece setting journal row (Update file)
-      ≡ item.Row row (Update file) ∷ item.Refused file code ∷ []
-      → RefineJournal setting (grown journal row (Update file) (item.Refused file code)) state
+      ≡ Item.Row row (Update file) ∷ Item.Refused file code ∷ []
+      → RefineJournal setting (grown journal row (Update file) (Item.Refused file code)) state
   unfolding act_items act_posts
   refused_refines code is =
-      let one : Item = item.Refused file code in
+      let one : Item = Item.Refused file code in
       let controller = subst (λ more. IsControllerOf setting (journal ++ more) state.controller)
       (sym is) (items_leave setting journal (first one) state.controller (reached_known setting
       journal refines.sound refines.reached).caused (refl, (refl, tt)) refines.controller) in
@@ -125,7 +123,7 @@ module _ {setting : Setting} {journal : List Item} {state : NetworkState}
       version = state.controller.marks.count + 1
 
       abbrev one : Item
-      one = item.Submitted file version
+      one = Item.Submitted file version
 
       abbrev acts : List Act
       acts = submit_acts state.controller.marks (next_kept state.controller plan touched) new
@@ -140,11 +138,11 @@ module _ {setting : Setting} {journal : List Item} {state : NetworkState}
           of_next live versions submitted
 
       pub submitted_piece : piece setting journal row (Update file)
-          ≡ item.Row row (Update file) ∷ one ∷ act_items (length state.posts + 1) acts
+          ≡ Item.Row row (Update file) ∷ one ∷ act_items (length state.posts + 1) acts
       submitted_piece =
           cc (submits_so.same, written_is (journal ++ first one) acts, bag_behind.many)
 
-      pub submitted_refines : RefineJournal setting (journal ++ item.Row row (Update file) ∷ one
+      pub submitted_refines : RefineJournal setting (journal ++ Item.Row row (Update file) ∷ one
           ∷ act_items (length state.posts + 1) acts)
           (record state { controller = new; posts = state.posts ++ act_posts acts })
       submitted_refines = refines_told refines (record state { controller = new }) row
@@ -163,14 +161,97 @@ module _ {setting : Setting} {journal : List Item} {state : NetworkState}
     (touched : List WordValue) (of_next : IsPlanOfNext setting journal file plan touched) where
   pub live_piece : state.controller.marks.count - state.controller.marks.retired ≡ 8
       → piece setting journal row (Update file)
-      ≡ item.Row row (Update file) ∷ item.Refused file 16 ∷ []
+      ≡ Item.Row row (Update file) ∷ Item.Refused file 16 ∷ []
   live_piece live = (too_many_live setting journal row file state.controller plan touched
       (reached_known setting journal refines.sound refines.reached).caused refines.controller
       of_next live).same
 
   pub versions_piece : state.controller.marks.count - state.controller.marks.retired ≢ 8
       → state.controller.marks.count ≡ 64 → piece setting journal row (Update file)
-      ≡ item.Row row (Update file) ∷ item.Refused file 17 ∷ []
+      ≡ Item.Row row (Update file) ∷ Item.Refused file 17 ∷ []
   versions_piece live many = (too_many_versions setting journal row file state.controller plan
       touched (reached_known setting journal refines.sound refines.reached).caused
       refines.controller of_next live many).same
+
+-- ---- a world in which nothing happened yet is as its journal says
+
+-- a switch before the first item
+switch_first : (setting : Setting) (s : ℕ) → s < length setting.net.switches
+    → length setting.net.switches ≤ 64
+    → switch_of setting [] s ≡ switch_begun setting.net (plan_at setting [] 1) s
+unfolding switch_of
+switch_first setting s there few = rw (
+  start_laws.boot s,
+  start_laws.up s,
+  start_laws.serving s,
+  start_laws.stamp s,
+  start_laws.heard s,
+  start_laws.adverts setting s there few,
+  start_laws.seq setting s,
+  start_laws.versions s 1,
+  start_laws.cache setting s,
+  start_laws.handled s,
+) refl
+
+-- the controller's plan is that of the first version
+of_first : (net : Net) (files : List PolicyFile) (plan : PlanValue)
+    → slice_get files 0 ≡ Some (Whole plan.policy) → plan_of plan.policy net ≡ Ok plan.hosted
+    → plan ≡ (plan_to_keep (setting_of net files) [] 1).plan
+of_first net files plan whole is =
+    let first = first_version_is net files plan.policy plan.hosted whole is in
+    ap (λ policy. of policy plan.hosted) (sym first.0)
+    ∙ ap (of (policy_at (setting_of net files) [] 1)) (sym first.1)
+  where
+    of : List Row → List Hosted → PlanValue
+    of policy hosted = record { policy = policy; hosted = hosted }
+
+-- all links are up
+all_up : (links : List LinkRow) → filter (is_up_link []) links ≡ links
+all_up [] = refl
+all_up (link ∷ links) = cc (start_laws.links link.one link.two, all_up links)
+
+pub begun_refines : (net : Net) (files : List PolicyFile) (plan : PlanValue)
+    (switches : List SwitchValue) (controller : ControllerValue) (near : List ℕ) → IsNet net
+    → slice_get files 0 ≡ Some (Whole plan.policy) → All IsPolicyFile files
+    → All (GivesOnly (λ row. NamesOwnPort (setting_of net files) row.action)) files
+    → plan_of plan.policy net ≡ Ok plan.hosted
+    → switches ≡ map (switch_begun net plan.hosted) (range_with_len 0 (length net.switches))
+    → controller ≡ first_controller (length net.switches) plan → AreNear net near
+    → RefineJournal (setting_of net files) [] (record {
+      switches = switches;
+      travelling = [];
+      packets = 0;
+      controller = controller;
+      posts = [];
+      links = near;
+      near = near;
+    })
+unfolding flight_in travels next_packet
+begun_refines net files plan switches controller near sound whole given ports is made first_is
+    masks =
+    let setting : Setting = setting_of net files in
+    let own = setting_begun net files plan.policy plan.hosted sound whole given ports is in
+    let first : plan_at setting [] 1 ≡ plan.hosted =
+    (first_version_is net files plan.policy plan.hosted whole is).1 in
+    let many = ap length made
+    ∙ length-map-range_with_len (switch_begun net plan.hosted) 0 (length net.switches) in record {
+      sound = own;
+      reached = record {
+        steps = [];
+        own = All-nil (λ next. IsStep setting.net (length setting.files) next.step);
+        written = refl;
+      };
+      many = many;
+      each = λ s d there. let own : s < length net.switches = omega (arith, there, many) in
+          ap (λ all. get_or all s d) made
+          ∙ get_or-map-range_with_len (switch_begun net plan.hosted) 0 (length net.switches) s s d
+          own (omega arith)
+          ∙ sym (switch_first setting s own sound.few_switches
+          ∙ ap (λ hosted. switch_begun net hosted s) first);
+      packet = λ i. refl;
+      counted = refl;
+      controller = rw first_is (begins setting plan (of_first net files plan whole is));
+      bag = bag_begun;
+      up = λ s below. masks s below ∙ ap (λ rows. links_of rows s) (sym (all_up net.links));
+      usable = λ s below. masks s below ∙ sym (start_laws.near setting s);
+    }

@@ -7,8 +7,7 @@ use Rattle.failover.proofs.HeldAdverts.{after_no_news}
 use Rattle.switch_core.specs.Exports.{SwitchValue, after_body, collected_to, is_news_here, raised_to, stamped_with, with_heard, with_installed}
 use Rattle.switch_table.specs.Exports.{after_carry, after_raise}
 use Rattle.refinement.specs.Exports.{collect_in, tables_in, with_tables}
-use Rattle.refinement.proofs.RefinedTables.{AreVersioned, IsVersioned, above, above_more, above_twice, found_above, tables_are}
-use Rattle.refinement.proofs.SwitchFacts.{SwitchFacts, all_by, collected_by, filled, first_tables, others_by, stamp_by, switch_in}
+use Rattle.refinement.proofs.SwitchFacts.{AreVersioned, IsVersioned, SwitchFacts, above, above_more, above_twice, all_by, collected_by, filled, first_tables, found_above, others_by, stamp_by, switch_in, tables_are}
 use Rattle.ternary.specs.Exports.{WordValue}
 
 -- ---- one body more

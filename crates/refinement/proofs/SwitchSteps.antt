@@ -2,11 +2,10 @@
 use Rattle.std.proofs.Common.{[], if◌then◌else◌, ◌++◌, ◌+◌, ◌==◌, ◌∙◌, ◌∷◌, ◌≡◌, Bool, List, ap, append-nil, append_assoc, arith, cond, false, min, refl, sum_by, sym, true, ℕ}
 use Rattle.base.proofs.Exports.{sum_by-cons}
 use Rattle.update_machine.specs.Exports.{Header, Hop, Item, NoneConcern, Packet, Setting, Step, StepItems, changes_steps, concerns_known, count_of, folded_from, handled_count, hop_calls, is_entry_at, most_handled, stays_on_way, steps_in, travels_at}
-use Rattle.journal.specs.declared.item.Item.TheVariants as item
 use Rattle.switch_core.specs.Exports.{SwitchValue, call_counted}
 use Rattle.update_machine.proofs.Exports.{count_of_append, folded_append}
 use Rattle.refinement.specs.Exports.{AreInStep, CallsRefine, IsInStep, NoRow, NoRows, switch_of}
-use Rattle.refinement.proofs.SwitchFactItems.{facts_kept}
+use Rattle.refinement.proofs.RefinedHearing.{facts_kept}
 use Rattle.refinement.proofs.SwitchFacts.{by_facts, switch_by, switch_is, facts_of}
 
 -- ---- steps
@@ -16,19 +15,19 @@ with_more : (before : List Item) (newest : StepItems) (steps : List StepItems) (
     ≡ record newest { items = newest.items ++ items } ∷ steps
 with_more before newest steps [] none = ap (λ items. (record newest { items = items }) ∷ steps)
     (sym (append-nil newest.items))
-with_more before newest steps (item.Row row step ∷ items) none = absurd none.0
+with_more before newest steps (Item.Row row step ∷ items) none = absurd none.0
 with_more before newest steps (first ∷ items) none =
     with_more (before ++ first ∷ []) (record newest { items = newest.items ++ first ∷ [] }) steps
     items none.1 ∙ ap (λ all. (record newest { items = all }) ∷ steps) (append_assoc newest.items
     (first ∷ []) items)
 
 pub steps_more : (journal : List Item) (row : ℕ) (step : Step) (items : List Item) → NoRows items
-    → steps_in (journal ++ item.Row row step ∷ items)
-    ≡ record { before = journal; items = item.Row row step ∷ items } ∷ steps_in journal
+    → steps_in (journal ++ Item.Row row step ∷ items)
+    ≡ record { before = journal; items = Item.Row row step ∷ items } ∷ steps_in journal
 unfolding steps_in
 steps_more journal row step items none = folded_append changes_steps [] journal
-    (item.Row row step ∷ items) ∙ with_more (journal ++ item.Row row step ∷ [])
-    (record { before = journal; items = item.Row row step ∷ [] }) (steps_in journal) items none
+    (Item.Row row step ∷ items) ∙ with_more (journal ++ Item.Row row step ∷ [])
+    (record { before = journal; items = Item.Row row step ∷ [] }) (steps_in journal) items none
 
 -- ---- calls
 
@@ -42,11 +41,11 @@ clipped : (a b : ℕ) (more other : ℕ) → min most_handled (a + more + (other
 clipped a b more other = omega arith
 
 pub handled_more : (s : ℕ) (journal : List Item) (row : ℕ) (step : Step) (items : List Item)
-    → NoRows items → handled_count (journal ++ item.Row row step ∷ items) s
-    ≡ min most_handled (handled_count journal s + calls_in s journal (item.Row row step ∷ items))
+    → NoRows items → handled_count (journal ++ Item.Row row step ∷ items) s
+    ≡ min most_handled (handled_count journal s + calls_in s journal (Item.Row row step ∷ items))
 unfolding handled_count
 handled_more s journal row step items none =
-    let all : List Item = item.Row row step ∷ items in
+    let all : List Item = Item.Row row step ∷ items in
     let calls : StepItems → ℕ = λ one. hop_calls s one one.items in
     let first : StepItems = record { before = journal; items = all } in
     ap (λ count. min most_handled (count + sum_by calls (steps_in (journal ++ all))))
@@ -61,15 +60,15 @@ handled_more s journal row step items none =
 
 pub no_rows : (items : List Item) → AreInStep items → NoRows items
 no_rows [] all = tt
-no_rows (item.Row row step ∷ items) all = absurd all.0
+no_rows (Item.Row row step ∷ items) all = absurd all.0
 no_rows (first ∷ items) all = (no_row first all.0, no_rows items all.1) where
   no_row : (one : Item) → IsInStep one → NoRow one
-  no_row (item.Row row step) is = absurd is
+  no_row (Item.Row row step) is = absurd is
   no_row _ is = tt
 
 no_entry : (s : ℕ) (one : Item) → IsInStep one → is_entry_at s one ≡ false
-no_entry s (item.Entered packet switch header) is = absurd is
-no_entry s (item.Closed packet switch) is = absurd is
+no_entry s (Item.Entered packet switch header) is = absurd is
+no_entry s (Item.Closed packet switch) is = absurd is
 no_entry s _ is = refl
 
 no_entries : (s : ℕ) (items : List Item) → AreInStep items → count_of (is_entry_at s) items ≡ 0
@@ -81,14 +80,14 @@ no_entries s (first ∷ items) all = sum_by-cons (λ x. cond (is_entry_at s x) 1
 -- ---- the record of a switch in a step of packets
 
 called_by : (setting : Setting) (before : List Item) (row t : ℕ) (step : Step) (items : List Item)
-    → NoRows items → NoneConcern (concerns_known t) before (item.Row row step ∷ items)
-    → switch_of setting (before ++ item.Row row step ∷ items) t
+    → NoRows items → NoneConcern (concerns_known t) before (Item.Row row step ∷ items)
+    → switch_of setting (before ++ Item.Row row step ∷ items) t
     ≡ record (switch_of setting before t) {
       handled = min most_handled ((switch_of setting before t).handled
-          + calls_in t before (item.Row row step ∷ items));
+          + calls_in t before (Item.Row row step ∷ items));
     }
 called_by setting before row t step items none apart =
-    let all : List Item = item.Row row step ∷ items in
+    let all : List Item = Item.Row row step ∷ items in
     by_facts setting (before ++ all) t _ (facts_kept setting t before all apart)
     ∙ ap (λ count. record (switch_by setting t (facts_of setting before t)) { handled = count })
     (handled_more t before row step items none)
@@ -136,8 +135,8 @@ entry_calls s t one items all is = sum_by-cons (λ x. cond (is_entry_at t x) 1 0
 came_in : (setting : Setting) (before : List Item) (row s t : ℕ) (header : Header)
     (one : Item) (items : List Item) → NoRow one → AreInStep items
     → is_entry_at t one ≡ (s == t)
-    → NoneConcern (concerns_known t) before (item.Row row (Packet s header) ∷ one ∷ items)
-    → switch_of setting (before ++ item.Row row (Packet s header) ∷ one ∷ items) t
+    → NoneConcern (concerns_known t) before (Item.Row row (Packet s header) ∷ one ∷ items)
+    → switch_of setting (before ++ Item.Row row (Packet s header) ∷ one ∷ items) t
     ≡ (if s == t then call_counted (switch_of setting before t) else switch_of setting before t)
 came_in setting before row s t header one items begins all is apart =
     called_by setting before row t (Packet s header) (one ∷ items) (begins, no_rows items all) apart
@@ -147,11 +146,11 @@ came_in setting before row s t header one items begins all is apart =
     switch = switch_of setting before t
 
     calls : ℕ
-    calls = calls_in t before (item.Row row (Packet s header) ∷ one ∷ items)
+    calls = calls_in t before (Item.Row row (Packet s header) ∷ one ∷ items)
 
     calls_are : calls ≡ cond (s == t) 1 0
     calls_are =
-        let first = sum_by-cons (λ x. cond (is_entry_at t x) 1 0) (item.Row row (Packet s header))
+        let first = sum_by-cons (λ x. cond (is_entry_at t x) 1 0) (Item.Row row (Packet s header))
         (one ∷ items) in
         omega (arith, entry_calls s t one items all is, first)
 
@@ -162,8 +161,8 @@ came_in setting before row s t header one items begins all is apart =
     by_test false e = no_call setting before t calls (calls_are ∙ ap (λ b. cond b 1 0) e)
 
 went_on : (setting : Setting) (before : List Item) (row i t : ℕ) (items : List Item)
-    → AreInStep items → NoneConcern (concerns_known t) before (item.Row row (Hop i) ∷ items)
-    → switch_of setting (before ++ item.Row row (Hop i) ∷ items) t ≡ (if travels_at before t i
+    → AreInStep items → NoneConcern (concerns_known t) before (Item.Row row (Hop i) ∷ items)
+    → switch_of setting (before ++ Item.Row row (Hop i) ∷ items) t ≡ (if travels_at before t i
     then (if stays_on_way items then call_counted (switch_of setting before t)
     else call_counted (call_counted (switch_of setting before t))) else switch_of setting before t)
 went_on setting before row i t items all apart =
@@ -174,11 +173,11 @@ went_on setting before row i t items all apart =
     switch = switch_of setting before t
 
     calls : ℕ
-    calls = calls_in t before (item.Row row (Hop i) ∷ items)
+    calls = calls_in t before (Item.Row row (Hop i) ∷ items)
 
     calls_are : calls ≡ (if travels_at before t i then (if stays_on_way items then 1 else 2) else 0)
     calls_are =
-        let first = sum_by-cons (λ x. cond (is_entry_at t x) 1 0) (item.Row row (Hop i)) items in
+        let first = sum_by-cons (λ x. cond (is_entry_at t x) 1 0) (Item.Row row (Hop i)) items in
         omega (arith, no_entries t items all, first)
 
     by_test : (b : Bool) → travels_at before t i ≡ b → (c : Bool) → stays_on_way items ≡ c
@@ -191,8 +190,8 @@ went_on setting before row i t items all apart =
 pub calls_refine : CallsRefine
 calls_refine = record {
   entered = λ setting before row i s t header items all apart.
-      came_in setting before row s t header (item.Entered i s header) items tt all refl apart;
+      came_in setting before row s t header (Item.Entered i s header) items tt all refl apart;
   closed = λ setting before row i s t header.
-      came_in setting before row s t header (item.Closed i s) [] tt tt refl (refl, (refl, tt));
+      came_in setting before row s t header (Item.Closed i s) [] tt tt refl (refl, (refl, tt));
   hopped = went_on;
 }

@@ -1,19 +1,17 @@
 -- What is said of a switch and of its calls, computed on journals of few items.
 use Rattle.std.proofs.Common.{[], ◌++◌, ◌∙◌, ◌∷◌, ◌≡◌, List, None, Some, ap, false, map, nat_eq, refl, slice_get, subst, sym, true, ℕ}
 use Rattle.base.proofs.Exports.{list_any}
-use Rattle.update_machine.specs.Exports.{Body, Collect, Drop, Install, Item, Out, Seek, boot_of, cache_of, has_changed, heard, holds_version, is_link_up, is_up, message_of, near, own_seq, serves, stamp_of, steps_in}
+use Rattle.update_machine.specs.Exports.{Body, Collect, Drop, Install, Item, Out, Seek, Step, boot_of, cache_of, has_changed, heard, holds_version, is_link_up, is_up, message_of, near, own_seq, serves, stamp_of, steps_in}
 use Rattle.base.specs.Exports.{mask_of, mask_where, switches}
 use Rattle.switch_table.specs.Exports.{Hosted}
 use Rattle.ternary.specs.Exports.{holds}
-use Rattle.steps.specs.declared.step.Step.TheVariants as step
-use Rattle.journal.specs.declared.item.Item.TheVariants as item
 use Rattle.update_machine.proofs.Exports.{any_word, first_plan, one, open_net, plan_p, rule, tables_of, to}
 use Rattle.control_laws.specs.Exports.{EndsAt}
 use Rattle.refinement.specs.Exports.{AreInStep, CanRestart, LeavesSwitch, message_at, switch_of, tables_kept}
 
 -- switch a is told this
 abbrev told : ℕ → Body → List Item
-told number body = item.Sent number (to 0 body) ∷ item.Delivered number ∷ []
+told number body = Item.Sent number (to 0 body) ∷ Item.Delivered number ∷ []
 
 abbrev install : ℕ → Body
 install version = Install 1 (tables_of plan_p version 0)
@@ -47,7 +45,7 @@ unfolding holds_version heard is_up boot_of message_of
 not_of_boot_2 = refl
 
 none_in_boot_2 :
-    (switch_of open_net (installed ++ item.Down 0 ∷ item.Booted 0 2 ∷ []) 0).tables ≡ []
+    (switch_of open_net (installed ++ Item.Down 0 ∷ Item.Booted 0 2 ∷ []) 0).tables ≡ []
 unfolding switch_of holds_version heard is_up boot_of message_of
 none_in_boot_2 = refl
 
@@ -60,7 +58,7 @@ no_entry = refl
 
 -- the failing link is the next number of each end's advert, and concerns neither as a switch
 abbrev failed : List Item
-failed = item.Row 1 (step.LinkDown 0 1) ∷ item.LinkIs 0 1 false ∷ []
+failed = Item.Row 1 (Step.LinkDown 0 1) ∷ Item.LinkIs 0 1 false ∷ []
 
 second_advert : (switch_of open_net failed 0).seq ≡ 2
 unfolding switch_of own_seq near is_link_up serves is_up boot_of steps_in mask_of mask_where
@@ -71,14 +69,14 @@ changed_at_a : has_changed open_net [] failed 0 ≡ true
 unfolding near is_link_up serves is_up boot_of mask_of mask_where switches
 changed_at_a = refl
 
-leaves_a : LeavesSwitch 0 [] 1 (step.LinkDown 0 1) (item.LinkIs 0 1 false ∷ [])
+leaves_a : LeavesSwitch 0 [] 1 (Step.LinkDown 0 1) (Item.LinkIs 0 1 false ∷ [])
 leaves_a = record { in_step = (tt, tt); apart = (refl, (refl, tt)); calls = (refl, (refl, tt)) }
 
 -- but a crash of a does something to it, which leaves b
-not_in_its_crash : LeavesSwitch 0 [] 1 (step.Crash 0) (item.Down 0 ∷ []) → ⊥
+not_in_its_crash : LeavesSwitch 0 [] 1 (Step.Crash 0) (Item.Down 0 ∷ []) → ⊥
 not_in_its_crash leaves = let no : true ≡ false = leaves.apart.1.0 in cc
 
-in_that_of_another : LeavesSwitch 1 [] 1 (step.Crash 0) (item.Down 0 ∷ [])
+in_that_of_another : LeavesSwitch 1 [] 1 (Step.Crash 0) (Item.Down 0 ∷ [])
 in_that_of_another = record {
   in_step = (tt, tt);
   apart = (refl, (refl, tt));
@@ -88,10 +86,10 @@ in_that_of_another = record {
 -- ---- calls
 
 -- a step has one row, and one packet enters at its beginning
-not_two_rows : AreInStep (item.Row 2 (step.Hop 1) ∷ []) → ⊥
+not_two_rows : AreInStep (Item.Row 2 (Step.Hop 1) ∷ []) → ⊥
 not_two_rows are = absurd are.0
 
-not_two_packets : AreInStep (item.Entered 2 0 one ∷ []) → ⊥
+not_two_packets : AreInStep (Item.Entered 2 0 one ∷ []) → ⊥
 not_two_packets are = absurd are.0
 
 -- the partition is on b, so a isn't where its leg leads

@@ -1,7 +1,7 @@
 -- There is an answer exactly where each event has its steps.
 use Rattle.std.proofs.Common.{[], ◌++◌, ◌+◌, ◌<◌, ◌↔◌, ◌∙◌, ◌∷◌, ◌≡◌, List, None, Option, Some, ap, append-nil, append_assoc, arith, length, map, refl, subst, suc, sym, zero, ℕ}
 use Rattle.update_machine.specs.Exports.{Answers, AreAll, AreAnswered, AreSteps, AreStepsOf, Event, HaveSteps, Item, One, Setting, Step, StepOfRow, after_steps, piece}
-use Rattle.update_machine.proofs.OneAnswer.{one_answer}
+use Rattle.update_machine.proofs.FirstSteps.{one_answer}
 
 -- steps behind steps write behind what these wrote
 pub after_append : (setting : Setting) (before : List Item) (steps more : List StepOfRow)

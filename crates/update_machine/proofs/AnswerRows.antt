@@ -1,26 +1,24 @@
 -- Answers, computed: what a drain and a flush stand for, and how often switches were called.
 use Rattle.std.proofs.Common.{[], ◌∷◌, ◌≡◌, List, refl}
-use Rattle.update_machine.specs.Exports.{Answers, Drain, Event, Flush, Item, One, StepOfRow, handled_count}
-use Rattle.steps.specs.declared.step.Step.TheVariants as step
-use Rattle.update_machine.proofs.ComputedSteps.{left_by}
-use Rattle.update_machine.proofs.ExampleNetworks.{at, one, shielded}
+use Rattle.update_machine.specs.Exports.{Answers, Drain, Event, Flush, Item, One, Step, StepOfRow, handled_count}
+use Rattle.update_machine.proofs.ExampleNetworks.{at, left_by, one, shielded}
 
 -- a packet enters and is drained; then the cache rule that it brought is delivered
 abbrev entering : List StepOfRow
-entering = at 1 (step.Packet 0 one) ∷ []
+entering = at 1 (Step.Packet 0 one) ∷ []
 
 abbrev draining : List StepOfRow
-draining = at 2 (step.Hop 1) ∷ at 2 (step.Hop 1) ∷ []
+draining = at 2 (Step.Hop 1) ∷ at 2 (Step.Hop 1) ∷ []
 
 abbrev flushing : List StepOfRow
-flushing = at 3 (step.Deliver 1) ∷ []
+flushing = at 3 (Step.Deliver 1) ∷ []
 
 abbrev taken : List StepOfRow
-taken = at 1 (step.Packet 0 one) ∷ at 2 (step.Hop 1) ∷ at 2 (step.Hop 1) ∷ at 3
-    (step.Deliver 1) ∷ []
+taken = at 1 (Step.Packet 0 one) ∷ at 2 (Step.Hop 1) ∷ at 2 (Step.Hop 1) ∷ at 3
+    (Step.Deliver 1) ∷ []
 
 abbrev events : List Event
-events = One (step.Packet 0 one) ∷ Drain ∷ Flush ∷ []
+events = One (Step.Packet 0 one) ∷ Drain ∷ Flush ∷ []
 
 abbrev journal : List Item
 journal = left_by shielded taken
@@ -31,7 +29,7 @@ answers_rows = record {
   steps = taken;
   allowed = (
     entering,
-    at 2 (step.Hop 1) ∷ at 2 (step.Hop 1) ∷ at 3 (step.Deliver 1) ∷ [],
+    at 2 (Step.Hop 1) ∷ at 2 (Step.Hop 1) ∷ at 3 (Step.Deliver 1) ∷ [],
     record { split = refl },
     refl,
     (

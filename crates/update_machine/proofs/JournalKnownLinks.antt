@@ -1,14 +1,105 @@
 -- What a switch knows of the network's links, by the laws of adverts and routes.
-use Rattle.std.proofs.Common.{[], if◌then◌else◌, ◌++◌, ◌<◌, ◌==◌, ◌↔◌, ◌∙◌, ◌∷◌, ◌≡◌, ◌≢◌, ◌≤◌, Bool, IsTrue, List, None, Option, Some, ap, arith, false, get_or-set_other, get_or-set_same, inl, inr, length, length-set, map, option_to_list, refl, set, set-set, slice_index, subst, sym, true, unwrap_or, ℕ}
-use Rattle.base.proofs.Exports.{AllByRecursion, map-set, nat_tests}
-use Rattle.failover.specs.Exports.{AreByOrigin, IsIsolated, IsNewest, IsPath, IsReachable, IsRoute, LinksLead, after_hearing, after_hearing_all, first_adverts, held_advert, is_link, known_links, links_at, named_links, neighbours_named, no_adverts}
-use Rattle.update_machine.specs.Exports.{Advert, Exit, Item, KnownLinkLaws, Out, Setting, advert_known, adverts_begun, adverts_heard, adverts_known, adverts_of_others, end_items, found_down, is_cut_off, is_in_first_boot, leaving_item, leg_items, links_known, near, no_switch, own_advert, own_if_sent, owner, route_from, stuck_on, switches_of, takes_route}
-use Rattle.failover.proofs.HeldAdverts.{by_origin-first, by_origin-hearing, by_origin-none}
+use Rattle.std.proofs.Common.{[], ◌&&◌, ◌++◌, ◌<◌, ◌==◌, ◌^◌, ◌||◌, ◌↔◌, ◌∙◌, ◌∷◌, ◌≡◌, ◌≢◌, ◌≤◌, ◌⊎◌, Bool, Contains, Err, IsFalse, IsTrue, List, None, Ok, Option, Result, Some, ap, arith, bit_or, false, filter, get_or, get_or-set_other, get_or-set_same, if◌then◌else◌, inl, inr, length, length-set, map, max, min, nat_lt, option_to_list, refl, rules, set, set-set, slice_index, slice_set, subst, sym, true, unwrap_or, ℕ}
+use Rattle.base.proofs.Exports.{AllByRecursion, any_filtered, any_weaker, cases_eq, cases_lt, false_from_ne_true, get_or-map-range_with_len, has-or, has-pow_other, has_mask, list_any, map-set, nat_tests, option_map_or, or-false, or_left, or_right, set-get_or, set_past}
+use Rattle.failover.specs.Exports.{AreByOrigin, IsIsolated, IsNewest, IsPath, IsReachable, IsRoute, LinksLead, after_hearing, after_hearing_all, first_advert, first_adverts, first_of, has_link, held_advert, is_link, known_links, links_at, named_links, neighbours_named, no_adverts, no_links, with_link}
+use Rattle.failover.proofs.HeldAdverts.{by_origin-first, by_origin-hearing, by_origin-none, held-first}
+use Rattle.update_machine.specs.Exports.{Advert, Exit, Header, IsPlanOf, Item, KnownLinkLaws, LinkRow, MessageStarts, Out, PacketStarts, Row, Setting, StartLaws, acked_stamp, advert_known, adverts_begun, adverts_heard, adverts_known, adverts_of_others, boot_of, cache_of, can_use, changes_found, controller_heard, current_mark, decision_of, end_items, file_of, finds_down, folded_from, found_down, handled_count, has_acked, header_in, heard, holds_version, hosted_in, ingress_of, is_cut_off, is_deliverable, is_forgotten, is_in_first_boot, is_link_up, is_member, is_over, is_up, is_usable, known_boot, leaving_item, leg_items, leg_of, links_known, lookup_at, message_of, near, next_message, next_packet, next_switch, next_travelling, next_waiting, no_switch, opened_at, own_advert, own_if_sent, own_seq, owner, plan_at, policy_in, present_step, retired_mark, route_from, route_in, route_place, sendings, serves, stamp_of, standing, steps_in, stuck_on, switches_of, tables_at, takes_route, travels, usable_links, version_count, was_delivered}
+use Rattle.net_file.specs.Exports.{are_linked, joins, links_of, owner_of}
+use Rattle.switch_table.specs.Exports.{table_lookup}
 use Rattle.failover.proofs.NewestAdvert.{held_newest}
 use Rattle.failover.proofs.KnownLinkRows.{has_known, isolated_tells}
 use Rattle.failover.proofs.RouteSearch.{known_route_is_route}
 use Rattle.base.specs.Exports.{has, switches}
-use Rattle.net_file.specs.Exports.{links_of, owner_of}
+use Rattle.failover.proofs.LinkBalls.{or_cases}
+use Rattle.failover.proofs.LinkSets.{has_link-none}
+use Rattle.partition.specs.Plan.{Hosted}
+use Rattle.policy_rules.specs.Exports.{NoPlan}
+
+-- ---- what a journal without items says
+
+all_usable : (links : List LinkRow) → filter (is_usable []) links ≡ links
+unfolding is_link_up serves
+all_usable [] = refl
+all_usable (link ∷ links) = ap (λ rest. link ∷ rest) (all_usable links)
+
+near_start : (setting : Setting) (s : ℕ) → near setting [] s ≡ links_of setting.net.links s
+unfolding near
+near_start setting s = ap (λ links. links_of links s) (all_usable setting.net.links)
+
+seq_start : (setting : Setting) (s : ℕ) → own_seq setting [] s ≡ 1
+unfolding own_seq boot_of is_up steps_in
+seq_start setting s = refl
+
+advert_start : (setting : Setting) (s : ℕ) → own_advert setting [] s ≡ first_advert s
+    (links_of setting.net.links s)
+unfolding own_advert own_seq boot_of is_up steps_in
+advert_start setting s = ap (first_advert s) (near_start setting s)
+
+acked_start : (s v : ℕ) → has_acked [] s v ≡ (v == 1)
+unfolding has_acked known_boot controller_heard
+acked_start s v = or-false (v == 1)
+
+versions_start : (s v : ℕ) → holds_version [] s v ≡ (v == 1)
+unfolding holds_version heard is_up boot_of
+versions_start s v = by_test (v == 1) where
+  by_test : (b : Bool) → ((b && true) && true) ≡ b
+  by_test true = refl
+  by_test false = refl
+
+packet_starts : (i : ℕ) → PacketStarts i
+unfolding header_in ingress_of standing travels decision_of leg_of route_in route_place next_switch
+    found_down
+packet_starts i = search rules
+
+message_starts : (n : ℕ) → MessageStarts n
+unfolding message_of was_delivered is_forgotten is_deliverable
+message_starts n = search rules
+
+-- the own advert is the one that the switch began with
+own_first : (setting : Setting) (s : ℕ) → s < length setting.net.switches
+    → first_of (map (links_of setting.net.links) (switches_of setting))
+    (length setting.net.switches) s ≡ Some (first_advert s (links_of setting.net.links s))
+own_first setting s there =
+    let below : nat_lt s (length setting.net.switches) ≡ true = grind (arith, nat_tests) in
+    let own = get_or-map-range_with_len (links_of setting.net.links) 0 (length setting.net.switches)
+    s s 0 there (omega arith) in
+    rw (below, own) refl
+
+adverts_start : (setting : Setting) (s : ℕ) → s < length setting.net.switches
+    → length setting.net.switches ≤ 64 → adverts_known setting [] s ≡ first_adverts
+    (map (links_of setting.net.links) (switches_of setting)) (length setting.net.switches)
+unfolding adverts_known heard is_up boot_of
+adverts_start setting s there few =
+    let near = map (links_of setting.net.links) (switches_of setting) in
+    let count : ℕ = length setting.net.switches in
+    rw (advert_start setting s) (ap (slice_set (first_adverts near count) s)
+    (sym (held-first near count s (omega (arith, few, there)) ∙ own_first setting s there))
+    ∙ set-get_or (first_adverts near count) s None)
+
+lookup_start : (setting : Setting) (s : ℕ) (header : Header) → lookup_at setting [] s header
+    ≡ table_lookup (tables_at setting [] 1 s) header
+unfolding lookup_at cache_of stamp_of heard is_up boot_of
+lookup_start setting s header = refl
+
+pub start_laws : StartLaws
+unfolding boot_of is_up serves heard stamp_of version_count file_of known_boot is_over is_member
+    opened_at controller_heard acked_stamp current_mark retired_mark is_link_up cache_of
+    handled_count steps_in next_packet next_travelling next_message next_waiting sendings
+    present_step
+start_laws = search (
+  rules,
+  versions_start,
+  acked_start,
+  near_start,
+  seq_start,
+  advert_start,
+  packet_starts,
+  message_starts,
+  adverts_start,
+  lookup_start,
+)
+
+-- ---- journal known links
 
 begun_by_origin : (setting : Setting) (journal : List Item) (s : ℕ)
     → AreByOrigin (adverts_begun setting journal s)
@@ -151,3 +242,126 @@ portless_stuck setting journal i s port small none =
 
 pub known_link_laws : KnownLinkLaws
 known_link_laws = search (newest_known, own_known, route_known, cut_off_known, portless_stuck)
+
+-- ---- what switches can use and know of links, what packets found down, and the plans of versions,
+-- as items say it: against the masks, sets and functions that compute them.
+
+-- ---- links that switches can use
+
+-- a switch can use the links to those that are near, and no others
+pub near_usable : (setting : Setting) (journal : List Item) (one two : ℕ) → two < 64
+    → has (near setting journal one) two ≡ can_use setting journal one two
+unfolding near
+near_usable setting journal one two small =
+    has_mask (are_linked (usable_links setting journal) one) two small
+    ∙ any_filtered (joins one two) (is_usable journal) setting.net.links
+
+-- a link that can be used is of the network
+pub usable_linked : (setting : Setting) (journal : List Item) (one two : ℕ)
+    → IsTrue (can_use setting journal one two) → IsTrue (are_linked setting.net.links one two)
+usable_linked setting journal one two is =
+    any_weaker (joins one two) (is_usable journal) setting.net.links is
+
+-- ---- links that packets found down
+
+same_ends : (one two x y : ℕ) → min x y ≡ min one two → max x y ≡ max one two
+    → ((one == x && two == y) || (one == y && two == x)) ≡ true
+same_ends one two x y low high = grind (arith, nat_tests)
+
+-- a row has what it had, or it is that of the lower end, and gained the higher one
+row_gained : (links : List ℕ) (low high k x : ℕ)
+    → IsTrue (has (get_or (set links low (bit_or (get_or links low 0) (2 ^ high))) k 0) x)
+    → IsTrue (has (get_or links k 0) x) ⊎ ((k ≡ low) × (x ≡ high))
+row_gained links low high k x is = elim (cases_lt low (length links)) [
+  | inr past ↦ inl (ap (λ rows. has (get_or rows k 0) x)
+      (sym (set_past links low (bit_or (get_or links low 0) (2 ^ high)) past)) ∙ is)
+  | inl within ↦ elim (cases_eq k low) [
+    | inr apart ↦ inl (ap (λ row. has row x)
+        (sym (get_or-set_other links low k (bit_or (get_or links low 0) (2 ^ high)) 0 apart)) ∙ is)
+    | inl same ↦
+        elim (or_cases _ _ (sym (has-or (get_or links low 0) (2 ^ high) x) ∙ ap (λ n. has n x)
+        (sym (ap (λ n. get_or (set links low (bit_or (get_or links low 0) (2 ^ high))) n 0) same
+        ∙ get_or-set_same links low (bit_or (get_or links low 0) (2 ^ high)) 0 within)) ∙ is)) [
+          | inl old ↦ inl (ap (λ n. has (get_or links n 0) x) same ∙ old)
+          | inr new ↦ elim (cases_eq x high) [
+            | inl at ↦ inr (same, at)
+            | inr apart ↦
+                let none : has (2 ^ high) x ≡ false = has-pow_other high x apart in absurd cc
+          ]
+        ]
+  ]
+]
+
+link_gained : (links : List ℕ) (one two x y : ℕ) → IsTrue (has_link (with_link links one two) x y)
+    → IsTrue (has_link links x y) ⊎ (((one == x && two == y) || (one == y && two == x)) ≡ true)
+unfolding has_link with_link
+link_gained links one two x y is =
+    elim (row_gained links (min one two) (max one two) (min x y) (max x y) is) [
+      | inl old ↦ inl old
+      | inr new ↦ inr (same_ends one two x y new.0 new.1)
+    ]
+
+-- each link that items add to a set was found down by one of them
+found_by : (i x y : ℕ) (before : List Item) (links : List ℕ) (items : List Item)
+    → IsTrue (has_link (folded_from (changes_found i) before links items) x y)
+    → (has_link links x y || list_any (finds_down i x y) items) ≡ true
+found_by i x y before links [] is = or_left _ _ is
+found_by i x y before links (Item.FoundDown packet one two ∷ items) is = by_packet (packet == i)
+    refl (found_by i x y (before ++ Item.FoundDown packet one two ∷ []) (changes_found i before
+    links (Item.FoundDown packet one two)) items is)
+  where
+    by_packet : (b : Bool) → (packet == i) ≡ b
+        → (has_link (changes_found i before links (Item.FoundDown packet one two)) x y
+        || list_any (finds_down i x y) items) ≡ true → (has_link links x y
+        || list_any (finds_down i x y) (Item.FoundDown packet one two ∷ items)) ≡ true
+    by_packet false e rest = rw e (rw e at rest)
+    by_packet true e rest = elim (or_cases _ _ (rw e at rest)) [
+      | inl there ↦ elim (link_gained links one two x y there) [
+        | inl old ↦ or_left _ _ old
+        | inr new ↦ or_right (has_link links x y) _ (rw (e, new) refl)
+      ]
+      | inr later ↦ or_right (has_link links x y) _
+          (or_right (finds_down i x y (Item.FoundDown packet one two)) _ later)
+    ]
+found_by i x y before links (next ∷ items) is = found_by i x y (before ++ next ∷ []) links items is
+
+-- a link of the set was found down
+pub link_found : (journal : List Item) (i one two : ℕ)
+    → IsTrue (has_link (found_down journal i) one two)
+    → IsTrue (list_any (finds_down i one two) journal)
+unfolding found_down
+link_found journal i one two is =
+    cc (has_link-none one two, found_by i one two [] no_links journal is)
+
+-- so what wasn't found down isn't in the set
+pub link_not_found : (journal : List Item) (i one two : ℕ)
+    → IsFalse (list_any (finds_down i one two) journal)
+    → IsFalse (has_link (found_down journal i) one two)
+link_not_found journal i one two none = false_from_ne_true (has_link (found_down journal i) one two)
+    (λ is. let there = link_found journal i one two is in cc)
+
+-- ---- plans of versions
+
+-- a plan that has a partition is that of its version's policy
+pub plan_is : (setting : Setting) (journal : List Item) (version : ℕ) (hosted : Hosted)
+    → Contains (plan_at setting journal version) hosted
+    → IsPlanOf setting journal version (plan_at setting journal version)
+unfolding plan_at
+plan_is setting journal version hosted there =
+    by_policy (policy_in setting journal version) refl there
+  where
+    plan_by : Option (List Row) → List Hosted
+    plan_by policy = option_map_or (λ rows. hosted_in (setting.plan rows)) policy []
+
+    by_plan : (rows : List Row) (plan : Result (List Hosted) NoPlan)
+        → policy_in setting journal version ≡ Some rows → setting.plan rows ≡ plan
+        → Contains (hosted_in plan) hosted
+        → IsPlanOf setting journal version (hosted_in plan)
+    by_plan rows (Err why) policy is there = absurd (omega (arith, there.1))
+    by_plan rows (Ok plan) policy is there = (rows, policy, is)
+
+    by_policy : (policy : Option (List Row)) → policy_in setting journal version ≡ policy
+        → Contains (plan_by policy) hosted
+        → IsPlanOf setting journal version (plan_by policy)
+    by_policy None is there = absurd (omega (arith, there.1))
+    by_policy (Some rows) is there = by_plan rows (setting.plan rows) is refl there

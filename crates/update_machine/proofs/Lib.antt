@@ -1,52 +1,24 @@
 pub mod ExampleNetworks
-pub mod ComputedSteps
 mod CacheRows
 mod BootRows
-mod OverRows
-mod UpdateRows
-mod LinkRows
-mod KnownRows
-mod OtherRows
-mod CampusRows
-mod AnswerRows
 mod QuietRows
+mod OtherRows
+mod CachesSaid
+mod AnswerRows
 mod HandledRows
-pub mod EnclosedWalks
-mod CauseRows
-mod MachineRows
-mod MarkRows
+pub mod SilentLinks
+mod VersionsSaid
 mod MarksSaid
 mod SwitchesSaid
-mod VersionsSaid
-mod ChangesSaid
-mod CachesSaid
-mod FoldLemmas
+mod NumberBlocks
 mod VersionPolicies
 mod PolicySettings
-mod TouchedLemmas
-mod MachinePolicies
-mod OneAnswer
-mod AnswerExistence
-mod CauseLemmas
-mod NumberBlocks
-mod NumberPieces
-mod AnswerCauses
-mod PacketNumbering
-mod SilentItems
-mod SilentSwitches
-mod SilentSteps
-mod SilentLinks
-mod SilentMessages
-mod SilentPackets
-mod SilentController
-mod EmptyJournal
-mod JournalKnownLinks
 mod FirstSteps
-mod WholeAnswers
-mod EventSteps
-mod OnePlay
+mod AnswerExistence
+mod PacketNumbering
+mod SilentSteps
+mod SilentController
+mod JournalKnownLinks
 mod SomePlay
-mod UsableClaims
-pub mod ExampleVersions
 pub mod CallerLemmas
 pub mod Exports

@@ -1,12 +1,11 @@
 -- What the controller is said to know, on journals of few items.
 use Rattle.std.proofs.Common.{[], ◌++◌, ◌∷◌, ◌≡◌, List, Some, false, refl, true, ℕ}
 use Rattle.update_machine.specs.Exports.{Body, Hello, Installed, Item, OpenAt, Stamped, acked_stamp, controller_heard, current_mark, has_acked, is_joining, is_member, is_over, known_boot, message_of, next_current, next_retired, opened_at, version_count}
-use Rattle.journal.specs.declared.item.Item.TheVariants as item
 use Rattle.update_machine.proofs.ExampleNetworks.{open_net, to, to_controller}
 
 -- the controller is told this
 abbrev told : ℕ → Body → List Item
-told number body = item.Sent number (to_controller body) ∷ item.Delivered number ∷ []
+told number body = Item.Sent number (to_controller body) ∷ Item.Delivered number ∷ []
 
 -- ---- boots
 
@@ -21,7 +20,7 @@ boot_of_b = refl
 -- ---- switches that are over
 
 abbrev over : List Item
-over = item.OverNow 0 ∷ []
+over = Item.OverNow 0 ∷ []
 
 pub over_by_item : is_over over 0 ≡ true
 unfolding is_over known_boot controller_heard message_of
@@ -46,8 +45,8 @@ joins_in_boot_2 = refl
 
 -- the first Open of its boot makes it a member
 abbrev opened : List Item
-opened = back ++ item.Sent 4 (to 0 (OpenAt 1 1)) ∷ item.Sent 5 (to 0 (OpenAt 2 3))
-    ∷ item.Sent 6 (to 0 (OpenAt 2 4)) ∷ []
+opened = back ++ Item.Sent 4 (to 0 (OpenAt 1 1)) ∷ Item.Sent 5 (to 0 (OpenAt 2 3))
+    ∷ Item.Sent 6 (to 0 (OpenAt 2 4)) ∷ []
 
 pub opened_at_3 : opened_at opened 0 ≡ Some 3
 unfolding opened_at known_boot controller_heard message_of
@@ -57,7 +56,7 @@ pub member_once_opened : is_member opened 0 ≡ true
 unfolding is_member is_over opened_at known_boot controller_heard message_of
 member_once_opened = refl
 
-pub no_member_over : is_member (opened ++ item.OverNow 0 ∷ []) 0 ≡ false
+pub no_member_over : is_member (opened ++ Item.OverNow 0 ∷ []) 0 ≡ false
 unfolding is_member is_over opened_at known_boot controller_heard message_of
 no_member_over = refl
 
@@ -88,7 +87,7 @@ greatest_stamp = refl
 
 -- of three versions both switches acknowledged the second, and one of them the third
 abbrev three : List Item
-three = item.Submitted 1 2 ∷ item.Submitted 2 3 ∷ told 1 (Installed 0 1 2)
+three = Item.Submitted 1 2 ∷ Item.Submitted 2 3 ∷ told 1 (Installed 0 1 2)
     ++ told 2 (Installed 1 1 2) ++ told 3 (Installed 0 1 3)
 
 pub current_to_2 : next_current open_net three ≡ 2
@@ -98,14 +97,14 @@ current_to_2 = refl
 
 -- without the second one the third one isn't enough
 pub current_stays : next_current open_net
-    (item.Submitted 1 2 ∷ item.Submitted 2 3 ∷ told 1 (Installed 0 1 3) ++ told 2 (Installed 1 1 3))
+    (Item.Submitted 1 2 ∷ Item.Submitted 2 3 ∷ told 1 (Installed 0 1 3) ++ told 2 (Installed 1 1 3))
     ≡ 1
 unfolding next_current is_member is_over opened_at has_acked known_boot controller_heard
     message_of current_mark version_count
 current_stays = refl
 
 -- a switch that is over hinders nothing
-pub current_without_b : next_current open_net (three ++ item.OverNow 1 ∷ []) ≡ 3
+pub current_without_b : next_current open_net (three ++ Item.OverNow 1 ∷ []) ≡ 3
 unfolding next_current is_member is_over opened_at has_acked known_boot controller_heard
     message_of current_mark version_count
 current_without_b = refl
@@ -118,7 +117,7 @@ retired_by_the_least = refl
 
 -- without a member it follows the current mark
 pub retired_without_members :
-    next_retired open_net (item.Current 4 ∷ item.OverNow 0 ∷ item.OverNow 1 ∷ []) ≡ 3
+    next_retired open_net (Item.Current 4 ∷ Item.OverNow 0 ∷ Item.OverNow 1 ∷ []) ≡ 3
 unfolding next_retired acked_stamp is_member is_over opened_at known_boot controller_heard
     message_of current_mark
 retired_without_members = refl

@@ -2,10 +2,7 @@
 use Rattle.std.proofs.Common.{[], ◌++◌, ◌+◌, ◌∙◌, ◌∷◌, ◌≡◌, Bool, List, add-zero, ap, append-nil, append_assoc, arith, false, refl, subst, suc, sym, true, zero, ℕ}
 use Rattle.base.proofs.Exports.{range_with_len}
 use Rattle.update_machine.specs.Exports.{AreNumbered, BeginsAnswer, Event, HaveCauses, Item, Setting, TakesNext, VersionsAreNumbered, all_given, count_of, is_packet, is_sending, message_number, next_message, next_packet, packet_number}
-use Rattle.journal.specs.declared.item.Item.TheVariants as item
-use Rattle.update_machine.proofs.AnswerCauses.{begun_has}
-use Rattle.update_machine.proofs.FoldLemmas.{all_given_append, count_of_append}
-use Rattle.update_machine.proofs.NumberPieces.{piece_next}
+use Rattle.update_machine.proofs.NumberBlocks.{all_given_append, begun_has, count_of_append, piece_next}
 use Rattle.update_machine.proofs.VersionPolicies.{numbered_at_first, other_more, submitted_more}
 
 range_more : (a n : ℕ) → range_with_len a (n + 1) ≡ range_with_len a n ++ (a + n) ∷ []
@@ -46,10 +43,10 @@ packet_more : (journal : List Item) (item : Item) → TakesNext journal item
     → Numbered packet_number is_packet journal → Numbered packet_number is_packet
     (journal ++ item ∷ [])
 unfolding next_packet
-packet_more journal (item.Entered packet switch header) next known = counted packet_number is_packet
-    journal (item.Entered packet switch header) packet refl refl next known
-packet_more journal (item.Closed packet switch) next known = counted packet_number is_packet journal
-    (item.Closed packet switch) packet refl refl next known
+packet_more journal (Item.Entered packet switch header) next known = counted packet_number is_packet
+    journal (Item.Entered packet switch header) packet refl refl next known
+packet_more journal (Item.Closed packet switch) next known = counted packet_number is_packet journal
+    (Item.Closed packet switch) packet refl refl next known
 packet_more journal other next known = not_counted packet_number is_packet journal other refl refl
     known
 
@@ -57,14 +54,14 @@ message_more : (journal : List Item) (item : Item) → TakesNext journal item
     → Numbered message_number is_sending journal → Numbered message_number is_sending
     (journal ++ item ∷ [])
 unfolding next_message
-message_more journal (item.Sent number message) next known = counted message_number is_sending
-    journal (item.Sent number message) number refl refl next known
+message_more journal (Item.Sent number message) next known = counted message_number is_sending
+    journal (Item.Sent number message) number refl refl next known
 message_more journal other next known = not_counted message_number is_sending journal other refl
     refl known
 
 version_more : (journal : List Item) (item : Item) → TakesNext journal item
     → VersionsAreNumbered journal → VersionsAreNumbered (journal ++ item ∷ [])
-version_more journal (item.Submitted file version) next known =
+version_more journal (Item.Submitted file version) next known =
     submitted_more journal file version next known
 version_more journal other next known = other_more journal other refl known
 

@@ -1,8 +1,7 @@
 -- Items that don't concern the controller leave what it knows as it is.
 use Rattle.std.proofs.Common.{[], ◌++◌, ◌+◌, ◌≡◌, IsFalse, List, None, ap, append-nil, arith, false, refl, ℕ}
 use Rattle.update_machine.specs.Exports.{Body, ControllerKeeps, Item, NoneConcern, OpenAt, acked_stamp, body_to_controller, changes_controller_heard, changes_over, concerns_controller, controller_heard, current_mark, gives_current, gives_retired, has_acked, is_member, is_message_to_controller, is_opening, is_over, is_submission, known_boot, open_in, open_sent, opened_at, retired_mark, version_count}
-use Rattle.journal.specs.declared.item.Item.TheVariants as item
-use Rattle.update_machine.proofs.SilentItems.{Keeps, Silent, Stays, count_stays, folded_stays, given_stays, last_or_stays}
+use Rattle.update_machine.proofs.SilentSteps.{Keeps, Silent, Stays, count_stays, folded_stays, given_stays, last_or_stays}
 
 -- a message for a switch says nothing to the controller
 told_nothing : (before : List Item) (number : ℕ) → IsFalse (is_message_to_controller before number)
@@ -10,13 +9,13 @@ told_nothing : (before : List Item) (number : ℕ) → IsFalse (is_message_to_co
 told_nothing before number apart = grind arith
 
 told_silent : Keeps concerns_controller changes_controller_heard
-told_silent before bodies (item.Delivered number) apart = rw (told_nothing before number apart)
+told_silent before bodies (Item.Delivered number) apart = rw (told_nothing before number apart)
     (append-nil bodies)
 told_silent before bodies _ apart = refl
 
 over_silent : (s : ℕ) → Keeps concerns_controller (changes_over s)
-over_silent s before over (item.Delivered number) apart = rw (told_nothing before number apart) refl
-over_silent s before over (item.OverNow switch) apart = cc
+over_silent s before over (Item.Delivered number) apart = rw (told_nothing before number apart) refl
+over_silent s before over (Item.OverNow switch) apart = cc
 over_silent s before over _ apart = refl
 
 -- a body that opens no switch
@@ -25,20 +24,20 @@ closed_body boot (OpenAt of version) apart = cc
 closed_body boot _ apart = refl
 
 open_silent : (s boot : ℕ) → Silent concerns_controller (open_sent s boot) []
-open_silent s boot before (item.Sent number message) apart =
+open_silent s boot before (Item.Sent number message) apart =
     let none : open_in boot message.body ≡ [] = closed_body boot message.body apart in grind arith
 open_silent s boot before _ apart = refl
 
 current_silent : Silent concerns_controller gives_current None
-current_silent before (item.Current version) apart = cc
+current_silent before (Item.Current version) apart = cc
 current_silent before _ apart = refl
 
 retired_silent : Silent concerns_controller gives_retired None
-retired_silent before (item.Retired version) apart = cc
+retired_silent before (Item.Retired version) apart = cc
 retired_silent before _ apart = refl
 
 submission_silent : Silent concerns_controller is_submission false
-submission_silent before (item.Submitted file version) apart = cc
+submission_silent before (Item.Submitted file version) apart = cc
 submission_silent before _ apart = refl
 
 known_stays : (s : ℕ) → Stays concerns_controller (λ js. known_boot js s)

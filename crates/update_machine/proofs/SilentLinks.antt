@@ -1,22 +1,32 @@
 -- Items that don't concern the links leave as they are the adverts that switches tell, and those
 -- that don't concern a switch either, what it knows of the network.
-use Rattle.std.proofs.Common.{[], if◌then◌else◌, ◌&&◌, ◌++◌, ◌==◌, ◌∙◌, ◌∷◌, ◌≡◌, ◌≤◌, Bool, IsFalse, List, None, Some, ap, append_assoc, arith, count_by, eq-eqb, false, not, option_and_then, refl, suc, sym, true, unwrap_or, zero, ℕ}
-use Rattle.base.proofs.Exports.{option_map_or, result_ok}
-use Rattle.update_machine.specs.Exports.{Header, Item, KnownKeeps, LinksKeep, NoneConcern, PoliciesKeep, Setting, StepItems, adverts_known, boot_of, concerns_known, concerns_links, concerns_lookups, concerns_policies, concerns_switch, concerns_waiting, file_of, first_given, gives_boot, gives_file, gives_up, gives_waited_for, has_change, heard, held_adverts, hosted_in, is_cut_off, is_submission, is_up, is_waited_for, lookup_at, near, next_policy, own_advert, own_seq, plan_at, policy_at, policy_by, policy_in, route_from, stamp_of, steps_in, touched_by, version_count}
-use Rattle.journal.specs.declared.item.Item.TheVariants as item
-use Rattle.update_machine.proofs.SilentItems.{Silent, Stays, count_stays, fewer, first_stays, last_or_stays, neither_left, neither_right, stays}
-use Rattle.update_machine.proofs.SilentSteps.{weight_stays}
-use Rattle.update_machine.proofs.SilentSwitches.{link_stays, near_stays, switch_keeps}
+use Rattle.std.proofs.Common.{[], ◌&&◌, ◌++◌, ◌+◌, ◌==◌, ◌∙◌, ◌∷◌, ◌≡◌, ◌≤◌, Bool, IsFalse, IsTrue, List, None, Some, ap, append_assoc, arith, count_by, eq-eqb, false, find, if◌then◌else◌, nat_lt, not, option_and_then, refl, suc, sym, true, unwrap_or, zero, ℕ}
+use Rattle.update_machine.specs.Exports.{Header, Item, KnownKeeps, Leads, LinksKeep, MessageKeeps, MessagesKeep, NoneConcern, PacketsKeep, PoliciesKeep, Setting, StepItems, adverts_known, boot_of, changes_sendings, concerns_known, concerns_links, concerns_lookups, concerns_message, concerns_messages, concerns_packets, concerns_policies, concerns_steps, concerns_switch, concerns_waiting, count_of, file_of, first_given, gives_boot, gives_file, gives_message, gives_step, gives_travelling, gives_up, gives_waited_for, has_change, heard, held_adverts, hosted_in, is_cut_off, is_deliverable, is_delivery, is_forgetting, is_forgotten, is_packet, is_sending, is_submission, is_up, is_waited_for, is_waiting, lookup_at, message_of, near, next_message, next_packet, next_policy, next_travelling, next_waiting, own_advert, own_seq, plan_at, policy_at, policy_by, policy_in, present_step, route_from, sendings, stamp_of, steps_in, touched_by, travels, version_count, was_delivered}
+use Rattle.base.proofs.Exports.{option_map_or, range_with_len, result_ok}
+use Rattle.update_machine.proofs.SilentSteps.{Keeps, Silent, Stays, count_stays, fewer, first_stays, folded_stays, last_or_stays, last_stays, link_stays, near_stays, neither_left, neither_right, stays, switch_keeps, weight_stays}
+use Rattle.policy_rules.proofs.CallerLemmas.{find_same}
+
+-- ---- a way keeps within switches that no link leads out of
+
+pub ends_within : (joined : ℕ → ℕ → Bool) (within : ℕ → Bool)
+    → ((one two : ℕ) → IsTrue (within one) → IsTrue (joined one two) → IsTrue (within two))
+    → (at : ℕ) (path : List ℕ) (target : ℕ) → IsTrue (within at) → Leads joined at path target
+    → IsTrue (within target)
+ends_within joined within keeps at [] target here leads = rw leads at here
+ends_within joined within keeps at (next ∷ path) target here leads =
+    ends_within joined within keeps next path target (keeps at next here leads.0) leads.1
+
+-- ---- silent links
 
 -- ---- the number of the own advert
 
 boot_silent : (s : ℕ) → Silent concerns_links (gives_boot s) None
-boot_silent s before (item.Booted switch boot) apart = cc
+boot_silent s before (Item.Booted switch boot) apart = cc
 boot_silent s before _ apart = refl
 
 up_silent : (s : ℕ) → Silent concerns_links (gives_up s) None
-up_silent s before (item.Booted switch boot) apart = cc
-up_silent s before (item.Down switch) apart = cc
+up_silent s before (Item.Booted switch boot) apart = cc
+up_silent s before (Item.Down switch) apart = cc
 up_silent s before _ apart = refl
 
 boot_stays : (s : ℕ) → Stays concerns_links (λ js. boot_of js s)
@@ -134,7 +144,7 @@ known_keeps setting s before items none =
 -- ---- policies, and what a switch says of a header
 
 file_silent : (v : ℕ) → Silent concerns_policies (gives_file v) None
-file_silent v before (item.Submitted file version) apart = cc
+file_silent v before (Item.Submitted file version) apart = cc
 file_silent v before _ apart = refl
 
 count_silent : Silent concerns_policies is_submission false
@@ -213,9 +223,123 @@ lookup_stays setting s header before items none =
 -- ---- switches that are waited for
 
 waited_silent : (s : ℕ) → Silent (concerns_waiting s) (gives_waited_for s) None
-waited_silent s before (item.Down switch) apart = rw apart refl
-waited_silent s before (item.OverNow switch) apart = rw apart refl
+waited_silent s before (Item.Down switch) apart = rw apart refl
+waited_silent s before (Item.OverNow switch) apart = rw apart refl
 waited_silent s before _ apart = refl
 
 pub waited_stays : (s : ℕ) → Stays (concerns_waiting s) (λ js. is_waited_for js s)
 waited_stays s = last_or_stays (gives_waited_for s) false (concerns_waiting s) (waited_silent s)
+
+-- ---- items that don't concern a message, all messages, all packets or the steps leave their facts
+-- as they are.
+
+-- ---- a message
+
+message_silent : (n : ℕ) → Silent (concerns_message n) (gives_message n) None
+message_silent n before (Item.Sent number message) apart = rw apart refl
+message_silent n before _ apart = refl
+
+delivery_silent : (n : ℕ) → Silent (concerns_message n) (is_delivery n) false
+delivery_silent n before (Item.Delivered number) apart = apart
+delivery_silent n before _ apart = refl
+
+forgetting_silent : (n : ℕ) → Silent (concerns_message n) (is_forgetting n) false
+forgetting_silent n before (Item.Forgotten number) apart = apart
+forgetting_silent n before _ apart = refl
+
+pub message_keeps : (n : ℕ) (before items : List Item)
+    → NoneConcern (concerns_message n) before items → MessageKeeps n before (before ++ items)
+unfolding message_of was_delivered is_forgotten is_deliverable
+message_keeps n before items none =
+    let message = last_stays _ _ (message_silent n) before items none in
+    let forgotten = ap (nat_lt 0) (count_stays _ _ (forgetting_silent n) before items none) in
+    record {
+      message = message;
+      delivered = ap (nat_lt 0) (count_stays _ _ (delivery_silent n) before items none);
+      forgotten = forgotten;
+      deliverable = rw (message, forgotten) refl;
+    }
+
+-- ---- all messages
+
+sending_silent : Silent concerns_messages is_sending false
+sending_silent before (Item.Sent number message) apart = apart
+sending_silent before _ apart = refl
+
+sendings_silent : Keeps concerns_messages changes_sendings
+sendings_silent before sent (Item.Sent number message) apart = cc
+sendings_silent before sent _ apart = refl
+
+pub each_silent : (n : ℕ) (before : List Item) (item : Item) → IsFalse (concerns_messages before item)
+    → IsFalse (concerns_message n before item)
+each_silent n before (Item.Sent number message) apart = cc
+each_silent n before (Item.Delivered number) apart = cc
+each_silent n before (Item.Forgotten number) apart = cc
+each_silent n before _ apart = refl
+
+sent_count_stays : Stays concerns_messages (count_of is_sending)
+sent_count_stays = count_stays is_sending concerns_messages sending_silent
+
+-- so the first number that passes a test of facts that stay is the same
+first_stays_of : (count : List Item → ℕ) (test : List Item → ℕ → Bool) (concerns : List Item
+    → Item → Bool) → Stays concerns count → ((n : ℕ) → Stays concerns (λ js. test js n))
+    → Stays concerns (λ js. find (test js) (range_with_len 1 (count js)))
+first_stays_of count test concerns counts tests before items none =
+    ap (λ k. find (test (before ++ items)) (range_with_len 1 k)) (counts before items none)
+    ∙ find_same (test (before ++ items)) (test before) (λ n. tests n before items none)
+    (range_with_len 1 (count before))
+
+waiting_same : (n : ℕ) → Stays concerns_messages (λ js. is_waiting js n)
+waiting_same n before items none =
+    let keeps = message_keeps n before items
+    (fewer (concerns_message n) concerns_messages (each_silent n) before items none) in
+    rw (keeps.deliverable, keeps.delivered) refl
+
+pub messages_keep : (before items : List Item) → NoneConcern concerns_messages before items
+    → MessagesKeep before (before ++ items)
+unfolding next_message next_waiting sendings
+messages_keep before items none = record {
+  next = ap (λ k. k + 1) (sent_count_stays before items none);
+  waiting = first_stays_of _ is_waiting _ sent_count_stays waiting_same before items none;
+  sent = folded_stays _ [] _ sendings_silent before items none;
+}
+
+-- ---- all packets
+
+packet_silent : Silent concerns_packets is_packet false
+packet_silent before (Item.Entered packet switch header) apart = apart
+packet_silent before (Item.Closed packet switch) apart = apart
+packet_silent before _ apart = refl
+
+travel_silent : (i : ℕ) → Silent concerns_packets (gives_travelling i) None
+travel_silent i before (Item.Entered packet switch header) apart = cc
+travel_silent i before (Item.Dropped packet) apart = cc
+travel_silent i before (Item.Left packet port leaving) apart = cc
+travel_silent i before (Item.Lost packet) apart = cc
+travel_silent i before (Item.Stuck packet switch cause leg down) apart = cc
+travel_silent i before _ apart = refl
+
+travels_stay : (i : ℕ) → Stays concerns_packets (λ js. travels js i)
+unfolding travels
+travels_stay i = last_or_stays (gives_travelling i) false concerns_packets (travel_silent i)
+
+packet_count_stays : Stays concerns_packets (count_of is_packet)
+packet_count_stays = count_stays is_packet concerns_packets packet_silent
+
+pub packets_keep : (before items : List Item) → NoneConcern concerns_packets before items
+    → PacketsKeep before (before ++ items)
+unfolding next_packet next_travelling
+packets_keep before items none = record {
+  next = ap (λ k. k + 1) (packet_count_stays before items none);
+  travelling = first_stays_of _ travels _ packet_count_stays travels_stay before items none;
+}
+
+-- ---- steps
+
+step_silent : Silent concerns_steps gives_step None
+step_silent before (Item.Row row step) apart = cc
+step_silent before _ apart = refl
+
+pub step_stays : Stays concerns_steps present_step
+unfolding present_step
+step_stays = last_stays gives_step concerns_steps step_silent

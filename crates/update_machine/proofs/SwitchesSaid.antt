@@ -1,26 +1,24 @@
 -- What switches, links and messages are said to be, on journals of few items.
 use Rattle.std.proofs.Common.{[], ◌++◌, ◌∷◌, ◌≡◌, List, None, Some, false, refl, true, ℕ}
-use Rattle.update_machine.specs.Exports.{Body, Collect, Install, Item, Stamp, advert_known, adverts_known, boot_of, heard, holds_version, is_deliverable, is_forgotten, is_link_up, is_up, message_of, near, next_travelling, next_waiting, own_advert, own_seq, serves, stamp_of, steps_in, travels, was_delivered}
+use Rattle.update_machine.specs.Exports.{Body, Collect, Install, Item, Stamp, Step, advert_known, adverts_known, boot_of, heard, holds_version, is_deliverable, is_forgotten, is_link_up, is_up, message_of, near, next_travelling, next_waiting, own_advert, own_seq, serves, stamp_of, steps_in, travels, was_delivered}
 use Rattle.failover.specs.Exports.{after_hearing, first_adverts, is_news}
 use Rattle.base.specs.Exports.{mask_of, mask_where, switches}
-use Rattle.steps.specs.declared.step.Step.TheVariants as step
-use Rattle.journal.specs.declared.item.Item.TheVariants as item
 use Rattle.update_machine.proofs.ExampleNetworks.{advert, one, open_net, plan_p, ring, tables_of, to}
 
 -- switch a is told this
 abbrev told : ℕ → Body → List Item
-told number body = item.Sent number (to 0 body) ∷ item.Delivered number ∷ []
+told number body = Item.Sent number (to 0 body) ∷ Item.Delivered number ∷ []
 
 -- ---- boots
 
 abbrev restarted : List Item
-restarted = told 1 (Stamp 1 2 []) ++ item.Down 0 ∷ item.Booted 0 2 ∷ []
+restarted = told 1 (Stamp 1 2 []) ++ Item.Down 0 ∷ Item.Booted 0 2 ∷ []
 
 pub boot_2 : boot_of restarted 0 ≡ 2
 unfolding boot_of
 boot_2 = refl
 
-pub down_until_then : is_up (item.Down 0 ∷ []) 0 ≡ false
+pub down_until_then : is_up (Item.Down 0 ∷ []) 0 ≡ false
 unfolding is_up
 down_until_then = refl
 
@@ -28,7 +26,7 @@ pub closed_in_boot_2 : serves restarted 0 ≡ false
 unfolding serves
 closed_in_boot_2 = refl
 
-pub serves_once_opened : serves (restarted ++ item.Opened 0 2 ∷ []) 0 ≡ true
+pub serves_once_opened : serves (restarted ++ Item.Opened 0 2 ∷ []) 0 ≡ true
 unfolding serves
 serves_once_opened = refl
 
@@ -39,7 +37,7 @@ pub hears_again : heard (restarted ++ told 2 (Stamp 1 3 []) ++ told 3 (Stamp 2 3
 unfolding heard is_up boot_of message_of
 hears_again = refl
 
-pub hears_nothing_down : heard (item.Down 0 ∷ told 1 (Stamp 1 2 [])) 0 ≡ []
+pub hears_nothing_down : heard (Item.Down 0 ∷ told 1 (Stamp 1 2 [])) 0 ≡ []
 unfolding heard is_up boot_of message_of
 hears_nothing_down = refl
 
@@ -67,8 +65,8 @@ holds = (refl, refl, refl, refl, refl)
 -- ---- links
 
 -- in the ring a has links to b and c: at first, without b, without itself, without the link to c
-pub nears : (near ring [] 0 ≡ 6) × (near ring (item.Down 1 ∷ []) 0 ≡ 4)
-    × (near ring (item.Down 0 ∷ []) 0 ≡ 0) × (near ring (item.LinkIs 0 2 false ∷ []) 0 ≡ 2)
+pub nears : (near ring [] 0 ≡ 6) × (near ring (Item.Down 1 ∷ []) 0 ≡ 4)
+    × (near ring (Item.Down 0 ∷ []) 0 ≡ 0) × (near ring (Item.LinkIs 0 2 false ∷ []) 0 ≡ 2)
 unfolding near is_link_up serves mask_of mask_where switches
 nears = (refl, refl, refl, refl)
 
@@ -76,20 +74,20 @@ nears = (refl, refl, refl, refl)
 
 -- two links that fail in one step count once, and one in the next step once more
 abbrev failing : List Item
-failing = item.Row 1 (step.Crash 1) ∷ item.LinkIs 0 1 false ∷ item.LinkIs 0 2 false
-    ∷ item.Row 2 (step.LinkUp 0 2) ∷ item.LinkIs 0 2 true ∷ []
+failing = Item.Row 1 (Step.Crash 1) ∷ Item.LinkIs 0 1 false ∷ Item.LinkIs 0 2 false
+    ∷ Item.Row 2 (Step.LinkUp 0 2) ∷ Item.LinkIs 0 2 true ∷ []
 
 pub seq_of_steps : own_seq ring failing 0 ≡ 3
 unfolding own_seq steps_in near is_link_up serves is_up boot_of mask_of mask_where switches
 seq_of_steps = refl
 
 -- what changed in an earlier boot doesn't count
-pub seq_in_boot_2 : own_seq ring (failing ++ item.Row 3 (step.Crash 0) ∷ item.Down 0 ∷ item.Row 4
-    (step.Restart 0) ∷ item.Booted 0 2 ∷ item.Row 5 (step.Deliver 9) ∷ item.Opened 0 1 ∷ []) 0 ≡ 1
+pub seq_in_boot_2 : own_seq ring (failing ++ Item.Row 3 (Step.Crash 0) ∷ Item.Down 0 ∷ Item.Row 4
+    (Step.Restart 0) ∷ Item.Booted 0 2 ∷ Item.Row 5 (Step.Deliver 9) ∷ Item.Opened 0 1 ∷ []) 0 ≡ 1
 unfolding own_seq steps_in near is_link_up serves is_up boot_of mask_of mask_where switches
 seq_in_boot_2 = refl
 
-pub seq_down : own_seq ring (failing ++ item.Row 3 (step.Crash 0) ∷ item.Down 0 ∷ []) 0 ≡ 0
+pub seq_down : own_seq ring (failing ++ Item.Row 3 (Step.Crash 0) ∷ Item.Down 0 ∷ []) 0 ≡ 0
 unfolding own_seq steps_in near is_link_up serves is_up boot_of mask_of mask_where switches
 seq_down = refl
 
@@ -111,8 +109,8 @@ adverts_of_a = (refl, refl, refl, refl, refl, refl)
 -- ---- messages
 
 abbrev sent : List Item
-sent = item.Sent 1 (to 0 (Stamp 1 1 [])) ∷ item.Sent 2 (to 0 (Stamp 1 1 []))
-    ∷ item.Sent 3 (to 0 (Stamp 1 1 [])) ∷ item.Forgotten 1 ∷ item.Delivered 2 ∷ []
+sent = Item.Sent 1 (to 0 (Stamp 1 1 [])) ∷ Item.Sent 2 (to 0 (Stamp 1 1 []))
+    ∷ Item.Sent 3 (to 0 (Stamp 1 1 [])) ∷ Item.Forgotten 1 ∷ Item.Delivered 2 ∷ []
 
 pub forgotten_is_gone : is_deliverable sent 1 ≡ false
 unfolding is_deliverable is_forgotten message_of
@@ -131,18 +129,18 @@ unfolding next_waiting is_deliverable is_forgotten was_delivered message_of
 third_waits = refl
 
 pub first_waits_first :
-    next_waiting (item.Sent 1 (to 0 (Stamp 1 1 [])) ∷ item.Sent 2 (to 0 (Stamp 1 1 [])) ∷ []) ≡ Some 1
+    next_waiting (Item.Sent 1 (to 0 (Stamp 1 1 [])) ∷ Item.Sent 2 (to 0 (Stamp 1 1 [])) ∷ []) ≡ Some 1
 unfolding next_waiting is_deliverable is_forgotten was_delivered message_of
 first_waits_first = refl
 
 -- ---- packets
 
-pub first_travels_first : next_travelling (item.Entered 1 0 one ∷ item.Entered 2 0 one
-    ∷ item.Entered 3 0 one ∷ []) ≡ Some 1
+pub first_travels_first : next_travelling (Item.Entered 1 0 one ∷ Item.Entered 2 0 one
+    ∷ Item.Entered 3 0 one ∷ []) ≡ Some 1
 unfolding next_travelling travels
 first_travels_first = refl
 
-pub second_travels_next : next_travelling (item.Entered 1 0 one ∷ item.Entered 2 0 one
-    ∷ item.Entered 3 0 one ∷ item.Dropped 1 ∷ []) ≡ Some 2
+pub second_travels_next : next_travelling (Item.Entered 1 0 one ∷ Item.Entered 2 0 one
+    ∷ Item.Entered 3 0 one ∷ Item.Dropped 1 ∷ []) ≡ Some 2
 unfolding next_travelling travels
 second_travels_next = refl

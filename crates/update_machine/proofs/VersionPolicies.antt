@@ -1,12 +1,11 @@
 -- The files, the policies and the plans of versions: what more items make of them, and how they are
 -- numbered.
-use Rattle.std.proofs.Common.{[], if◌then◌else◌, ◌++◌, ◌+◌, ◌==◌, ◌↔◌, ◌∙◌, ◌∷◌, ◌≡◌, ◌≤◌, Bool, Err, IsFalse, IsOk, IsTrue, List, None, Ok, Option, Result, Some, ap, arith, eq-eqb, false, is_some, option_and_then, refl, slice_get, suc, sym, true, unwrap_or, zero, ℕ}
-use Rattle.base.proofs.Exports.{nat_tests, option_map_or, option_or, result_ok}
+use Rattle.std.proofs.Common.{[], ◌++◌, ◌+◌, ◌-◌, ◌<◌, ◌==◌, ◌↔◌, ◌∙◌, ◌∷◌, ◌≡◌, ◌≢◌, ◌≤◌, ◌⊎◌, Bool, Err, IsFalse, IsOk, IsTrue, List, None, Ok, Option, Result, Some, ap, arith, eq-eqb, false, if◌then◌else◌, inl, inr, is_some, length, length-append, option_and_then, option_to_list, refl, slice_get, subst, suc, sym, true, unwrap_or, zero, ℕ}
+use Rattle.base.proofs.Exports.{cases_eq, nat_tests, option_map_or, option_or, result_ok}
 use Rattle.partition.specs.Plan.{Hosted}
 use Rattle.policy_rules.specs.Exports.{NoPlan}
-use Rattle.update_machine.specs.Exports.{HasPlan, IsSetting, Item, Row, Setting, VersionsAreNumbered, Whole, file_at, file_of, first_given, gives_file, hosted_in, is_submission, is_version, made_by, next_policy, plan_at, policy_at, policy_by, policy_in, version_count}
-use Rattle.journal.specs.declared.item.Item.TheVariants as item
-use Rattle.update_machine.proofs.FoldLemmas.{count_of_append, first_given_append}
+use Rattle.update_machine.specs.Exports.{HasPlan, IsSetting, Item, Machine, PoliciesKeep, Row, Setting, Takes, VersionsAreNumbered, Whole, file_at, file_of, first_given, first_machine, gives_file, hosted_in, is_submission, is_version, made_by, next_policy, plan_at, policy_at, policy_by, policy_in, submitted_policy, version_count}
+use Rattle.update_machine.proofs.NumberBlocks.{count_of_append, first_given_append}
 use Rattle.update_machine.proofs.SilentLinks.{policies_keep, policy_by_files}
 
 -- ---- files
@@ -68,21 +67,21 @@ of_its_policy setting journal v rows is = (
 -- ---- numbers
 
 pub count_submitted : (journal : List Item) (file version : ℕ)
-    → version_count (journal ++ item.Submitted file version ∷ []) ≡ version_count journal + 1
+    → version_count (journal ++ Item.Submitted file version ∷ []) ≡ version_count journal + 1
 unfolding version_count
 count_submitted journal file version =
-    rw (count_of_append is_submission journal (item.Submitted file version ∷ [])) (omega arith)
+    rw (count_of_append is_submission journal (Item.Submitted file version ∷ [])) (omega arith)
 
 -- the next version is there, and no other is new
 pub submitted_more : (journal : List Item) (file version : ℕ)
     → version ≡ version_count journal + 1 → VersionsAreNumbered journal
-    → VersionsAreNumbered (journal ++ item.Submitted file version ∷ [])
+    → VersionsAreNumbered (journal ++ Item.Submitted file version ∷ [])
 unfolding file_of
 submitted_more journal file version next are v = rw (file_append, count_submitted)
     (by (file_of journal v) (are v))
   where
     by : (o : Option ℕ) → (IsTrue (is_some o) ↔ ((1 ≤ v) × (v ≤ version_count journal)))
-        → IsTrue (is_some (option_or o (file_of (item.Submitted file version ∷ []) v))) ↔
+        → IsTrue (is_some (option_or o (file_of (Item.Submitted file version ∷ []) v))) ↔
         ((1 ≤ v) × (v ≤ version_count journal + 1))
     by (Some earlier) known = let low = known.0 refl in
         (λ there. (omega (arith, low), omega (arith, low)), λ within. refl)
@@ -164,7 +163,7 @@ begins_planned setting is =
 -- ---- the version that is submitted
 
 alone : (file version : ℕ) → 2 ≤ version
-    → file_of (item.Submitted file version ∷ []) version ≡ Some file
+    → file_of (Item.Submitted file version ∷ []) version ≡ Some file
 unfolding file_of
 alone file version many = let other : (version == 1) ≡ false = grind (arith, nat_tests) in
     rw (other, eq-eqb version version refl) refl
@@ -178,39 +177,39 @@ count_above journal are = ((are 1).0 (first_there journal)).1
 
 pub next_file : (journal : List Item) (file version : ℕ) → VersionsAreNumbered journal
     → version ≡ version_count journal + 1
-    → file_of (journal ++ item.Submitted file version ∷ []) version ≡ Some file
+    → file_of (journal ++ Item.Submitted file version ∷ []) version ≡ Some file
 next_file journal file version are next =
-    file_append journal (item.Submitted file version ∷ []) version
+    file_append journal (Item.Submitted file version ∷ []) version
     ∙ by_old (file_of journal version) refl
   where
-    own : file_of (item.Submitted file version ∷ []) version ≡ Some file
+    own : file_of (Item.Submitted file version ∷ []) version ≡ Some file
     own = alone file version (omega (arith, next, count_above journal are))
 
     by_old : (o : Option ℕ) → file_of journal version ≡ o
-        → option_or o (file_of (item.Submitted file version ∷ []) version) ≡ Some file
+        → option_or o (file_of (Item.Submitted file version ∷ []) version) ≡ Some file
     by_old None e = own
     by_old (Some old) e = absurd (omega (arith, ((are version).0 (rw e refl)).1, next))
 
 -- what its file makes of the policy of the newest version
 pub next_made : (setting : Setting) (journal : List Item) (file version : ℕ)
     → VersionsAreNumbered journal → version ≡ version_count journal + 1
-    → policy_in setting (journal ++ item.Submitted file version ∷ []) version
+    → policy_in setting (journal ++ Item.Submitted file version ∷ []) version
     ≡ result_ok (next_policy setting journal file)
 unfolding policy_in next_policy
 next_made setting journal file zero are next = absurd (omega (arith, next))
 next_made setting journal file (suc newest) are next =
-    let after : List Item = journal ++ item.Submitted file (suc newest) ∷ [] in
+    let after : List Item = journal ++ Item.Submitted file (suc newest) ∷ [] in
     let same : newest ≡ version_count journal = omega (arith, next) in
     ap (option_and_then (λ f. result_ok (policy_by setting (policy_in setting after newest) f)))
     (next_file journal file (suc newest) are next)
     ∙ ap (λ o. result_ok (policy_by setting o file))
-    (policy_in_stays setting journal (item.Submitted file (suc newest) ∷ []) newest are
+    (policy_in_stays setting journal (Item.Submitted file (suc newest) ∷ []) newest are
     (omega (arith, same)) ∙ ap (policy_in setting journal) same)
 
 pub next_policy_in : (setting : Setting) (journal : List Item) (file version : ℕ)
     (rows : List Row) → VersionsAreNumbered journal → version ≡ version_count journal + 1
     → next_policy setting journal file ≡ Ok rows
-    → policy_in setting (journal ++ item.Submitted file version ∷ []) version ≡ Some rows
+    → policy_in setting (journal ++ Item.Submitted file version ∷ []) version ≡ Some rows
 next_policy_in setting journal file version rows are next policy =
     next_made setting journal file version are next ∙ ap result_ok policy
 
@@ -218,18 +217,18 @@ next_policy_in setting journal file version rows are next policy =
 pub next_is : (setting : Setting) (journal : List Item) (file version : ℕ) (rows : List Row)
     → VersionsAreNumbered journal
     → version ≡ version_count journal + 1 → next_policy setting journal file ≡ Ok rows
-    → (policy_at setting (journal ++ item.Submitted file version ∷ []) version ≡ rows) × (plan_at
-    setting (journal ++ item.Submitted file version ∷ []) version ≡ hosted_in (setting.plan rows))
+    → (policy_at setting (journal ++ Item.Submitted file version ∷ []) version ≡ rows) × (plan_at
+    setting (journal ++ Item.Submitted file version ∷ []) version ≡ hosted_in (setting.plan rows))
 next_is setting journal file version rows are next policy =
-    of_its_policy setting (journal ++ item.Submitted file version ∷ []) version rows
+    of_its_policy setting (journal ++ Item.Submitted file version ∷ []) version rows
     (next_policy_in setting journal file version rows are next policy)
 
 pub next_has_plan : (setting : Setting) (journal : List Item) (file version : ℕ) (rows : List Row)
     → VersionsAreNumbered journal → version ≡ version_count journal + 1
     → next_policy setting journal file ≡ Ok rows → IsOk (setting.plan rows)
-    → HasPlan setting (journal ++ item.Submitted file version ∷ []) version
+    → HasPlan setting (journal ++ Item.Submitted file version ∷ []) version
 next_has_plan setting journal file version rows are next policy planned =
-    planned_of setting (journal ++ item.Submitted file version ∷ []) version rows
+    planned_of setting (journal ++ Item.Submitted file version ∷ []) version rows
     (next_policy_in setting journal file version rows are next policy) planned
 
 -- ---- partitions
@@ -249,3 +248,111 @@ part_there setting journal (suc version) partition hosted is =
         ≡ Some hosted → IsTrue (is_some o)
     by_file None is = absurd cc
     by_file (Some file) is = refl
+
+-- ---- the policies of the machine are those of the versions
+
+-- as many as there are versions, and of each its own
+pub record ArePolicies (setting : Setting) (policies : List (List Row)) (journal : List Item)
+    : Type 0 where
+  pub count : length policies ≡ version_count journal
+  pub each : (v : ℕ) → 1 ≤ v → v ≤ version_count journal
+      → slice_get policies (v - 1) ≡ policy_in setting journal v
+
+-- the machine begins with the first one
+pub policies_begin : (setting : Setting) → IsSetting setting
+    → ArePolicies setting (first_machine setting).policies []
+unfolding version_count
+policies_begin setting is = subst (λ policies. ArePolicies setting policies []) (sym begun) (record {
+  count = refl;
+  each = λ v above below. let first : v ≡ 1 = omega (arith, above, below) in
+      ap (λ k. slice_get (is.first ∷ []) (k - 1)) first
+      ∙ sym (first_in setting [] is.first is.whole) ∙ ap (policy_in setting []) (sym first);
+})
+  where
+    begun : (first_machine setting).policies ≡ is.first ∷ []
+    begun = ap (λ file. option_to_list (result_ok (made_by file None))) is.whole
+
+pub policies_stay : (setting : Setting) (policies : List (List Row)) (before after : List Item)
+    → PoliciesKeep before after → ArePolicies setting policies before
+    → ArePolicies setting policies after
+policies_stay setting policies before after keep are = record {
+  count = are.count ∙ sym keep.count;
+  each = λ v above below. are.each v above (rw keep.count at below) ∙ sym (keep.rows setting v);
+}
+
+-- each version has its policy there
+pub policy_there : (setting : Setting) (policies : List (List Row)) (journal : List Item)
+    (v : ℕ) → ArePolicies setting policies journal → 1 ≤ v → v ≤ version_count journal
+    → slice_get policies (v - 1) ≡ Some (policy_at setting journal v)
+unfolding policy_at
+policy_there setting policies journal v are above below = some_there policies (v - 1)
+    (omega (arith, above, below, are.count)) (policy_in setting journal v) (are.each v above below)
+  where
+    some_there : (policies : List (List Row)) (k : ℕ) → k < length policies
+        → (o : Option (List Row)) → slice_get policies k ≡ o
+        → slice_get policies k ≡ Some (unwrap_or o [])
+    some_there policies k within (Some rows) is = is
+    some_there [] k within None is = absurd (omega (arith, within))
+    some_there (rows ∷ policies) zero within None is = absurd cc
+    some_there (rows ∷ policies) (suc k) within None is =
+        some_there policies k (omega (arith, within)) None is
+
+snoc_old : (xs : List (List Row)) (x : List Row) (k : ℕ) → k < length xs
+    → slice_get (xs ++ x ∷ []) k ≡ slice_get xs k
+snoc_old [] x k within = absurd (omega (arith, within))
+snoc_old (y ∷ xs) x zero within = refl
+snoc_old (y ∷ xs) x (suc k) within = snoc_old xs x k (omega (arith, within))
+
+snoc_new : (xs : List (List Row)) (x : List Row) → slice_get (xs ++ x ∷ []) (length xs) ≡ Some x
+snoc_new [] x = refl
+snoc_new (y ∷ xs) x = snoc_new xs x
+
+-- the newest one is that of the newest version
+newest_is : (setting : Setting) (machine : Machine) (journal : List Item)
+    → ArePolicies setting machine.policies journal → 1 ≤ version_count journal
+    → submitted_policy machine (length machine.policies)
+    ≡ policy_in setting journal (version_count journal)
+newest_is setting machine journal are some =
+    cc (are.count, are.each (version_count journal) some (omega arith))
+
+-- the machine takes a submission, and gains the policy of the next version
+pub record TakesVersion (setting : Setting) (machine : Machine) (journal : List Item)
+    (file version : ℕ) (rows : List Row) : Type 0 where
+  pub takes : Takes setting machine (Item.Submitted file version)
+      (record machine { policies = machine.policies ++ rows ∷ [] })
+  pub own : ArePolicies setting (machine.policies ++ rows ∷ [])
+      (journal ++ Item.Submitted file version ∷ [])
+
+pub takes_version : (setting : Setting) (machine : Machine) (journal : List Item)
+    (file version : ℕ) (rows : List Row) → VersionsAreNumbered journal
+    → ArePolicies setting machine.policies journal → version ≡ version_count journal + 1
+    → next_policy setting journal file ≡ Ok rows
+    → TakesVersion setting machine journal file version rows
+unfolding next_policy
+takes_version setting machine journal file version rows numbers are next made = record {
+  takes = record {
+    policy = rows;
+    there = cc (newest_is setting machine journal are (count_above journal numbers), made);
+    newest = next ∙ omega (arith, are.count);
+    after = refl;
+  };
+  own = record {
+    count = length-append machine.policies (rows ∷ []) ∙ omega (arith, are.count, count_submitted);
+    each = λ v above below. by_version v above below (cases_eq v version);
+  };
+} where
+  after : List Item
+  after = journal ++ Item.Submitted file version ∷ []
+
+  by_version : (v : ℕ) → 1 ≤ v → v ≤ version_count after → (v ≡ version) ⊎ (v ≢ version)
+      → slice_get (machine.policies ++ rows ∷ []) (v - 1) ≡ policy_in setting after v
+  by_version v above below (inl same) =
+      let place : v - 1 ≡ length machine.policies = omega (arith, same, next, are.count) in
+      ap (slice_get (machine.policies ++ rows ∷ [])) place ∙ snoc_new machine.policies rows
+      ∙ sym (next_policy_in setting journal file version rows numbers next made)
+      ∙ ap (λ n. policy_in setting after n) (sym same)
+  by_version v above below (inr apart) =
+      let old : v ≤ version_count journal = omega (arith, count_submitted) in
+      snoc_old machine.policies rows (v - 1) (omega (arith, above, old, are.count))
+      ∙ are.each v above old
+      ∙ sym (policy_in_stays setting journal (Item.Submitted file version ∷ []) v numbers old)

@@ -14,7 +14,7 @@ ghost use Rattle.update_machine.specs.declared.full.TheConstants.{FULL_AT};
 
 /// What a journal says after more items follow it: a law for each of the folds, whatever an item
 /// says.
-#[tactic(auto, using(crate::proofs::FoldLemmas::last_given_append, crate::proofs::FoldLemmas::first_given_append, crate::proofs::FoldLemmas::folded_append))]
+#[tactic(auto, using(crate::proofs::NumberBlocks::last_given_append, crate::proofs::NumberBlocks::first_given_append, crate::proofs::NumberBlocks::folded_append))]
 pub fn journals_grow<X>()
     ensures last { (tells : Item → Option X) (before items : List Item)
         → last_given tells (before ++ items)

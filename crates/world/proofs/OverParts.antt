@@ -11,8 +11,7 @@ use Rattle.refinement.specs.Exports.{RefineJournal}
 use Rattle.travelling.specs.Travelling.{Flight, Standing, flight}
 use Rattle.world_log.specs.declared.log.Log.{Log}
 use Rattle.world.specs.declared.parts.Parts.{Parts}
-use Rattle.refinement.proofs.AskingSwitch.{can_ask, within_here}
-use Rattle.refinement.proofs.RefinedAsking.{CanAsk}
+use Rattle.refinement.proofs.HopPieces.{CanAsk, can_ask, within_here}
 use Rattle.refinement.proofs.HopRefines.{hop_left, hop_piece_of, hop_refines}
 use Rattle.refinement.proofs.IncomingTie.{come_piece, come_refines}
 use Rattle.refinement.proofs.NetworkSwitches.{switch_is, switch_there}

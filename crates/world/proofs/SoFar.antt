@@ -3,7 +3,7 @@ use Rattle.std.proofs.Common.{◌++◌, ◌≡◌, List, append_assoc, length, �
 use Rattle.update_machine.specs.Exports.{IsSetting, Item, Setting, Step, piece}
 use Rattle.packet_laws.specs.Exports.{HoldsBetween, HoldsSoFar, IsKeptBehind}
 use Rattle.control_laws.specs.Exports.{HoldsReached}
-use Rattle.refinement.proofs.RefinedReach.{reached_more}
+use Rattle.refinement.proofs.StepRefines.{reached_more}
 use Rattle.steps.specs.Exports.{IsStep}
 use Rattle.world.specs.Exports.{RefinesJournal, WorldValue, setting_at}
 use Rattle.world_log.specs.Exports.{IsPart}

@@ -6,7 +6,7 @@ use Rattle.packet_laws.specs.Exports.{what_is_known}
 use Rattle.world.specs.Exports.{IsLeastFrom, RefinesJournal, WorldValue, setting_at}
 use Rattle.refinement.specs.Exports.{flight_in, flight_of}
 use Rattle.travelling.specs.Travelling.{IsNextFrom, Flights, flight}
-use Rattle.refinement.proofs.RefinedReach.{reached_known}
+use Rattle.refinement.proofs.StepRefines.{reached_known}
 
 differ : {X : Type 0} (b : Bool) → b ≡ true → b ≡ false → X
 differ true holds fails = cc fails

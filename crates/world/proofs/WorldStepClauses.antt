@@ -10,7 +10,7 @@ use Rattle.world.specs.Exports.{BeginsStep, FilesValue, Goes, HasBegun, HoldNewe
 use Rattle.refinement.specs.Exports.{NetworkState, RefineJournal}
 use Rattle.world_log.specs.Exports.{IsPart}
 use Rattle.world.specs.declared.parts.Parts.{Parts}
-use Rattle.refinement.proofs.OneItem.{grown}
+use Rattle.refinement.proofs.StepRefines.{grown}
 use Rattle.world_log.proofs.StepWrites.{grown_more, part_none, step_part, step_written}
 
 -- nothing was done to the files and the ports

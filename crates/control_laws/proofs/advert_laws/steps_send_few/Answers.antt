@@ -1,5 +1,5 @@
 use Rattle.control_laws.proofs.PieceCauses.{always}
-use Rattle.control_laws.proofs.NumbersFit.{versions_few}
+use Rattle.control_laws.proofs.PlannedTables.{versions_few}
 use Rattle.control_laws.proofs.PieceKinds.{piece_few}
 use Rattle.control_laws.proofs.advert_laws.steps_send_few.Goals as goal
 

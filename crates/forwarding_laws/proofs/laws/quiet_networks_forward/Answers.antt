@@ -1,4 +1,4 @@
-use Rattle.forwarding_laws.proofs.ForwardingWhenQuiet.{quiet_forwards}
+use Rattle.forwarding_laws.proofs.ForwardedPacket.{quiet_forwards}
 use Rattle.forwarding_laws.proofs.laws.quiet_networks_forward.Goals as goal
 
 pub returns : goal.returns

@@ -1,4 +1,4 @@
-use Rattle.forwarding_laws.proofs.ForwardingWhenQuiet.{comes_to_rest}
+use Rattle.forwarding_laws.proofs.ForwardedPacket.{comes_to_rest}
 use Rattle.forwarding_laws.proofs.laws.quiet_networks_have_come_to_rest.Goals as goal
 
 pub returns : goal.returns

@@ -1,4 +1,4 @@
-use Rattle.packet_laws.proofs.PlayPackets.{answer_entered}
+use Rattle.packet_laws.proofs.PacketRows.{answer_entered}
 use Rattle.packet_laws.proofs.laws.answered_rows_are_entered.Goals as goal
 
 pub returns : goal.returns

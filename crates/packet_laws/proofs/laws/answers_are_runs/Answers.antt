@@ -1,4 +1,4 @@
-use Rattle.packet_laws.proofs.ReachedJournals.{reached}
+use Rattle.packet_laws.proofs.RestingPackets.{reached}
 use Rattle.packet_laws.proofs.MachineRuns.{caused_is_run}
 use Rattle.packet_laws.proofs.laws.answers_are_runs.Goals as goal
 

@@ -1,4 +1,4 @@
-use Rattle.packet_laws.proofs.ReachedJournals.{reached}
+use Rattle.packet_laws.proofs.RestingPackets.{reached}
 use Rattle.packet_laws.proofs.StronglyCaused.{strongly_caused}
 use Rattle.packet_laws.proofs.laws.causes_are_strong.Goals as goal
 

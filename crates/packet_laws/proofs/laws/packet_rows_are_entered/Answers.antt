@@ -1,4 +1,4 @@
-use Rattle.packet_laws.proofs.PlayPackets.{play_entered}
+use Rattle.packet_laws.proofs.PacketRows.{play_entered}
 use Rattle.packet_laws.proofs.laws.packet_rows_are_entered.Goals as goal
 
 pub returns : goal.returns

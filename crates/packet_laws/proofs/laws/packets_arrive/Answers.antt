@@ -1,6 +1,6 @@
 use Rattle.packet_laws.proofs.AllKept.{all_kept}
-use Rattle.packet_laws.proofs.LegEnds.{packets_arrive}
-use Rattle.packet_laws.proofs.ReachedJournals.{reached}
+use Rattle.packet_laws.proofs.StronglyCaused.{packets_arrive}
+use Rattle.packet_laws.proofs.RestingPackets.{reached}
 use Rattle.packet_laws.proofs.laws.packets_arrive.Goals as goal
 
 pub returns : goal.returns

@@ -1,4 +1,4 @@
-use Rattle.packet_laws.proofs.ReachedJournals.{reached}
+use Rattle.packet_laws.proofs.RestingPackets.{reached}
 use Rattle.packet_laws.proofs.FewRoutes.{detoured_few, finds_few, routes_few, searched_few, taken_few}
 use Rattle.packet_laws.proofs.laws.packets_take_few_routes.Goals as goal
 

@@ -1,4 +1,4 @@
-use Rattle.refinement.proofs.RefinementLaws.{bags_refine}
+use Rattle.refinement.proofs.RefinedPacketTable.{bags_refine}
 use Rattle.refinement.proofs.world_laws.messages_are_kept.Goals as goal
 
 pub returns : goal.returns

@@ -1,4 +1,4 @@
-use Rattle.refinement.proofs.RefinementLaws.{entries_refine}
+use Rattle.refinement.proofs.RefinedPacketTable.{entries_refine}
 use Rattle.refinement.proofs.world_laws.packets_come_in.Goals as goal
 
 pub returns : goal.returns

@@ -1,4 +1,4 @@
-use Rattle.refinement.proofs.RefinementLaws.{hops_refine}
+use Rattle.refinement.proofs.RefinedPacketTable.{hops_refine}
 use Rattle.refinement.proofs.world_laws.packets_move_on.Goals as goal
 
 pub returns : goal.returns

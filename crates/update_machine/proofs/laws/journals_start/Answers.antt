@@ -1,4 +1,4 @@
-use Rattle.update_machine.proofs.EmptyJournal.{start_laws}
+use Rattle.update_machine.proofs.JournalKnownLinks.{start_laws}
 use Rattle.update_machine.proofs.laws.journals_start.Goals as goal
 
 pub returns : goal.returns

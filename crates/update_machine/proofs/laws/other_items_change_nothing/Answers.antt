@@ -1,9 +1,6 @@
 use Rattle.update_machine.proofs.SilentController.{controller_keeps}
-use Rattle.update_machine.proofs.SilentLinks.{known_keeps, links_keep, lookup_stays, policies_keep, waited_stays}
-use Rattle.update_machine.proofs.SilentMessages.{message_keeps, messages_keep, packets_keep, step_stays}
-use Rattle.update_machine.proofs.SilentPackets.{packet_keeps}
-use Rattle.update_machine.proofs.SilentSteps.{calls_stay}
-use Rattle.update_machine.proofs.SilentSwitches.{switch_keeps}
+use Rattle.update_machine.proofs.SilentLinks.{known_keeps, links_keep, lookup_stays, message_keeps, messages_keep, packets_keep, policies_keep, step_stays, waited_stays}
+use Rattle.update_machine.proofs.SilentSteps.{calls_stay, packet_keeps, switch_keeps}
 use Rattle.update_machine.proofs.laws.other_items_change_nothing.Goals as goal
 
 pub returns : goal.returns

@@ -7,11 +7,10 @@ use Rattle.update_machine.specs.Exports.{Message, sent_from}
 use Rattle.journal.specs.declared.item.Item.TheVariants as item
 use Rattle.switch_core.specs.Exports.{IsSoundBody, replies}
 use Rattle.world_log.specs.Exports.{MayNote, MaySend, act_items, act_posts, all_adverts_sent, near_all}
-use Rattle.refinement.proofs.BagDeliveries.{found_there}
+use Rattle.refinement.proofs.BagDeliveries.{found_there, hear_ready, usable_here}
 use Rattle.world.proofs.WorldActingSteps.{first_goes, goes_told, relinked_refines}
 use Rattle.refinement.proofs.RefinedDeliveries.{control_may, control_piece, control_refines, first_piece, names_known, shut_may, shut_piece, shut_refines, undelivered}
 use Rattle.world.proofs.OverSwitches.{few_in}
-use Rattle.refinement.proofs.HearReady.{hear_ready, usable_here}
 use Rattle.refinement.proofs.RefinedOpenings.{opening_may, opening_next, opening_piece, opening_refines}
 use Rattle.world.proofs.WorldStepClauses.{follows, goes_nothing, net_stays, none_in, nothing_goes}
 use Rattle.world_log.proofs.StepWrites.{step_part, step_written}

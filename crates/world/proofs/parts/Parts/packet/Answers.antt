@@ -1,5 +1,5 @@
 use Rattle.std.proofs.Common.{arith, refl}
-use Rattle.refinement.proofs.AskingSwitch.{can_look_up}
+use Rattle.refinement.proofs.HopPieces.{can_look_up}
 use Rattle.refinement.proofs.IncomingTie.{come_fits}
 use Rattle.world.proofs.OverParts.{packet_goes}
 use Rattle.world.proofs.OverSwitches.{place_in}

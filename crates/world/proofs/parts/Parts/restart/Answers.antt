@@ -5,7 +5,7 @@ use Rattle.update_machine.specs.Exports.{Hello}
 use Rattle.ctrl_msg.specs.Exports.{to_controller}
 use Rattle.journal.specs.declared.item.Item.TheVariants as item
 use Rattle.switch_core.specs.Exports.{SwitchValue}
-use Rattle.refinement.proofs.SendableMessages.{hello_spelled}
+use Rattle.refinement.proofs.RefinedActs.{hello_spelled}
 use Rattle.refinement.proofs.RefinedBoots.{boot_next, boot_piece, boot_refines, up_already}
 use Rattle.world.proofs.WorldStepClauses.{follows, goes_nothing, net_stays, none_in, nothing_goes}
 use Rattle.world.proofs.WorldActingSteps.{goes_told}
