@@ -1,13 +1,13 @@
 -- A message that is posted as a copy of the same one to another receiver.
 use Rattle.std.proofs.Common.{[], ◌-◌, ◌∙◌, ◌≡◌, ◌≤◌, All, List, None, Option, Some, ap, arith, drop, get_or, length, map, option_map, refl, slice_get, subst, suc, sym, true, zero, ℕ}
-use Rattle.base.proofs.Exports.{All-head, get_or_from_slice_get, none-some, same_Some, slice_get-map, slice_get_within}
+use Rattle.base.proofs.Exports.{All-head, IfSome-at_place, none-some, same_Some, slice_get-map}
 use Rattle.ctrl_msg.specs.declared.message.Message.{Message}
 use Rattle.ctrl_msg.specs.declared.message.Place.{Place}
 use Rattle.wire.specs.Exports.{begun_for, body, frames, frames_of_receiver, message as form, receiver}
 use Rattle.message_bag.proofs.FramedMessages.{framed_is, known_by_frames}
 use Rattle.message_bag.proofs.FramesOfReceivers.{of_another_receiver}
 use Rattle.message_bag.proofs.FrameSizes.{IsSized, fields_of_message, frames_sized}
-use Rattle.message_bag.specs.Exports.{AreKeptFrames, First, HasFrames, HasShortSpelling, IsLike, IsThere, frames_in, no_first, posted_frames}
+use Rattle.message_bag.specs.Exports.{AreKeptFrames, First, HasFrames, HasShortSpelling, IsLike, IsThere, frames_in, posted_frames}
 
 -- these are the frames of the message, perhaps to another receiver
 pub record AreLike (kept : List (List (List ℕ))) (first : First) (m : Message) : Type 0 where
@@ -33,11 +33,9 @@ pub found : (kept : List (List (List ℕ))) (firsts : List First) (bag : List (L
     → slice_get firsts (number - 1) ≡ Some first → AreLike kept first m
 found kept firsts bag zero m first all view like at = absurd (none-some (posted_frames (record m { to = like.0 })) like.1)
 found kept firsts bag (suc place) m first all view like at =
-    let same_place : place ≡ suc place - 1 = omega arith in
-    let here : slice_get firsts place ≡ Some first = ap (slice_get firsts) same_place ∙ at in
+    let here : slice_get firsts place ≡ Some first = ap (slice_get firsts) (omega arith) ∙ at in
     known kept first m like.0
-    (subst (AreKeptFrames kept) (get_or_from_slice_get firsts place first no_first here)
-    (all place no_first (slice_get_within firsts place first here)))
+    (IfSome-at_place (AreKeptFrames kept) firsts place (Some first) all here)
     (same_Some _ _ (sym (slice_get-map (frames_in kept) firsts place ∙ ap (option_map (frames_in kept)) here)
     ∙ ap (λ (b : List (List (List ℕ))). slice_get b place) view ∙ like.1))
 

@@ -1,7 +1,7 @@
 -- First frames that lie one after the other: more bytes behind them change none.
-use Rattle.std.proofs.Common.{[], ◌++◌, ◌∙◌, ◌∷◌, ◌≡◌, All, List, Option, ap, arith, drop, length, length-append, length-drop, map, refl, take, take_all, ℕ}
-use Rattle.base.proofs.Exports.{All-head, All-push, All-tail, drop-append-le, drop-append_seam, map_push, take-append-le}
-use Rattle.message_bag.specs.Exports.{IsWithin, first_in}
+use Rattle.std.proofs.Common.{[], ◌++◌, ◌∙◌, ◌∷◌, ◌≡◌, All, IfSome, List, None, Ok, Option, Some, ap, arith, drop, get_or, length, length-append, length-drop, map, refl, slice_get, take, take_all, ℕ}
+use Rattle.base.proofs.Exports.{All-head, All-push, All-tail, drop-append-le, drop-append_seam, get_or_from_slice_get, map_push, take-append-le}
+use Rattle.message_bag.specs.Exports.{HasPosted, IsWithin, first_in}
 use Rattle.message_bag.specs.declared.firsts.Span.{Span}
 
 one_stays : (bytes more : List ℕ) (span : Span) → IsWithin bytes span → first_in (bytes ++ more) span ≡ first_in bytes span
@@ -41,3 +41,15 @@ pub pushed_within : (bytes frame after : List ℕ) (spans longer : List Span) (s
 pushed_within bytes frame after spans longer span within grown more at len =
     rw (grown, more) (All-push (IsWithin (bytes ++ frame)) spans span (still_within bytes frame spans within)
     (omega (arith, length-append bytes frame)))
+
+-- the item at a place, once more behind all
+pub added_again : {X : Type 0} (E : Type 0) (xs ys : List X) (x : X) (place n : ℕ) → x ≡ get_or xs place x
+    → ys ≡ xs ++ x ∷ [] → n ≡ length ys → IfSome (slice_get xs place) (λ y. HasPosted {E = E} (Ok n) y xs ys)
+added_again E xs ys x place n at longer many = by_one (slice_get xs place) refl where
+  by_one : (o : Option _) → slice_get xs place ≡ o → IfSome o (λ y. HasPosted {E = E} (Ok n) y xs ys)
+  by_one None e = tt
+  by_one (Some y) e = record {
+    number = omega (arith, many, ap length longer, length-append xs (x ∷ []));
+    posted = longer ∙ ap (λ z. xs ++ z ∷ []) (at ∙ get_or_from_slice_get xs place y x e);
+    unchanged = tt;
+  }

@@ -63,8 +63,7 @@ never_refused m p q f has one joined (another_frame g at other) =
     by_test true is = same_Some g f (sym is ∙ one.at)
     by_test false is = absurd (cc is)
 never_refused m p q f has one joined (no_message all none) =
-    let held : AreAllHeld (part q (frames m)) (length (chunks m)) =
-    subst (λ n. AreAllHeld (part q (frames m)) n) one.of.count_is
+    let held = subst (λ n. AreAllHeld (part q (frames m)) n) one.of.count_is
     (subst (λ fs. AreAllHeld fs (count_in_frame f)) joined all) in
     none m (record { fits = has.fits; frames_are = joined ∙ all_are m q has held })
 
@@ -104,9 +103,8 @@ taken m f fed has of refused =
 places_come : (m : Message) (fed : List (List ℕ)) → HasFrames m → AreAllAmong m fed
     → (n : ℕ) → n < length (chunks m) → has_come fed n ≡ true
 places_come m fed has among n lt =
-    let there = all_held (length (chunks m)) (frames m) (frames_rise m has) (length_frames m) n lt
-    in
-    let g = the_some (held_at (frames m) n) there in
+    let g = the_some (held_at (frames m) n)
+    (all_held (length (chunks m)) (frames m) (frames_rise m has) (length_frames m) n lt) in
     let found = found_there (frames m) n g.0 g.1 in
     let come : Contains fed g.0 = All-contains (Contains fed) (frames m) g.0 among found.0 in
     subst (λ k. has_come fed k ≡ true) found.1 (is_found fed g.0 come)
@@ -140,15 +138,13 @@ all_come m f fed has of = (forth, back) where
   forth held = λ k d lt. let g = slice_index_or (frames m) k d in
       let there : Contains (frames m) g = All-contains_itself (frames m) k d lt in
       let below : place_in_frame g < count = (is_one_of m g has there).of.below in
-      let all : AreAllHeld (part (has_come (f ∷ fed)) (frames m)) count =
-      subst (AreAllHeld (part (has_come (f ∷ fed)) (frames m))) one.of.count_is
+      let all = subst (AreAllHeld (part (has_come (f ∷ fed)) (frames m))) one.of.count_is
       (subst (λ fs. AreAllHeld fs (count_in_frame f)) (held_is m (f ∷ fed) has of) held) in
       frame_come m (f ∷ fed) g has of there (passes m (has_come (f ∷ fed)) (place_in_frame g) (all (place_in_frame g) below))
 
   back : AreAllAmong m (f ∷ fed) → AreAllHeld (held_after (f ∷ fed)) (count_in_frame f)
-  back among = subst (λ fs. AreAllHeld fs (count_in_frame f))
-      (sym (whole m (f ∷ fed) has of among)) (subst (AreAllHeld (frames m)) (sym one.of.count_is)
-      (all_held count (frames m) (frames_rise m has) (length_frames m)))
+  back among = rw (whole m (f ∷ fed) has of among) (subst (AreAllHeld (frames m))
+      (sym one.of.count_is) (all_held count (frames m) (frames_rise m has) (length_frames m)))
 
 -- ---- frames are of one message
 

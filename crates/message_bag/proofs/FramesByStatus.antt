@@ -1,8 +1,8 @@
 -- Frames of all beside what became of each message.
-use Rattle.std.proofs.Common.{[], if◌then◌else◌, ◌++◌, ◌-◌, ◌<◌, ◌∙◌, ◌∷◌, ◌≡◌, ◌≤◌, Bool, List, None, Option, Some, ap, arith, false, is_some, length, min, not, option_and_then, refl, set, slice_get, suc, sym, true, zero, zip, ℕ}
+use Rattle.std.proofs.Common.{[], if◌then◌else◌, ◌++◌, ◌-◌, ◌<◌, ◌∙◌, ◌∷◌, ◌≡◌, ◌≤◌, Bool, List, None, Ok, Option, Some, ap, arith, false, is_some, length, min, not, option_and_then, refl, set, slice_get, suc, sym, true, zero, zip, ℕ}
 use Rattle.base.proofs.Exports.{length-zip, option_map_or, seconds-zip, zip_pushed}
 use Rattle.ctrl_msg.specs.declared.message.Message.{Message}
-use Rattle.message_bag.specs.Exports.{Post, frames_posted, is_deliverable, may_be_delivered, new_post, posted_frames, remembered_frames, statuses_of, waiting_status, with_changed, with_status}
+use Rattle.message_bag.specs.Exports.{HasPosted, Post, frames_posted, is_deliverable, may_be_delivered, new_post, posted_frames, remembered_frames, statuses_of, waiting_status, with_changed, with_status}
 use Rattle.message_bag.specs.declared.deliveries.MessageState.{MessageState}
 
 -- what became of one changes
@@ -45,8 +45,7 @@ pub posts_changed : (change : MessageState → MessageState) (all : List (List (
     → zip all statuses ≡ posts → after ≡ with_changed change statuses number
     → zip all after ≡ with_changed (with_status change) posts number
 posts_changed change all statuses after posts number same are made =
-    ap (zip all) made ∙ zip_changed change all statuses number same
-    ∙ ap (λ posts. with_changed (with_status change) posts number) are
+    cc (made, zip_changed change all statuses number same, are)
 
 pub statuses_of_zip : (all : List (List (List ℕ))) (statuses : List MessageState)
     → length all ≡ length statuses → statuses_of (zip all statuses) ≡ statuses
@@ -54,20 +53,20 @@ statuses_of_zip all statuses same = seconds-zip all statuses (sym same)
 
 pub length_of_zip : (all : List (List (List ℕ))) (statuses : List MessageState)
     → length all ≡ length statuses → length (zip all statuses) ≡ length statuses
-length_of_zip all statuses same = length-zip all statuses
-    ∙ ap (λ n. min n (length statuses)) same ∙ itself (length statuses)
-  where
-    itself : (n : ℕ) → min n n ≡ n
-    itself n = omega arith
+length_of_zip all statuses same = cc (length-zip all statuses, same, itself (length statuses)) where
+  itself : (n : ℕ) → min n n ≡ n
+  itself n = omega arith
 
 -- one more message waits behind them
-pub one_more : (all more : List (List (List ℕ))) (statuses after : List MessageState) (posts : List Post) (m : Message)
-    → length all ≡ length statuses → zip all statuses ≡ posts → more ≡ all ++ posted_frames m ∷ []
-    → after ≡ statuses ++ waiting_status ∷ [] → zip more after ≡ posts ++ new_post m ∷ []
-one_more all more statuses after posts m same are posted added =
-    ap (λ fs. zip fs after) posted ∙ ap (zip (all ++ posted_frames m ∷ [])) added
-    ∙ zip_pushed all statuses (posted_frames m) waiting_status same
-    ∙ ap (λ (all : List Post). all ++ new_post m ∷ []) are
+pub one_more : {E : Type 0} (number : ℕ) (all more : List (List (List ℕ))) (statuses after : List MessageState)
+    (posts : List Post) (m : Message) → length all ≡ length statuses → zip all statuses ≡ posts
+    → HasPosted {E = E} (Ok number) (posted_frames m) all more → after ≡ statuses ++ waiting_status ∷ []
+    → HasPosted {E = E} (Ok number) (new_post m) posts (zip more after)
+one_more number all more statuses after posts m same are post added = record {
+  number = omega (arith, post.number, same, ap length are, length_of_zip all statuses same);
+  posted = rw (post.posted, added, zip_pushed all statuses (posted_frames m) waiting_status same, are) refl;
+  unchanged = tt;
+}
 
 -- ---- the frames of a number
 

@@ -61,8 +61,7 @@ comes_next m place f has at = record {
   taken = never_refused m (λ n. ltb n place) (λ n. ltb n (place + 1)) f has one joined;
   held = joined;
   some = λ last. subst (AreAllHeld (frames_before m (place + 1))) (sym one.of.count_is)
-      (subst (λ fs. AreAllHeld fs (length (chunks m)))
-      (sym (ap (frames_before m) last ∙ all_before m has))
+      (rw (ap (frames_before m) last ∙ all_before m has)
       (all_held (length (chunks m)) (frames m) (frames_rise m has) (length_frames m)));
   none = λ held. elim (cases_lt (place + 1) (length (frames m))) [
     | inl lt ↦ absurd (missing (place + 1)

@@ -1,5 +1,5 @@
 -- Messages with tables and without: of how many frames they are, and what the first one says.
-use Rattle.std.proofs.Common.{[], ◌++◌, ◌+◌, ◌-◌, ◌<◌, ◌^◌, ◌∙◌, ◌∷◌, ◌≡◌, ◌≤◌, Err, IfOk, List, MatchResult, None, Ok, OnOk, Result, Some, add-one, ap, append_assoc, arith, drop, get_or, length, length-append, length-take, refl, slice_get, subst, sym, take, take_all, take_at, true, ℕ}
+use Rattle.std.proofs.Common.{[], ◌++◌, ◌+◌, ◌-◌, ◌<◌, ◌^◌, ◌∙◌, ◌∷◌, ◌≡◌, ◌≤◌, Err, IfOk, List, MatchResult, None, Ok, Result, Some, add-one, ap, append_assoc, arith, drop, get_or, length, length-append, length-take, refl, slice_get, subst, sym, take, take_all, take_at, true, ℕ}
 use Rattle.base.proofs.Exports.{same_Some}
 use Rattle.ctrl_msg.specs.declared.message.Body.{Body}
 use Rattle.ctrl_msg.specs.declared.message.Body.TheVariants.{Install}
@@ -49,8 +49,7 @@ header_of place count chunk =
 pub says : (m : Message) (fs : List (List ℕ)) (boot : ℕ) (t : Tables) → AreFrames m fs → m.body ≡ Install boot t
     → CarryTables t fs
 says m fs boot t are carries =
-    let is : fs ≡ install_frames m.to boot t = are.frames_are ∙ carried m boot t carries in
-    subst (CarryTables t) (sym is) (record {
+    subst (CarryTables t) (sym (are.frames_are ∙ carried m boot t carries)) (record {
       behind = record { fits = tables_fit m boot t carries are.fits; are = refl };
       count = sym (add-one (length (table_frames t))) ∙ length_behind t;
       header = header_of 0 (frame_count t) (spelled_front m.to boot);
@@ -61,11 +60,9 @@ says m fs boot t are carries =
 pub says_too : (version : ℕ) (t : Tables) (fs : List (List ℕ)) → version < 2 ^ 32 → CarryTables t fs
     → CarryTables (record t { version = version }) (frames_of_version version fs)
 says_too version t [] few carry = absurd (omega (arith, carry.count, length_behind t))
-says_too version t (first ∷ others) few carry =
-    let u : Tables = record t { version = version } in
-    let is : frames_of_version version (first ∷ others) ≡ first ∷ table_frames u =
-    ap (λ fs. frames_of_version version (first ∷ fs)) carry.behind.are ∙ behind version first t in
-    subst (CarryTables u) (sym is) (record {
+says_too version t (first ∷ others) few carry = let u : Tables = record t { version = version } in
+    subst (CarryTables u) (sym (ap (λ fs. frames_of_version version (first ∷ fs)) carry.behind.are
+    ∙ behind version first t)) (record {
       behind = record { fits = fits_too version t few carry.behind.fits; are = refl };
       count = sym (add-one (length (table_frames u))) ∙ length_behind u;
       header = carry.header ∙ ap (λ n. n4.spell 0 ++ n4.spell n) (sym (same_count version t));
@@ -101,12 +98,9 @@ cloned_say N (Err e) t fs is carry = tt
 pub not_alone : (fs : List (List ℕ)) (first : List ℕ) (m : Message) → AreOfInstall fs → slice_get fs 0 ≡ Some first
     → AreFrames m (first ∷ drop 1 fs) → tables_version m.body ≡ None → ⊥
 not_alone fs first m of at are alone =
-    let same : m ≡ of.message_is =
-    same_message of.message_is m fs (record { fits = of.has.fits; frames_are = of.are })
+    let same = same_message of.message_is m fs (record { fits = of.has.fits; frames_are = of.are })
     (subst (AreFrames m) (with_first fs first at) are) in
-    let none : tables_version (Install of.boot of.tables) ≡ None =
-    ap tables_version (sym (ap (λ (n : Message). n.body) same ∙ of.carries)) ∙ alone in
-    absurd (cc none)
+    absurd (cc (ap tables_version (sym (ap (λ (n : Message). n.body) same ∙ of.carries)) ∙ alone))
 
 -- ---- the first frame of an installation
 
@@ -116,8 +110,7 @@ own_is (f ∷ fs) own at = same_Some f own at
 
 own_header : (t : Tables) (fs : List (List ℕ)) (own : List ℕ) → CarryTables t fs
     → slice_get fs 0 ≡ Some own → take 8 own ≡ n4.spell 0 ++ n4.spell (length fs)
-own_header t fs own carry at = ap (take 8) (sym (own_is fs own at))
-    ∙ carry.header ∙ ap (λ n. n4.spell 0 ++ n4.spell n) (sym carry.count)
+own_header t fs own carry at = cc (own_is fs own at, carry.header, carry.count)
 
 pub own_long : (t : Tables) (fs : List (List ℕ)) (own : List ℕ) → CarryTables t fs → slice_get fs 0
     ≡ Some own → 8 ≤ length own
@@ -130,21 +123,12 @@ own_long t fs own carry at = omega (
   length_n4 (length fs),
 )
 
-first_put : (t : Tables) (fs : List (List ℕ)) (own before with_header after chunk : List ℕ)
+pub first_put : (t : Tables) (fs : List (List ℕ)) (own before with_header after chunk : List ℕ)
     → CarryTables t fs → slice_get fs 0 ≡ Some own → with_header ≡ before ++ take 8 own
     → after ≡ with_header ++ chunk → after ≡ before ++ frame 0 (length fs) chunk
 unfolding frame
 first_put t fs own before with_header after chunk carry at put more =
-    more ∙ ap (λ b. b ++ chunk) put ∙ append_assoc before (take 8 own) chunk
-    ∙ ap (λ h. before ++ (h ++ chunk)) (own_header t fs own carry at)
-
-pub first_put_ok : {T E : Type 0} (r : Result T E) (t : Tables) (fs : List (List ℕ))
-    (own before with_header after chunk : List ℕ) → CarryTables t fs → slice_get fs 0 ≡ Some own
-    → with_header ≡ before ++ take 8 own → OnOk r (after ≡ with_header ++ chunk)
-    → OnOk r (after ≡ before ++ frame 0 (length fs) chunk)
-first_put_ok (Ok x) t fs own before with_header after chunk carry at put more =
-    first_put t fs own before with_header after chunk carry at put more
-first_put_ok (Err e) t fs own before with_header after chunk carry at put more = tt
+    cc (more, put, append_assoc before (take 8 own) chunk, own_header t fs own carry at)
 
 -- ---- an installation is known by its first frame and its tables
 
@@ -157,8 +141,7 @@ pub record IsInstalled (first : List ℕ) (t : Tables) : Type 0 where
   pub first_is : first ≡ frame 0 (frame_count t) (spelled_front to boot)
 
 lone : (m : Message) (first : List ℕ) (t : Tables) → tables_version m.body ≡ None → first ∷ table_frames t ≡ frames m → ⊥
-lone m first t alone are =
-    absurd (omega (arith, ap length (are ∙ only_frame m alone), some_behind t))
+lone m first t alone are = absurd (omega (arith, ap length (are ∙ only_frame m alone), some_behind))
 
 parts_of : (x y : List ℕ) (xs ys : List (List ℕ)) → x ∷ xs ≡ y ∷ ys → (x ≡ y) × (xs ≡ ys)
 parts_of x y xs ys e = (cc, cc)
@@ -169,15 +152,13 @@ of_install : (to : Place) (boot : ℕ) (u : Tables) (first : List ℕ) (t : Tabl
 of_install to boot u first t fits are =
     let parts = parts_of first (frame 0 (frame_count u) (spelled_front to boot)) (table_frames t) (table_frames u)
     (are ∙ installed to boot u) in
-    let fit = fits_parts to boot u fits in
-    let same : frame_count u ≡ frame_count t =
-    sym (length_behind u) ∙ ap (λ (fs : List (List ℕ)). length fs + 1) (sym parts.1) ∙ length_behind t in
-    record {
+    let fit = fits_parts to boot u fits in record {
       to = to;
       boot = boot;
       fits = fit.0;
       suits_it = suits_any to boot boot t u ∙ fit.2;
-      first_is = parts.0 ∙ ap (λ n. frame 0 n (spelled_front to boot)) same;
+      first_is = parts.0 ∙ ap (λ n. frame 0 n (spelled_front to boot)) (sym (length_behind u)
+          ∙ ap (λ (fs : List (List ℕ)). length fs + 1) (sym parts.1) ∙ length_behind t);
     }
 
 of_body : (to : Place) (b : Body) (first : List ℕ) (t : Tables) → message.fits (record { to = to; body = b }) ≡ true
@@ -195,27 +176,22 @@ has_front first bytes t of is = let i = is_installed first t of in (
   i.boot,
   record {
     fits = i.fits;
-    spelled = is ∙ ap chunk_of i.first_is ∙ chunk_of_frame 0 (frame_count t)
-        (spelled_front i.to i.boot);
+    spelled = cc (is, i.first_is, chunk_of_frame 0 (frame_count t) (spelled_front i.to i.boot));
   },
 )
 
 pub again_installed : (first bytes : List ℕ) (t : Tables) (to : Place) (boot : ℕ) → AreOfMessage (first ∷ table_frames t)
     → tables.fits t ≡ true → bytes ≡ chunk_of first → IsFront to boot bytes
     → AreFrames (record { to = to; body = Install boot t }) (first ∷ table_frames t)
+unfolding has_front is_installed
 again_installed first bytes t to boot of fits is front_is =
     let i = is_installed first t of in
-    let its : IsFront i.to i.boot bytes = record {
-      fits = i.fits;
-      spelled = is ∙ ap chunk_of i.first_is ∙ chunk_of_frame 0 (frame_count t)
-          (spelled_front i.to i.boot);
-    } in
     let whole : AreFrames (record { to = i.to; body = Install i.boot t }) (first ∷ table_frames t) = record {
       fits = fits_whole i.to i.boot t i.fits fits i.suits_it;
       frames_are = ap (λ f. f ∷ table_frames t) i.first_is ∙ sym (installed i.to i.boot t);
     } in
     subst (λ (p : Place × ℕ). AreFrames (record { to = p.0; body = Install p.1 t }) (first ∷ table_frames t))
-    (one_front bytes i.to to i.boot boot its front_is) whole
+    (one_front bytes i.to to i.boot boot (has_front first bytes t of is).2 front_is) whole
 
 pub long_installed : (first : List ℕ) (t : Tables) → AreOfMessage (first ∷ table_frames t) → 8 ≤ length first
 long_installed first t of = let i = is_installed first t of in

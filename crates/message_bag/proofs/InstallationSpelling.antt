@@ -84,13 +84,11 @@ long_tables t = omega (
 
 -- tables are never spelled in no bytes
 pub some_behind : (t : Tables) → 1 ≤ length (table_frames t)
-some_behind t =
-    let bytes = tables.spell t in
-    let count = div_ceil (length bytes) most_of_chunk in
+some_behind t = let bytes = tables.spell t in
     omega (
       arith,
       length_from 1 (frame_count t) (table_chunks t),
-      length-slices count most_of_chunk bytes,
+      length-slices (div_ceil (length bytes) most_of_chunk) most_of_chunk bytes,
       div_ceil_times (length bytes) most_of_chunk (omega arith),
       long_tables t,
     )

@@ -1,8 +1,8 @@
 -- What has a number after a call, for proofs of the crates above too.
-use Rattle.std.proofs.Common.{[], if◌then◌else◌, ◌++◌, ◌+◌, ◌==◌, ◌∷◌, ◌≡◌, List, None, Option, Some, add-one, arith, length, length-set, map, option_map, refl, set, slice_get, suc, zero, ℕ}
-use Rattle.base.proofs.Exports.{get_pushed, get_set_found, option_map_or}
+use Rattle.std.proofs.Common.{[], if◌then◌else◌, ◌++◌, ◌+◌, ◌==◌, ◌∙◌, ◌∷◌, ◌≡◌, All, Err, IfSome, IsErr, List, None, Ok, Option, Result, Some, add-one, ap, arith, length, length-set, map, option_map, refl, set, slice_get, suc, zero, ℕ}
+use Rattle.base.proofs.Exports.{All-push, get_push_at, get_push_left, get_pushed, get_set_found, length-map, map_push, option_map_or, slice_get-map, slice_get_within}
 use Prim.Native.Nat.compare.{suc-suc}
-use Rattle.message_bag.specs.Exports.{item_numbered, with_changed}
+use Rattle.message_bag.specs.Exports.{HasPosted, item_numbered, with_changed}
 
 -- one more gets the next number; the others stay
 pub numbered_pushed : {X : Type 0} (xs : List X) (x : X) (number : ℕ)
@@ -39,3 +39,49 @@ numbered_map f xs (suc place) = get_map xs place where
   get_map [] i = refl
   get_map (x ∷ xs) zero = refl
   get_map (x ∷ xs) (suc i) = get_map xs i
+
+-- ---- an item that is posted, or not, if memory runs out
+
+pub post_failed : {X E : Type 0} (r : Result ℕ E) (x : X) (old new : List X) → IsErr r → new ≡ old
+    → HasPosted r x old new
+post_failed (Ok number) x old new failed same = absurd cc
+post_failed (Err e) x old new failed same = record { number = tt; posted = tt; unchanged = same }
+
+module _ {X E : Type 0} (x : X) (old new : List X) where
+  -- what held of all holds of all, if it holds of this one
+  pub all_posted : (P : X → Type 0) (r : Result ℕ E) → HasPosted r x old new → All P old → P x → All P new
+  all_posted P (Ok number) post all is = rw post.posted (All-push P old x all is)
+  all_posted P (Err e) post all is = rw post.unchanged all
+
+  pub posted_mapped : {Y : Type 0} (f : X → Y) (seen : List Y) (r : Result ℕ E) → HasPosted r x old new
+      → map f old ≡ seen → HasPosted r (f x) seen (map f new)
+  posted_mapped f seen (Ok number) post view = record {
+    number = omega (arith, post.number, length-map old f, ap length view);
+    posted = rw (post.posted, map_push, view) refl;
+    unchanged = tt;
+  }
+  posted_mapped f seen (Err e) post view = record { number = tt; posted = tt; unchanged = rw post.unchanged view }
+
+  -- what had a number still has it
+  pub still_numbered : (y : X) (number : ℕ) (r : Result ℕ E) → HasPosted r x old new
+      → item_numbered old number ≡ Some y → item_numbered new number ≡ Some y
+  still_numbered y zero r post is = absurd cc
+  still_numbered y (suc place) (Ok number) post is =
+      rw post.posted (get_push_left old x place (slice_get_within old place y is) ∙ is)
+  still_numbered y (suc place) (Err e) post is = rw post.unchanged is
+
+  pub last_numbered : (number : ℕ) → HasPosted {E = E} (Ok number) x old new → item_numbered new number ≡ Some x
+  last_numbered zero post = absurd (omega (arith, post.number))
+  last_numbered (suc place) post = rw post.posted (get_push_at old x place (omega (arith, post.number)))
+
+-- one that is posted again
+pub mapped_again : {X Y E : Type 0} (f : X → Y) (old new : List X) (seen : List Y) (place : ℕ) (r : Result ℕ E)
+    → map f old ≡ seen → IfSome (slice_get old place) (λ x. HasPosted r x old new)
+    → IfSome (slice_get seen place) (λ y. HasPosted r y seen (map f new))
+mapped_again f old new seen place r view again =
+    rw (← view, slice_get-map f old place) (by_one (slice_get old place) again)
+  where
+    by_one : (o : Option _) → IfSome o (λ x. HasPosted r x old new)
+        → IfSome (option_map f o) (λ y. HasPosted r y (map f old) (map f new))
+    by_one None post = tt
+    by_one (Some x) post = posted_mapped x old new f (map f old) r post refl

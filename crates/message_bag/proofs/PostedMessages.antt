@@ -1,11 +1,13 @@
 -- What is kept of a message that is posted, and that what was kept stays.
-use Rattle.std.proofs.Common.{[], ◌++◌, ◌∙◌, ◌∷◌, ◌≡◌, All, Err, List, None, Ok, OnErr, OnOk, Option, Result, Some, ap, arith, drop, get_or, get_or-take, length, length-take, map, refl, subst, sym, take_all, true, ℕ}
-use Rattle.base.proofs.Exports.{All-head, All-push, All-tail, map_push}
+use Rattle.std.proofs.Common.{[], ◌++◌, ◌∙◌, ◌∷◌, ◌≡◌, All, List, None, Option, Result, Some, ap, arith, drop, get_or, get_or-take, length, length-take, map, refl, subst, sym, true, ℕ}
+use Rattle.base.proofs.Exports.{All-head, All-tail}
 use Rattle.ctrl_msg.specs.declared.message.Body.TheVariants.{Install}
 use Rattle.ctrl_msg.specs.declared.message.Message.{Message}
 use Rattle.wire.specs.Exports.{frame, frames, message, message_front, n4, spelled_front, spelled_number, suits_receiver, tables}
-use Rattle.message_bag.specs.Exports.{AreKeptFrames, AreOfMessage, CarryTables, First, HasFrames, IsGrown, IsThere, frame_count, frames_in, tables_version}
+use Rattle.message_bag.specs.Exports.{AreKeptFrames, AreOfMessage, CarryTables, First, HasFrames, HasPosted, IsGrown, IsThere, frame_count, frames_in, posted_frames, tables_version}
+use Rattle.message_bag.proofs.FramedMessages.{framed_is}
 use Rattle.message_bag.proofs.InstallationSpelling.{fits_whole}
+use Rattle.message_bag.proofs.NumberedPosts.{all_posted, posted_mapped}
 use Rattle.switch_table.specs.declared.tables.Tables.{Tables}
 use Rattle.message_bag.proofs.InstallationFrames.{carried, only_frame}
 
@@ -17,8 +19,7 @@ header chunk = refl
 
 pub alone_is : (m : Message) (kept : List (List (List ℕ))) (bytes : List ℕ) → tables_version m.body ≡ None
     → bytes ≡ (0 ∷ 0 ∷ 0 ∷ 0 ∷ 0 ∷ 0 ∷ 0 ∷ 1 ∷ []) ++ message.spell m → frames_in kept (bytes, None) ≡ frames m
-alone_is m kept bytes alone is =
-    ap (λ b. b ∷ []) (is ∙ sym (header (message.spell m))) ∙ sym (only_frame m alone)
+alone_is m kept bytes alone is = cc (is, header (message.spell m), only_frame m alone)
 
 -- ---- what was kept
 
@@ -47,49 +48,18 @@ still_kept before after firsts grown kept = λ k d lt. let is = kept k d lt in r
   are = subst AreOfMessage (sym (stays before after _ grown is.there)) is.are;
 }
 
--- one more: the bag has the frames of its message at the end
-pub posted : (m : Message) (before after : List (List (List ℕ))) (firsts longer : List First) (first : First)
-    → IsGrown before after → All (AreKeptFrames before) firsts → longer ≡ firsts ++ first ∷ [] → frames_in after first ≡ frames m
-    → map (frames_in after) longer ≡ map (frames_in before) firsts ++ frames m ∷ []
-posted m before after firsts longer first grown kept more is =
-    rw (more, map_push, all_stay before after firsts grown kept, is) refl
-
-pub posted_kept : (m : Message) (before after : List (List (List ℕ))) (firsts longer : List First) (first : First)
-    → IsGrown before after → All (AreKeptFrames before) firsts → longer ≡ firsts ++ first ∷ [] → IsThere after first.1
-    → HasFrames m → frames_in after first ≡ frames m → All (AreKeptFrames after) longer
-posted_kept m before after firsts longer first grown kept more there has is =
-    rw more (All-push (AreKeptFrames after) firsts first (still_kept before after firsts grown kept)
-    (record { there = there; are = (m, has, is) }))
-
--- the same kept frames
-pub same_grown : (kept : List (List (List ℕ))) → IsGrown kept kept
-same_grown kept = take_all (length kept) kept (omega arith)
-
 -- ---- a first frame that is pushed, or not, if memory runs out
 
-pub kept_after : {T E : Type 0} (r : Result T E) (m : Message) (before after : List (List (List ℕ)))
-    → (firsts longer : List First) (first : First) → IsGrown before after → All (AreKeptFrames before) firsts
-    → OnOk r (longer ≡ firsts ++ first ∷ []) → OnErr r (longer ≡ firsts) → IsThere after first.1 → HasFrames m
-    → frames_in after first ≡ frames m → All (AreKeptFrames after) longer
-kept_after (Ok x) m before after firsts longer first grown kept more same there has is =
-    posted_kept m before after firsts longer first grown kept more there has is
-kept_after (Err e) m before after firsts longer first grown kept more same there has is =
-    rw same (still_kept before after firsts grown kept)
+module _ {E : Type 0} (m : Message) (kept : List (List (List ℕ))) (first : First) (firsts longer : List First)
+    (r : Result ℕ E) (post : HasPosted r first firsts longer) (has : HasFrames m) (is : frames_in kept first ≡ frames m) where
+  pub posted_after : (bag : List (List (List ℕ))) → map (frames_in kept) firsts ≡ bag
+      → HasPosted r (posted_frames m) bag (map (frames_in kept) longer)
+  posted_after bag view = subst (λ fs. HasPosted r fs bag (map (frames_in kept) longer))
+      (is ∙ sym (framed_is m has.fits)) (posted_mapped first firsts longer (frames_in kept) bag r post view)
 
-pub posted_after : {T E : Type 0} (r : Result T E) (m : Message) (before after bag : List (List (List ℕ)))
-    → (firsts longer : List First) (first : First) → IsGrown before after → All (AreKeptFrames before) firsts
-    → map (frames_in before) firsts ≡ bag → OnOk r (longer ≡ firsts ++ first ∷ []) → frames_in after first ≡ frames m
-    → OnOk r (map (frames_in after) longer ≡ bag ++ frames m ∷ [])
-posted_after (Ok x) m before after bag firsts longer first grown kept view more is =
-    posted m before after firsts longer first grown kept more is ∙ ap (λ (b : List (List (List ℕ))). b ++ frames m ∷ []) view
-posted_after (Err e) m before after bag firsts longer first grown kept view more is = tt
-
-pub unchanged_after : {T E : Type 0} (r : Result T E) (before after bag : List (List (List ℕ)))
-    → (firsts longer : List First) → IsGrown before after → All (AreKeptFrames before) firsts
-    → map (frames_in before) firsts ≡ bag → OnErr r (longer ≡ firsts) → OnErr r (map (frames_in after) longer ≡ bag)
-unchanged_after (Ok x) before after bag firsts longer grown kept view same = tt
-unchanged_after (Err e) before after bag firsts longer grown kept view same =
-    ap (map (frames_in after)) same ∙ all_stay before after firsts grown kept ∙ view
+  pub kept_after : All (AreKeptFrames kept) firsts → IsThere kept first.1 → All (AreKeptFrames kept) longer
+  kept_after all there = all_posted first firsts longer (AreKeptFrames kept) r post all
+      (record { there = there; are = (m, has, is) })
 
 -- ---- an installation
 

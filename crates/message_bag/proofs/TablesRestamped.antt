@@ -31,27 +31,20 @@ begin head rest len =
     let bytes = head ++ rest in
     let long : length bytes ≡ 4 + length rest = omega (arith, length-append head rest) in
     let some : div_ceil (length bytes) most_of_chunk
-    ≡ suc (div_ceil (4 + length rest) most_of_chunk - 1) = omega (
-      arith,
-      ap (λ n. div_ceil n most_of_chunk) long,
-      div_ceil_times (length bytes) most_of_chunk (omega arith),
-    ) in
+    ≡ suc (div_ceil (4 + length rest) most_of_chunk - 1) =
+    omega (arith, ap (λ n. div_ceil n most_of_chunk) long, div_ceil_times) in
     let whole : most_of_chunk ≡ length head + 16372 = omega arith in
-    let first : take most_of_chunk bytes ≡ head ++ take 16372 rest =
-    ap (λ n. take n bytes) whole ∙ take-append-add head rest 16372 in
-    let left : drop most_of_chunk bytes ≡ drop 16372 rest =
-    ap (λ n. drop n bytes) whole ∙ drop-append-add head rest 16372 in
+    let first = ap (λ n. take n bytes) whole ∙ take-append-add head rest 16372 in
     ap (λ count. equal_chunks count most_of_chunk bytes) some
     ∙ ap (λ f. f ∷ equal_chunks (div_ceil (4 + length rest) most_of_chunk - 1) most_of_chunk
     (drop most_of_chunk bytes)) first
-    ∙ ap (λ bytes. (head ++ take 16372 rest) ∷ equal_chunks
-    (div_ceil (4 + length rest) most_of_chunk - 1) most_of_chunk bytes) left
+    ∙ ap (λ bytes. (head ++ take 16372 rest)
+    ∷ equal_chunks (div_ceil (4 + length rest) most_of_chunk - 1) most_of_chunk bytes)
+    (ap (λ n. drop n bytes) whole ∙ drop-append-add head rest 16372)
 
 chunks_are : (t : Tables) → table_chunks t ≡ (n4.spell t.version ++ take 16372 (rows t))
     ∷ others (rows t)
-chunks_are t =
-    ap (λ bytes. equal_chunks (div_ceil (length bytes) most_of_chunk) most_of_chunk bytes)
-    (spelled t) ∙ begin (n4.spell t.version) (rows t) (length_n4 t.version)
+chunks_are t = cc (spelled t, begin (n4.spell t.version) (rows t) (length_n4 t.version))
 
 -- ---- the frames
 
@@ -98,10 +91,9 @@ pub of_another_version : (to : Place) (boot version : ℕ) (t : Tables)
     → frames (record { to = to; body = Install boot (record t { version = version }) })
     ≡ frames_of_version version (frames (record { to = to; body = Install boot t }))
 of_another_version to boot version t =
-    let first = frame 0 (frame_count t) (spelled_front to boot) in
     installed to boot (record t { version = version })
     ∙ ap (λ n. frame 0 n (spelled_front to boot) ∷ table_frames (record t { version = version })) (same_count version t)
-    ∙ sym (behind version first t)
+    ∙ sym (behind version (frame 0 (frame_count t) (spelled_front to boot)) t)
     ∙ ap (frames_of_version version) (sym (installed to boot t))
 
 -- ---- which tables have a spelling

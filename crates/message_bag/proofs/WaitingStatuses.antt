@@ -17,18 +17,15 @@ status_before statuses status number within = numbered_pushed statuses status nu
 
 status_last : (statuses : List MessageState) (status : MessageState) (number : ℕ) → number ≡ length statuses + 1
     → item_numbered (statuses ++ status ∷ []) number ≡ Some status
-status_last statuses status number last = numbered_pushed statuses status number
-    ∙ ap (λ b. cond b (Some status) (item_numbered statuses number))
-    (eq-eqb number (length statuses + 1) last)
+status_last statuses status number last =
+    cc (numbered_pushed statuses status number, eq-eqb number (length statuses + 1) last)
 
 -- a status behind the others leaves what waits before it, and waits itself
 pub pushed_passed : (passed : ℕ) (statuses : List MessageState) → length statuses + 1 < 2 ^ 32
     → ArePassed passed statuses → ArePassed passed (statuses ++ waiting_status ∷ [])
 pushed_passed passed statuses few are =
     let after = statuses ++ waiting_status ∷ [] in
-    let longer : length after ≡ length statuses + 1 = length-append statuses (waiting_status ∷ [])
-    in
-    record {
+    let longer = length-append statuses (waiting_status ∷ []) in record {
       few = omega arith;
       within = omega (arith, are.within);
       here = λ below. elim (cases_lt passed (length statuses)) [
@@ -129,8 +126,7 @@ changed_passed change passed number first before statuses seen status still are 
     let changed : after ≡ with_changed change statuses number =
     ap (λ statuses. set statuses (number - 1) (change status)) same
     ∙ changed_from change before statuses number status there same here in
-    let long : length after ≡ length before =
-    ap length changed ∙ length_changed change statuses number ∙ sym (ap length same) in
+    let long = ap length changed ∙ length_changed change statuses number ∙ sym (ap length same) in
     let is : IsFirstWaiting after passed first =
     subst (λ statuses. IsFirstWaiting statuses passed first) sees found in record {
       few = omega (arith, are.few);

@@ -29,10 +29,6 @@ IsInstallOf m tables = HasShortSpelling m × ((boot : ℕ) × (m.body ≡ Instal
 abbrev pub First : Type 0
 First = List ℕ × Option ℕ
 
--- the value for a place without a first frame
-abbrev pub no_first : First
-no_first = ([], None)
-
 -- the first frame at a span of the bytes of all first frames
 abbrev pub first_in : List ℕ → Span → First
 first_in bytes span = (take span.len (drop span.start bytes), span.tables)

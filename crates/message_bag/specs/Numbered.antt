@@ -1,5 +1,5 @@
 -- Items that are numbered from 1 in the order in which they came.
-use Rattle.std.specs.Prelude.{List, None, Option, set, slice_get, suc, zero, ℕ}
+use Rattle.std.specs.Prelude.{[], ◌++◌, ◌+◌, ◌∷◌, ◌≡◌, IfOk, List, None, OnErr, OnOk, Option, Result, length, set, slice_get, suc, zero, ℕ}
 use Rattle.base.specs.Exports.{option_map_or}
 
 -- the item of a number
@@ -12,3 +12,10 @@ abbrev pub with_changed : {X : Type 0} → (X → X) → List X → ℕ → List
 with_changed change xs zero = xs
 with_changed change xs (suc place) =
     option_map_or (λ x. set xs place (change x)) (slice_get xs place) xs
+
+-- the item is the last one now, under the number that the call returned; after an error nothing
+-- has changed
+pub record HasPosted {X E : Type 0} (result : Result ℕ E) (x : X) (old new : List X) : Type 0 where
+  pub number : IfOk result (λ number. number ≡ length old + 1)
+  pub posted : OnOk result (new ≡ old ++ x ∷ [])
+  pub unchanged : OnErr result (new ≡ old)

@@ -1,6 +1,6 @@
 -- The messages that were posted, as the frames that travel, each with what became of it, numbered
 -- from 1 in the order in which they were posted.
-use Rattle.std.specs.Prelude.{[], if◌then◌else◌, ◌≡◌, Bool, List, None, Option, Some, is_some, map, option_and_then, true, ℕ}
+use Rattle.std.specs.Prelude.{[], if◌then◌else◌, ◌≡◌, Bool, Err, List, None, Ok, Option, Result, Some, is_some, map, option_and_then, true, ℕ}
 use Rattle.ctrl_msg.specs.declared.message.Message.{Message}
 use Rattle.ctrl_msg.specs.declared.message.Place.{Place}
 use Rattle.wire.specs.Exports.{frames, message as form}
@@ -23,6 +23,11 @@ Post = List (List ℕ) × MessageState
 -- a message that is posted now
 abbrev pub new_post : Message → Post
 new_post message = (posted_frames message, statuses.waiting_status)
+
+-- the number that a call returned beside the message
+abbrev pub returned_number : {M E : Type 0} → Result (ℕ × M) E → Result ℕ E
+returned_number (Ok both) = Ok both.0
+returned_number (Err error) = Err error
 
 -- the statuses of the messages
 abbrev pub statuses_of : List Post → List MessageState

@@ -1,11 +1,10 @@
-ghost use Rattle.std.specs.Prelude.{◌≡◌, ◌<◌, ◌+◌, ◌-◌, ◌^◌, ◌++◌, ◌∷◌, ◌↔◌, ◌⊎◌, [], None, Some, true, length, IfOk, IfSome, IsNone, IsSome, OnErr, OnOk};
+ghost use Rattle.std.specs.Prelude.{◌≡◌, ◌<◌, ◌-◌, ◌^◌, ◌↔◌, ◌⊎◌, [], None, true, length, IfOk, IfSome, IsNone, IsSome, OnOk};
 ghost use Rattle.ctrl_msg.specs.declared.message.Body.TheVariants.{Install};
-ghost use Rattle.wire.specs.Frames.{frames};
-ghost use Rattle.wire.specs.Messages.{HasSpelling, message as form};
+ghost use Rattle.wire.specs.Messages.{message as form};
 ghost use Rattle.message_bag.specs.KeptFrames.{IsPosted, tables_version};
 ghost use Rattle.message_bag.specs.Feeding.{HasShortSpelling};
-ghost use Rattle.message_bag.specs.Numbered.{item_numbered};
-ghost use Rattle.message_bag.specs.Posts.{IsLike};
+ghost use Rattle.message_bag.specs.Numbered.{HasPosted, item_numbered};
+ghost use Rattle.message_bag.specs.Posts.{IsLike, posted_frames};
 
 use crate::firsts::Firsts;
 use crate::reading::{message_of_frame, tables_of};
@@ -48,13 +47,6 @@ impl Bag {
         }
     }
 
-    /// How many messages were posted.
-    pub fn len(&self) -> usize
-        ensures { result ≡ length self.now }
-    {
-        self.firsts.len()
-    }
-
     /// Posts a message, and returns its number: one more than there were messages.
     ///
     /// # Errors
@@ -62,20 +54,16 @@ impl Bag {
     /// then nothing changes.
     #[inline(always)]
     pub fn post(&mut self, message: &Message) -> Result<u32, AllocError>
-        requires spelling { HasSpelling message.now }
-        requires short { length (form.spell message.now) < 2 ^ 40 }
+        requires spelling { HasShortSpelling message.now }
         requires few { length self.old < 2 ^ 32 - 1 }
         ensures fits { OnOk result (form.fits message.now ≡ true) }
-        ensures number { IfOk result (λ number. number ≡ length self.old + 1) }
-        ensures posted { OnOk result (self.new ≡ self.old ++ frames message.now ∷ []) }
-        ensures unchanged { OnErr result (self.new ≡ self.old) }
+        ensures posted { HasPosted result (posted_frames message.now) self.old self.new }
     {
         let alloc = *self.tables.allocator();
         match tables_of(&message.body) {
-            None => self.post_alone(message)?,
-            Some((boot, tables)) => self.post_tables(alloc, message, boot, tables)?,
+            None => self.post_alone(message),
+            Some((boot, tables)) => self.post_tables(alloc, message, boot, tables),
         }
-        Ok(self.len() as u32)
     }
 
     /// Posts the message of this number again, and returns its new number. It isn't encoded again,
@@ -86,13 +74,10 @@ impl Bag {
     pub fn repeat(&mut self, number: u32) -> Result<u32, AllocError>
         requires there { IsSome (item_numbered self.old number) }
         requires few { length self.old < 2 ^ 32 - 1 }
-        ensures number { IfOk result (λ next. next ≡ length self.old + 1) }
-        ensures posted { OnOk result (IfSome (item_numbered self.old number)
-            (λ frames. self.new ≡ self.old ++ frames ∷ [])) }
-        ensures unchanged { OnErr result (self.new ≡ self.old) }
+        ensures posted { IfSome (item_numbered self.old number)
+            (λ frames. HasPosted result frames self.old self.new) }
     {
-        self.firsts.repeat(number as usize - 1)?;
-        Ok(self.len() as u32)
+        self.firsts.repeat(number as usize - 1)
     }
 
     /// Posts a message that differs at most in its receiver from the one of this number, and
@@ -106,21 +91,7 @@ impl Bag {
         requires like { IsLike self.old number message.now }
         requires few { length self.old < 2 ^ 32 - 1 }
         ensures fits { OnOk result (form.fits message.now ≡ true) }
-        ensures number { IfOk result (λ number. number ≡ length self.old + 1) }
-        ensures posted { OnOk result (self.new ≡ self.old ++ frames message.now ∷ []) }
-        ensures unchanged { OnErr result (self.new ≡ self.old) }
-    {
-        self.post_copy(message, number)?;
-        Ok(self.len() as u32)
-    }
-
-    // Posts a copy of the message of this number, to the receiver of this one.
-    fn post_copy(&mut self, message: &Message, number: u32) -> Result<(), AllocError>
-        requires spelling { HasShortSpelling message.now }
-        requires like { IsLike self.old number message.now }
-        ensures fits { OnOk result (form.fits message.now ≡ true) }
-        ensures posted { OnOk result (self.new ≡ self.old ++ frames message.now ∷ []) }
-        ensures unchanged { OnErr result (self.new ≡ self.old) }
+        ensures posted { HasPosted result (posted_frames message.now) self.old self.new }
     {
         let Some((frame, tables)) = self.firsts.get(number as usize - 1) else {
             unreachable!();
@@ -133,13 +104,12 @@ impl Bag {
 
     // Posts a message that is no installation: it has one frame.
     #[inline(always)]
-    fn post_alone(&mut self, message: &Message) -> Result<(), AllocError>
-        requires spelling { HasSpelling message.now }
-        requires short { length (form.spell message.now) < 2 ^ 40 }
+    fn post_alone(&mut self, message: &Message) -> Result<u32, AllocError>
+        requires spelling { HasShortSpelling message.now }
+        requires few { length self.old < 2 ^ 32 - 1 }
         requires message_of_frame { tables_version message.now.body ≡ None }
         ensures fits { OnOk result (form.fits message.now ≡ true) }
-        ensures posted { OnOk result (self.new ≡ self.old ++ frames message.now ∷ []) }
-        ensures unchanged { OnErr result (self.new ≡ self.old) }
+        ensures posted { HasPosted result (posted_frames message.now) self.old self.new }
     {
         self.scratch.clear();
         self.scratch.extend_from_slice(&[0, 0, 0, 0, 0, 0, 0, 1])?;
@@ -154,13 +124,12 @@ impl Bag {
         message: &Message,
         boot: u32,
         tables: &SharedTables,
-    ) -> Result<(), AllocError>
-        requires spelling { HasSpelling message.now }
-        requires short { length (form.spell message.now) < 2 ^ 40 }
+    ) -> Result<u32, AllocError>
+        requires spelling { HasShortSpelling message.now }
+        requires few { length self.old < 2 ^ 32 - 1 }
         requires carries { message.now.body ≡ Install boot tables.now }
         ensures fits { OnOk result (form.fits message.now ≡ true) }
-        ensures posted { OnOk result (self.new ≡ self.old ++ frames message.now ∷ []) }
-        ensures unchanged { OnErr result (self.new ≡ self.old) }
+        ensures posted { HasPosted result (posted_frames message.now) self.old self.new }
     {
         let number = spell(
             &mut self.tables,

@@ -1,5 +1,5 @@
-ghost use Rattle.std.specs.Prelude.{◌≡◌, ◌<◌, ◌≤◌, ◌++◌, ◌∷◌, ◌↔◌, [], Some, get_or, length, slice_get, IfOk, IfSome, IsNone, OnErr, OnOk};
-ghost use Rattle.message_bag.specs.KeptFrames.{no_first};
+ghost use Rattle.std.specs.Prelude.{◌≡◌, ◌<◌, ◌-◌, ◌^◌, ◌≤◌, ◌↔◌, [], Some, length, slice_get, IfOk, IfSome, IsNone};
+ghost use Rattle.message_bag.specs.Numbered.{HasPosted};
 
 use std::alloc::{AllocError, Global};
 use std::marker::Model;
@@ -52,43 +52,38 @@ impl Firsts {
         }
     }
 
-    /// How many there are.
-    pub fn len(&self) -> usize
-        ensures { result ≡ length self.now }
-    {
-        self.spans.len()
-    }
-
-    /// Appends a first frame, with the number of the frames after it.
+    /// Appends a first frame, with the number of the frames after it, and returns how many there
+    /// are then.
     ///
     /// # Errors
     /// Only out of memory, or if the frames so far or this one have 2^32 bytes or more, or the
     /// number is 2^32 or more; then nothing changes.
     #[inline(always)]
-    pub fn push(&mut self, frame: &[u8], tables: Option<usize>) -> Result<(), AllocError>
-        ensures pushed { OnOk result (self.new ≡ self.old ++ (frame.now, tables) ∷ []) }
-        ensures unchanged { OnErr result (self.new ≡ self.old) }
+    pub fn push(&mut self, frame: &[u8], tables: Option<usize>) -> Result<u32, AllocError>
+        requires { length self.old < 2 ^ 32 - 1 }
+        ensures { HasPosted result (frame.now, tables) self.old self.new }
     {
         make_room(&mut self.bytes, &mut self.spans)?;
         let span = span_of(self.bytes.len(), frame.len(), tables)?;
         self.bytes.extend_from_slice(frame)?;
         self.spans.push(span)?;
-        Ok(())
+        Ok(self.spans.len() as u32)
     }
 
-    /// Appends the first frame of this index again, without another copy of its bytes.
+    /// Appends the first frame of this index again, without another copy of its bytes, and returns
+    /// how many there are then.
     ///
     /// # Errors
     /// Only out of memory; then nothing changes.
-    pub fn repeat(&mut self, index: usize) -> Result<(), AllocError>
-        requires { index < length self.old }
-        ensures pushed { OnOk result (self.new
-            ≡ self.old ++ get_or self.old index no_first ∷ []) }
-        ensures unchanged { OnErr result (self.new ≡ self.old) }
+    pub fn repeat(&mut self, index: usize) -> Result<u32, AllocError>
+        requires there { index < length self.old }
+        requires few { length self.old < 2 ^ 32 - 1 }
+        ensures { IfSome (slice_get self.old index)
+            (λ first. HasPosted result first self.old self.new) }
     {
         let span = self.spans[index];
         self.spans.push(span)?;
-        Ok(())
+        Ok(self.spans.len() as u32)
     }
 
     /// The first frame of this index, from 0; `None` if there is none.

@@ -1,5 +1,6 @@
-ghost use Rattle.std.specs.Prelude.{◌≡◌, ◌<◌, ◌+◌, ◌-◌, ◌^◌, [], ◌∷◌, ◌++◌, length, is_some, IsTrue, IfOk, IfSome, OnOk, OnErr};
-ghost use Rattle.message_bag.specs.Posts.{IsMessageOf, is_post_deliverable, next_waiting_post, new_post, with_delivered, with_forgotten};
+ghost use Rattle.std.specs.Prelude.{◌≡◌, ◌<◌, ◌-◌, ◌^◌, [], length, is_some, IsTrue, IfOk, IfSome};
+ghost use Rattle.message_bag.specs.Numbered.{HasPosted};
+ghost use Rattle.message_bag.specs.Posts.{IsMessageOf, is_post_deliverable, next_waiting_post, new_post, returned_number, with_delivered, with_forgotten};
 ghost use Rattle.message_bag.specs.Feeding.{HasShortSpelling};
 
 use crate::deliveries::Deliveries;
@@ -48,6 +49,7 @@ impl PostBag {
     /// # Errors
     /// Only out of memory, or if the first frames of earlier messages have 2^32 bytes or more;
     /// then nothing changes.
+    #[tactic(auto, using(crate::proofs::FramesByStatus::length_of_zip))]
     pub fn post_shared(
         &mut self,
         alloc: Global,
@@ -55,10 +57,8 @@ impl PostBag {
     ) -> Result<(u32, Shared<Message>), AllocError>
         requires spelling { HasShortSpelling message }
         requires few { length self.old < 2 ^ 32 - 1 }
-        ensures number { IfOk result (λ both. both.0 ≡ length self.old + 1) }
         ensures message { IfOk result (λ both. both.1 ≡ message) }
-        ensures posted { OnOk result (self.new ≡ self.old ++ new_post message ∷ []) }
-        ensures unchanged { OnErr result (self.new ≡ self.old) }
+        ensures posted { HasPosted (returned_number result) (new_post message) self.old self.new }
     {
         self.deliveries.add()?;
         match self.frames.post_shared(alloc, message) {
@@ -71,6 +71,7 @@ impl PostBag {
     }
 
     /// How many messages were posted.
+    #[tactic(auto, using(crate::proofs::FramesByStatus::length_of_zip))]
     pub fn sent(&self) -> u32
         ensures { result ≡ length self.now }
     {

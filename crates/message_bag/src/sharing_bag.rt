@@ -1,9 +1,10 @@
 //! A bag that shares an advert with the last equal one of its switch to its receiver: the message,
 //! and its frames. An advert to another receiver is not encoded again.
-ghost use Rattle.std.specs.Prelude.{◌≡◌, ◌<◌, ◌+◌, ◌-◌, ◌^◌, ◌++◌, ◌∷◌, [], ℕ, None, Some, get_or, length, IfOk, IfSome, IsTrue, OnErr, OnOk};
+ghost use Rattle.std.specs.Prelude.{◌≡◌, ◌<◌, ◌-◌, ◌^◌, [], ℕ, None, Some, get_or, length, IfOk, IfSome, IsTrue, OnOk};
 ghost use Rattle.message_bag.specs.Feeding.{HasShortSpelling};
-ghost use Rattle.message_bag.specs.Posts.{posted_frames};
-ghost use Rattle.message_bag.specs.Sharing.{ArePostedAdverts, IsPostedAdvert};
+ghost use Rattle.message_bag.specs.Numbered.{HasPosted};
+ghost use Rattle.message_bag.specs.Posts.{posted_frames, returned_number};
+ghost use Rattle.message_bag.specs.Sharing.{ArePostedAdverts};
 
 use crate::bag::Bag;
 use base::{MAX_SWITCHES, Shared};
@@ -73,72 +74,46 @@ impl SharingBag {
     ) -> Result<(u32, Shared<Message>), AllocError>
         requires spelling { HasShortSpelling message }
         requires few { length self.old < 2 ^ 32 - 1 }
-        ensures number { IfOk result (λ both. both.0 ≡ length self.old + 1) }
         ensures message { IfOk result (λ both. both.1 ≡ message) }
-        ensures posted { OnOk result (self.new ≡ self.old ++ posted_frames message ∷ []) }
-        ensures unchanged { OnErr result (self.new ≡ self.old) }
+        ensures posted { HasPosted (returned_number result) (posted_frames message) self.old self.new }
     {
         let Some(place) = place_of(&message) else {
             let shared = Shared::new(alloc, message)?;
-            let number = self.post(shared.get())?;
+            let number = self.bag.post(shared.get())?;
             return Ok((number, shared));
         };
         match find(&self.last, place, &message) {
-            Some(last) if last.message.get().to == message.to => post_again(&mut self.bag, last),
-            _ => self.post_advert(alloc, place, message),
+            Some(last) if last.message.get().to == message.to => {
+                let shared = last.message.clone()?;
+                let number = self.bag.repeat(last.number)?;
+                Ok((number, shared))
+            }
+            _ => {
+                let shared = Shared::new(alloc, message)?;
+                let number = self.post_advert(place, &shared)?;
+                Ok((number, shared))
+            }
         }
-    }
-
-    // Posts a message that is no advert to a switch, and returns its number.
-    #[inline(always)]
-    fn post(&mut self, message: &Message) -> Result<u32, AllocError>
-        requires spelling { HasShortSpelling message.now }
-        requires few { length self.old < 2 ^ 32 - 1 }
-        ensures number { IfOk result (λ number. number ≡ length self.old + 1) }
-        ensures posted { OnOk result (self.new ≡ self.old ++ posted_frames message.now ∷ []) }
-        ensures unchanged { OnErr result (self.new ≡ self.old) }
-    {
-        self.bag.post(message)
     }
 
     // Posts an advert, which is the last one of this place from now on.
     #[inline(never)]
-    fn post_advert(
-        &mut self,
-        alloc: Global,
-        place: usize,
-        message: Message,
-    ) -> Result<(u32, Shared<Message>), AllocError>
+    fn post_advert(&mut self, place: usize, message: &Shared<Message>) -> Result<u32, AllocError>
         requires place { place < 4160 }
-        requires spelling { HasShortSpelling message }
+        requires spelling { HasShortSpelling message.now }
         requires few { length self.old < 2 ^ 32 - 1 }
-        ensures number { IfOk result (λ both. both.0 ≡ length self.old + 1) }
-        ensures message { IfOk result (λ both. both.1 ≡ message) }
-        ensures posted { OnOk result (self.new ≡ self.old ++ posted_frames message ∷ []) }
-        ensures unchanged { OnErr result (self.new ≡ self.old) }
+        ensures { HasPosted result (posted_frames message.now) self.old self.new }
     {
-        let message = Shared::new(alloc, message)?;
         let shared = message.clone()?;
         make_place(&mut self.last, place)?;
         let origin = place % MAX_SWITCHES as usize;
-        let number = post_first(&mut self.bag, &mut self.last, origin, &message)?;
-        self.last[place] = Some(PostedAdvert { message, number });
-        Ok((number, shared))
+        let number = post_first(&mut self.bag, &mut self.last, origin, message)?;
+        self.last[place] = Some(PostedAdvert {
+            message: shared,
+            number,
+        });
+        Ok(number)
     }
-}
-
-// Posts an advert again that was posted before.
-fn post_again(bag: &mut Bag, last: &PostedAdvert) -> Result<(u32, Shared<Message>), AllocError>
-    requires there { IsPostedAdvert bag.old (Some last.now) }
-    requires few { length bag.old < 2 ^ 32 - 1 }
-    ensures number { IfOk result (λ both. both.0 ≡ length bag.old + 1) }
-    ensures message { IfOk result (λ both. both.1 ≡ last.now.message) }
-    ensures posted { OnOk result (bag.new ≡ bag.old ++ posted_frames last.now.message ∷ []) }
-    ensures unchanged { OnErr result (bag.new ≡ bag.old) }
-{
-    let shared = last.message.clone()?;
-    let number = bag.repeat(last.number)?;
-    Ok((number, shared))
 }
 
 // Posts an advert that isn't its switch's last one to its receiver. It is encoded only if it isn't
@@ -153,9 +128,7 @@ fn post_first(
     requires adverts { ArePostedAdverts bag.old adverts.old.items }
     requires spelling { HasShortSpelling advert.now }
     requires few { length bag.old < 2 ^ 32 - 1 }
-    ensures number { IfOk result (λ number. number ≡ length bag.old + 1) }
-    ensures posted { OnOk result (bag.new ≡ bag.old ++ posted_frames advert.now ∷ []) }
-    ensures unchanged { OnErr result (bag.new ≡ bag.old) }
+    ensures posted { HasPosted result (posted_frames advert.now) bag.old bag.new }
     ensures adverts { ArePostedAdverts bag.new adverts.new.items }
     ensures as_many { length adverts.new.items ≡ length adverts.old.items }
 {

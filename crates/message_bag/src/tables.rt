@@ -1,9 +1,10 @@
 //! The frames of tables, which installations of the same tables share.
-ghost use Rattle.std.specs.Prelude.{◌≡◌, ◌<◌, ◌^◌, ◌++◌, ◌∷◌, [], Some, true, drop, get_or, length, IfOk, IfSome, IsTrue, OnOk};
+ghost use Rattle.std.specs.Prelude.{◌≡◌, ◌<◌, ◌++◌, ◌∷◌, [], Some, true, drop, get_or, length, IfOk, IfSome, IsTrue, OnOk};
 ghost use Rattle.ctrl_msg.specs.declared.message.Body.TheVariants.{Install};
 ghost use Rattle.switch_table.specs.declared.tables.Tables.{Tables};
 ghost use Rattle.wire.specs.Frames.{AreFrames, frame, frames};
-ghost use Rattle.wire.specs.Messages.{HasSpelling, IsPlace, message_front, message as form, spelled_front};
+ghost use Rattle.message_bag.specs.Feeding.{HasShortSpelling};
+ghost use Rattle.wire.specs.Messages.{IsPlace, message_front, message as form, spelled_front};
 ghost use Rattle.message_bag.specs.KeptFrames.{AreOfMessage, IsGrown, IsInstallOf, CarryRows, CarryTables, frames_in};
 
 use crate::digest::digest_of;
@@ -217,8 +218,7 @@ pub fn spell(
     boot: u32,
     tables: &SharedTables,
 ) -> Result<usize, AllocError>
-    requires spelling { HasSpelling message.now }
-    requires short { length (form.spell message.now) < 2 ^ 40 }
+    requires spelling { HasShortSpelling message.now }
     requires carries { message.now.body ≡ Install boot tables.now }
     ensures there { IfOk result (λ number. number < length kept.new.items) }
     ensures fits { OnOk result (form.fits message.now ≡ true) }

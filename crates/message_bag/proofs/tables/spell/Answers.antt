@@ -13,7 +13,7 @@ its c = let fs = get_or c.keep.new.kept.items c.in_ok-number.number [] in
 
 pub returns-clause-fits : goal.returns-clause-fits
 returns-clause-fits c = tables_fit c.args.message.now c.args.boot c.args.tables.now
-    c.requires.carries c.in_ok-put_first.ensures.fits (its c).behind.fits c.requires.spelling.suits
+    c.requires.carries c.in_ok-put_first.ensures.fits (its c).behind.fits c.requires.spelling.spelling.suits
 
 pub returns-clause-own : goal.returns-clause-own
 returns-clause-own c =

@@ -1,14 +1,12 @@
-use Rattle.std.proofs.Common.{[], ◌++◌, ◌+◌, ◌<◌, ◌^◌, ◌∷◌, ◌≡◌, ap, arith, length, subst, sym}
+use Rattle.std.proofs.Common.{[], ◌+◌, ◌<◌, ◌^◌, ap, arith, length, subst, sym}
 use Rattle.base.proofs.Exports.{common_steps}
-use Rattle.message_bag.specs.Exports.{ArePassed, waiting_status}
+use Rattle.message_bag.specs.Exports.{ArePassed}
 use Rattle.message_bag.proofs.WaitingStatuses.{pushed_passed}
 use Rattle.message_bag.proofs.deliveries.Deliveries.add.Goals as goal
 
 pub invariant_of-self-2 : goal.invariant_of-self-2
 invariant_of-self-2 c =
-    let pushed : c.push.new.self.items ≡ c.self.inside.statuses.items ++ waiting_status ∷ [] =
-    grind (arith, common_steps) in
     let few : length c.self.inside.statuses.items + 1 < 2 ^ 32 =
     omega (arith, ap length c.self.view_is) in
-    subst (ArePassed c.self.inside.passed) (sym pushed)
+    subst (ArePassed c.self.inside.passed) (sym (grind (arith, common_steps)))
     (pushed_passed _ _ few c.self.invariant)

@@ -1,7 +1,5 @@
-use Rattle.std.proofs.Common.{◌∙◌, ◌≡◌, IfOk, IfSome, List, Option, ap, is_some, length, subst, sym, true, zip, ℕ}
-use Rattle.ctrl_msg.specs.declared.message.Message.{Message}
+use Rattle.std.proofs.Common.{◌∙◌, ◌≡◌, ap, length, sym, true, zip}
 use Rattle.message_bag.specs.Deliveries as statuses
-use Rattle.message_bag.specs.Exports.{IsMessageOf, Post, is_post_deliverable}
 use Rattle.message_bag.proofs.TakenMessages.{found_known, found_there}
 use Rattle.message_bag.proofs.FramesByStatus.{deliverable_as}
 use Rattle.message_bag.proofs.post_bag.PostBag.get.Goals as goal
@@ -10,8 +8,7 @@ same : (c : goal.After-take) → length c.bag.result.now ≡ length c.self.insid
 same c = ap length c.bag.ensures ∙ c.self.invariant
 
 are : (c : goal.After-take) → zip c.bag.result.now c.self.inside.deliveries ≡ c.args.self.now
-are c = ap (λ (all : List (List (List ℕ))). zip all c.self.inside.deliveries) c.bag.ensures
-    ∙ c.self.view_is
+are c = cc (c.bag.ensures, c.self.view_is)
 
 is_there : (c : goal.After-take)
     → statuses.is_deliverable c.self.inside.deliveries c.args.number ≡ true
@@ -20,13 +17,10 @@ is_there c =
     ∙ sym c.may_be_delivered.ensures ∙ c.if-may_be_delivered.true
 
 pub returns-then-may_be_delivered-clause-found : goal.returns-then-may_be_delivered-clause-found
-returns-then-may_be_delivered-clause-found c = subst (λ (posts : List Post). IfOk c.take.result
-    (λ answer. is_some answer ≡ is_post_deliverable posts c.args.number)) (are c)
-    (found_known c.bag.result.now c.self.inside.deliveries c.args.number (same c) (is_there c)
-    c.take.result c.take.ensures.none)
+returns-then-may_be_delivered-clause-found c = rw (are c) at (found_known c.bag.result.now
+    c.self.inside.deliveries c.args.number (same c) (is_there c) c.take.result c.take.ensures.none)
 
 pub returns-then-may_be_delivered-clause-message : goal.returns-then-may_be_delivered-clause-message
-returns-then-may_be_delivered-clause-message c = subst (λ (posts : List Post). IfOk c.take.result
-    (λ (answer : Option Message). IfSome answer (IsMessageOf posts c.args.number))) (are c)
+returns-then-may_be_delivered-clause-message c = rw (are c) at
     (found_there c.bag.result.now c.self.inside.deliveries c.args.number (same c) (is_there c)
     c.take.result c.take.ensures.message)

@@ -13,8 +13,7 @@ others : (c : In_ok-tables) → drop 1 c.args.self.now ≡ table_frames c.self.i
 others c = ap (drop 1) (sym c.self.view_is) ∙ c.self.invariant.behind.are
 
 are : (c : In_ok-tables) → AreOfMessage (c.args.first.now ∷ table_frames c.self.inside.said)
-are c = subst (λ (frames : List (List ℕ)). AreOfMessage (c.args.first.now ∷ frames))
-    (others c) c.requires
+are c = rw (others c) at c.requires
 
 pub slice_bounds-front_of-count : goal.slice_bounds-front_of-count
 slice_bounds-front_of-count c = let start = (goal.at.slice_bounds-front_of-count c).In_ok-tables in

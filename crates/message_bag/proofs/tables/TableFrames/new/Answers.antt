@@ -1,12 +1,8 @@
-use Rattle.std.proofs.Common.{subst, sym}
-use Rattle.switch_table.specs.declared.tables.Tables.{Tables}
-use Rattle.message_bag.specs.Exports.{CarryTables}
 use Rattle.message_bag.proofs.InstallationFrames.{says}
 use Rattle.message_bag.proofs.tables.TableFrames.new.Goals as goal
 
 pub invariant_of-result : goal.invariant_of-result
-invariant_of-result c = subst (λ (t : Tables). CarryTables t c.in_ok-frames.frames)
-    (sym c.in_ok-said.ensures) c.in_ok-tables_in.ensures
+invariant_of-result c = rw c.in_ok-said.ensures c.in_ok-tables_in.ensures
 
 pub returns : goal.returns
 returns c = says c.args.message.now c.in_ok-frames.frames c.requires.1.0 c.args.tables.now

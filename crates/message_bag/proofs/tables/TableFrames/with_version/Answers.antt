@@ -11,8 +11,7 @@ said_too c t carry = let few : c.args.version < 2 ^ 32 = omega (arith, c.ranges.
     (says_too c.args.version t c.self.inside.frames few carry)
 
 pub invariant_of-result : goal.invariant_of-result
-invariant_of-result c = subst (λ (t : Tables). CarryTables t c.in_ok-frames.frames)
-    (sym c.in_ok-said.ensures) (said_too c c.self.inside.said c.self.invariant)
+invariant_of-result c = rw c.in_ok-said.ensures (said_too c c.self.inside.said c.self.invariant)
 
 pub returns : goal.returns
 returns c = λ t carry. said_too c t (subst (CarryTables t) (sym c.self.view_is) carry)

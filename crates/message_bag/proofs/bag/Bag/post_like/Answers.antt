@@ -1,10 +1,10 @@
 use Rattle.std.proofs.Common.{◌++◌, ◌∙◌, ◌≡◌, List, ap, arith, length, ℕ}
 use Rattle.base.proofs.Exports.{common_steps, on_ok}
 use Rattle.wire.specs.Exports.{begun_for, frames}
-use Rattle.message_bag.specs.Exports.{frames_in}
+use Rattle.message_bag.specs.Exports.{HasFrames, frames_in}
 use Rattle.message_bag.proofs.CopiedMessages.{AreLike, copied, found, has, long}
-use Rattle.message_bag.proofs.PostedMessages.{kept_after, posted_after, same_grown}
-use Rattle.message_bag.proofs.bag.Bag.post_copy.Goals as goal
+use Rattle.message_bag.proofs.PostedMessages.{kept_after, posted_after}
+use Rattle.message_bag.proofs.bag.Bag.post_like.Goals as goal
 
 pub set_receiver-requires-clause-long : goal.set_receiver-requires-clause-long
 set_receiver-requires-clause-long c = omega (
@@ -21,6 +21,10 @@ like : (c : goal.After-push)
 like c = found c.self.inside.tables.items c.self.inside.firsts c.args.self.now c.args.number
     c.args.message.now _ c.self.invariant c.self.view_is c.requires.like c.in-Some.ensures.some
 
+has_frames : (c : goal.After-push) → HasFrames c.args.message.now
+has_frames c = has c.self.inside.tables.items _ c.args.message.now (like c)
+    c.set_receiver.ensures.fits c.requires.spelling
+
 its : (c : goal.After-push)
     → frames_in c.self.inside.tables.items (c.deref.result.now, c.in-Some.tables) ≡ frames c.args.message.now
 its c = let written : c.deref.result.now ≡ c.set_receiver.new.frame = grind (arith, common_steps) in
@@ -31,17 +35,12 @@ its c = let written : c.deref.result.now ≡ c.set_receiver.new.frame = grind (a
     ∙ copied c.self.inside.tables.items c.in-Some.frame.now c.in-Some.tables c.args.message.now (like c)
 
 pub invariant_of-self-2 : goal.invariant_of-self-2
-invariant_of-self-2 c = let kept = c.self.inside.tables.items in
-    kept_after c.push.result c.args.message.now kept kept c.self.inside.firsts c.push.new.self
-    (c.deref.result.now, c.in-Some.tables) (same_grown kept) c.self.invariant c.push.ensures.pushed
-    c.push.ensures.unchanged (like c).there
-    (has kept _ c.args.message.now (like c) c.set_receiver.ensures.fits c.requires.spelling) (its c)
+invariant_of-self-2 c = kept_after c.args.message.now _ _ _ _ _ c.push.ensures (has_frames c) (its c)
+    c.self.invariant (like c).there
 
 pub returns-clause-fits : goal.returns-clause-fits
-returns-clause-fits c = on_ok c.push.result (has c.self.inside.tables.items _ c.args.message.now
-    (like c) c.set_receiver.ensures.fits c.requires.spelling).fits
+returns-clause-fits c = on_ok c.push.result (has_frames c).fits
 
 pub returns-clause-posted : goal.returns-clause-posted
-returns-clause-posted c = let kept = c.self.inside.tables.items in
-    posted_after c.push.result c.args.message.now kept kept c.args.self.now c.self.inside.firsts c.push.new.self
-    (c.deref.result.now, c.in-Some.tables) (same_grown kept) c.self.invariant c.self.view_is c.push.ensures.pushed (its c)
+returns-clause-posted c = posted_after c.args.message.now _ _ _ _ _ c.push.ensures (has_frames c) (its c)
+    c.args.self.now c.self.view_is
