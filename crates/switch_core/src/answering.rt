@@ -140,6 +140,7 @@ impl Switch {
     }
 
     // Decides by the rule at this place of the partition.
+    #[inline(always)]
     #[tactic(auto, unfolding(crate::specs::Answering::decided_at))]
     fn decide_at(
         &self,

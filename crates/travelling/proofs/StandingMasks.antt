@@ -1,6 +1,5 @@
 -- The masks of where packets stand.
-use Rattle.std.proofs.Common.{[], ◌%◌, ◌&&◌, ◌*◌, ◌+◌, ◌-◌, ◌/◌, ◌<◌, ◌==◌, ◌^◌, ◌∙◌, ◌≡◌, ◌≢◌, ◌≤◌, ◌⊎◌, Bool, IsSomeAnd, List, None, ap, arith, bit_xor, eq-eqb, eqb-true, false, get_or, get_or-set_other, get_or-set_same, inl, inr, is_some, length, max, not, refl, set, shr-shr, subst, sym, true, ℕ}
-use mathlib.Core.Bool.{beq}
+use Rattle.std.proofs.Common.{[], ◌%◌, ◌&&◌, ◌*◌, ◌+◌, ◌-◌, ◌/◌, ◌<◌, ◌==◌, ◌^◌, ◌∙◌, ◌≡◌, ◌≢◌, ◌≤◌, ◌⊎◌, ◌||◌, Bool, IsSomeAnd, List, None, ap, arith, bit_xor, eq-eqb, eqb-true, false, get_or, get_or-set_other, get_or-set_same, inl, inr, is_some, length, max, not, refl, set, shr-shr, subst, sym, true, ℕ}
 use Rattle.base.proofs.Exports.{bit_at, bit_at-lt, bit_at-pow_same, bit_at_xor, cases_lt, get_or_past, has-xor_other, has-zero, has_above, has_least, least_below, nat_tests, shr_le}
 use Rattle.base.specs.Exports.{has, least_in}
 use Rattle.travelling.specs.SwitchIndex.{flipped_if, has_marks, is_marked}
@@ -120,13 +119,23 @@ module _ (masks : List ℕ) (n t : ℕ) (t_below : t < 64)
 
   abbrev Changes : ℕ → ℕ → Bool → Type 0
   Changes block s test = has_marks turned block s
-      ≡ flipped_if (not (beq (old == 0) (new == 0)) && test) (has_marks masks block s)
+      ≡ flipped_if (((old == 0) || (new == 0)) && test) (has_marks masks block s)
 
-  changed : (was is : Bool) → not is ≡ flipped_if (not (beq was is) && true) (not was)
-  changed true true = refl
-  changed true false = refl
-  changed false true = refl
-  changed false false = refl
+  -- one of them has the mark
+  not_both : (old == 0) ≡ true → (new == 0) ≡ true → ⊥
+  not_both was is =
+      let none : has old (n % 64) ≡ false = ap (λ m. has m (n % 64)) (eqb-true old 0 was)
+      ∙ has-zero (n % 64) in
+      let still : has new (n % 64) ≡ false = ap (λ m. has m (n % 64)) (eqb-true new 0 is)
+      ∙ has-zero (n % 64) in
+      let flips = has-xor_same old (n % 64) in cc
+
+  changed : (was is : Bool) → (was ≡ true → is ≡ true → ⊥)
+      → not is ≡ flipped_if ((was || is) && true) (not was)
+  changed true true clash = absurd (clash refl refl)
+  changed true false clash = refl
+  changed false true clash = refl
+  changed false false clash = refl
 
   unchanged : (b had : Bool) → had ≡ flipped_if (b && false) had
   unchanged true had = refl
@@ -134,12 +143,12 @@ module _ (masks : List ℕ) (n t : ℕ) (t_below : t < 64)
 
   changes_one : (block s : ℕ) → block * 64 + s ≡ p → Changes block s true
   changes_one block s e = rw e (ap (λ mask. not (mask == 0)) (get_or-set_same masks p new 0 there)
-      ∙ changed (old == 0) (new == 0))
+      ∙ changed (old == 0) (new == 0) not_both)
 
   changes_none : (block s : ℕ) → block * 64 + s ≢ p → Changes block s false
   changes_none block s apart =
       ap (λ mask. not (mask == 0)) (get_or-set_other masks p (block * 64 + s) new 0 apart)
-      ∙ unchanged (not (beq (old == 0) (new == 0))) (has_marks masks block s)
+      ∙ unchanged ((old == 0) || (new == 0)) (has_marks masks block s)
 
   pub changes : (block s : ℕ) → s < 64 → Changes block s (block == n / 64 && t == s)
   changes block s below = by_tests (block == n / 64) (t == s) refl refl where

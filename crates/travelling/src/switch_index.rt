@@ -140,7 +140,8 @@ fn turn(masks: &mut Vec<u64>, number: usize, switch: u32) -> bool
     let old = masks[place];
     let new = old ^ only_if(true, (number % 64) as u32);
     masks[place] = new;
-    (old == 0) != (new == 0)
+    // Not both are: one of them has the mark.
+    (old == 0) | (new == 0)
 }
 
 // The least number at or above `from` that is marked at the switch, if there is one, by the marks

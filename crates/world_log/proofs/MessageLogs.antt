@@ -1,12 +1,11 @@
 -- What messages and acts write, one part after another.
-use Rattle.std.proofs.Common.{[], ◌++◌, ◌+◌, ◌<◌, ◌∙◌, ◌∷◌, ◌≡◌, ◌≤◌, All, IsErr, List, Result, ap, append-nil, append_assoc, arith, get_or-append-add, length, length-append, map, refl, subst, sym, ℕ}
-use Rattle.base.proofs.Exports.{both_written, get_or-map, get_or_append_left, length-map, map-append, on_err, on_ok_failed}
+use Rattle.std.proofs.Common.{[], ◌++◌, ◌+◌, ◌<◌, ◌^◌, ◌∙◌, ◌∷◌, ◌≡◌, ◌≤◌, All, IsErr, List, Result, ap, append-nil, append_assoc, arith, get_or-append-add, length, length-append, map, refl, subst, sym, ℕ}
+use Rattle.base.proofs.Exports.{both_written, holds_next, get_or-map, get_or_append_left, length-map, map-append, on_err, on_ok_failed}
 use Rattle.message_bag.specs.Exports.{HasShortSpelling, Post, new_post}
 use Rattle.controller.specs.declared.sends.Act.{Act}
 use Rattle.controller.specs.declared.sends.Act.TheVariants as act
 use Rattle.update_machine.specs.Exports.{Item, Message, sent_from}
-use Rattle.journal.specs.declared.item.Item.TheVariants as item
-use Rattle.world_log.specs.Exports.{HasNoted, IsPart, IsSpelled, MayNote, act_item, act_items, act_post, act_posts, number_after}
+use Rattle.world_log.specs.Exports.{HasNoted, IsPart, IsSpelled, MayNote, MaySend, act_item, act_items, act_post, act_posts, number_after}
 use Rattle.world_log.specs.declared.log.Log.{Log}
 use Rattle.world_log.proofs.StepWrites.{part_of_first, part_of_rest}
 
@@ -130,20 +129,63 @@ noting_failed r acts old new failed part same = record {
   travelling = same;
 }
 
--- ---- what is noted, each as an act
+-- ---- a loop that notes each of these as an act
 
-module _ {A : Type 0} (act : A → Act) (first : List A) where
-  pub acts_of : (rest all : List A) → first ++ rest ≡ all → map act first ++ map act rest ≡ map act all
-  acts_of rest all parts = sym (map-append act first rest) ∙ ap (map act) parts
+-- the first of them are noted, and the others are to come, so many
+pub record IsNoting {A : Type 0} (act : A → Act) (all first rest : List A) (left : ℕ)
+    (old now : Log) : Type 0 where
+  pub done : AreDone old.journal old.bag (map act first) now.journal now.bag
+  pub come : HaveCome all first rest left
+  pub travelling : now.travelling ≡ old.travelling
 
-  pub noted_more : (journal now : List Item) (bag posts : List Post)
-      → AreDone journal bag (map act first) now posts → (after : List Item) (later : List Post)
-      (one : A) → after ≡ now ++ act_item (length posts + 1) (act one) ∷ []
-      → later ≡ posts ++ act_post (act one)
-      → AreDone journal bag (map act (first ++ one ∷ [])) after later
-  noted_more journal now bag posts so after later one done post =
-      subst (λ acts. AreDone journal bag acts after later) (sym (map-append act first (one ∷ [])))
-      (done_more journal now bag posts (map act first) so after later (act one) done post)
+module _ {A : Type 0} (act : A → Act) (all first rest : List A) (left : ℕ) (old now : Log)
+    (so : IsNoting act all first rest left old now) where
+  acts_of : (some : List A) → first ++ some ≡ all → map act first ++ map act some ≡ map act all
+  acts_of some parts = sym (map-append act first some) ∙ ap (map act) parts
+
+  module _ (later : List A) (one : A) (next : rest ≡ one ∷ later) where
+    parts : map act first ++ act one ∷ map act later ≡ map act all
+    parts = acts_of (one ∷ later) (come_next all first rest later one left so.come next)
+
+    -- the next one may be noted
+    pub noting_few : MayNote old.bag (map act all)
+        → length now.bag + length (act_post (act one)) < 2 ^ 32
+    noting_few may = omega (
+      arith,
+      may.few,
+      done_few old.journal now.journal old.bag now.bag
+          (map act first) so.done (map act later) (map act all) (act one) parts,
+    )
+
+    pub noting_spelled : MayNote old.bag (map act all) → IsSpelled (act one)
+    noting_spelled may = holds_next IsSpelled (map act all) (map act first) (map act later)
+        (act one) parts may.spelled
+
+    -- and once it is
+    pub noting_more : (after : ℕ) (new : Log) → after + 1 ≡ left
+        → new.journal ≡ now.journal ++ act_item (length now.bag + 1) (act one) ∷ []
+        → new.bag ≡ now.bag ++ act_post (act one) → new.travelling ≡ now.travelling
+        → IsNoting act all (first ++ one ∷ []) later after old new
+    noting_more after new fewer written posted travelling = record {
+      done = subst (λ acts. AreDone old.journal old.bag acts new.journal new.bag)
+          (sym (map-append act first (one ∷ [])))
+          (done_more old.journal now.journal old.bag now.bag (map act first) so.done new.journal
+          new.bag (act one) written posted);
+      come = come_more all first rest later one left after so.come (next, fewer);
+      travelling = travelling ∙ so.travelling;
+    }
+
+  -- memory ran out before the next one was written
+  pub noting_stopped : (journal : List Item) → journal ≡ now.journal
+      → IsPart old.journal (act_items (length old.bag + 1) (map act all)) journal
+  noting_stopped journal same = rw same (done_part old.journal now.journal old.bag now.bag
+      (map act first) so.done (map act rest) (map act all) (acts_of rest so.come.parts))
+
+  -- none is left
+  pub noting_all : left ≡ 0
+      → AreDone old.journal old.bag (map act all) now.journal now.bag
+  noting_all none = subst (λ some. AreDone old.journal old.bag (map act some) now.journal now.bag)
+      (come_all all first rest left so.come none) so.done
 
 -- ---- messages, and then acts
 
@@ -165,13 +207,6 @@ module _ (bag : List Post) (first later : List Act) (may : MayNote bag (first ++
   counted : length (act_posts (first ++ later))
       ≡ length (act_posts first) + length (act_posts later)
   counted = ap length (posts_append first later) ∙ length-append (act_posts first) (act_posts later)
-
-  pub may_first : MayNote bag first
-  may_first = record {
-    few = omega (arith, may.few, counted);
-    spelled = λ k d within. subst IsSpelled (get_or_append_left first later d k within)
-        (may.spelled k d (omega (arith, within, length-append first later)));
-  }
 
   pub may_later : (posts : List Post) → posts ≡ bag ++ act_posts first → MayNote posts later
   may_later posts posted = record {
@@ -202,6 +237,32 @@ spelled_as_acts (message ∷ messages) all = λ k d within.
     omega (arith, within, length-map (message ∷ messages) act.Post) in
     subst IsSpelled (sym (get_or-map act.Post (message ∷ messages) k message d inside))
     (all k message inside)
+
+pub may_as_acts : (bag : List Post) (messages : List Message) → MaySend bag messages
+    → MayNote bag (map act.Post messages)
+may_as_acts bag messages may = record {
+  few = omega (
+    arith,
+    may.few,
+    ap length (posts_as_acts messages),
+    length-map messages new_post,
+  );
+  spelled = spelled_as_acts messages may.spelled;
+}
+
+-- the messages before these acts may be sent
+pub may_sent : (bag : List Post) (messages : List Message) (later : List Act)
+    → MayNote bag (map act.Post messages ++ later) → MaySend bag messages
+may_sent bag messages later may = record {
+  few = omega (
+    arith,
+    may.few,
+    counted bag (map act.Post messages) later may,
+    ap length (posts_as_acts messages),
+    length-map messages new_post,
+  );
+  spelled = messages_spelled messages later may.spelled;
+}
 
 module _ (journal now : List Item) (bag posts : List Post) (first later : List Act)
     (so : AreDone journal bag first now posts) where

@@ -1,0 +1,7 @@
+use Rattle.base.proofs.Exports.{into_iter_items, into_iter_len}
+use Rattle.world_log.proofs.MessageLogs.{IsNoting}
+use Rattle.world_log.proofs.log.Log.note_acts.Given as goal
+
+abbrev pub invariant-loop-act : goal.invariant-loop-act
+invariant-loop-act l = IsNoting (λ act. act) l.fn.acts.items l.yielded
+    (into_iter_items l.act-iterator) (into_iter_len l.act-iterator) l.initial.self l.self
