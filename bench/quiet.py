@@ -5,7 +5,7 @@ usage: bench/quiet.py BIN [RUNS]
 
 BIN is the proved program (`rt run` leaves it in crates/difane/out/difane). Prints a line for each case:
 the verdict, the items of the journal, the seconds of the processor without and with
-`--quiet`, each the median of RUNS runs (5), and the part that the judge adds.
+`--quiet`, each the median of RUNS runs (5), and the part that `--quiet` adds.
 """
 import os
 import statistics

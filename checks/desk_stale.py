@@ -1,8 +1,8 @@
 #!/usr/bin/env python3
 """Checks what desk/ask, desk/view and desk/draw refuse: `checks/desk_stale.py`.
 
-- Nothing is said of a journal that its inputs contradict, nor is it drawn; a newer input is told
-  in the first line, and by view and draw on standard error.
+- They say nothing about a journal that its inputs contradict, nor draw it; they report a newer
+  input in the first line, view and draw on standard error.
 - Wrong words and wrong policies are told in one line, with status 2.
 """
 import json

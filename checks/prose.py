@@ -2,13 +2,14 @@
 """Looks for prose that is hard to read: `checks/prose.py [FILE..]`.
 
 Without a file it looks at all pages: README.md, those of docs/ and desk/, and the README of bench,
-model and of each example. For the words of DIALECT it looks, too, at the comments of the sources and
-definitions, at the manual page, and at the heads of scripts, which `--help` prints.
+model and of each example. It looks, too, at the comments of the sources, definitions and proofs,
+and at the heads of must-fail edits. In the manual page, and in the heads of scripts, which `--help`
+prints, it looks only for the words of DIALECT.
 
-It ends with 1 if a sentence or a cell of a table has more than 40 words, or a line that is no row
-of a table, no link and no code more than 100 columns; if any of these has a word of DIALECT; if a
-page has one of PAGES_ONLY; or if README.md has more than 150 lines. With each word it prints the
-plain one. Text in backticks counts as one word.
+It ends with 1 if there is a word of DIALECT, or a sentence or a cell of a table of more than 40
+words. It does, too, if a line of a page that is no row of a table, no link and no code has more
+than 100 columns, or if README.md has more than 150 lines. With each word it prints the plain one.
+Text in backticks counts as one word.
 """
 import re
 import sys
@@ -69,8 +70,7 @@ DIALECT = {
     r"one below another": "on a path",
     r"that is read is sound": "for the proof, and which invariant the field yields",
     r"[Ww]rites? (?:it )?at the end": "appends",
-}
-PAGES_ONLY = {  # words that comments may have
+    r"(?:times?|timed) out": "expires, expired",
     r"(?:None|false|no|exactly|Exactly)`? where": "if",
     r"behind a blank": "after a blank",
     r"[Tt]he judge": "the function, by its name",
@@ -106,20 +106,29 @@ def texts_of(lines):
             yield from ((number, cell) for cell in line.strip("|").split("|"))
 
 
-def dialect(lines, refused):
-    """The refused words in these lines, each with its line and the plain ones."""
+def dialect(lines):
+    """The words of DIALECT in these lines, each with its line and the plain ones."""
     for number, line in enumerate(lines, 1):
-        for words, plain in refused.items():
+        for words, plain in DIALECT.items():
             if found := re.search(rf"\b{words}\b", line):
                 yield number, f"{found[0]!r}: say {plain}"
 
 
+def long_sentences(lines):
+    """The sentences and cells of more than LONGEST words, each with the line where its text begins."""
+    for number, text in texts_of(lines):
+        for sentence in re.split(r"(?<=[.?!])\s+", re.sub(r"`[^`]*`", "code", text)):
+            if len(sentence.split()) > LONGEST:
+                yield number, f"{len(sentence.split())} words: {sentence[:60]} .."
+
+
 def comments():
-    """The comments of each source and definition, and blanks instead of its other lines."""
-    crates = HOME / "crates"
-    for path in sorted((*crates.glob("*/src/**/*.rt"), *crates.glob("*/specs/**/*.antt"))):
-        lines = path.read_text().splitlines()
-        yield path, [line if re.match(r"\s*(//|--)", line) else "" for line in lines]
+    """The comments of each source, definition, proof and edit, and blanks for its other lines."""
+    files = "src/**/*.rt", "specs/**/*.antt", "proofs/**/*.antt", "must-fail/*.edit"
+    for path in sorted(path for name in files for path in (HOME / "crates").glob(f"*/{name}")):
+        found = (re.match(r"(?:\s*(?://[/!]?|--)|#(?= )) ?(.*)", line)
+                 for line in path.read_text().splitlines())
+        yield path, [comment[1] if comment else "" for comment in found]
 
 
 def helps():
@@ -131,30 +140,32 @@ def helps():
             yield path, "".join(text.partition('"""')[::2]).partition('"""')[0].splitlines()
 
 
-def main():
-    found = 0
-    for path, lines in () if sys.argv[1:] else (*comments(), *helps()):
-        for number, why in dialect(lines, DIALECT):
-            print(f"{path}:{number}: {why}")
-            found += 1
-    for page in map(Path, sys.argv[1:]) if sys.argv[1:] else pages():
+def layout(page, lines):
+    """The lines of a page that are too long, and the last one of a README that has too many."""
+    for number, line in enumerate(lines, 1):
+        if len(line) > COLUMNS and " " in line[:COLUMNS] and not re.match(r"[|!]|    ", line):
+            yield number, f"{len(line)} columns"
+    if page == HOME / "README.md" and len(lines) > README_LINES:
+        yield len(lines), f"more than {README_LINES} lines"
+
+
+def faults(paths):
+    """What is wrong with these pages, or if there are none, with all that this script looks at."""
+    for path, lines in () if paths else comments():
+        yield from ((path, *why) for why in (*dialect(lines), *long_sentences(lines)))
+    for path, lines in () if paths else helps():
+        yield from ((path, *why) for why in dialect(lines))
+    for page in paths or pages():
         lines = page.read_text().splitlines()
-        wrong = [
-            (number, f"{len(line)} columns")
-            for number, line in enumerate(lines, 1)
-            if len(line) > COLUMNS and " " in line[:COLUMNS] and not re.match(r"[|!]|    ", line)
-        ]
-        wrong += dialect(lines, DIALECT | PAGES_ONLY)
-        if page == HOME / "README.md" and len(lines) > README_LINES:
-            wrong.append((len(lines), f"more than {README_LINES} lines"))
-        for number, text in texts_of(lines):
-            for sentence in re.split(r"(?<=[.?!])\s+", re.sub(r"`[^`]*`", "code", text)):
-                if len(sentence.split()) > LONGEST:
-                    wrong.append((number, f"{len(sentence.split())} words: {sentence[:60]} .."))
-        for number, why in wrong:
-            print(f"{page}:{number}: {why}")
-        found += len(wrong)
-    sys.exit(found > 0)
+        of_page = (*layout(page, lines), *dialect(lines), *long_sentences(lines))
+        yield from ((page, *why) for why in of_page)
+
+
+def main():
+    found = list(faults([Path(name) for name in sys.argv[1:]]))
+    for path, number, why in found:
+        print(f"{path}:{number}: {why}")
+    sys.exit(len(found) > 0)
 
 
 main()

@@ -6,7 +6,7 @@
 The network is that of examples/fat_tree, with smaller leaves and one backup, so that a core switch
 decides some regions and sends others on. The 300 rows let hosts and pods reach hosts by some ports,
 or not. Each of the 1,000 packets is like a row, or has any addresses; it enters at an edge switch
-mostly. Messages are delivered now and then, and cache rules time out; no link or switch fails.
+mostly. Messages are delivered now and then, and cache rules expire; no link or switch fails.
 """
 import random
 import sys

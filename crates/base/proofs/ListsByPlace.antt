@@ -1,4 +1,4 @@
--- What stands at a place of a list that was changed at one.
+-- What is at a place of a list that was changed at one.
 use Rattle.std.proofs.Common.{[], if◌then◌else◌, ◌++◌, ◌+◌, ◌-◌, ◌<◌, ◌==◌, ◌∙◌, ◌∷◌, ◌≡◌, List, None, Option, Some, add-one, ap, arith, drop, drop-cons, drop-set-lt, get_or, length, length-set, length-take-le, map, option_map, refl, remove, replicate, set, slice_get, suc, swap_remove, sym, take, take_at, zero, ℕ, rules}
 use Rattle.std.specs.Option.{option_map_or}
 use Rattle.std.proofs.Math.Seq.{drop-append_seam, take-append_seam}

@@ -65,7 +65,7 @@ pub position-map : {X Y : Type 0} (test : Y → Bool) (f : X → Y) (xs : List X
     position test (map f xs) ≡ position (λ x. test (f x)) xs
 position-map test f xs = cc (position_or_len-map test f xs, length-map xs f)
 
--- what holds of each holds of the one that is found
+-- what is true of each is true of the one that is found
 pub found_is : {X : Type 0} (P : X → Type 0) (test : X → Bool) (xs : List X) → All P xs
     → IfSome (find test xs) P
 found_is P test [] all = tt
@@ -115,7 +115,7 @@ pub find_none : {X : Type 0} (p : X → Bool) (xs : List X) → find p xs ≡ No
 find_none p [] none = All-nil (λ x. p x ≡ false)
 find_none {X} p (x ∷ xs) none = search (rules, find_none p xs)
 
--- what holds of each item holds of the one that is found
+-- what is true of each item is true of the one that is found
 pub found_all : {X : Type 0} (P : X → Type 0) (p : X → Bool) (xs : List X) (x : X) → All P xs
     → Some x ≡ find p xs → P x
 found_all P p [] x all is = absurd cc

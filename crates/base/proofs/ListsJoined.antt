@@ -21,7 +21,7 @@ enumerate_push {X} n (y ∷ ys) x =
     ap {B = List (ℕ × X)} (λ l. (n, y) ∷ l) (enumerate_push (n + 1) ys x
     ∙ ap {B = List (ℕ × X)} (λ k. enumerate_from (n + 1) ys ++ (k, x) ∷ []) (omega arith))
 
--- what stands in the midst of nothing is nothing
+-- what is in the middle of nothing is nothing
 pub middle_none : {X : Type 0} (xs ys zs : List X) → xs ++ (ys ++ zs) ≡ [] → ys ≡ []
 middle_none [] [] zs is = refl
 middle_none [] (y ∷ ys) zs is = cc is

@@ -1,4 +1,4 @@
--- What holds of all elements, of all pairs of them, or of one that is there.
+-- What is true of all elements, of all pairs of them, or of one that is there.
 use Rattle.std.proofs.Common.{[], ◌++◌, ◌+◌, ◌<◌, ◌∙◌, ◌∷◌, ◌≡◌, All, AllPairs, Contains, IfSome, IsSomeAnd, List, None, Option, Some, ap, arith, drop, filter_map, flat_map, get_or, get_or-append-add, length, length-append, map, refl, remove, slice_get, subst, suc, sym, take, zero, ℕ, rules}
 use Rattle.std.specs.List.{AllZip, cons_option, range_with_len}
 use Rattle.std.proofs.lemmas.List.{get_or-map, get_or_append_left, length-map}
@@ -134,7 +134,7 @@ seen_are seen value (port ∷ ports) [] each = absurd each
 seen_are seen value (port ∷ ports) (one ∷ all) each =
     cc (each.0, seen_are seen value ports all each.1)
 
--- what holds of all holds of the next one
+-- what is true of all is true of the next one
 pub holds_next : {A : Type 0} (P : A → Type 0) (all first later : List A) (one : A)
     → first ++ one ∷ later ≡ all → All P all → P one
 holds_next P all first later one parts holds = subst P

@@ -1,4 +1,4 @@
--- What holds of each element, by recursion over the list.
+-- What is true of each element, by recursion over the list.
 use Rattle.std.proofs.Common.{[], ◌++◌, ◌∷◌, ◌≡◌, Bool, IsTrue, List, Option, Some, filter, flat_map, map, option_to_list, rules}
 use Rattle.std.specs.List.{AllByRecursion, list_all}
 use Rattle.std.specs.Prelude.{⊤}

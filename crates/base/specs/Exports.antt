@@ -1,5 +1,4 @@
--- The definitions that others use: of this crate, and of the library those that its Prelude doesn't
--- pass on.
+-- The definitions that others use: of this crate, and those of the library that its Prelude lacks.
 pub use Rattle.base.specs.ComputedMasks.{only_if}
 unfoldable pub use Rattle.base.specs.ComputedMasks.{least_in, mask_of, mask_where}
 pub use Rattle.base.specs.Filled.{filled-take, filled_places}

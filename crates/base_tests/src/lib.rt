@@ -1,6 +1,5 @@
 //! Worked values of the lower crates: headers, words, rules, trees, placements and lookups; files
-//! that are read, refused and printed, and the shelves and sinks that keep them; meters on a
-//! board.
+//! that are read, refused and printed, with their shelves and sinks; boards of meters.
 //!
 //! They make each public call once, with ample memory. There are only tests here, so that none of
 //! those crates is proved a second time together with its tests.

@@ -22,7 +22,7 @@ const HALF: u128 = 1 << 64;
 /// if the region and the rule still cover the freed word and it overlaps no earlier rule. So a bit
 /// stays fixed if the region or the rule fixes it. It also stays fixed if it is the highest bit in
 /// which an earlier rule differs from the header, and no lower bit in which that rule differs stays
-/// fixed: then the bits in which that rule differs are the bit's reason. Few bits have a reason,
+/// fixed. Then the bits in which that rule differs are the bit's reason. Few bits have a reason,
 /// and the body looks only for these.
 ///
 /// While the word of the fixed bits overlaps an earlier rule, the body also fixes the highest bit

@@ -67,7 +67,7 @@ abbrev pub takes_flag : Options → Bool
 takes_flag none = false
 takes_flag (net_and flag) = flag
 
--- ---- where a walk stands between two arguments of a line
+-- ---- where a walk is between two arguments of a line
 
 -- behind a flag or an option of one argument, or nothing; behind an option of two; behind names
 pub data At : Type 0 where
@@ -228,13 +228,13 @@ apart_after quiet = tt
 
 -- ---- the walk of a command of this name with these options
 
--- the walk takes these arguments, and then stands there
+-- the walk takes these arguments, and is there then
 pub record Goes (name : List ℕ) (o : Options) (from : Walk) (args : List (List ℕ))
     (to : Walk) : Type 0 where
   pub walk : fold (walked (rules o) []) from args ≡ to
   pub passes : walk_passes (shape name o) [] from args ≡ true
 
--- options: where the walk stands behind them
+-- options: where the walk is after them
 pub record Passed (name : List ℕ) (o : Options) (from : At) (gs : List Given)
     (old : List Row) : Type 0 where
   pub at : At

@@ -10,7 +10,6 @@ pub enum Report {
     Flows,
     /// A placement of the partitions with a lower peak, if one is found.
     Placement,
-    /// How many packets, decisions by cached rules and messages there were, and what became of the
-    /// packets.
+    /// How many packets, decisions by cached rules and messages there were, and how packets ended.
     Summary,
 }

@@ -106,7 +106,7 @@ ack_sent : (kind : AckKind) (before : List Item) (s boot number version : ℕ)
     → message_of before number ≡ Some (to_controller (kind.writes s boot version))
 ack_sent kind before s boot number version told = search (rules, told_sent)
 
--- what an item tells of the boot that lasts is so
+-- what an item says about the boot that lasts is true
 tells_true : (kind : AckKind) (before : List Item) (next : Item) (s boot : ℕ)
     → AreTrue kind before → IsTrue (is_up before s) → boot ≡ boot_of before s
     → AllByRecursion (kind.Holds before s) (tells (kind.reads s boot) before next)

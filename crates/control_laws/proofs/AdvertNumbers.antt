@@ -121,7 +121,7 @@ quiet_few setting before items quiet few =
       );
     }
 
--- ---- a switch whose links changed tells somebody, if it can reach anybody
+-- ---- a switch whose links changed sends adverts if it can reach another one
 
 -- one of a range that passes a test counts
 at_least : (f : ℕ → ℕ) (test : ℕ → Bool) (n x : ℕ) → x < n → test x ≡ true

@@ -170,7 +170,7 @@ pieces_have_both setting journal row step = have_both (HasItemCause setting) (Ha
     journal (piece setting journal row step) (pieces_have setting journal row step)
     (pieces_caused setting journal row step)
 
--- so a fact that holds where items have both causes holds behind each item
+-- so a fact that follows from both causes of items is true after each item
 pub behind_both : (Holds : Setting → List Item → Type 0)
     → ((setting : Setting) (journal : List Item) → HaveCauses (HasBothCauses setting) [] journal
     → Holds setting journal) → HoldsBehindItems Holds
@@ -184,7 +184,7 @@ behind_both Holds caused = behind_items Holds HasBothCauses pieces_have_both cau
 abbrev pub begun_with : Setting → ℕ → Advert
 begun_with setting origin = first_advert origin (links_of setting.net.links origin)
 
--- what is said of an advert behind a journal; a switch tells its own where it has a neighbour
+-- what is true of an advert after a journal; a switch sends its own if it has a neighbour
 pub record IsAdvertFact (setting : Setting) (P : List Item → Advert → Type 0) : Type 0 where
   pub kept : (before : List Item) (next : Item) → HasBothCauses setting before next →
       (advert : Advert) → P before advert → P (before ++ next ∷ []) advert

@@ -164,7 +164,7 @@ grows before items have = fact_on IsOfSettling (Grows before)
       member = λ s member. later.member s (first.member s member);
     }
 
--- ---- all that the controller writes, but for a version that is submitted
+-- ---- all that the controller writes, except a version that is submitted
 
 abbrev pub IsControl : List Item → Item → Type 0
 IsControl before (Item.Refused file code) = ⊤

@@ -211,11 +211,11 @@ opens_by next s boot version opens = let none : None ≡ Some version = opens in
 pub own : (i : ℕ) → (i == i) ≡ true
 own i = eq-eqb i i refl
 
--- the items have their causes behind the journal
+-- the items have their causes after the journal
 abbrev pub Has : Setting → List Item → List Item → Type 0
 Has setting journal items = HaveCauses (HasItemCause setting) journal items
 
--- a piece has causes that its row and what stands behind that have
+-- a piece has causes that its row and what follows it have
 pub piece_has : (cause : List Item → Item → Type 0) (setting : Setting) (journal : List Item)
     (row : ℕ) (step : Step) → cause journal (Item.Row row step)
     → (let here = journal ++ Item.Row row step ∷ [] in
@@ -267,7 +267,7 @@ abbrev pub AreKept : (List Item → Item → Type 0) → (List Item → Type 0) 
 AreKept cause fact = (before : List Item) (item : Item) → cause before item → fact before
     → fact (before ++ item ∷ [])
 
--- so the fact holds behind them, and each of them stands behind it
+-- so the fact is true after them, and before each of them
 pub fact_on : (cause : List Item → Item → Type 0) (fact : List Item → Type 0) → AreKept cause fact
     → (before items : List Item) → HaveCauses cause before items → fact before
     → fact (before ++ items)
@@ -390,7 +390,7 @@ by_number before (Item.Sent number sent) n message is = by_test (number == n) re
   by_test false e = inr (rw (message_more before (Item.Sent number sent) n, e) at is)
 by_number before next n message is = inr (rw (message_more before next n) at is)
 
--- what is said of the one, and of those that were sent before, is said of each
+-- what is true of the one, and of those that were sent before, is true of each
 pub new_or_old : (cause : List Item → Item → Type 0) (Says : Place → Body → Type 0)
     (before : List Item) (next : Item) → cause before next
     → ((n : ℕ) (message : Message) → cause before (Item.Sent n message)

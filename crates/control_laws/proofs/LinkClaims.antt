@@ -317,7 +317,7 @@ claims_linked setting journal have s one = (fact_on (HasBothCauses setting) (Cla
 
 -- ---- ends
 
--- the numbers of both ends, and what is said of them
+-- the numbers of both ends, and what is true of them
 pub record IsNamed (one two : ℕ) (P : Type 0) : Type 0 where
   pub one_small : one < 64
   pub two_small : two < 64

@@ -81,7 +81,7 @@ pub record OwnAfter (setting : Setting) (before now : List Item) (s : ℕ) : Typ
   pub boot : boot_of now s ≡ boot_of before s
   pub own : is_up now s ≡ true → AdvertGoesOn setting before now s
 
--- links of one switch change, and then all is sent that tells of it
+-- links of one switch change, and then all is sent that reports it
 pub record IsLinkPiece (setting : Setting) (before items : List Item) : Type 0 where
   pub changes : List Item
   pub now : List Item

@@ -116,7 +116,7 @@ pairs_few (link ∷ links) n m =
 
 -- ---- which links change
 
--- only links of one switch can be used now that couldn't, or can't that could
+-- only links of one switch became usable, or ceased to be
 pub record ChangesAt (before now : List Item) (t : ℕ) : Type 0 where
   pub others : (link : LinkRow) → link.one ≢ t → link.two ≢ t →
       is_usable now link ≡ is_usable before link
@@ -213,7 +213,7 @@ constant_few setting net b =
       mul-le-mul_right b few,
     )
 
--- what a switch tells: one advert over each link that can be used, and 63 more over each new one
+-- what a switch sends: one advert over each usable link, and 63 more over each new one
 by_few : (setting : Setting) (before now : List Item) (t s : ℕ) → IsNet setting.net
     → ChangesAt before now t → length (messages_of setting before now s)
     ≤ sum_by (λ k. once (has (near setting now s) k)) (switches_of setting)

@@ -114,7 +114,7 @@ pub own_event : (setting : Setting) (event : Event)
     → IsEvent setting.net (length setting.files) event → IsEventOf (NamesOwn setting) event
 own_event setting event is = search rules
 
--- what holds behind the row and then its items holds behind the piece
+-- what is true after the row and then its items is true after the piece
 pub behind_piece : (setting : Setting) (journal : List Item) (row : ℕ) (step : Step)
     (Fact : List Item → Type 0)
     → (let here = journal ++ Item.Row row step ∷ [] in
@@ -152,8 +152,7 @@ so_far_carries setting Fact carried events journal own answers = subst Fact (sym
     (first_steps_are (NamesOwn setting) (has_nexts setting) setting 1 events [] answers.steps (λ k d
     within. own_event setting (get_or events k d) (own k d within)) answers.allowed) carried.first)
 
--- so what follows for all first items of journals of which such a fact holds, holds of each journal
--- that is reached
+-- so what follows for all first items of journals with such a fact is true of each reached journal
 pub carried_reached : (Fact Holds : Setting → List Item → Type 0)
     → ((setting : Setting) → IsCarried setting (Fact setting))
     → ((setting : Setting) (journal rest : List Item) → Fact setting (journal ++ rest)
@@ -206,8 +205,7 @@ pub setting_carries : (Fact : Setting → List Item → Type 0)
     → (setting : Setting) → IsCarried setting (OfSettings Fact setting)
 setting_carries Fact first behind setting = search rules
 
--- where the items have their causes by such a fact, what holds where they have them holds of each
--- journal that is reached
+-- if such a fact gives the items their causes, what follows from these is true of reached journals
 pub reached_by : (Fact Holds : Setting → List Item → Type 0)
     (cause : Setting → List Item → Item → Type 0)
     → ((setting : Setting) → IsCarried setting (OfSettings Fact setting))
@@ -234,7 +232,7 @@ least_above : (bound other : ℕ) (xs : List ℕ) → bound ≤ other
 least_above bound other [] above all = above
 least_above bound other (x ∷ xs) above all = fold_above bound x xs all.0 all.1
 
--- what holds of each that passes a test holds of all that do
+-- so the retired mark is at most the next one
 pub behind : FromCauses (λ setting journal. retired_mark journal ≤ next_retired setting journal)
 unfolding next_retired
 behind setting journal have =

@@ -1,5 +1,4 @@
--- A fact of members: it is kept where nothing changes for the member, and holds of those that
--- become members.
+-- A fact of members: kept if nothing changes for the member, and true of those that become members.
 use Rattle.std.proofs.Common.{[], ◌++◌, ◌<◌, ◌==◌, ◌||◌, ◌∙◌, ◌∷◌, ◌≡◌, ◌≤◌, Bool, IsTrue, List, None, Option, Some, ap, append_assoc, arith, false, if◌then◌else◌, inl, inr, is_some, length, nat_eq, nat_lt, option_and_then, refl, subst, sym, true, unwrap_or, ℕ}
 use Rattle.base.proofs.Exports.{cases_lt, each_of_all, list_any, list_any-append, nat_tests, option_map_or, option_or}
 use Rattle.update_machine.specs.Exports.{Item, MayRise, Message, Setting, body_to_controller, controller_heard, current_mark, first_number, has_acked, hello_boot, installed_in, is_member, is_over, known_boot, members, open_sent, open_version, opened_at, raises_known, retired_mark}

@@ -138,7 +138,7 @@ opening_sent setting before s boot version n message new right = record {
       ∙ e ∙ ap Some (at_current w first (subst (HasItemCause setting before) (opens_by next s
       (known_boot before s) w e).1 new)))
 
--- ---- each message stays right behind others
+-- ---- each message stays right after others
 
 tables_sent : (setting : Setting) (before : List Item) (n v s : ℕ) (message : Message)
     → tables_at setting (before ++ Item.Sent n message ∷ []) v s ≡ tables_at setting before v s
@@ -188,7 +188,7 @@ sends_have setting = search (rules, sends_kept, right_sent)
 
 -- ---- what settling writes: whatever causes its marks and the messages behind them have, it has
 
--- a mark may rise, and what each member of the network is told of it is right behind it
+-- a mark may rise, and after that each member of the network is told the right message
 pub record Rises (cause : List Item → Item → Type 0) (Tells : List Item → Message → Type 0)
     (setting : Setting) (journal : List Item) (next : Item) (message : ℕ → Message) : Type 0 where
   pub may : cause journal next

@@ -13,7 +13,7 @@ use Rattle.control_laws.proofs.AllAdverts.{AreSuch, HasBothCauses, IsAdvertFact,
 use Rattle.net_file.proofs.RowPlaces.{links}
 use Rattle.control_laws.proofs.OwnAdverts.{own_newest}
 
--- ---- links that can be used
+-- ---- usable links
 
 -- a mask of neighbours has linked switches alone
 pub linked_by_mask : (links : List LinkRow) (s k : ℕ) → IsTrue (has (links_of links s) k)

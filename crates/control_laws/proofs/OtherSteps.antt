@@ -43,7 +43,7 @@ pub stamp_same : (before after : List Item) (s : ℕ) → controller_heard after
 unfolding acked_stamp
 stamp_same before after s heard known opened = rw (heard, known, opened) refl
 
--- the first opening of a switch in a boot stands
+-- the first opening of a switch in a boot counts
 reopened : (before : List Item) (n s boot version : ℕ) → IsTrue (is_some (opened_at before s))
     → (t : ℕ) → opened_at (before ++ Item.Sent n (to_switch s (OpenAt boot version)) ∷ []) t
     ≡ opened_at before t

@@ -94,7 +94,7 @@ control_plain = have_weaker IsControl IsPlain control_is_plain
 
 -- ---- what holds behind each item, and what at the end of each step
 
--- what holds behind any steps holds in answers to schedules
+-- what is true after any steps is true in answers to schedules
 pub at_ends : (Holds : Setting → List Item → Type 0)
     → ((setting : Setting) (steps : List StepOfRow) → Holds setting (after_steps setting [] steps))
     → HoldsAtEnds Holds
@@ -104,7 +104,7 @@ at_ends Holds stepped = record {
   so_far = λ setting events journal answers. rw answers.written (stepped setting answers.steps);
 }
 
--- a fact that holds where items have causes that each piece has, holds behind each item
+-- a fact that follows from causes that each piece has, is true after each item
 pub behind_items : (Holds : Setting → List Item → Type 0)
     (cause : Setting → List Item → Item → Type 0)
     → ((setting : Setting) → PiecesHave (cause setting) setting)
@@ -249,7 +249,7 @@ pub record StampsOpened (journal : List Item) (s : ℕ) : Type 0 where
   pub stamps : IsTrue (serves journal s) → (version : ℕ) → opened_at journal s ≡ Some version
       → version ≤ stamp_of journal s
 
--- where the known boot stays, the opening that stood before still stands
+-- if the known boot stays, so does the opening before
 opening_stays : (before : List Item) (next : Item) (s version : ℕ)
     → known_boot (before ++ next ∷ []) s ≡ known_boot before s
     → IsTrue (is_some (opened_at before s))

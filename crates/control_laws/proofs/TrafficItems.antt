@@ -1,5 +1,5 @@
 -- Items of packets and of links, and messages between switches: they boot and open no switch,
--- deliver nothing and move no mark, whatever journal they stand behind.
+-- deliver nothing and move no mark, whatever journal they follow.
 use Rattle.std.proofs.Common.{[], ◌++◌, ◌<◌, ◌∷◌, ◌≡◌, Bool, IfSome, IsFalse, IsTrue, List, None, Option, Some, arith, false, filter, flat_map, length, map, option_map, refl, slice_get, true, unwrap_or, ℕ}
 use Rattle.base.proofs.Exports.{AllByRecursion, each_append, each_flat_map, each_map, ⊤}
 use Rattle.update_machine.specs.Exports.{Action, Advert, Advertise, AuthorityRule, Body, CacheRule, Exit, Expire, Forget, Found, HaveCauses, Header, Hop, How, Item, Leg, LinkDown, LinkUp, Lose, Message, Place, Rule, Seek, Setting, Step, advert_to, arrive_by, arrive_items, authority_items, authority_rule, cache_items, cache_rule, end_items, expire_items, first_place, forget_items, found_down, found_items, go_on, has_changed, header_at, held_adverts, holds_version, hop_items, in_turn, ingress_of, is_at, is_deliverable, is_version, items_then, leg_items, leg_of, link_changes, link_items, lookup_at, lookup_items, lose_items, messages_of, messages_over, move_items, near, nothing, own_advert, packet_items, passed_on, plan_at, reroute_by, reroute_items, route_for, route_from, send_items, sent_from, serves, stamp_of, step_items, stuck_on, switches_in, switches_of, takes_route, targets_of}
@@ -38,9 +38,9 @@ pub record KnowsNoRoute (setting : Setting) (before : List Item) (i s : ℕ) (le
   pub found : down ≡ found_down before i
   pub none : route_from setting before s (targets_of setting before leg) down ≡ None
 
--- what becomes of packets once they entered, and of messages and cache rules that end: nothing is
--- sent but cache rules, nothing is forgotten that can't be delivered, no link changes, a packet is
--- stuck only where its switch knows no route, and finds down only links that can't be used
+-- what becomes of packets once they entered, and of messages and cache rules that end. Nothing is
+-- sent but cache rules, nothing is forgotten that can't be delivered, and no link changes. A packet
+-- is stuck only where its switch knows no route, and finds down only links that aren't usable
 abbrev pub IsWork : Setting → List Item → Item → Type 0
 IsWork setting before (Item.Sent number message) = IsRuleTo before message.to message.body
 IsWork setting before (Item.Stuck i s cause leg down) = KnowsNoRoute setting before i s leg down

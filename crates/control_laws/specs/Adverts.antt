@@ -34,8 +34,7 @@ abbrev pub IsOverLinks : Net → List ℕ → Type 0
 IsOverLinks net [] = ⊤
 IsOverLinks net (first ∷ route) = GoesOverLinks net first route
 
--- all adverts name only links of the network, so known links are links of it, and routes use only
--- them
+-- all adverts name only links of the network, so known links are links of it, and routes use these
 pub record LinksAreThere (setting : Setting) (journal : List Item) : Type 0 where
   pub adverts : AllAdverts setting journal (NamesLinks setting.net)
   pub usable : (s k : ℕ) → IsTrue (has (near setting journal s) k) → HasLink setting.net s k

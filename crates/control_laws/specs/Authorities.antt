@@ -1,6 +1,6 @@
 -- Where a packet's leg leads: to an authority switch of the partition that has its header (Yu,
--- Rexford, Freedman and Wang, "Scalable Flow-Based Networking with DIFANE", SIGCOMM 2010), by the
--- plan of the leg's version; or to the switch of its port.
+-- Rexford, Freedman and Wang, "Scalable Flow-Based Networking with DIFANE", SIGCOMM 2010), by its
+-- version's plan; or to the switch of its port.
 use Rattle.std.specs.Prelude.{◌≡◌, IsTrue, List, Some, nat_eq, slice_get, ℕ}
 use Rattle.base.specs.Exports.{list_any}
 use Rattle.update_machine.specs.Exports.{Exit, Header, Item, Leg, Seek, Setting, plan_at}

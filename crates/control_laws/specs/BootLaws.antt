@@ -1,5 +1,4 @@
--- What is known of boots, whatever steps were taken, and whatever messages were lost, repeated or
--- came late.
+-- What is known of boots, whatever steps are taken, and if messages are lost, repeated or late.
 use Rattle.std.specs.Prelude.{◌≡◌, ◌≤◌, IfSome, IsFalse, IsTrue, List, Some, ℕ}
 use Rattle.ctrl_msg.specs.Exports.{body_boot}
 use Rattle.update_machine.specs.Exports.{Body, Item, Message, OpenAt, Place, boot_of, is_member, is_over, is_up, known_boot, message_of, serves, speaker, to_switch}

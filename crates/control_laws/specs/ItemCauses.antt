@@ -1,8 +1,7 @@
 -- What the journal just before an item of switches and their controller says of messages, boots,
 -- openings and marks. Each cause is about only the journal before the item, so it is true in the
 -- middle of a step too. The update in two phases is that of Reitblatt, Foster, Rexford,
--- Schlesinger and Walker, "Abstractions for Network Update"; boots and acknowledgements are our
--- own.
+-- Schlesinger and Walker, "Abstractions for Network Update"; boots and acknowledgements are ours.
 use Rattle.std.specs.Prelude.{◌+◌, ◌-◌, ◌<◌, ◌≡◌, ◌≢◌, ◌≤◌, ◌⊎◌, IsFalse, IsOk, IsTrue, List, None, Ok, Some, ℕ, ⊤}
 use Rattle.base.specs.Exports.{list_any}
 use Rattle.update_machine.specs.Exports.{Advertise, Body, CacheRule, Collect, Hello, Install, Installed, Item, MayRise, OpenAt, Place, Row, Setting, Stamp, Stamped, Tables, boot_of, current_mark, has_acked, heard, installs_version, is_member, is_over, is_up, known_boot, message_of, most_live, most_versions, next_policy, next_retired, opened_at, retired_mark, stamp_of, tables_at, to_switch, touched_by, version_count}

@@ -1,6 +1,5 @@
--- When the current mark rises: only once all members have the tables, as the first phase of an
--- update requires (Reitblatt, Foster, Rexford, Schlesinger and Walker, "Abstractions for Network
--- Update").
+-- The current mark rises only once all members have the tables, as the first phase of an update
+-- requires (Reitblatt, Foster, Rexford, Schlesinger and Walker, "Abstractions for Network Update").
 use Rattle.std.specs.Prelude.{List, ⊤}
 use Rattle.update_machine.specs.Exports.{Item, MayRise, Setting}
 use Rattle.journal.specs.declared.item.Item.TheVariants as item

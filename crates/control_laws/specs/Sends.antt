@@ -1,5 +1,5 @@
 -- How many messages steps send, and how far boots and the sequence numbers of adverts rise with
--- them: OSPF has a rule for a router that used up its sequence numbers (RFC 2328, section 12.1.6);
+-- them. OSPF has a rule for a router that used up its sequence numbers (RFC 2328, section 12.1.6);
 -- here they are never used up.
 use Rattle.std.specs.Prelude.{if◌then◌else◌, ◌*◌, ◌+◌, ◌-◌, ◌<◌, ◌==◌, ◌^◌, ◌≤◌, List, length, ℕ}
 use Rattle.update_machine.specs.Exports.{Item, Setting, Step, boot_of, count_of, is_sending, near, next_message, own_seq, piece}

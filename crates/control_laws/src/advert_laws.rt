@@ -24,8 +24,7 @@ pub fn adverts_are_of_switches()
         IsNet setting.net → AdvertsAreOfSwitches setting journal) }
 {}
 
-/// On a network, which has at most 64 switches and 256 links, each step sends at most 10,000
-/// messages.
+/// On a network of at most 64 switches and 256 links, each step sends at most 10,000 messages.
 pub fn steps_send_few()
     ensures { HoldsAlways (λ setting journal. IsNet setting.net
         → StepsSendFew setting journal) }

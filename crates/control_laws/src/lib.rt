@@ -1,9 +1,9 @@
 //! What the controller and the switches send each other, whatever steps are taken: boots,
 //! versions, marks and adverts.
 //!
-//! Which earlier item causes each item of switches and their controller; what switches
-//! acknowledged and keep; how the marks bound each other and when they rise; what adverts say of
-//! the network's links; how many messages steps send; how far boots and the numbers of adverts
+//! Which earlier item causes each item of switches and their controller, and what switches
+//! acknowledged and keep. How the marks bound each other, and when they rise. What adverts say of
+//! the network's links. How many messages steps send, and how far boots and the numbers of adverts
 //! rise. And, over journals of steps of a network, what messages name.
 //!
 //! Laws over journals of any steps. No code: each function is the law that it ensures.

@@ -63,8 +63,7 @@ plans_twice to (kept ∷ plans) = by_test (leb to kept.version) refl (plans_twic
   by_test true is same = cc (is, same)
   by_test false is same = same
 
--- the plans that are kept as the marks settle are those of the versions from the current one to the
--- last
+-- the plans that are kept when the marks settle are those of the current version and later ones
 pub settled_versions : (before marks : MarksValue) (answer : Settled) (kept plans : List KeptPlan)
     → Settles before marks answer → before.current ≤ before.count → map (λ kept. kept.version) kept
     ≡ live_from_current before → plans ≡ plans_from marks.current kept

@@ -4,7 +4,7 @@ use Rattle.base.proofs.Exports.{cases_eq, false≢true, length-map, length-range
 use Rattle.controller.specs.Exports.{ControllerValue, IsController, IsSoundPlan, KeptPlan, current_plan, kept_tables}
 use Rattle.switch_table.specs.Exports.{tables_of}
 
--- where the versions ascend by one, each stands at its place
+-- if the versions ascend by one, each is at its place
 found_at_place : (plans : List KeptPlan) (first n v : ℕ) (d : KeptPlan)
     → map (λ (kept : KeptPlan). kept.version) plans ≡ range_with_len first n → first ≤ v
     → v < first + n

@@ -26,13 +26,11 @@ use switch_table::{Touched, tables_laws};
 use version_update::{Marks, Phase, Settled, SubmitError, settling_laws};
 
 /// The controller of a network: what it knows of the switches, and the plan of each version that a
-/// later call can name. Version v is the v-th plan that was submitted; the first is that of
-/// `begin`.
+/// later call can name. Version v is the v-th plan that was submitted, the first by `begin`.
 ///
 /// Contracts see the marks, and the versions from the current one to the last with their plans.
 /// Each call returns what it causes, in order, and each message carries its switch's known boot.
-/// If memory runs out in a call, what it causes is lost, and the controller must not be used
-/// again.
+/// If memory runs out in a call, what it causes is lost, and no other call may follow.
 #[derive(Drop)]
 pub struct Controller {
     marks: Marks,

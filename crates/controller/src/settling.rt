@@ -86,8 +86,7 @@ fn tell_current(
     send_to_each(acts, marks, mask, &news, current)
 }
 
-/// What is sent after the marks settled with this result. It drops the versions before the current
-/// one.
+/// What is sent after the marks settled with this result. It drops versions before the current one.
 ///
 /// # Errors
 /// Only out of memory; the versions are dropped even then.

@@ -16,8 +16,8 @@ use ternary::Word;
 const MAX_TOLD: usize = 16;
 
 /// What a change touches of the policy to which it is applied: the words of the rows that it
-/// removes, in the order of the removals, and then those of the rows that it adds; everything, if
-/// these are more than 16.
+/// removes, in the order of the removals, and then those of the rows that it adds. If these are
+/// more than 16, it is everything.
 ///
 /// # Errors
 /// Only out of memory.

@@ -14,8 +14,7 @@ use switch_table::Touched;
 
 /// A version with its plan, and what the change that made it touches. The tables of each switch
 /// are made once, and shared by each `Install` that carries them and by each switch that begins
-/// with them; each `Stamp` shares the touched words. Contracts see the version, the plan and the
-/// words.
+/// with them; each `Stamp` shares the touched words. Contracts see version, plan and words.
 #[derive(Drop)]
 pub struct Version {
     version: u32,
@@ -43,8 +42,7 @@ impl Model for Version {
 }
 
 impl Version {
-    /// A version: this plan, the words that its change touches, and the tables of this many
-    /// switches.
+    /// A version: this plan, the words that its change touches, and this many switches' tables.
     ///
     /// # Errors
     /// Only out of memory.

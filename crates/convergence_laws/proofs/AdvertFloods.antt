@@ -1,5 +1,5 @@
--- News that is delivered floods, so what a switch has each neighbour has as new, or was sent,
--- behind each step.
+-- News that is delivered floods. So after each step, what a switch has was sent to each neighbour,
+-- or the neighbour has it or what is as new.
 use Rattle.std.proofs.Common.{[], ◌&&◌, ◌++◌, ◌<◌, ◌==◌, ◌∙◌, ◌∷◌, ◌≡◌, ◌≢◌, ◌≤◌, ◌⊎◌, Bool, IsFalse, IsTrue, List, None, Option, Some, ap, append-nil, append_assoc, arith, false, inl, inr, length, map, not, option_to_list, refl, subst, sym, true, ℕ, rules}
 use Rattle.base.proofs.Exports.{get_or-map-range_with_len, nat_tests, option_map_or}
 use Rattle.update_machine.specs.Exports.{Advert, Advertise, Body, Confirm, Crash, Deliver, HaveCauses, Item, LinkDown, LinkUp, Message, OpenAt, Packet, Place, Resend, Restart, Setting, Step, StepOfRow, Update, advert_known, advert_to, adverts_begun, adverts_heard, adverts_known, after_steps, body_to_switch, deliver_items, delivery_items, is_news_to, is_to_controller, items_then, link_changes, message_of, near, next_message, next_packet, nothing, own_advert, passed_on, piece, send_items, serves, stamp_of, step_items, switch_items, switches_in, switches_of, to_switch}

@@ -76,7 +76,7 @@ given_held setting journal s b a apart small as_new given =
       as_new = as_new_through best.advert b a best.as_new as_new;
     }
 
--- the network, and what is said of the adverts in it
+-- the network, and what is true of the adverts in it
 pub record AreSpread (setting : Setting) (since : ℕ) (journal : List Item) : Type 0 where
   pub net : IsNet setting.net
   pub spread : Spread setting since journal
@@ -192,7 +192,7 @@ spread_agree setting journal are gets s neighbour origin a linked small known =
 -- ---- News, links that can be used and finished updates, computed on networks of two and four
 -- switches
 
--- ---- links that can be used
+-- ---- usable links
 
 -- in the ring a reaches d by b
 across_the_ring : Reaches ring [] 0 3
@@ -208,7 +208,7 @@ not_by_b : LeadsOver ring (Item.Down 1 ∷ []) 3 0 (1 ∷ 3 ∷ []) → ⊥
 unfolding near is_link_up serves mask_of mask_where switches has
 not_by_b leads = let no : false ≡ true = leads.0 in absurd cc
 
--- a link that can be used isn't among those that can't
+-- a usable link isn't among those that aren't
 not_unusable : AreUnusable ring [] (with_link no_links 0 1) → ⊥
 unfolding near is_link_up serves mask_of mask_where switches has has_link with_link
 not_unusable all = let no : true ≡ false = all 0 1 refl in absurd cc

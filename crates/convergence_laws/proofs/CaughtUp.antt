@@ -1,5 +1,4 @@
--- Where the controller knows of each switch that is up what it needs, every update has come to its
--- end.
+-- Where the controller knows of each switch that is up what it needs, every update has ended.
 use Rattle.std.proofs.Common.{[], ◌&&◌, ◌-◌, ◌<◌, ◌||◌, ◌∙◌, ◌∷◌, ◌≡◌, ◌≤◌, All, Bool, IsFalse, IsTrue, List, ap, arith, false, fold, inl, inr, is_some, length, min, not, refl, sym, true, unwrap_or, ℕ, rules}
 use Rattle.base.proofs.Exports.{All-from_recursion, AllByRecursion, each_map, list_all}
 use Rattle.update_machine.specs.Exports.{AreSettled, HaveCauses, Item, Setting, acked_stamp, boot_of, current_mark, has_acked, is_joining, is_member, is_over, is_up, is_waited_for, known_boot, least_number, members, next_retired, retired_mark, serves, stamp_of, switches_of, version_count}
@@ -47,7 +46,7 @@ items_caused setting journal have = search (rules, have_weaker)
 -- ---- what the controller is to know
 
 -- it waits for no switch that is down; of each that is up it knows the boot, and each one
--- acknowledged every version from the current one to the last; members serve, and are known to
+-- acknowledged every version from the current one to the last. Members serve, and are known to
 -- stamp with the current version
 pub record IsCaughtUp (setting : Setting) (journal : List Item) : Type 0 where
   pub switches : All (λ s. IsTrue (is_up journal s || not (is_waited_for journal s)))

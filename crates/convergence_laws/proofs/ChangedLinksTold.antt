@@ -261,7 +261,7 @@ pub near_back : (setting : Setting) (journal : List Item) (s neighbour : ℕ) �
     → IsTrue (has (near setting journal neighbour) s)
 near_back setting journal s neighbour net is = search (rules, ends_there, near_both)
 
--- what a switch tells of an advert that it has: that one, or one that is as new
+-- what a switch sends about an advert that it has: that one, or one that is as new
 record TellsAsNew (messages : List Message) (to : ℕ) (than : Advert) : Type 0 where
   advert : Advert
   as_new : IsAsNew advert than

@@ -1,4 +1,4 @@
--- So of links that end where it reaches a switch knows exactly those that can be used.
+-- So of the links that end where it reaches, a switch knows exactly the usable ones.
 use Rattle.std.proofs.Common.{[], ◌&&◌, ◌++◌, ◌<◌, ◌==◌, ◌∙◌, ◌∷◌, ◌≡◌, ◌≢◌, ◌⊎◌, All, Bool, IsTrue, List, None, Some, ap, arith, false, get_or, get_or-set_other, get_or-set_same, inl, inr, length, map, not, refl, set, slice_index, subst, sym, true, ℕ, rules}
 use Rattle.base.proofs.Exports.{All-from_recursion, cases_eq, length-map, nat_tests}
 use Rattle.failover.specs.Exports.{AreJoined, LinksLead, has_link, is_link, named_links, neighbours_named}
@@ -233,7 +233,7 @@ leads_known setting journal are s target down is unusable at (next ∷ rest) rea
   leads_known _ _ are s _ _ is unusable _ rest (reach_more _ _ s at next reaches leads.0) leads.1,
 )
 
--- a way over links that can be used is one over known links
+-- a walk over usable links is one over known links
 way_known : (setting : Setting) (journal : List Item) → AreAgreed setting journal
     → (s target : ℕ) (down : List ℕ) → AreUnusable setting journal down → (rest : List ℕ)
     → LeadsOver setting journal target s rest

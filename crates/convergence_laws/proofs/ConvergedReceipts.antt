@@ -50,8 +50,7 @@ in_sendings journal front number message rest is =
     (sendings_on (front ++ next ∷ []) rest x
     (rw (sendings_more front next) (in_right x (sendings front) (sent_by front next) (inl refl))))
 
--- where a message was sent: by one of these items behind a journal; and it was received, if it
--- matters
+-- where a message was sent: by one of these items after a journal; if it matters, it was received
 record IsSentBehind (setting : Setting) (journal before items : List Item) (x : Sending)
     : Type 0 where
   between : List Item

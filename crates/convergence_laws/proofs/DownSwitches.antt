@@ -1,5 +1,5 @@
 -- Of a switch that is down, for which the controller doesn't wait though it doesn't count it as
--- over, nothing is known in its known boot; and what stands behind openings and acknowledgements.
+-- over, nothing is known in its known boot; and where openings and acknowledgements come from.
 use Rattle.std.proofs.Common.{[], if◌then◌else◌, ◌++◌, ◌==◌, ◌∙◌, ◌∷◌, ◌≡◌, ◌≤◌, ◌⊎◌, Bool, IsFalse, IsTrue, List, None, Option, Some, ap, arith, eqb-true, false, filter_map, inl, inr, nat_eq, option_to_list, refl, subst, sym, true, unwrap_or, ℕ, rules}
 use Rattle.base.proofs.Exports.{list_any, option_or}
 use Rattle.update_machine.specs.Exports.{Body, Installed, Item, Message, OpenAt, Sending, Setting, all_given, body_to_controller, boot_of, controller_heard, first_number, gives_waited_for, has_acked, heard, installed_in, installs_version, is_over, is_up, is_waited_for, known_boot, message_of, open_sent, opened_at, raises_known, serves, to_switch}
@@ -45,7 +45,7 @@ pub record AreRecorded (journal : List Item) : Type 0 where
       → IsSent journal message
   pub told : (body : Body) → IsIn body (controller_heard journal)
       → IsSent journal (to_controller body)
-  -- a switch was opened by a message, but for the first boot
+  -- a switch was opened by a message, except in its first boot
   pub openings : (s boot version : ℕ) → opened_in journal s boot ≡ Some version
       → (boot ≡ 1) ⊎ IsSent journal (to_switch s (OpenAt boot version))
   -- it heard tables, and acknowledges them, in a boot that is known

@@ -183,7 +183,7 @@ hello_sends setting before s boot version body now is new below =
     subst (λ b. TablesSent (now ++ installs_to setting s now) s b version) (sym (keeps.known s))
     (installs_sent setting now s version (omega (arith, above, keeps.current)) below))
 
--- the count of the versions stands while the marks settle
+-- the count of the versions stays while the marks settle
 settling_count : (setting : Setting) (now : List Item)
     → version_count (now ++ settling setting now) ≡ version_count now
 settling_count setting now = (grows now (settling setting now) (settling_settles setting now)).count

@@ -154,8 +154,7 @@ sent_first_others = record {
   booted = λ journal s down. tt;
 }
 
--- the causes of items, that they take the next numbers, and that what is delivered or forgotten was
--- sent
+-- the causes of items: they take the next numbers, and what is delivered or forgotten was sent
 abbrev pub IsInOrder : Setting → List Item → Item → Type 0
 IsInOrder setting = Both (HasItemCause setting) (Both TakesNext IsSentFirst)
 

@@ -176,7 +176,7 @@ pub ends_tell : (setting : Setting) (steps : List StepOfRow)
     → TellsOwn setting (after_steps setting [] steps)
 ends_tell = (behind_both TellsOwn caused_tells).ends.stepped
 
--- what is said of adverts, but for whom they reach
+-- what is true of adverts, except whom they reach
 pub ends_spread : {since : ℕ} (setting : Setting) (steps : List StepOfRow) → IsNet setting.net
     → Spread setting since (after_steps setting [] steps)
     → AreSpread setting since (after_steps setting [] steps)
@@ -223,7 +223,7 @@ pub apart_at_ends : HoldsAtEnds (λ setting journal.
     IsNet setting.net → NeighboursAgree setting journal → GetStuckApart setting journal)
 apart_at_ends = agreed_at_ends GetStuckApart stuck_reaches_none
 
--- so it is of quiet networks
+-- so the same is true of quiet networks
 quiet_ends : (Holds : Setting → List Item → Type 0) → HoldsAtEnds (λ setting journal.
     IsNet setting.net → NeighboursAgree setting journal → Holds setting journal)
     → HoldsAtEnds (λ setting journal.

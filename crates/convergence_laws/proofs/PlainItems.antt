@@ -32,7 +32,7 @@ in_either x (y ∷ xs) ys is = elim is [
   ]
 ]
 
--- what holds of each holds of an element
+-- what is true of each is true of an element
 pub each_in : {X : Type 0} (P : X → Type 0) (x : X) (xs : List X) → AllByRecursion P xs
     → IsIn x xs → P x
 each_in P x [] all is = absurd is
@@ -44,7 +44,7 @@ each_in P x (y ∷ xs) all is = elim is [
 pub all_in : {X : Type 0} (P : X → Type 0) (x : X) (xs : List X) → All P xs → IsIn x xs → P x
 all_in P x xs all is = each_in P x xs (recursion_from_All P xs all) is
 
--- and what holds of all elements holds of each
+-- and what is true of all elements is true of each
 pub each_of_in : {X : Type 0} (P : X → Type 0) (xs : List X) → ((x : X) → IsIn x xs → P x)
     → AllByRecursion P xs
 each_of_in P [] all = tt
@@ -98,7 +98,7 @@ in_at [] k x within is = absurd (omega arith)
 in_at (y ∷ xs) zero x within is = inl is
 in_at (y ∷ xs) (suc k) x within is = inr (in_at xs k x (omega (arith, within)) is)
 
--- what a test that tells something tells of elements
+-- what an element gives is among what all of them give
 pub in_filter_map : {X Y : Type 0} (f : X → Option Y) (x : X) (y : Y) (xs : List X) → IsIn x xs
     → f x ≡ Some y → IsIn y (filter_map f xs)
 in_filter_map f x y [] is told = absurd is

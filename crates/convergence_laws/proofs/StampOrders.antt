@@ -1,5 +1,4 @@
--- At the end of each step each member was opened at the current version, or was told to stamp with
--- it.
+-- After each step each member was opened at the current version, or was told to stamp with it.
 use Rattle.std.proofs.Common.{[], ◌++◌, ◌+◌, ◌<◌, ◌∙◌, ◌∷◌, ◌≡◌, ◌⊎◌, Bool, IsTrue, List, Some, ap, append-nil, append_assoc, arith, false, inl, inr, length, map, nat_lt, refl, subst, sym, true, ℕ, rules}
 use Rattle.base.proofs.Exports.{each_always, each_map, ⊤}
 use Rattle.update_machine.specs.Exports.{Body, ControllerKeeps, HaveCauses, Hello, Item, Message, Setting, Step, after_hello, confirm_items, controller_heard, controller_items, current_items, current_mark, deliver_items, in_turn, is_member, is_message_to_controller, is_over, items_then, known_boot, members, next_current, nothing, open_items, open_sent, opened_at, piece, retired_items, send_items, settling, stamp_for, step_items, switches_of, touched_by, update_items, version_count}

@@ -1,4 +1,4 @@
--- In a quiet journal every update has come to its end.
+-- In a quiet journal every update has ended.
 use Rattle.std.proofs.Common.{[], if◌then◌else◌, ◌++◌, ◌+◌, ◌-◌, ◌<◌, ◌==◌, ◌||◌, ◌∙◌, ◌∷◌, ◌≡◌, ◌≤◌, ◌⊎◌, Bool, IsFalse, IsTrue, List, None, Option, Some, ap, arith, eq-eqb, false, fold, inl, inr, is_some, length, max, nat_eq, nat_lt, refl, sym, true, unwrap_or, ℕ, rules}
 use Rattle.base.proofs.Exports.{list_any, nat_tests}
 use Rattle.update_machine.specs.Exports.{Body, HaveCauses, Hello, Install, Installed, IsQuiet, Item, OpenAt, Setting, Stamp, Stamped, StepOfRow, Tables, acked_stamp, after_steps, boot_of, controller_heard, current_mark, has_acked, heard, installed_in, is_later_body, is_member, is_up, known_boot, opened_at, piece, serves, version_count}
@@ -174,7 +174,7 @@ opened_first journal s first = rw (eq-eqb (known_boot journal s) 1 first) refl
 
 -- ---- opened switches
 
--- the version at which it was opened it heard, but for the first boot
+-- it heard the version at which it was opened, except in its first boot
 opening_heard : (setting : Setting) (journal : List Item) → AreReady setting journal
     → IsQuiet setting journal → (s version : ℕ) → s < length setting.net.switches
     → IsTrue (is_up journal s) → opened_at journal s ≡ Some version

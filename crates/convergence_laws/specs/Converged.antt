@@ -24,7 +24,7 @@ AreUnusable setting journal down = (one other : ℕ)
     → IsTrue (has (near setting journal one) other) → IsFalse (has_link down one other)
 
 pub record HasConverged (setting : Setting) (journal : List Item) : Type 0 where
-  -- a switch has the own advert of each other one that it reaches
+  -- a switch has the own advert of each other switch that it reaches
   pub adverts : (s origin : ℕ) → s ≢ origin → Reaches setting journal s origin →
       advert_known setting journal s origin ≡ Some (own_advert setting journal origin)
   -- of the links that end at a switch that it reaches it knows exactly the usable ones

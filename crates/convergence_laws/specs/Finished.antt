@@ -2,8 +2,7 @@
 use Rattle.std.specs.Prelude.{[], ◌++◌, ◌||◌, ◌∷◌, ◌≡◌, All, IsFalse, IsTrue, List, None, not, ℕ}
 use Rattle.update_machine.specs.Exports.{Answers, Event, Flush, Item, Setting, is_forgotten, is_up, is_waited_for, next_waiting, switches_of}
 
--- no message waits, none was forgotten, and each switch is up or the controller doesn't wait for
--- it
+-- no message waits, none was forgotten, and the controller waits for no switch that is down
 pub record IsFinished (setting : Setting) (journal : List Item) : Type 0 where
   pub waiting : next_waiting journal ≡ None
   pub forgotten : (number : ℕ) → IsFalse (is_forgotten journal number)

@@ -1,5 +1,4 @@
-//! What is true in a quiet network, and in one whose neighbours agree: laws over journals of any
-//! steps.
+//! What is true in a quiet network, and if all neighbours agree: laws over journals of any steps.
 //!
 //! No code: each function is the law that it ensures.
 #![tactic(auto)]

@@ -8,8 +8,7 @@ use lib.Pointwise.{pointwise}
 abbrev pub records_of : List ℕ → List (List (List ℕ))
 records_of text = records default_config (strip_bom text)
 
--- a read returned these fields, the first of the remaining records; or it found none, and none
--- remained
+-- a read returned these fields, the first of the records left; or it found none, and none was left
 abbrev pub TakesRecord : List (List (List ℕ)) → Bool → List (List ℕ) → List (List (List ℕ)) → Type 0
 TakesRecord before true fields after = before ≡ fields ∷ after
 TakesRecord before false fields after = (before ≡ []) × (after ≡ [])

@@ -1,9 +1,7 @@
-//! The records of a CSV text in memory, one after another, as the crate `csv` reads them with its
-//! presets.
+//! The records of a CSV text in memory, one by one, as the crate `csv` reads them with its presets.
 //!
 //! That crate defines which bytes make a record, and how it reads a byte-order mark, quotes, line
-//! ends and blank lines. Records may have any width, none is taken as column names, and no field is
-//! trimmed.
+//! ends and blank lines. Records may have any width, none is a heading, and no field is trimmed.
 //!
 //! Contracts see a `Records` as the list of the records that remain to be read, so a caller
 //! reasons about a plain list:

@@ -45,8 +45,7 @@ at_most_trans : (a b c : Cost) → CostsAtMost a b → CostsAtMost b c → Costs
 at_most_trans a b c p q =
     record { larger = omega arith; sum = λ e. omega arith; bit = λ e f. omega arith }
 
--- a cheaper cost of a higher bit is less, and one that is not cheaper is no less than that of a
--- lower bit
+-- a cheaper cost of a higher bit is less; one that isn't cheaper is at least that of a lower bit
 cheaper_less : (a b : Cost) → is_cheaper a b ≡ true → CostsAtMost a b
 cheaper_less a b is = grind arith
 

@@ -19,8 +19,7 @@ covers_region region rule = covers_of rule.word region
 unfoldable pub narrowed_rule : WordValue → Rule → Rule
 narrowed_rule region rule = record rule { word = meeting_word rule.word region }
 
--- the rules that meet the region, up to and including the first that covers it, each cut down to
--- the region
+-- the rules that meet the region, each cut down to it, up to and including the first that covers it
 unfoldable pub narrow : List Rule → WordValue → List Rule
 narrow rules region =
     map (narrowed_rule region) (up_to_first (covers_region region)

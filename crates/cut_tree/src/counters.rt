@@ -63,8 +63,7 @@ impl Counters {
         }
     }
 
-    /// How many planes, from the first, hold all the counts of both: no counter has a bit beyond
-    /// them.
+    /// How many planes, from the first, hold all counts of both: no counter has a bit beyond these.
     pub fn height(&self, other: &Counters) -> usize
         ensures here { IsHeight self.now.planes result }
         ensures there { IsHeight other.now.planes result }

@@ -1,4 +1,4 @@
--- What writing a text that takes memory leaves of the output.
+-- What the output is after a text was written that allocates.
 use Rattle.base.proofs.Exports.{⊤}
 use Rattle.std.proofs.Common.{[], ◌≡◌, Bool, Err, IsErrOf, List, Ok, OnErr, Result, inl, ℕ}
 use Rattle.shelf.specs.Exports.{GainedPart, IsAfterWrite, SinkState}

@@ -35,7 +35,7 @@ few_lines trace = let feeds = length-slice_split (λ (b : ℕ). b == 10) trace i
       count_by-le-length (λ (b : ℕ). b == 10) trace,
     )
 
--- so in a trace that isn't too long no number of a line stands still
+-- so in a trace that isn't too long the verdict has the line's own number
 own_number : (files : List PolicyFile) (trace : List ℕ) (line : ℕ) → length trace ≤ most_trace_bytes
     → IsAuditVerdict files (lines_of trace) (No line) → IsFirstBad files (lines_of trace) line
 own_number files trace line short is =

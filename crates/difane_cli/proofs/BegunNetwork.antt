@@ -48,7 +48,7 @@ drawn_port : PortLaws → (net : Net) → IsNet net → (a : Action) → NamesPo
 drawn_port laws net sound action.Drop names = refl
 drawn_port laws net sound (action.Out port) names = laws.mask net port sound ∙ names
 
--- what holds of each policy holds of the files that have them
+-- what is true of each policy is true of the files that have them
 all_whole : (P : PolicyFile → Type 0) (policies : List (List Row))
     → All (λ rows. P (Whole rows)) policies → All P (map Whole policies)
 all_whole P policies given = λ i d within.

@@ -1,4 +1,4 @@
--- The lines of meters, and the text of a replay, which has the last lines behind the journal's.
+-- The lines of meters, and the text of a replay, which has the last lines after the journal's.
 use Rattle.base.proofs.Exports.{⊤}
 use Rattle.std.proofs.Common.{[], ◌++◌, ◌∙◌, ◌∷◌, ◌≡◌, ◌≢◌, Bool, Err, List, None, Ok, Option, Result, Some, ap, append-nil, arith, flat_map, length, map, refl, subst, sym, ℕ}
 use Rattle.update_machine.specs.Exports.{Item, Leaving, Net}

@@ -73,7 +73,7 @@ come_to texts files takes_memory status journal taken given before now are outco
       Outcome (command_of texts) files takes_memory status journal all given before now) are outcome,
 )
 
--- and what it tells, where `flows` is asked for and done
+-- and what the records count, if `flows` is asked for and done
 pub flows_told : (texts : List (List ℕ)) (files : Option Files) (takes_memory : Bool)
     (ended : Status) (journal : List Item) (before now : SinkState)
     → MeteredOutcome texts files takes_memory ended journal before now

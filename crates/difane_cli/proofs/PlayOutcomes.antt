@@ -38,7 +38,7 @@ played laws command files inputs journal full asked accepted sound play held =
       works = laws.works inputs.setting inputs.events journal full sound.setting sound.events play;
     }
 
--- the answer that the judge gave is the one that is asked for
+-- the verdict that was given is the one that is asked for
 pub judged : AnswerLaws → (command : Command) (files : Option Files) (inputs : Inputs)
     (journal : List Item) (full : Option ℕ) (net : Net) (given : Option Bool)
     → IsAnswer command files inputs journal full → inputs.setting.net ≡ net
@@ -72,7 +72,7 @@ counted_so : FlowLaws → (net : Net) (journal : List Item) (taken given : List 
 counted_so laws net journal taken given kept = λ most new. subst (AreCounted journal) (sym kept)
     (laws.stayed most (port_mask net.switches) (left_in journal) taken new)
 
--- a journal that was played, and what is to be told of it that was written, or not
+-- a journal that was played, and what is to be printed about it, which was written or not
 pub told : AnswerLaws → (command : Command) (files : Option Files) (inputs : Inputs)
     (journal : List Item) (full : Option ℕ) (taken given : List Seen) (said : Option Bool) (before now : SinkState)
     (takes_memory : Bool) (written : Result (⊤) SinkError)

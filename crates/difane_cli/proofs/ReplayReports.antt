@@ -1,4 +1,4 @@
--- What is to be told of a replay decides what comes of it.
+-- What is to be printed about a replay decides its outcome.
 use Rattle.std.proofs.Common.{◌∙◌, ◌≡◌, ◌≢◌, ◌⊎◌, Bool, IsTrue, List, None, Option, Some, ap, inl, inr, refl, subst, sym}
 use Rattle.update_machine.specs.Exports.{Item}
 use Rattle.meters.specs.Exports.{Seen}

@@ -34,9 +34,9 @@ pub record IsAuditingOf (command : AuditCommand) (auditing : Auditing) : Type 0 
   pub short : length auditing.trace ≤ most_trace_bytes
 
 -- the verdict is Yes only if each line is good, and otherwise No with the number of the first that
--- isn't; and if it is Yes, the moves that they state are a run of the machine, and each packet
--- that they print as dropped or as out by a port got one decision before, the first match of its
--- header under one version that was not retired when it entered
+-- isn't. If it is Yes, the moves that they state are a run of the machine. And each packet that
+-- they print as dropped or as out by a port got one decision before: the first match of its header
+-- under one version that was not retired when it entered
 pub record IsJudged (files : List PolicyFile) (lines : List TraceLine) (verdict : Verdict) : Type 0 where
   pub good : verdict ≡ Yes → AreGood files lines
   pub bad : (number : ℕ) → verdict ≡ No number → IsFirstBad files lines number

@@ -1,6 +1,5 @@
 -- The codes by which a command refuses a file as a whole or for what another file says, and the
--- most bytes of a file. They are the program's own, and docs/FORMATS.md lists them with those of
--- rows.
+-- most bytes of a file. They are the program's own; docs/FORMATS.md lists them with those of rows.
 use Rattle.std.specs.Prelude.{ℕ}
 
 -- a file has at most this many bytes

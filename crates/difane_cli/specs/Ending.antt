@@ -87,8 +87,7 @@ Accounts read (status.Full row) = IsOk read
 Accounts read _ = ⊤
 
 -- how a reading ends: with the value that the known files give, as `seen` shows it; or with a stop
--- for which the known files account, and with a fault of the shelf if only a fault causes the
--- stop
+-- for which the known files account, and with a fault of the shelf if it needs one
 abbrev pub EndsRead : {K X V : Type 0} → (known : Option K) → (read : K → Result X Refusal)
     → (seen : V → X) → (old new : ShelfState) → Result V Stop → Type 0
 EndsRead known read seen old new (Ok value) = ForSome known (λ given. read given ≡ Ok (seen value))
@@ -142,8 +141,7 @@ abbrev pub ReadsFor : {V : Type 0} → Command → (old new : ShelfState) → Re
 ReadsFor command old new result =
     ReadsFiles (names_in (Some command)) (most_reads old.files (Some command)) old new result
 
--- no file is read: arguments that the grammar refuses name no file that is read, and a load case
--- has none
+-- no file is read: a load case has none, and arguments that the grammar refuses name none to read
 abbrev pub ReadsNothing : Option Command → Type 0
 ReadsNothing None = ⊤
 ReadsNothing (Some (asked.Load n)) = ⊤

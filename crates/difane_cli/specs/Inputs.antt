@@ -234,8 +234,7 @@ abbrev pub IsAccepted : Option (Result Task Refusal) → Type 0
 IsAccepted (Some (Ok task)) = ⊤
 IsAccepted _ = ⊥
 
--- of files in order, which are accepted or not, how many are read: none after the first that is
--- refused
+-- of files in order, accepted or not, how many are read: none after the first that is refused
 abbrev pub up_to_refusal : List Bool → ℕ
 up_to_refusal [] = 0
 up_to_refusal (true ∷ files) = 1 + up_to_refusal files

@@ -5,8 +5,7 @@ use Rattle.steps.specs.Exports.{max_events}
 use Rattle.command_line.specs.Exports.{most_policies}
 use Rattle.difane_cli.specs.Tasks.{Inputs}
 
--- there are at most 64 files and 100,000 events, and each policy and each change has at most 2,000
--- rows
+-- there are at most 64 files and 100,000 events, and each policy or change has at most 2,000 rows
 pub record AreWithinLimits (inputs : Inputs) : Type 0 where
   pub files : length inputs.setting.files ≤ most_policies
   pub events : length inputs.events ≤ max_events

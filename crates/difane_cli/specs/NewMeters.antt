@@ -13,8 +13,7 @@ asks_flows (word ∷ more) = bytes_eq word (codes "flows")
 abbrev pub most_headers : ℕ
 most_headers = 4096
 
--- an empty meter of this port: one that counts flows, or one that always stays and has no flow
--- records
+-- an empty meter of this port: one that counts flows, or one that always stays, without records
 abbrev pub new_meter : (counts_flows : Bool) → ℕ → Seen
 new_meter true port = record {
   port = port;

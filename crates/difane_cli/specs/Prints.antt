@@ -27,10 +27,10 @@ IsSwitchOf None net switch = switch ≡ None
 IsSwitchOf (Some name) net switch =
     (switch ≡ switch_number net.switches name) × IsTrue (is_some switch)
 
--- a policy of at most 2,000 rows, its plan on the network that a command names, with rows that
--- name only its ports, and the switch that the command names; the plan's partitions are the leaves
--- of the tree that is defined for the policy's rules, and their targets a placement; and at every
--- switch it leads each header to what a scan of the policy finds, which is the first match
+-- a policy of at most 2,000 rows, its plan on the network that a command names, with rows that name
+-- only its ports, and the switch that the command names. The plan's partitions are the leaves of
+-- the tree that is defined for the policy's rules, and their targets a placement. At every switch
+-- it leads each header to what a scan of the policy finds, which is the first match
 pub record IsPrintingOf (command : PrintCommand) (printing : Printing) : Type 0 where
   pub policy : IsPolicy printing.policy
   pub few : length printing.policy ≤ 2000

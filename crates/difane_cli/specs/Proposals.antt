@@ -38,9 +38,8 @@ with_targets plan placement = zip (map part_of plan) placement
 
 -- the placement is proposed to replace the plan's own, computed from the weights of its partitions;
 -- it fits, and its peak is at least the bound and not higher than the plan's. The plan's partitions
--- are the leaves of the tree that is defined for the policy's rules, and each stays; and with the
--- new targets too the tables lead each header to what a scan of the policy finds, the first
--- match
+-- are the leaves of the tree that is defined for the policy's rules, and each stays. With the new
+-- targets, too, the tables lead each header to its first match, which a scan of the policy finds
 pub record IsProposedFor (rows : List Row) (plan : List Hosted) (net : Net) (journal : List Item)
     (placement : List (List ℕ)) : Type 0 where
   pub proposal : IsProposal (sizes_in plan) (weights_in journal plan) (rooms_of net) net.backups

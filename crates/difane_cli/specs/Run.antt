@@ -69,10 +69,10 @@ pub record MayBePlayed (inputs : Inputs) : Type 0 where
   pub setting : IsSetting inputs.setting
   pub events : All (IsEvent inputs.setting.net (length inputs.setting.files)) inputs.events
 
--- the journal is that of the play of these inputs, which are those of the files and of the task,
--- if these are known, to its end or to a row at which it stopped full; so it is a run of the
--- machine, its ends and items have their causes, and its rows and entries are the schedule's; the
--- invariants were true on the way; and the network recovers, and drops nothing in a rollout
+-- the journal is that of the play of these inputs, to its end or to a row at which it stopped full;
+-- the inputs are those of the files and of the task, if these are known. So the journal is a run of
+-- the machine, its ends and items have their causes, and its rows and entries are the schedule's.
+-- The invariants were true on the way; and the network recovers, and drops nothing in a rollout
 pub record IsAnswer (command : Command) (files : Option Files) (inputs : Inputs)
     (journal : List Item) (full : Option ℕ) : Type 0 where
   pub asked : IsPlayOf command inputs
@@ -88,12 +88,12 @@ pub record IsAnswer (command : Command) (files : Option Files) (inputs : Inputs)
   pub works : KeepsWorking inputs.setting inputs.events journal full
 
 -- there are inputs such that the journal is that of their play, to its end or to a row at which it
--- stopped full; the meters that were given back are those that stayed of the ones that were taken,
--- and flow meters counted right; and the output gained what the play prints. For a replay this is
--- the text of the journal and, unless it stopped full, the meters' lines, and with `--quiet`
--- whether the network is quiet: if it is, all have converged, on the newest version; and each line
--- of this text is good as a trace's, so `audit` says yes, up to the longest trace that it accepts.
--- Otherwise it is flow records or a summary, unless it stopped full
+-- stopped full. The meters that were given back are those that stayed of the ones that were taken,
+-- and flow meters counted right. The output gained what the play prints. For a replay this is the
+-- text of the journal and, unless it stopped full, the meters' lines, and with `--quiet` whether
+-- the network is quiet. If it is, all have converged, on the newest version. Each line of this text
+-- is good as a trace's, so `audit` says yes, up to the longest trace that it accepts. Otherwise it
+-- is flow records or a summary, unless it stopped full
 pub record Played (command : Command) (files : Option Files) (full : Option ℕ)
     (journal : List Item) (taken given : List Seen) (before now : SinkState) : Type 0 where
   pub inputs : Inputs

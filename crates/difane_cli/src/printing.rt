@@ -29,8 +29,7 @@ pub struct PrintInputs {
     pub switch: Option<u32>,
 }
 
-/// Reads and checks the network, then finds the switch, then reads and checks the policy, and last
-/// plans it.
+/// Reads and checks the network, then finds the switch, then reads, checks and plans the policy.
 pub fn read_printing<F: Shelf>(
     alloc: Global,
     shelf: &mut F,

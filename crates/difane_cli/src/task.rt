@@ -29,8 +29,7 @@ pub enum Task {
     Audit(AuditInputs),
 }
 
-/// Reads the task of a command: reads and checks its files one after another, or generates its load
-/// case.
+/// Reads the task of a command: reads and checks one file after another, or makes its load case.
 pub fn read_task<F: Shelf>(
     alloc: Global,
     shelf: &mut F,

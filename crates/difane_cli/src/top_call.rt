@@ -17,20 +17,25 @@ use meters::Meter;
 use shelf::{Shelf, Sink};
 use std::alloc::{AllocError, Global};
 
-/// Does what the arguments ask: `replay SCHEDULE POLICY ..` plays the schedule, whose updates name
-/// the policies by their places, and writes the journal to `out`, and with `--quiet` whether the
-/// network is quiet; `flows SCHEDULE POLICY ..` plays the same, and writes the flow records of the
-/// meters that left, and then of those that stayed; `rebalance SCHEDULE POLICY ..` plays it with
-/// no meters, and writes the placement that is proposed for the partitions of the current version;
-/// `compile POLICY` writes the plan of the policy, and `show POLICY SWITCH` the tables that it
-/// gives to the switch; each of these on the network of `--net NET` or on one switch. `load N`
-/// plays the load case of N, and writes the eleven counts of its journal. `audit TRACE POLICY ..`
-/// checks a printed trace, and writes `yes` if each of its lines is good.
+/// Does what the arguments ask:
+///
+/// - `replay SCHEDULE POLICY ..` plays the schedule, whose updates name the policies by their
+///   places. It writes the journal to `out`, and with `--quiet` also whether the network is quiet.
+/// - `flows SCHEDULE POLICY ..` plays the same. It writes the flow records of the meters that left,
+///   and then of those that stayed.
+/// - `rebalance SCHEDULE POLICY ..` plays it with no meters. It writes the placement that is
+///   proposed for the partitions of the current version.
+/// - `compile POLICY` writes the plan of the policy, and `show POLICY SWITCH` the tables that it
+///   gives to the switch.
+/// - `load N` plays the load case of N, and writes the eleven counts of its journal.
+/// - `audit TRACE POLICY ..` checks a printed trace, and writes `yes` if each of its lines is good.
+///
+/// The first five commands have the network of `--net NET`, or one switch without it.
 ///
 /// A status other than `Ok` writes its line to `errs`. The words are the arguments of the command
-/// line, without the program's name. The first refusal ends the call, in the order of work: the
+/// line, without the program's name. The first refusal ends the call. The order of work is: the
 /// words, the network and the switch on it, the schedule, the policies in the order of the words,
-/// the plan of the first policy, the play, the writing; each file is read and checked before the
+/// the plan of the first policy, the play, the writing. Each file is read and checked before the
 /// next one is read. A load case reads none.
 pub fn run<F: Shelf, K: Sink, E: Sink>(
     alloc: Global,
@@ -40,17 +45,16 @@ pub fn run<F: Shelf, K: Sink, E: Sink>(
     errs: &mut E,
     meters: Vec<Box<dyn Meter>>,
 ) -> Finished
-    // For each status: what was played, which is what the known files state; that the journal
-    // answers it, and is a run of the abstract machine whose ends and items have their causes;
-    // which meters stayed; and what the output gained.
+    // For each status: what was played, which is what the known files state; which meters stayed;
+    // and what the output gained. And that the journal answers what was played, and is a run of the
+    // abstract machine whose ends and items have their causes.
     ensures outcome { Outcome (command_of (argument_texts words.now)) (F.state shelf.old).files
         K.takes_memory result.status result.journal
         (map ⟦<Box<dyn Meter> as Meter>⟧.seen meters.items)
         (map ⟦<Box<dyn Meter> as Meter>⟧.seen result.meters.items)
         (K.state out.old) (K.state out.new) }
 
-    // A command that plays nothing, and one that proposes a placement, give the meters back
-    // unchanged.
+    // A command that plays nothing, or proposes a placement, gives the meters back unchanged.
     ensures meters { GivesBack (command_of (argument_texts words.now)) → result.meters ≡ meters }
 
     // Each status has its cause.

@@ -111,7 +111,7 @@ stands_still links target j zero same = ap (ball links target) (omega arith)
 stands_still links target j (suc i) same = let next : j + suc i ≡ suc (j + i) = omega arith in
     ap (ball links target) next ∙ ap (grown_ball links) (stands_still links target j i same) ∙ same
 
--- where the balls stand still without the switch, none ever has it
+-- if the balls stop growing without the switch, none ever has it
 pub still_out : (links : List ℕ) (target j from : ℕ) →
     ball links target (suc j) ≡ ball links target j →
     ((i : ℕ) → i < suc j → has (ball links target i) from ≡ false) → IsOutOfReach links target from
@@ -129,7 +129,7 @@ grows : (links : List ℕ) (target j k from : ℕ) → IsAway links target (j + 
 unfolding ball
 grows links target j k from away = search (rules, false_of, eqb-true, stands_still)
 
--- a turn of the search: the switch is here, balls stand still, or the rest of the search decides
+-- a turn of the search: the switch is here, the balls stop growing, or the rest decides
 abbrev turn : Bool → Bool → Option ℕ → Option ℕ
 turn here still rest = elim here
     [ true ↦ Some 0 | false ↦ elim still [ true ↦ None | false ↦ option_map suc rest ] ]

@@ -11,7 +11,7 @@ abbrev pub AreBothWays : List ℕ → Type 0
 AreBothWays links = (one other : ℕ) →
     has (get_or links one 0) other ≡ has (get_or links other 0) one
 
--- only switches of the wider ball are there, and each other one has a link to a switch that is left
+-- only switches of the wider ball are there, and all others have a link to a switch that is left
 pub record IsWideSoFar (links : List ℕ) (ball wide rest : ℕ) : Type 0 where
   pub wide_fits : wide < 2 ^ 64
   pub rest_fits : rest < 2 ^ 64

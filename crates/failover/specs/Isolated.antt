@@ -1,5 +1,4 @@
--- What is in a database of adverts, which switches adverts name, and at which switches no known
--- link ends.
+-- What is in a database of adverts, which switches adverts name, and where no known link ends.
 use Rattle.std.specs.Prelude.{◌&&◌, ◌==◌, ◌≡◌, Bool, List, Option, map, not, ℕ}
 use Rattle.failover.specs.declared.advert.Advert.{Advert}
 use Rattle.failover.specs.Adverts.{held_advert}

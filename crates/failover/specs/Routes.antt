@@ -24,8 +24,7 @@ path_after links target zero at = []
 path_after links target (suc k) at = let next =
     least_neighbour_in links (ball links target k) at in next ∷ path_after links target k next
 
--- by how many links this ball has to grow until it has the switch; `None` if it stops growing
--- before
+-- by how many links this ball must grow to have the switch; `None` if it stops growing before
 unfoldable pub links_away : ℕ → List ℕ → ℕ → ℕ → Option ℕ
 links_away zero links from within = None
 links_away (suc most) links from within = elim (has within from) [

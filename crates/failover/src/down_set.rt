@@ -62,8 +62,7 @@ impl DownSet {
         if one >= MAX_SWITCHES || two >= MAX_SWITCHES {
             return false;
         }
-        // The mask of the greater switch never has the other; two lookups cost less than ordering
-        // them.
+        // The mask of the greater switch never has the other; two lookups cost less than an order.
         has(masks[one as usize], two) || has(masks[two as usize], one)
     }
 }

@@ -6,8 +6,7 @@ pub fn advert_laws()
     ensures { AdvertLaws }
 {}
 
-/// A set of links has exactly those that were added, in either order, and equal sets are equal
-/// values.
+/// A set of links has exactly those that were added, in either order; equal sets are equal values.
 pub fn link_set_laws()
     ensures { LinkSetLaws }
 {}

@@ -6,8 +6,7 @@ use crate::links::links_within;
 use crate::path::Route;
 use base::{MAX_SWITCHES, has, only_if};
 
-// A switch's links are found when the search comes to it, so switches that it doesn't reach cost
-// nothing.
+// A switch's links are found when the search comes to it, so that others cost nothing.
 
 /// The least path to the first of the targets that a path of links reaches; `None` exactly if no
 /// path reaches any.

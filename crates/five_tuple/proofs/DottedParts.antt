@@ -40,7 +40,7 @@ first_part text part next others parts = by_place (position (λ b. b == 46) text
     is = ap head (sym parts ∙ parts_at 46 text at found);
   }
 
--- the dot stands behind digits, and behind a byte that is none
+-- the dot comes after the digits, and not before the first byte that is none
 past_digits : (text : List ℕ) (place at : ℕ) → list_all is_ascii_digit (take place text) ≡ true
     → at < length text → get_or text at 0 ≡ 46 → place ≤ at
 past_digits text place at digits within dot = elim (cases_lt at place) [
@@ -51,9 +51,9 @@ past_digits text place at digits within dot = elim (cases_lt at place) [
       absurd (both_ways _ (digits_lack 46 (take place text) refl digits at 0 there) is)
 ]
 
--- ---- where no number stands before the dot
+-- ---- if there is no number before the dot
 
--- a byte that is neither a digit nor the dot stands in the part
+-- a byte that is neither a digit nor the dot is in the part
 pub lacks_other : (text : List ℕ) (place : ℕ) → place < length text
     → list_all is_ascii_digit (take place text) ≡ true → get_or text place 0 ≢ 46
     → is_ascii_digit (get_or text place 0) ≡ false → LacksByte text

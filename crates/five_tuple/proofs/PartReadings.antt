@@ -1,5 +1,4 @@
--- What a reader of parts finds, where it takes them off one at a time and reads the last as a
--- number.
+-- What a reader of parts finds that takes them off one at a time and reads the last as a number.
 use Rattle.std.proofs.Common.{◌∷◌, ◌≡◌, List, None, Option, inl, inr, refl, sym, ℕ, rules}
 use Rattle.five_tuple.specs.Exports.{address_from, address_of, block_from, block_of_parts, number_up_to, parts_round, range_from, range_of_parts}
 use Rattle.five_tuple.proofs.SplitParts.{last_part}

@@ -1,4 +1,4 @@
--- What holds of a cover of ports, by induction over its blocks.
+-- What is true of a cover of ports, by induction over its blocks.
 use Rattle.std.proofs.Common.{[], ◌%◌, ◌&&◌, ◌*◌, ◌++◌, ◌+◌, ◌-◌, ◌/◌, ◌<◌, ◌==◌, ◌^◌, ◌||◌, ◌∙◌, ◌∷◌, ◌≡◌, ◌≤◌, All, AllPairs, List, ap, append_assoc, arith, bit_and, eqb, eqb-true, false, inl, inr, le-leb, leb, leb-true, length, ltb, ltb-true, mod-eq_of_lt, mod-lt, nat_le, pow-suc, pow_pos, refl, subst, suc, sym, zero, ℕ, rules}
 use Rattle.std.specs.List.{list_any}
 use Rattle.std.proofs.Math.Nat.{div-eq_of_lt-le, mod-one, pow-le-pow_right}

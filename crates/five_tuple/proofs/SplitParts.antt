@@ -9,12 +9,12 @@ use Rattle.std.proofs.lemmas.List.Sums.{fails_before_first}
 use Rattle.std.specs.Char.{is_ascii_digit}
 use Rattle.five_tuple.specs.Exports.{number_up_to, parts_round}
 
--- the first such byte stands at this place
+-- the first such byte is at this place
 pub parts_at : (byte : ℕ) (text : List ℕ) (at : ℕ) → position (λ b. b == byte) text ≡ Some at
     → parts_round byte text ≡ take at text ∷ parts_round byte (drop (at + 1) text)
 parts_at byte text at e = search (rules, cond_some, slice_split_first, ltb-true)
 
--- no such byte stands there
+-- there is no such byte
 pub parts_none : (byte : ℕ) (text : List ℕ) → position (λ b. b == byte) text ≡ None
     → parts_round byte text ≡ text ∷ []
 parts_none byte text e =

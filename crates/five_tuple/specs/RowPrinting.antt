@@ -7,8 +7,7 @@ use Rattle.five_tuple.specs.declared.matching.Proto.TheVariants.{Any, Is}
 use Rattle.five_tuple.specs.Header.{AddressBlock, PortRangeValue}
 use Rattle.five_tuple.specs.Printing.{address_text, proto_number_text}
 
--- a digit, a lower-case letter, a dash, a dot or a slash: none of which ends or quotes a field of a
--- CSV file
+-- a digit, a lower-case letter, a dash, a dot or a slash: none of which ends or quotes a CSV field
 abbrev pub is_plain_char : ℕ → Bool
 is_plain_char c = is_ascii_digit c || is_ascii_lowercase c || c == 45 || c == 46 || c == 47
 

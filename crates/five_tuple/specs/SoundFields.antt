@@ -1,5 +1,4 @@
--- What is true of the fields of a policy's row: its blocks of addresses, ranges of ports and
--- protocols.
+-- What is true of the fields of a policy's row: blocks of addresses, ranges of ports, protocols.
 use Rattle.std.specs.Prelude.{◌%◌, ◌-◌, ◌<◌, ◌^◌, ◌≡◌, ◌≤◌, ⊤}
 use Rattle.five_tuple.specs.Header.{AddressBlock, PortRangeValue}
 use Rattle.five_tuple.specs.declared.matching.Proto.{Proto}

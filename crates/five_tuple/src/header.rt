@@ -1,8 +1,7 @@
 ghost use Rattle.std.specs.Prelude.{◌≡◌, ◌^◌, ◌<◌};
 ghost use Rattle.five_tuple.specs.Exports.{HeaderLaws, IsHeader, fields_of, header_numbered, header_of, number_of};
 
-/// The five fields of a packet: IPv4 addresses (RFC 791), ports (RFC 768, RFC 793) and the protocol
-/// number.
+/// The five fields of a packet: IPv4 addresses (RFC 791), ports (RFC 768, RFC 793) and protocol.
 ///
 /// In this project every header has two ports, whatever its protocol.
 #[derive(Clone, Copy, Debug, PartialEq, Eq, Hash)]

@@ -4,8 +4,7 @@
 //! such number belongs to one header. Prefixes match as RFC 4632 says, ranges of ports include both
 //! ends, and a protocol matches by its number. Each text is read exactly if its grammar has it, and
 //! each printed form is read back. At most 30 blocks cover a range: they have exactly its ports,
-//! each in one block. Laws, functions with an empty body, ensure the same for proofs in which no
-//! call runs.
+//! each in one block. Laws, functions with an empty body, ensure the same if no call runs.
 //!
 //! A caller, which imports `option_map` from std, `prefix_matches` from `specs/Header.antt` and
 //! `prefix_of` from `specs/Texts.antt`:

@@ -26,8 +26,7 @@ impl Model for Prefix {
 }
 
 impl Prefix {
-    /// The block of this length that the address lies in: the bits beyond the first `len` are
-    /// cleared.
+    /// The block of this length that has the address: the bits beyond the first `len` are cleared.
     pub fn new(address: u32, len: u32) -> Prefix
         requires { len ≤ 32 }
         ensures block { result ≡ block_round address len }

@@ -4,8 +4,7 @@ ghost use Rattle.five_tuple.specs.Exports.{IsAddressBlock, IsByteBefore, IsPortR
 use crate::header::Fields;
 use crate::matching::{PortRange, Prefix, Proto};
 
-/// The number that the text writes in decimal digits; `None` unless it is a number of at most
-/// `most`.
+/// The number that the text writes in decimal digits; `None` unless it is one of at most `most`.
 ///
 /// A number has no sign, and begins with 0 only if 0 is its only digit.
 pub fn read_number(text: &[u8], most: u64) -> Option<u64>
@@ -118,8 +117,7 @@ pub fn read_address(text: &[u8]) -> Option<u32>
 /// The block of addresses that the text names; `None` for a text that names none.
 ///
 /// `any` is every address, an address without a length is only itself, and after a slash comes the
-/// block's length, at most 32 (RFC 4632, section 3.1). The address's bits beyond the length are
-/// cleared.
+/// block's length, at most 32 (RFC 4632, section 3.1). Its bits beyond the length are cleared.
 #[tactic(auto, using(crate::proofs::PartReadings::block_reads), unfolding(crate::specs::Texts::prefix_of))]
 pub fn read_prefix(text: &[u8]) -> Option<Prefix>
     ensures value { result ≡ prefix_of text.now }

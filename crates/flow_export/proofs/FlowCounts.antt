@@ -76,7 +76,7 @@ kept_apart h g x all rest true is away same_rest = same_rest ∙ ap (λ first. f
     (sym (subst (λ (k : Header). header_eq h k ≡ false) (same x g is) away))
 kept_apart h g x all rest false is away same_rest = ap (λ more. header_eq h g || more) same_rest
 
--- a header is among the others exactly where it is among all
+-- a header is among the others exactly if it is among all
 has_others : (h x : Header) (headers : List Header) → header_eq h x ≡ false
     → is_among h (others x headers) ≡ is_among h headers
 has_others h x [] away = refl

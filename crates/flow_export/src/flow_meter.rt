@@ -10,8 +10,7 @@ use meters::{FlowRecord, Flows, Leaving, Meter, Stay};
 use std::alloc::{AllocError, Global};
 use std::marker::Model;
 
-/// A meter whose records are the flows of its list; it is complete with its `most`-th different
-/// header.
+/// A meter whose records are the flows of its list, complete with its `most`-th different header.
 #[derive(Drop)]
 pub struct FlowMeter {
     port: u32,

@@ -217,7 +217,7 @@ caches_above setting journal causes = fact_on (HasItemCause setting) (AreCachesA
 
 -- ---- each item of a journal has its cause behind those that stand before it
 
--- the item stands among these, and it is so behind those before it
+-- the item is among these, and has this property after those before it
 pub record Stands (is : List Item → Item → Type 0) (before items : List Item) (x : Item)
     : Type 0 where
   pub front : List Item

@@ -1,5 +1,4 @@
--- A packet that entered behind a quiet journal, followed item by item as long as packets alone
--- move.
+-- A packet that entered after a quiet journal, item by item as long as only packets move.
 use Rattle.std.proofs.Common.{[], if◌then◌else◌, ◌++◌, ◌<◌, ◌==◌, ◌∙◌, ◌∷◌, ◌≡◌, ◌⊎◌, All, Bool, IsFalse, IsTrue, List, None, Some, ap, arith, eq-eqb, eqb-true, false, find, inl, inr, ne_eqb, option_map, refl, subst, sym, true, unwrap_or, ℕ}
 use Rattle.base.proofs.Exports.{Contains-append_left, Contains-push, option_or, some_same}
 use Rattle.base.specs.Exports.{has}
@@ -14,7 +13,7 @@ use Rattle.packet_laws.proofs.Exports.{Before, IsWayItem, Past, here_known, know
 use Rattle.forwarding_laws.specs.Exports.{EndsBy, FindsNoTarget, IsStuckApart}
 use Rattle.forwarding_laws.proofs.SecondRounds.{MarksStay, Passes, apart_from, marks_stay, passes_walks}
 
--- ---- what one more item tells of it
+-- ---- what one more item says about it
 
 -- an item that doesn't decide it
 pub undecided_by : (before : List Item) (next : Item) (i : ℕ) → gives_decision i next ≡ None
@@ -33,7 +32,7 @@ pub mark_more : (before : List Item) (next : Item) (i : ℕ)
 unfolding entry_mark
 mark_more before next i = folded_append (changes_mark i) 0 before (next ∷ [])
 
--- ---- what holds of it
+-- ---- what is true of it
 
 -- the packet was decided and ended by that
 pub record IsEnded (setting : Setting) (journal : List Item) (s i : ℕ) (now : List Item) : Type 0 where
@@ -102,7 +101,7 @@ module _ (setting : Setting) (journal : List Item) (s i : ℕ) (header : Header)
     by (Item.Row row taken) passes is = subst (λ x. IsTrue (moves x)) (cc is) passes
     by next passes is = follows.step step is
 
-  -- ---- where it stands
+  -- ---- where it is
 
   at_on : Before setting before → (next : Item) → PacketCause setting before next → (t : ℕ)
       → standing (before ++ next ∷ []) i ≡ Some t → Reaches setting journal s t
@@ -348,7 +347,7 @@ module _ (setting : Setting) (journal : List Item) (s i : ℕ) (header : Header)
                 });
           })
 
-  -- what follows once an item of some packet stands, where it does of another one and of this one
+  -- what follows after an item of some packet, if it does for another packet and for this one
   of_packet : (next : ℕ → Item) (packet : ℕ)
       → ((packet == i) ≡ false → Fate setting journal s i header (before ++ next packet ∷ []))
       → (packet ≡ i → Fate setting journal s i header (before ++ next i ∷ []))

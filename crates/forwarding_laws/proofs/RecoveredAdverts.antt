@@ -1,4 +1,4 @@
--- Behind recovery neighbours agree: each switch was asked to send all that it holds, passed on what
+-- After recovery neighbours agree: each switch was asked to send all that it holds, passed on what
 -- it learnt then, and all of that was delivered.
 use Rattle.std.proofs.Common.{[], ◌++◌, ◌+◌, ◌-◌, ◌<◌, ◌==◌, ◌∙◌, ◌∷◌, ◌≡◌, ◌≢◌, ◌≤◌, Bool, IsFalse, IsTrue, List, None, Some, ap, append-nil, append_assoc, arith, false, filter, flat_map, if◌then◌else◌, inl, inr, length, map, nat_lt, not, refl, subst, sym, true, ℕ}
 use Rattle.base.proofs.Exports.{nat_tests}

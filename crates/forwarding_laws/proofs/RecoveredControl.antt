@@ -1,4 +1,4 @@
--- Behind recovery the controller knows of each switch that is up what it needs.
+-- After recovery the controller knows of each switch that is up what it needs.
 use Rattle.std.proofs.Common.{[], ◌<◌, ◌∙◌, ◌≡◌, ◌≤◌, ◌⊎◌, All, Bool, IsFalse, IsTrue, List, None, Some, ap, arith, eq-eqb, false, inl, inr, length, refl, subst, sym, true, ℕ}
 use Rattle.base.proofs.Exports.{cases_lt}
 use Rattle.ctrl_msg.specs.Exports.{body_boot, to_controller}
@@ -22,7 +22,7 @@ pub record IsAsked (setting : Setting) (before journal : List Item) (s : ℕ) : 
   pub sends : (message : Message) → IsIn message (resent setting here s)
       → IsSince (next_message before) journal message
 
--- what is known of a journal behind recovery
+-- what is known of a journal after recovery
 pub record IsRecovered (setting : Setting) (before journal : List Item) : Type 0 where
   pub flushed : IsFlushed setting before journal
   pub causes : HaveCauses (IsInOrder setting) [] before

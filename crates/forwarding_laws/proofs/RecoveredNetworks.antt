@@ -34,7 +34,7 @@ both_calm : (one other : List StepOfRow) → AreOf IsCalmStep one → AreOf IsCa
 both_calm [] other first later = later
 both_calm (next ∷ one) other first later = (first.0, both_calm one other first.1 later)
 
--- ---- a journal behind recovery
+-- ---- a journal after recovery
 
 module _ (setting : Setting) (journal : List Item) (ends : EndsCalmly setting journal) where
   -- behind the confirmations, and behind the resends

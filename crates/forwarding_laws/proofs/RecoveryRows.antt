@@ -236,8 +236,7 @@ flush_alone : (setting : Setting) (row : ℕ) (before : List Item) (steps : List
 flush_alone setting row before steps are = subst (AreAll setting next_delivery row before)
     (sym (are.2.split ∙ ap (λ rest. are.0 ++ rest) are.4 ∙ append-nil are.0)) are.3
 
--- the journal of rows that leave each switch up, or not waited for, then resends of each, then a
--- flush
+-- the journal of rows that leave each switch up, or not waited for, resends of each, and a flush
 pub ends_by : (setting : Setting) (rows resends : List Event) (journal : List Item)
     → AskEach setting.net Resend resends → Answers setting (rows ++ resends ++ Flush ∷ []) journal
     → ((steps : List StepOfRow) → AreSteps setting 1 rows [] steps

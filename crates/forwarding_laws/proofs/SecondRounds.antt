@@ -125,7 +125,7 @@ apart_from setting journal net from at targets reaches apart =
 
 -- ---- second rounds
 
--- what holds of each switch of the network holds of one
+-- what is true of each switch of the network is true of one
 of_network : (P : ℕ → Type 0) (setting : Setting) (s : ℕ) → s < length setting.net.switches
     → All P (switches_of setting) → P s
 of_network P setting s there all = all_in P s (switches_of setting) all
@@ -311,7 +311,7 @@ pub recovered_caches : RulesLaw → (setting : Setting) (events : List Event) (j
 recovered_caches rules setting events journal is own ends answers = answer_caches rules setting
     events journal is own answers (recovered_updated setting events journal ends answers)
 
--- the second round is one that begins behind recovery
+-- the second round is one that begins after recovery
 two_calmly : (setting : Setting) (events : List Event) (journal : List Item)
     → (two : EndsInTwoRounds setting.net events) → Answers setting events journal
     → (ends : EndsCalmly setting journal)

@@ -1,5 +1,5 @@
--- Items that crash no switch and fail no link: all links of the network can be used, and each
--- advert names all links of its origin.
+-- Items that crash no switch and fail no link: all links of the network are usable, and each advert
+-- names all links of its origin.
 use Rattle.std.proofs.Common.{[], ◌&&◌, ◌++◌, ◌<◌, ◌==◌, ◌||◌, ◌∙◌, ◌∷◌, ◌≡◌, Bool, IsTrue, List, None, Option, Some, ap, arith, false, if◌then◌else◌, max, min, nat_lt, option_and_then, refl, subst, sym, true, unwrap_or, ℕ}
 use Rattle.base.proofs.Exports.{⊤, bit_at, has_mask, list_any, nat_tests}
 use Rattle.base.specs.Exports.{has}
@@ -76,7 +76,7 @@ any_usable journal one two (link ∷ rows) up =
         all_three : (a b c : Bool) → a ≡ true → b ≡ true → c ≡ true → (a && b && c) ≡ true
         all_three a b c p q r = rw (p, q, r) refl
 
--- all links of the network can be used, and no others
+-- exactly the links of the network are usable
 pub all_usable : (setting : Setting) (journal : List Item) → HaveCauses IsUnfailing [] journal
     → (one two : ℕ) → can_use setting journal one two ≡ are_linked setting.net.links one two
 all_usable setting journal safe one two =

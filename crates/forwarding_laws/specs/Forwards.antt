@@ -12,8 +12,7 @@ use Rattle.journal.specs.declared.item.Item.TheVariants as item
 use Rattle.steps.specs.Exports.{HasSwitch}
 use Rattle.convergence_laws.specs.Exports.{Reaches}
 
--- the packet got, by the newest version of `before`, the first match of this header, with this
--- action
+-- the packet got, by the newest version of `before`, this header's first match, with this action
 pub record IsDecidedByNewest (setting : Setting) (before after : List Item) (packet : ℕ)
     (header : Header) (act : Action) : Type 0 where
   pub rule : Option ℕ
@@ -22,8 +21,7 @@ pub record IsDecidedByNewest (setting : Setting) (before after : List Item) (pac
   pub first_match : IsFirstMatch (policy_at setting before (version_count before)) header
       (record { rule = rule; action = act })
 
--- the packet is stuck on this leg, and usable links led from where it entered to none of the
--- targets
+-- the packet is stuck on this leg, and usable links led from where it entered to no target
 pub record IsStuckApart (setting : Setting) (before after : List Item) (packet ingress : ℕ)
     (leg : Leg) : Type 0 where
   pub switch : ℕ

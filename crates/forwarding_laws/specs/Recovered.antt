@@ -9,9 +9,9 @@ abbrev pub AllDelivered : List Item → Type 0
 AllDelivered journal = (n : ℕ) (message : Message) → message_of journal n ≡ Some message
     → IsTrue (was_delivered journal n) ⊎ IsTrue (is_forgotten journal n)
 
--- the switches know the usable links, a packet that had found no link down gets stuck in the next
--- step only if no target is reachable, the switches that are up stamp with the newest version, and
--- a packet that enters then is forwarded by it. The network need not be quiet: what was lost
+-- the switches know the usable links, and a packet that had found no link down gets stuck in the
+-- next step only if no target is reachable. The switches that are up stamp with the newest version,
+-- and a packet that enters then is forwarded by it. The network need not be quiet: what was lost
 -- before may still matter, as an advert for a switch to which no link leads any more
 pub record HasRecovered (setting : Setting) (journal : List Item) : Type 0 where
   pub converged : HasConverged setting journal

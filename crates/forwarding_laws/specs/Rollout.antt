@@ -49,7 +49,7 @@ DropsNothing setting before _ = ⊤
 
 -- ---- connected networks
 
--- the links of the network lead from each switch to each other one
+-- the links of the network lead from each switch to each other switch
 abbrev pub IsConnected : Net → Type 0
 IsConnected net = (one other : ℕ) → HasSwitch net one → HasSwitch net other
     → (path : List ℕ) × Leads (are_linked net.links) one path other

@@ -45,9 +45,9 @@ pub fn recovered_networks_are_updated()
         → IsUpdated setting journal }
 {}
 
-/// Whatever was lost, repeated or reordered, and whatever failed: if a schedule ends with the
-/// confirmation of each switch, a resend to each switch and a flush, the network has converged on
-/// the usable links and on the newest version, and forwards.
+/// Suppose a schedule ends with the confirmation of each switch, a resend to each switch and a
+/// flush. Then, whatever was lost, repeated or reordered, and whatever failed, the network has
+/// converged on the usable links and on the newest version, and forwards.
 pub fn networks_recover()
     ensures { (setting : Setting) (events : List Event) (journal : List Item)
         → IsSetting setting → AreEvents setting events → EndsInRecovery setting.net events

@@ -8,10 +8,10 @@ ghost use Rattle.forwarding_laws.specs.Rollout.{AllAccounted, AllAccountedOrCutO
 use packet_laws::{ends_have_causes, packet_items_have_causes};
 use update_machine::answers_are_numbered;
 
-/// If no switch crashes and no link fails, then however many updates run, and however messages are
-/// lost, repeated or reordered: a packet is stuck only if the network's links lead from where it
-/// is to no target of its leg; it is lost only by its own row; none finds a link down; and none is
-/// refused at a closed switch.
+/// If no switch crashes and no link fails, this is true of every packet, however many updates run,
+/// and however messages are lost, repeated or reordered. It is stuck only if the network's links
+/// lead from where it is to no target of its leg. It is lost only by its own row, finds no link
+/// down, and isn't closed.
 pub fn rollouts_drop_nothing()
     ensures { (setting : Setting) (events : List Event) (journal : List Item)
         → IsSetting setting → AreEvents setting events → NothingFails events
@@ -29,9 +29,9 @@ pub fn connected_rollouts_leave_none_stuck()
     rollouts_drop_nothing();
 }
 
-/// And if the schedule ends with a drain, each packet that entered was dropped by its decision,
-/// left by the port of its decision, or was lost by its own row; or it is stuck because the
-/// network's links lead from where it is to no target of its leg.
+/// And suppose the schedule ends with a drain. Then each packet that entered was dropped by its
+/// decision, left by the port of its decision, or was lost by its own row. Or it is stuck because
+/// the network's links lead from where it is to no target of its leg.
 pub fn drained_rollouts_account_or_cut_off()
     ensures { (setting : Setting) (events : List Event) (journal : List Item)
         → IsSetting setting → AreEvents setting (events ++ Drain ∷ [])

@@ -7,9 +7,9 @@ use crate::rollout::{
     drained_rollouts_account_or_cut_off, rollouts_drop_nothing,
 };
 
-/// A play keeps its network working: if its schedule ends in recovery, the network has recovered;
-/// after a second round nothing old is left; and if nothing fails, no packet is lost except by its
-/// own row, or stuck unless it is cut off, also in a play that stopped full.
+/// A play keeps its network working. If its schedule ends in recovery, the network has recovered,
+/// and after a second round nothing old is left. If nothing fails, no packet is lost except by its
+/// own row, or stuck unless it is cut off. This is also true of a play that stopped full.
 pub fn plays_keep_working()
     ensures { PlaysKeepWorking }
 {

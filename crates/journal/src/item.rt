@@ -22,7 +22,7 @@ pub enum Item {
         switch: u32,
         header: Header,
     },
-    /// The packet was refused at the switch, which did not serve.
+    /// The packet is closed: the switch to which it came did not serve.
     Closed {
         packet: u32,
         switch: u32,

@@ -1,4 +1,4 @@
--- The judge answers as the definition says.
+-- `quiet` returns what the definition says.
 use Rattle.std.proofs.Common.{[], ◌&&◌, ◌+◌, ◌<◌, ◌||◌, ◌↔◌, ◌∙◌, ◌∷◌, ◌≡◌, ◌≤◌, All, Bool, IsFalse, IsTrue, List, ap, arith, drop, false, get_or, length, not, refl, subst, suc, sym, true, zero, ℕ}
 use Rattle.std.specs.List.{list_all, range_with_len}
 use Rattle.std.proofs.lemmas.List.{at_drop_all}

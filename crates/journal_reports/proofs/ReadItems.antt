@@ -208,7 +208,7 @@ pub record IsReadNext (journal after : List Item) (next : Item) (marks : List Bo
   pub one : (s : ℕ) (d : Traffic) → s < length rows → is_named s (concerned_switch next) ≡ true
       → IsAfter marks next (get_or rows s d) (get_or now s d) answer
 
--- so it is with all switches
+-- so the same is true of all switches
 pub traffic_first : (journal after : List Item) (next : Item) (marks : List Bool)
     (rows now : List Traffic) (answer : Bool) → IsReadNext journal after next marks rows now answer
     → length now ≡ length rows → ((s : ℕ) (d : Traffic) → is_named s (concerned_switch next) ≡ false

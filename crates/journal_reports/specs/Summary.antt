@@ -46,8 +46,7 @@ is_sent _ = false
 
 -- ---- the summary
 
--- how many items of each kind there are, and the marks at the end; all that entered count as
--- travelling
+-- the number of items of each kind, and the marks at the end; all that entered count as travelling
 abbrev pub item_counts : List Item → Summary
 item_counts journal = record {
   packets = count_of is_packet journal;

@@ -7,8 +7,8 @@ use Rattle.journal_reports.specs.declared.traffic.Traffic.{Traffic}
 use Rattle.journal_reports.specs.Judging.{SaysAsMuch, concerned_switch, has_mark, is_named, matters_to, status_in}
 use Rattle.journal_reports.specs.Buckets.{IsKeptInBucket}
 
--- the row has the switch's status at the end of the journal; whether its last items, `after`, begin
--- no boot of the switch; and for a message that matters it keeps one that says as much exactly if
+-- the row has the switch's status at the end of the journal, and whether its last items, `after`,
+-- begin no boot of the switch. For a message that matters it keeps one that says as much exactly if
 -- these items send and deliver one that replaces it
 pub record IsTraffic (journal after : List Item) (s : ℕ) (row : Traffic) : Type 0 where
   pub status : row.status ≡ status_in journal s

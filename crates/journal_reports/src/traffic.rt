@@ -14,8 +14,8 @@ use crate::status::{SwitchStatus, status_items};
 use journal::{Body, Item, Message, Place, SharedMessage};
 use std::alloc::{AllocError, Global};
 
-/// A switch's status at the end of a journal; and, of the items from some place on, whether they
-/// begin no boot of it, and the messages to it or from it that matter and that these items send
+/// A switch's status at the end of a journal, and, of the items from some place on, whether they
+/// begin no boot of it. Also the messages to it or from it that matter and that these items send
 /// and later deliver. Of two messages that say as much, only one is kept.
 #[derive(Drop)]
 pub struct Traffic {

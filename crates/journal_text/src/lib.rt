@@ -1,7 +1,7 @@
 //! The text of a journal: one line for each item, in which switches have their names.
 //!
-//! `text` promises exactly the lines that its definition states, each with a line feed at its end,
-//! and `write_text` writes that text to a sink. `lines_fit` is the law that no line is longer than
+//! `text` returns exactly the lines that its definition states, each with a line feed at its end.
+//! `write_text` writes this text to a sink. The law `lines_fit` says that no line is longer than
 //! 2,048 bytes.
 #![tactic(auto)]
 

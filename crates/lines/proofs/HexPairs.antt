@@ -15,7 +15,7 @@ pub pairs_at : (n : ℕ) → n < 256 → (get_or HEX_PAIRS (n * 2) 0 ≡ glyph (
     × (get_or HEX_PAIRS (n * 2 + 1) 0 ≡ glyph (n % 16))
 pairs_at n within = pair_at HEX_PAIRS (λ n. glyph (n / 16)) (λ n. glyph (n % 16)) 256 n tt within
 
--- one digit more stands
+-- one more digit is written
 more : (at left : ℕ) (digits : List ℕ) → at < length digits
     → hex_digits (at + 1) left ++ drop (at + 1) digits
     ≡ hex_digits at (left / 16) ++ drop at (set digits at (glyph (left % 16)))

@@ -1,5 +1,4 @@
--- How long printed forms are: each has a bound, and the bounds of parts, one behind another, are
--- added.
+-- How long printed forms are: each has a bound, and the bounds of successive parts are added.
 use Rattle.std.proofs.Common.{[], if◌then◌else◌, ◌%◌, ◌*◌, ◌++◌, ◌+◌, ◌/◌, ◌<◌, ◌==◌, ◌^◌, ◌∷◌, ◌≡◌, ◌≤◌, ◌⊎◌, List, None, Option, Some, arith, codes, decimal, false, get_or, inl, inr, length, length-append, slice_get, subst, suc, true, zero, ℕ}
 use Rattle.std.specs.Fmt.{digit_glyph}
 use Rattle.std.proofs.lemmas.Fmt.{length-decimal-le}

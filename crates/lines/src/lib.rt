@@ -1,9 +1,8 @@
 //! One line of text in a fixed array, which allocates nothing, and what is added at its end.
 //!
-//! A `Line` keeps the first 2,048 bytes of what was pushed to it. Contracts see these bytes; each
-//! push promises that its text follows them, as far as there is room: a number, a packet's header,
-//! a word, a rule, an action, a switch's name, each in the printed form that its own crate
-//! defines.
+//! A `Line` keeps the first 2,048 bytes of what was pushed to it. Contracts see these bytes. Each
+//! push adds its text after them, as far as there is room: a number, a packet's header, a word, a
+//! rule, an action, or a switch's name, in the printed form that its own crate defines.
 //!
 //! ```text
 //! let mut line = Line::new();

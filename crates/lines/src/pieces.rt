@@ -4,8 +4,7 @@ ghost use Rattle.lines.specs.Pushes.{line_with};
 
 use crate::line::LINE_BYTES;
 
-/// Copies a piece, or as much of it as there is room for, and returns the new length: at most
-/// 2,048.
+/// Copies a piece, as far as there is room for it, and returns the new length: at most 2,048.
 #[inline]
 pub(crate) fn put(bytes: &mut [u8; 2048], len: usize, piece: &[u8]) -> usize
     requires { len ≤ LINE_BYTES }

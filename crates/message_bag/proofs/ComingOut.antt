@@ -98,6 +98,6 @@ long_alone f of =
     let sized : IsSized f = All-head IsSized f [] (subst (All IsSized) (sym of.2) (frames_sized of.0 of.1.fits)) in
     omega (arith, sized.long)
 
--- what stands behind the header
+-- what follows the header
 pub rest_is : (f : List ℕ) → take (length f - 8) (drop 8 f) ≡ chunk_of f
 rest_is f = take_all (length f - 8) (drop 8 f) (omega (arith, length-drop 8 f))

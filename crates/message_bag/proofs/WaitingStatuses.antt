@@ -39,7 +39,7 @@ pushed_passed passed statuses few are =
           (are.none number below);
     }
 
--- statuses but for the last one
+-- statuses without the last one
 pub without_last : (n : ℕ) (all before : List MessageState) → all ≡ before ++ waiting_status ∷ []
     → n ≡ length all - 1 → take n all ≡ before
 without_last n all before is last =

@@ -8,8 +8,7 @@ pub record HasFrames (m : Message) : Type 0 where
   pub fits : message.fits m ≡ true
   pub short : length (message.spell m) < 2 ^ 40
 
--- what is required of a message so that it has such an encoding: each number fits the bytes of its
--- type
+-- what a message needs so that it has such an encoding: each number fits the bytes of its type
 pub record HasShortSpelling (m : Message) : Type 0 where
   pub spelling : HasSpelling m
   pub short : length (message.spell m) < 2 ^ 40

@@ -14,8 +14,7 @@ use std::alloc::{AllocError, Global};
 use std::marker::Model;
 use wire::{append, set_receiver};
 
-/// The messages that were posted, numbered from 1 in their order. Contracts see the list of their
-/// frames.
+/// The messages that were posted, numbered from 1 in their order. Contracts see their frames.
 #[derive(Drop)]
 pub struct Bag {
     firsts: Firsts,
@@ -142,8 +141,7 @@ impl Bag {
         self.firsts.push(&self.scratch, Some(number))
     }
 
-    /// The message of this number, out of its frames; `None` exactly if none of this number was
-    /// posted.
+    /// The message of this number, out of its frames; `None` exactly if none was posted under it.
     ///
     /// # Errors
     /// Only out of memory.

@@ -10,7 +10,7 @@ ghost use Rattle.message_bag.specs.Feeding.{AreAllAmong, AreOf, HasFrames, held_
 ghost use Rattle.message_bag.specs.Installing.{install_frames};
 
 /// The frames of a message may come in any order and any number of times: an assembler refuses none
-/// of them; all its places are filled exactly if each frame of the message has come; and then it
+/// of them. All its places are filled exactly if each frame of the message has come, and then it
 /// has the message's frames.
 ///
 /// So, as `Assembler::feed` ensures, it returns `None` until the last of them has come, and the

@@ -10,16 +10,15 @@
 //! vector, so that a message of a few bytes takes a few bytes. The other frames, of tables, are
 //! shared by all installations of the same tables, for any boot and any switch. If an advert that
 //! `post_shared` posts is equal to the last one of its switch to its receiver, both share the
-//! message and the frames. Otherwise, if it is equal to the last one of its switch that was encoded,
-//! its frame is a copy of that one's with the byte of the receiver changed: so an advert that is
-//! flooded is encoded once for all neighbours. Tables that differ only in their versions share all
-//! frames except the one that begins with the version, into which its four bytes are written.
-//! So rows and partitions are encoded, cut, assembled and decoded once, and trees to find a rule
-//! are built once: the messages that are taken share the tables that came out of the frames, and
-//! a comparison with these finds tables that are the same.
+//! message and the frames. Otherwise, if it is equal to the last one of its switch that was
+//! encoded, its frame is a copy of that one's with the byte of the receiver changed. So an advert
+//! that is flooded is encoded once for all neighbours. Tables that differ only in their versions
+//! share all frames except the one that begins with the version, into which its four bytes are
+//! written. So rows and partitions are encoded, cut, assembled and decoded once, and trees to find
+//! a rule are built once. The messages that are taken share the tables that came out of the frames,
+//! and a comparison with these finds tables that are the same.
 //!
-//! The laws say what an assembler returns for frames that come in any order and any number of
-//! times.
+//! The laws say what an assembler returns for frames that come in any order and repeatedly.
 //!
 //! ```text
 //! let mut bag = PostBag::new(alloc);

@@ -11,8 +11,7 @@ use std::alloc::{AllocError, Global};
 use std::marker::Model;
 
 /// The messages that were posted, numbered from 1 in their order: at most 2^32 - 1. Contracts see
-/// the list of their frames, and, for each message, whether it was delivered and whether it is
-/// forgotten.
+/// the list of their frames, with whether each was delivered and whether it is forgotten.
 #[derive(Drop)]
 pub struct PostBag {
     frames: SharingBag,

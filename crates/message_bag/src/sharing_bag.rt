@@ -19,8 +19,7 @@ pub struct PostedAdvert {
     number: u32,
 }
 
-/// The messages that were posted, numbered from 1 in their order. Contracts see the list of their
-/// frames.
+/// The messages that were posted, numbered from 1 in their order. Contracts see their frames.
 #[derive(Drop)]
 pub struct SharingBag {
     bag: Bag,

@@ -1,5 +1,4 @@
--- First tier. A meter: its port, its leavings, and for every list whether it is complete, and its
--- records.
+-- First tier. A meter: port, leavings, and for every list whether it is complete, and its records.
 use Rattle.std.specs.Prelude.{Bool, List, ℕ}
 use Rattle.policy_rules.specs.declared.packet.Leaving.{Leaving}
 use Rattle.meters.specs.declared.flows.FlowRecord.{FlowRecord}

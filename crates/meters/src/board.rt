@@ -26,8 +26,7 @@ impl<M> Model for Board<M> {
 }
 
 impl<M: Meter> Board<M> {
-    /// Keeps the meters whose port is in the mask, in order, and drops the others. Allocates
-    /// nothing.
+    /// Keeps the meters with a port in the mask, in order, and drops the others. Allocates nothing.
     pub fn new(mut meters: Vec<M>, ports: u64) -> Self
         ensures chosen { result.meters ≡ filter (λ m. has ports (M.seen m).port) meters.items }
         ensures kept { map M.seen result.meters

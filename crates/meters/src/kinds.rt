@@ -62,8 +62,7 @@ impl Meter for Recorder {
     }
 }
 
-/// A meter that is complete, and leaves, when it has recorded `most` leavings. It has no flow
-/// records.
+/// A meter that is complete, and leaves, at its `most`-th leaving. It has no flow records.
 #[derive(Drop)]
 pub struct FirstN {
     recorder: Recorder,

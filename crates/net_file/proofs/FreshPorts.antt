@@ -9,7 +9,7 @@ use Rattle.net_file.specs.declared.net.SwitchRow.{SwitchRow}
 use Rattle.net_file.specs.declared.error.NetRefusal.TheVariants as refusal
 use Rattle.net_file.proofs.MaskBits.{in_mask, in_mask_with}
 
--- no port is in the mask, nor is it one that stands before
+-- no port is in the mask, nor among the ports before it
 abbrev pub are_fresh : ℕ → List ℕ → Bool
 are_fresh mask [] = true
 are_fresh mask (port ∷ ports) = not (in_mask mask port) && are_fresh (bit_or mask (2 ^ port)) ports

@@ -77,7 +77,7 @@ name_is keys key name e = at (get_member key keys) e where
 
 -- ---- rows
 
--- what each step keeps holds of the rows in the end
+-- what each step keeps is true of the rows in the end
 rows_kept : {X : Type 0} (P : List X → Type 0)
     (base : ℕ) (read : List X → Data → Result X NetRefusal)
     → ((earlier : List X) (d : Data) (row : X) → P earlier → read earlier d ≡ Ok row

@@ -1,4 +1,4 @@
--- Journals that break the promise of one whole version: the last item of each is one that no
+-- Journals that break the headline, one whole version: the last item of each is one that no
 -- network writes. Its strong cause is refuted by the field that it breaks; where the item has a
 -- cause of the plainer sort too, that one holds.
 use Rattle.std.proofs.Common.{[], ◌<◌, ◌==◌, ◌∙◌, ◌∷◌, ◌≡◌, All, Contains, IsFalse, IsTrue, List, None, Some, arith, eqb-true, false, get_or, inr, refl, subst, sym, true, ℕ, rules}
@@ -157,7 +157,7 @@ not_at_one_that_is_down : StrongCause open_net
 unfolding serves
 not_at_one_that_is_down cause = let served : false ≡ true = cause.0.1 in absurd cc
 
--- or is refused where the switch serves
+-- or is closed where the switch serves
 not_refused_where_served : StrongCause open_net (Item.Row 1 (Packet 0 one) ∷ [])
     (Item.Closed 1 0) → ⊥
 unfolding serves

@@ -314,7 +314,7 @@ raised_holds P earlier stamp cache all = by_test (nat_lt earlier stamp) where
   by_test true = All-filter (λ entry. nat_le stamp entry.version) P cache.entries all
   by_test false = all
 
--- what holds of the entries of a cache holds of what is left of them as they go over to a version
+-- what is true of a cache's entries is true of what is left of them when it is carried
 abbrev pub IsCarried : (CacheEntry → Type 0) → ℕ → List WordValue → Type 0
 IsCarried P version touched = (cache : CacheValue) → All P cache.entries
     → All P (after_carry version touched cache).entries

@@ -46,7 +46,7 @@ not_stuck_seeking_when_decided : PacketCause open_net decided
 unfolding stage_of
 not_stuck_seeking_when_decided way = search (rules, looked_up_once)
 
--- for want of an authority on its way out
+-- with the cause that there is no authority, on its way out
 not_without_authority_on_its_way_out : PacketCause open_net decided
     (Item.Stuck 1 0 NoAuthority (Exit 3) no_links) → ⊥
 not_without_authority_on_its_way_out way = let why = way.why in cc
@@ -112,7 +112,7 @@ at_end : IsAtEnd moved 1 1 one (Seek 1 0)
 unfolding travels stage_of next_switch route_in route_place standing header_in leg_of
 at_end = search rules
 
--- in the midst of a hop: it found the link down, and switch 0 is another target
+-- in the middle of a hop: it found the link down, and switch 0 is another target
 abbrev rerouted : List Item
 rerouted = Item.Entered 1 0 one ∷ Item.Seeking 1 1 0 (0 ∷ 1 ∷ []) ∷ Item.FoundDown 1 0 1
     ∷ Item.Rerouted 1 (0 ∷ []) ∷ []

@@ -103,8 +103,7 @@ pub reached_ready : (setting : Setting) (journal : List Item) → IsReached sett
     → IsSetting setting → IsReady setting journal
 reached_ready setting = reached_carries setting (OfSettings IsReady setting) (ready_carried setting)
 
--- what holds where all items have their causes holds of each journal that is reached, within a
--- step too
+-- what follows from the causes of all items is true of each reached journal, within a step too
 pub reached : (Holds : Setting → List Item → Type 0) → ((setting : Setting) (journal : List Item)
     → IsSetting setting → HaveCauses (IsHopItem setting) [] journal → Holds setting journal)
     → HoldsReached (λ setting journal. IsSetting setting → Holds setting journal)
@@ -114,7 +113,7 @@ reached Holds = reached_by IsReady Holds IsHopItem ready_carried hop_causes
 
 -- ---- what a hop leaves
 
--- a hop is taken as its row stands there
+-- a hop is taken when its row is there
 not_taken : (j n : ℕ) (before : List Item) (next : Item) → IsNoRow next
     → changes_taken j before n next ≡ n
 not_taken j n before next none = search rules

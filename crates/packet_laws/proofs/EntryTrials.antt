@@ -16,7 +16,7 @@ no_such_loss header entered = let rows = entered.in_order in absurd cc
 no_such_crash : AreEntered (step_rows 1 []) (Item.Row 1 (Crash 0) ∷ Item.Down 0 ∷ []) → ⊥
 no_such_crash entered = let rows = entered.in_order in absurd cc
 
--- a refusal at a switch that serves
+-- a packet that is closed at a switch that serves
 refused_where_served : (header : Header) → EachEnters []
     (Item.Row 1 (Packet 0 header) ∷ Item.Closed 1 0 ∷ []) → ⊥
 unfolding serves

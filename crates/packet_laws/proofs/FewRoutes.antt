@@ -111,7 +111,7 @@ finds setting before i one two known few meets down =
 
 -- ---- items
 
--- what stands before the item, of the packet that it names
+-- what is true before the item, of the packet that it names
 record Premises (setting : Setting) (before : List Item) (next : Item) : Type 0 where
   known : Before setting before
   way : PacketCause setting before next

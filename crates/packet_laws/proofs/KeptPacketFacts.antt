@@ -25,7 +25,7 @@ pub record Knows (setting : Setting) (before : List Item) (i : ℕ) (stage : Opt
     pub links : LinksAreThere setting before
     pub kept : HasKeptFacts setting before (what_is_known before i) stage
 
--- where it stands
+-- where it is
 pub here_known : (setting : Setting) (before : List Item) (i s : ℕ)
     → Knows setting before i (stage_of before i) → IsAt before i s → IsHere setting before i s
 here_known setting before i s knows at = search (rules, here_of)
@@ -102,7 +102,7 @@ seek_targets : (setting : Setting) (before : List Item) (header : Header) (versi
     → targets_of setting before (Seek version partition) ≡ hosted.1
 seek_targets setting before header version partition hosted own = cc own.found
 
--- a packet that takes a route where it stands
+-- a packet that takes a route where it is
 sets_out : (setting : Setting) (before : List Item) (i s : ℕ) (taken : Option Leg) (leg : Leg)
     (targets route : List ℕ) (here : IsHere setting before i s) → taken ≡ Some leg
     → IsWay setting s targets (what_is_known before i).found route

@@ -1,4 +1,4 @@
--- The blocks of a packet's items have their causes, whatever journal they stand behind.
+-- The blocks of a packet's items have their causes, whatever journal they follow.
 use Rattle.std.proofs.Common.{[], ◌++◌, ◌∙◌, ◌∷◌, ◌≡◌, ◌⊎◌, Bool, IsTrue, List, None, Option, Some, false, inl, inr, refl, rules, slice_get, subst, sym, true, unwrap_or, ℕ}
 use Rattle.base.proofs.Exports.{option_or}
 use Rattle.update_machine.specs.Exports.{Action, AuthorityRule, Decision, Exit, Found, HaveCauses, Header, How, Item, Leg, Lose, Message, Seek, Setting, arrive_by, arrive_items, authority_items, authority_rule, cache_items, decision_of, end_items, first_place, found_down, found_items, gives_decision, gives_serving, gives_standing, gives_travelling, go_on, header_at, header_in, holds_version, hop_items, in_turn, items_then, leg_items, leg_of, lookup_at, lookup_items, lose_items, move_items, near, next_switch, nothing, packet_items, plan_at, present_step, reroute_by, reroute_items, route_for, route_in, route_place, sent_from, serves, stamp_of, standing, stuck_on, takes_route, travels}

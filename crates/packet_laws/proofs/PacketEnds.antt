@@ -145,7 +145,7 @@ finds_down setting before i one two knows meets = record {
       (own_end setting before knows.is.net one two (rw (eq-eqb one one refl) e)).named in
       absurd (cc meets.unusable)
 
--- a partition of a plan stands in it
+-- a partition at a place of a plan is in it
 part_in : (plan : List Hosted) (k : ℕ) (hosted : Hosted) → slice_get plan k ≡ Some hosted
     → Contains plan hosted
 part_in plan k hosted there = search (rules, slice_get_within, get_or_from_slice_get)
@@ -224,7 +224,7 @@ stuck_by_claims setting before i s cause leg down knows finds =
 
 -- ---- packets that leave
 
--- where a route doesn't go on, the packet stands at its last switch
+-- if a route doesn't go on, the packet is at its last switch
 pub last_here : (route : List ℕ) (hops s target : ℕ) → slice_get route hops ≡ Some s
     → slice_get route (hops + 1) ≡ None → slice_get route (length route - 1) ≡ Some target
     → s ≡ target

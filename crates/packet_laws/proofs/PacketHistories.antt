@@ -10,7 +10,7 @@ use Rattle.packet_laws.proofs.PlayExistence.{OfReached}
 -- ---- where a step begins behind some items of what steps wrote, or nothing is left, these items
 -- are what the first of the steps wrote.
 
--- what the steps write behind the journal
+-- what the steps write after the journal
 abbrev written : Setting → List Item → List StepOfRow → List Item
 written setting before [] = []
 written setting before (next ∷ steps) = piece setting before next.row next.step
@@ -115,7 +115,7 @@ holds_so_far laws = record {
       (λ Holds law. law.begun setting events journal own begins);
 }
 
--- ---- behind steps
+-- ---- after steps
 
 abbrev pub OfSteps : (Setting → List Item → Type 0) → Type 0
 OfSteps Holds = HoldsBetween (λ setting journal. IsSetting setting → Holds setting journal)

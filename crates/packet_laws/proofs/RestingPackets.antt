@@ -165,7 +165,7 @@ BringsNoPacket _ = ⊤
 abbrev IsApart : ℕ → List Item → Step → Type 0
 IsApart j before step = (i : ℕ) → packet_of before step ≡ Some i → (i == j) ≡ false
 
--- it spares each other one
+-- it spares all others
 others_spare : (setting : Setting) (j : ℕ) (before : List Item) (row : ℕ) (step : Step)
     → BringsNoPacket step → IsApart j before step → let here = before ++ Item.Row row step ∷ [] in
     HaveCauses (SparesAll j) here (step_items setting before step here)
@@ -196,7 +196,7 @@ pub no_rows : (setting : Setting) (before : List Item) (row : ℕ) (step : Step)
 no_rows setting before row step = have_weaker _ (λ js next. IsNoRow next)
     (λ js next spares. spares.1) _ _ (step_spares setting _ before row step (another before step))
 
--- and only that of a packet row brings one in or refuses one
+-- and only by that of a packet row one enters or is closed
 pub no_entries : (setting : Setting) (before : List Item) (row : ℕ) (step : Step)
     → BringsNoPacket step → let here = before ++ Item.Row row step ∷ [] in
     HaveCauses (λ js next. IsInStep next) here (step_items setting before step here)
@@ -374,8 +374,7 @@ between Holds settled = record {
       (played_carries setting _ (settled_carried setting) events journal full own play n is);
 }
 
--- what holds where all items have their causes holds of each journal that is reached, within a
--- step too
+-- what follows from the causes of all items is true of each reached journal, within a step too
 pub reached : (Holds : Setting → List Item → Type 0) → ((setting : Setting) (journal : List Item)
     → IsSetting setting → HaveCauses (IsWayItem setting) [] journal → Holds setting journal)
     → HoldsReached (λ setting journal. IsSetting setting → Holds setting journal)

@@ -83,8 +83,8 @@ BeginsRested before _ = ⊤
 
 -- ---- what is kept
 
--- the packet took at most 64 hops for each route, and what is left of its route fits too, less the
--- hop that it was asked; on its last route it took as many as its place there says, and at most 64
+-- the packet took at most 64 hops for each route, and what is left of its route fits too, without
+-- the hop that it was asked. On its last route it took as many as its place says, at most 64
 record IsWithin (held : PacketFacts) (stage : Option Stage) (asked : Bool)
     (routes taken on : ℕ) : Type 0 where
   all : taken ≤ most_switches * routes
@@ -113,7 +113,7 @@ begun_few setting before packet i held e kept same tr = search (rules, route_few
 
 -- ---- items
 
--- what stands before the item
+-- what is true before the item
 record Premises (setting : Setting) (before : List Item) (next : Item) : Type 0 where
   known : Before setting before
   way : PacketCause setting before next

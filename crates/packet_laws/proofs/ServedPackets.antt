@@ -277,7 +277,7 @@ lost_serves packets journal s =
 
 -- ---- the crash
 
--- a packet that isn't lost stands elsewhere
+-- a packet that isn't lost is elsewhere
 left_elsewhere : (before : List Item) (s i t : ℕ) → IsTrue (travels before i)
     → standing before i ≡ Some t → 1 ≤ i → i < 1 + count_of is_packet before
     → IsFalse (among i (packets_at before s)) → (s == t) ≡ false

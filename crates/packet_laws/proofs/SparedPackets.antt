@@ -190,7 +190,7 @@ abbrev pub IsNoRow : Item → Type 0
 IsNoRow (Item.Row row step) = ⊥
 IsNoRow _ = ⊤
 
--- nor does a packet enter, nor is one refused
+-- nor does a packet enter, nor is one closed
 abbrev pub IsInStep : Item → Type 0
 IsInStep (Item.Row row step) = ⊥
 IsInStep (Item.Entered packet switch header) = ⊥
@@ -201,7 +201,7 @@ IsInStep _ = ⊤
 abbrev pub Spares : ℕ → List Item → Item → Type 0
 Spares i before next = (gives_stage i next ≡ None) × IsNoRow next
 
--- nor does it bring in or refuse any packet
+-- nor does a packet enter by it, nor is one closed
 abbrev pub SparesAll : ℕ → List Item → Item → Type 0
 SparesAll i before next = (gives_stage i next ≡ None) × IsInStep next
 

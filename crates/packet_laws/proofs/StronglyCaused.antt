@@ -19,7 +19,7 @@ use Rattle.packet_laws.proofs.PacketKnownRoutes.{route_way}
 
 -- ---- a packet at the end of its route is where its leg leads
 
--- it stands at a target of its leg
+-- it is at a target of its leg
 at_target : (setting : Setting) (journal : List Item) (i s : ℕ) (header : Header) (leg : Leg)
     (targets : List ℕ) (way : IsOnWay setting journal (what_is_known journal i))
     → IsAtEnd journal i s header leg → EndsAtTarget (what_is_known journal i).route targets

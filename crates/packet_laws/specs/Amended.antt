@@ -83,9 +83,9 @@ StayInOrder version touched before after =
     after ≡ map (at_least version) (filter (outlives version touched before) before)
 
 -- when a message raises the stamp of a switch to a version, the entries of its cache stay in their
--- order, except those of earlier versions that don't outlive the rise; and each entry of the
--- version before whose word meets no word that the version's change touches has an entry under
--- that version then: itself, or the one that had its word before
+-- order, except those of earlier versions that don't outlive the rise. An entry of the version
+-- before whose word meets no word that the version's change touches has an entry under that version
+-- then: itself, or the one that had its word before
 pub record OutliveRise (setting : Setting) (before : List Item) (s number version : ℕ)
     : Type 0 where
   pub in_order : StayInOrder version (touched_by setting before version)

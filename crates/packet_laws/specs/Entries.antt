@@ -1,6 +1,6 @@
 -- First tier. The steps of a journal are the rows of its schedule that were played, one by one,
 -- except for the hops and deliveries that rows of a drain or a flush cause too. Each packet that
--- entered or was refused is that of a packet row: a journal without packets is that of a play
+-- entered or was closed is that of a packet row: a journal without packets is that of a play
 -- without packet rows. The notion is our own.
 use Rattle.std.specs.Prelude.{[], ◌++◌, ◌+◌, ◌-◌, ◌∷◌, ◌≡◌, Bool, IsFalse, IsTrue, List, None, Option, Some, take, ℕ, ⊤}
 use Rattle.update_machine.specs.Exports.{Deliver, Event, Header, Hop, Item, One, Packet, Step, all_given, next_packet, serves}
@@ -51,7 +51,7 @@ IsEntryOf serving i s header (item.Closed packet switch) =
 IsEntryOf serving i s header _ = ⊥
 
 -- after this journal each packet row among the items has its entry right after it, under the next
--- number, and nothing else enters or is refused
+-- number, and nothing else enters or is closed
 abbrev pub EachEnters : List Item → List Item → Type 0
 EachEnters before [] = ⊤
 EachEnters before (item.Row row (Packet s header) ∷ []) = ⊥

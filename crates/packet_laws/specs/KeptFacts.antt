@@ -27,9 +27,9 @@ pub record IsRightlyDecided (setting : Setting) (journal : List Item) (facts : P
   pub sought : (version partition : ℕ) → facts.leg ≡ Some (Seek version partition)
       → IsSought setting journal facts.mark header version partition
 
--- the invariants of a packet with these facts in this stage: it is undecided when it enters, and
--- then decided rightly; it is at its place on a route to a target of its leg, even if it found the
--- next link down; and while it is on its way, its route uses no link that it found down
+-- the invariants of a packet with these facts in this stage. It is undecided when it enters, and
+-- then decided rightly. It is at its place on a route to a target of its leg, even if it found the
+-- next link down. While it is on its way, its route uses no link that it found down
 pub record HasKeptFacts (setting : Setting) (journal : List Item) (facts : PacketFacts)
     (stage : Option Stage) : Type 0 where
   pub under_way : IsTrue facts.travels → IsUnderWay setting journal facts

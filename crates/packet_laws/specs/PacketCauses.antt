@@ -26,7 +26,7 @@ gives_row_test _ = Some false
 unfoldable pub ends_with_row : List Item → Bool
 ends_with_row journal = unwrap_or (last_given gives_row_test journal) false
 
--- the packet enters, or is refused, right after its row, under the next number
+-- the packet enters, or is closed, right after its row, under the next number
 pub record IsOfRow (before : List Item) (packet switch : ℕ) (header : Header) : Type 0 where
   pub number : packet ≡ next_packet before
   pub row : present_step before ≡ Some (Packet switch header)

@@ -1,6 +1,6 @@
--- Causes that are strong enough for the promise. A run with them, whose rows are the schedule's,
--- keeps it: each packet is decided by one whole version that wasn't retired when it entered, or is
--- lost by a row, or stuck because no route is known.
+-- Causes that are strong enough for the headline, which is true of a run with them whose rows are
+-- the schedule's. Each packet is decided by one whole version that wasn't retired when it entered,
+-- or is lost by a row, or stuck because no route is known.
 use Rattle.std.specs.Prelude.{◌<◌, ◌≡◌, ◌≢◌, ◌≤◌, IsFalse, List, None, Some, ℕ, ⊤}
 use Rattle.failover.specs.Exports.{IsRoute}
 use Rattle.update_machine.specs.Exports.{Cause, Exit, FindsNextDown, FindsNoPath, Item, LeavesRightly, Leg, Seek, SeeksOwn, Setting, cause_at, current_mark, decision_of, found_down, holds_version, leg_of, links_known, route_from, standing, targets_of}
@@ -63,9 +63,9 @@ pub record IsStuckOnLeg (setting : Setting) (before : List Item) (packet switch 
 abbrev pub AvoidsFound : List Item → ℕ → List ℕ → Type 0
 AvoidsFound before packet route = Avoids (found_down before packet) route
 
--- from where the packet is, over the links that its switch knows except those that the packet
--- found down, the route is a shortest one to the first target of the leg that is reachable, and of
--- these the least; so it uses no link that the packet found down
+-- the route is a shortest one from where the packet is to the first target of the leg that is
+-- reachable, and of these the least. The links are those that its switch knows, except those that
+-- the packet found down; so the route uses none of these
 pub record IsLeastRoute (setting : Setting) (before : List Item) (packet : ℕ) (leg : Leg)
     (route : List ℕ) : Type 0 where
   pub switch : ℕ

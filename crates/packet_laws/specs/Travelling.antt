@@ -8,8 +8,8 @@ use Rattle.packet_laws.specs.KeptFacts.{Avoids, BringsRight}
 use Rattle.packet_laws.specs.Rest.{IsServed}
 
 -- the packet is at its place on a route that leads over links of the network to a target of its
--- leg, and uses none that it found down; its switch serves; and each switch that serves has the
--- version by which it seeks an authority, or stamps with a greater one
+-- leg, and uses none that it found down. Its switch serves. Each switch that serves has the version
+-- by which it seeks an authority, or stamps with a greater one
 pub record IsTravelling (setting : Setting) (journal : List Item) (packet : ℕ) : Type 0 where
   pub on_way : IsOnWay setting journal (what_is_known journal packet)
   pub served : IsServed journal packet

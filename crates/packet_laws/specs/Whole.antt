@@ -8,8 +8,8 @@ use Rattle.packet_laws.specs.Travelling.{RulesAreRight}
 
 pub record KeepVersionsWhole (setting : Setting) (journal : List Item) : Type 0 where
   -- each item of switches and of the controller has its cause: a message for a boot was sent while
-  -- that boot was known and the switch wasn't over; and the current mark rose only when each member
-  -- had acknowledged each version above the old mark, up to the new one
+  -- that boot was known and the switch wasn't over. The current mark rose only when each member had
+  -- acknowledged each version above the old mark, up to the new one
   pub causes : HaveCauses (HasItemCause setting) [] journal
   -- the known boot of a switch is at most its own, and no message carries a greater one
   pub boots : BootsAreKnown journal
@@ -36,8 +36,7 @@ pub record KeepVersionsWhole (setting : Setting) (journal : List Item) : Type 0 
   -- each cache rule decides each header of its word as its own version does
   pub rules : RulesAreRight setting journal
   -- when a `Stamp` raises a switch to the very next version, its cache keeps, in their order, the
-  -- rules that the amendment doesn't touch, unless an entry of that version already has the rule's
-  -- word
+  -- rules that the amendment doesn't touch, unless an entry of that version has the rule's word
   pub untouched : UntouchedStay setting journal
   -- a header that an amendment doesn't touch is decided alike by the versions before and after it
   pub alike : ChangesLeaveOthers setting journal

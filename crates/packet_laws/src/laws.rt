@@ -32,9 +32,9 @@ pub fn items_keep_packets()
     ensures { HoldsReached (λ setting journal. IsSetting setting → AllKept setting journal) }
 {}
 
-/// Between steps a travelling packet is at a serving switch; its version wasn't retired when it
-/// entered, is at most the current one, and each switch that serves has it or stamps with a
-/// greater one; and its route leads to a target of its leg, over no link that it found down.
+/// Between steps a travelling packet is at a serving switch, and its route leads to a target of its
+/// leg, over no link that it found down. Its version wasn't retired when it entered, and is at most
+/// the current one. Each switch that serves has that version or stamps with a greater one.
 pub fn packets_travel()
     ensures { HoldsBetween (λ setting journal. IsSetting setting → PacketsTravel setting journal) }
 {}
@@ -51,10 +51,10 @@ pub fn cache_rules_are_right()
     ensures { HoldsReached (λ setting journal. IsSetting setting → RulesAreRight setting journal) }
 {}
 
-/// When a `Stamp` message raises a switch to the version that an amendment made, each entry of the
-/// version before whose word overlaps no touched word stays in the cache, of the same message and
-/// in its place in the order, under the new version; if an entry of that version has its word
-/// already, that one stays instead. It then decides as the policy of that version does.
+/// When a `Stamp` message raises a switch to the version that an amendment made, the entries of the
+/// version before stay in the cache if their word overlaps no touched word. Each stays under the
+/// new version, of the same message and in its place in the order; only if an entry of that version
+/// has its word already, that one stays instead. It then decides as that version's policy does.
 pub fn untouched_rules_stay()
     ensures { HoldsReached (λ setting journal. IsSetting setting → UntouchedStay setting journal) }
 {}
@@ -82,11 +82,11 @@ pub fn answers_are_runs()
     ensures { HoldsReached (λ setting journal. IsSetting setting → IsRun setting journal) }
 {}
 
-/// The items' causes are so strong that a run with them keeps the promise if its rows are the
+/// The items' causes are so strong that the headline is true of a run with them if its rows are the
 /// schedule's. A packet that is stuck on its way to an authority is undecided, and its version
 /// wasn't retired when it entered and is at most the current one; the same is true of the version
-/// of each decision. Links found down are links of the network; packets enter, and are lost, by
-/// the row of the step that is taken.
+/// of each decision. Links found down are links of the network; packets enter, and are lost, by the
+/// row of the step that is taken.
 pub fn causes_are_strong()
     ensures { HoldsReached (λ setting journal.
         IsSetting setting → HaveCauses (StrongCause setting) [] journal) }
@@ -157,11 +157,10 @@ pub fn plays_exist()
         → All (IsEvent setting.net (length setting.files)) events → HasPlay setting events }
 {}
 
-/// The rows of a play's journal are those of its events that were played, in order, except for
-/// hops and deliveries, which drains and flushes cause too. Right after each packet row is what
-/// became of the packet: it has the next number, and entered with that header at that switch, if
-/// the switch serves; or the switch, if it doesn't serve, was closed to it. No other packet enters
-/// or is refused.
+/// The rows of a play's journal are those of its events that were played, in order, except for hops
+/// and deliveries, which drains and flushes cause too. Right after each packet row is what became
+/// of the packet, under the next number. If that switch serves, it entered there with that header;
+/// if not, it is closed. No other packet enters or is closed.
 pub fn packet_rows_are_entered()
     ensures { (setting : Setting) (events : List Event) (journal : List Item)
         (full : Option ℕ) → IsPlay setting events journal full
@@ -176,7 +175,7 @@ pub fn answered_rows_are_entered()
 
 /// At each moment, within a step too, what is known of boots, versions and marks is right; each
 /// switch that serves has the version that it stamps with; each cache rule decides as its version
-/// does. An amendment changes no decision of a header that it doesn't touch; when a `Stamp` raises
+/// does. An amendment changes no decision of a header that it doesn't touch. When a `Stamp` raises
 /// a switch to the very next version, its cache keeps the rules that the amendment doesn't touch,
 /// unless an entry of that version already has the rule's word.
 pub fn items_keep_versions_whole()

@@ -2,7 +2,7 @@
 //! machine, what ends packets has its cause, and the packets that entered are those of the
 //! schedule's packet rows. A packet takes few routes and few hops, drains and flushes end, and
 //! each list of events has a play. And what every item keeps during an update, all of it in one
-//! law (Reitblatt, Foster, Rexford, Schlesinger and Walker, "Abstractions for Network Update"): so
+//! law (Reitblatt, Foster, Rexford, Schlesinger and Walker, "Abstractions for Network Update"). So
 //! no packet is decided by half of an old version and half of a new one, whatever fails.
 //!
 //! Laws over journals of steps of all kinds. No code: each function is the law that it ensures.

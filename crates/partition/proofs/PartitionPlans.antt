@@ -1,4 +1,4 @@
--- What holds of each plan.
+-- What is true of each plan.
 use Rattle.std.proofs.Common.{[], ◌+◌, ◌<◌, ◌∙◌, ◌∷◌, ◌≡◌, ◌≤◌, All, Bool, Err, List, Ok, Result, ap, arith, cond, false, get_or, length, ltb, map, subst, suc, sym, true, zip, ℕ, rules}
 use Rattle.std.specs.Result.{result_map_both}
 use Rattle.std.proofs.lemmas.Bool.Decides.{nat_tests}
@@ -77,7 +77,7 @@ made_of : (rows : List Row) (net : Net) (plan : List Hosted) → plan_of rows ne
 unfolding plan_of
 made_of rows net plan is = search rules
 
--- ---- what holds of it
+-- ---- what is true of it
 
 placement_there : (sizes rooms : List ℕ) (backups : ℕ) (targets : List (List ℕ))
     → placement_of sizes rooms backups ≡ Ok targets → IsPlacement sizes rooms backups targets

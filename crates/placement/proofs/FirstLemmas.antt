@@ -1,5 +1,4 @@
--- The first of the switches that have room: what a rising list gives, and that one list alone is
--- the first.
+-- The first of the switches that have room: what a rising list gives, and that only one list is it.
 use Rattle.std.proofs.Common.{[], ◌&&◌, ◌+◌, ◌-◌, ◌<◌, ◌^◌, ◌∙◌, ◌∷◌, ◌≡◌, ◌≢◌, ◌≤◌, All, AllPairs, Bool, List, MatchOption, None, Option, Some, ap, arith, cond, eq-eqb, eqb, false, filter, get_or, inl, inr, leb, leb-true, length, length-take, min, ne_eqb, not, refl, subst, suc, sym, take, true, true≢false, zero, ℕ, rules}
 use Rattle.base.proofs.Exports.{All-from_recursion, AllByRecursion, and_from, and_parts, cases_Bool, cases_eq, cases_lt, false≢true, list_any, nat_tests, not-true, not_from_false, or_parts, recursion_from_All, sum_by-cons}
 use Rattle.placement.specs.Order.{in_order}
@@ -55,7 +54,7 @@ has_room-within : (load : ℕ → ℕ) (rooms : List ℕ) (size s : ℕ) → has
 unfolding has_room
 has_room-within load rooms size s room = grind (arith, nat_tests)
 
--- a sum that stands still at its type's end is above the same rooms
+-- a sum that stops at its type's end is above the same rooms
 pub capped_within : (n room : ℕ) → room < 2 ^ 32 → leb (min n (2 ^ 64 - 1)) room ≡ leb n room
 capped_within n room small = grind (arith, nat_tests)
 

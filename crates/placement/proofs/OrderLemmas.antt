@@ -1,5 +1,4 @@
--- Numbers in an order: what an insertion sort keeps, and that one list alone rises and has given
--- numbers.
+-- Numbers in an order: what an insertion sort keeps, and that only one list of given numbers rises.
 use Rattle.base.proofs.Exports.{All-from_recursion, AllByRecursion, AllPairs-cons, cases_Bool, cases_eq, false≢true, list_any, list_any-append, list_any_none, nat_tests, ordering_then, range_with_len, recursion_from_All, sum_by-cons, ⊤}
 use Rattle.std.proofs.Common.{[], ◌&&◌, ◌++◌, ◌+◌, ◌<◌, ◌||◌, ◌∙◌, ◌∷◌, ◌≡◌, ◌≢◌, ◌≤◌, AllPairs, Bool, IsSortedBy, List, ap, arith, cond, eq-eqb, eqb, false, filter, get_or, get_or-take, inl, inr, is_lt, leb, length, length-take, ltb, nat_cmp, ne_eqb, refl, subst, suc, sum_by, sym, take, true, zero, ℕ, rules}
 use Rattle.placement.specs.Order.{with_inserted, in_order}
@@ -10,7 +9,7 @@ pub record IsOrder (before : ℕ → ℕ → Bool) : Type 0 where
   pub trans : (a b c : ℕ) → before a b ≡ true → before b c ≡ true → before a c ≡ true
   pub total : (a b : ℕ) → a ≢ b → before b a ≡ false → before a b ≡ true
 
--- each number stands before all later ones
+-- each number comes before all later ones
 abbrev pub Rises : (ℕ → ℕ → Bool) → List ℕ → Type 0
 Rises before [] = ⊤
 Rises before (x ∷ xs) = AllByRecursion (λ y. before x y ≡ true) xs × Rises before xs
@@ -263,7 +262,7 @@ pub lexicographic : (a b c d : ℕ) → is_lt (ordering_then (nat_cmp a b) (nat_
     → (ltb a b || (eqb a b && ltb c d)) ≡ false
 lexicographic a b c d = grind (arith, nat_tests)
 
--- of different numbers, none stands at an earlier place
+-- of different numbers, none is at an earlier place too
 pub not_among_before : (xs : List ℕ) (k : ℕ) → k < length xs → AllPairs (λ a b. a ≡ b → ⊥) xs
     → list_any (eqb (get_or xs k 0)) (take k xs) ≡ false
 not_among_before xs k within pairs = search (rules, list_any_none, length-take, get_or-take, ne_eqb)

@@ -106,7 +106,7 @@ sums_agree : (chosen : List ℕ → List ℕ) (keys numbers : List ℕ) (P Q : L
     → sum_before chosen keys numbers P p ≡ sum_before chosen keys numbers Q p
 sums_agree chosen keys numbers P Q p same = search (rules, filter_agree)
 
--- a turn changes nothing of what stands before itself or before an earlier one
+-- a turn changes no sum before itself or before an earlier one
 sums-set : (chosen : List ℕ → List ℕ) (keys numbers : List ℕ) (P : List (List ℕ)) (p q : ℕ)
     (targets : List ℕ) → is_earlier keys p q ≡ false
     → sum_before chosen keys numbers (set P p targets) q ≡ sum_before chosen keys numbers P q
@@ -145,7 +145,7 @@ each-append : (P : ℕ → Type 0) (xs ys : List ℕ) → AllByRecursion P xs �
 each-append P [] ys front back = back
 each-append P (x ∷ xs) ys front back = (front.0, each-append P xs ys front.1 back)
 
--- what was put on a switch so far is what stands there before the next turn
+-- what was put on a switch so far is its sum before the next turn
 running_sum : (chosen : List ℕ → List ℕ) (keys numbers : List ℕ) (P : List (List ℕ))
     (done : List ℕ) (p : ℕ) (left : List ℕ) → turns keys ≡ done ++ p ∷ left → (s : ℕ)
     → sum_before chosen keys numbers P p s ≡ sum_among chosen numbers P done s
@@ -282,7 +282,7 @@ pub record Loaded (t : TurnRule) (held loads : List ℕ) (placement : List (List
   pub held_switches : length held ≡ length t.rooms
   pub loads_switches : length loads ≡ length t.rooms
 
--- the running sums are what stands there before the next turn
+-- the running sums are those before the next turn
 held_before : (t : TurnRule) (held loads : List ℕ) (P : List (List ℕ)) (done : List ℕ) (p : ℕ)
     (left : List ℕ) → Loaded t held loads P done (p ∷ left)
     → (λ s. get_or held s 0) ≡ sum_before (λ xs. xs) t.keys t.sizes P p

@@ -54,8 +54,8 @@ with_room held rooms size = filter (has_room held rooms size) (range_with_len 0 
 unfoldable pub is_lighter : (ℕ → ℕ) → ℕ → ℕ → Bool
 is_lighter load a b = nat_lt (load a) (load b) || ((load a == load b) && nat_lt a b)
 
--- these are the first by load of the switches that have room besides what they have: every other
--- one comes after all of them
+-- these are the first by load of the switches that have room besides what they have: all other such
+-- switches come after all of them
 pub record AreFirst (held load : ℕ → ℕ) (rooms : List ℕ) (size count : ℕ) (targets : List ℕ)
     : Type 0 where
   pub number : length targets ≡ count

@@ -22,8 +22,7 @@ impl Load {
     /// rules: for each partition an authority switch and this many backups.
     ///
     /// Partitions come by falling key, then by number. Each is put on the switches of least load,
-    /// and then of least number, among those that have room for it besides the partitions that they
-    /// have.
+    /// and then of least number, among those that have room for it besides their partitions.
     ///
     /// # Errors
     /// `NoRoom` with the first partition, by falling key and then by number, that finds fewer
@@ -85,8 +84,7 @@ fn by_falling(alloc: Global, numbers: &[u64]) -> Result<Vec<u32>, AllocError>
     Ok(order)
 }
 
-// The switches that have room for this many rules besides those that they have, by load and then by
-// number.
+// The switches that have room for this many more rules, by load and then by number.
 fn by_load(
     alloc: Global,
     held: &[u64],

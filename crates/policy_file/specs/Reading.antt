@@ -55,8 +55,7 @@ row_read _ = Err why.Width
 
 -- ---- the rows of a file, of any kind
 
--- how a file states its rows: its heading, what a record states, and which row repeats an earlier
--- one
+-- how a file states its rows: its heading, what a record states, and which row repeats another
 pub record RowFormat (X : Type 0) : Type 0 where
   pub heading : List (List ℕ)
   pub read : List (List ℕ) → Result X PolicyRefusal

@@ -60,8 +60,7 @@ impl FileRow for Edit {
     }
 }
 
-/// The rows that a text states, up to its end or to the first record that is refused, and why that
-/// one is.
+/// The rows that a text states, up to its end or to the first refused record, with the reason.
 #[derive(Drop)]
 pub struct Reading<R> {
     pub rows: Vec<R>,

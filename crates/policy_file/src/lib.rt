@@ -1,12 +1,11 @@
 //! Policies, and changes of them, as CSV text: a heading, and a record for each row. That of a
-//! policy's row has seven fields; that of a change's has `add` and such fields, or `remove` and a
-//! priority.
+//! policy has seven fields; that of a change has `add` and such fields, or `remove` and a priority.
 //!
-//! `read_policy` and `read_change` promise the policy or the change that the text states, or the
+//! `read_policy` and `read_change` return the policy or the change that the text states, or the
 //! first refusal in the text and its row; `read_file` reads either, by its heading. `check_ports`
 //! and `check_file_ports` find the first row that names a port outside a set. `write_policy` and
-//! `write_change` promise the text, which is read back to what was written if that has at most
-//! 2,000 rows and ports below 64. Which bytes make a record is what the crate `csv` defines.
+//! `write_change` return the text, which is read back to what was written if that has at most 2,000
+//! rows and ports below 64. Which bytes make a record is what the crate `csv` defines.
 //!
 //! ```text
 //! fn tidy(alloc: Global, text: &[u8], ports: u64) -> anyhow::Result<Vec<u8>> {

@@ -17,8 +17,7 @@ use std::alloc::{AllocError, Global};
 use std::fmt;
 use std::fmt::Write;
 
-/// The policy's text: the heading, and then a record for each row, each with a line feed at its
-/// end.
+/// The policy's text: the heading and a record for each row, each with a line feed at its end.
 ///
 /// # Errors
 /// Only out of memory.
@@ -31,8 +30,7 @@ pub fn write_policy(alloc: Global, policy: &Policy) -> Result<Vec<u8>, AllocErro
     Ok(text_of(alloc, policy.rows())?)
 }
 
-/// The change's text: the heading, and then a record for each edit, each with a line feed at its
-/// end.
+/// The change's text: the heading and a record for each edit, each with a line feed at its end.
 ///
 /// # Errors
 /// Only out of memory.

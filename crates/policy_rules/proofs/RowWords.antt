@@ -68,8 +68,7 @@ unfolding word_of_row
 IsWord-word_of_row row source destination sound s d =
     search (rules, mask_bits, and_packed, value_bits, prefix_within, proto_within, mask_bound)
 
--- the word holds a header that the row matches by addresses and protocol, and whose ports are in
--- the blocks
+-- the word holds a header that the row matches by addresses and protocol, with ports in the blocks
 pub holds-word_of_row : (row : Row) (source destination : Block) (h : Header) → IsSoundRow row
     → IsPortBlock source → IsPortBlock destination → IsHeader h →
     holds (word_of_row row source destination) (number_of h)

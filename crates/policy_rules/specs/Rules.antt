@@ -1,5 +1,4 @@
--- The rules of a policy: its rows as words of a ternary memory, in the order in which they are
--- tried.
+-- The rules of a policy: its rows as words of a ternary memory, in the order of trial.
 use Rattle.std.specs.Prelude.{Bool, List, Option, find, ℕ}
 use Rattle.five_tuple.specs.Exports.{number_of}
 use Rattle.five_tuple.specs.declared.header.Header.{Header}

@@ -19,8 +19,7 @@ abbrev pub proto_value : Proto → ℕ
 proto_value Any = 0
 proto_value (Is number) = number
 
--- the word that fixes what the row says about the addresses and the protocol, and a block of each
--- port
+-- the word that fixes what the row says about addresses and protocol, and a block of each port
 unfoldable pub word_of_row : Row → Block → Block → WordValue
 word_of_row row source destination = record {
   value = packed_number row.src.address row.dst.address source.0 destination.0

@@ -30,8 +30,7 @@ pub struct Repeated {
 }
 
 /// A change of a policy, as an operator gives it: edits, of which no two remove the row of the same
-/// priority, and no two add one. Contracts see the list of the edits, for which `IsAmendment` is
-/// true.
+/// priority, and no two add one. Contracts see the list of edits, which meets `IsAmendment`.
 ///
 /// A priority may be removed and added again, which replaces its row.
 #[derive(Drop)]

@@ -40,8 +40,7 @@ pub struct Hit {
     pub action: Action,
 }
 
-/// Why rows are no policy: this one, counted from 1, is the first that has an earlier row's
-/// priority.
+/// Why rows are no policy: this one, counted from 1, is the first with an earlier row's priority.
 #[derive(Clone, Copy, Debug, PartialEq, Eq, Error)]
 #[error("row {row} has the priority of an earlier row")]
 pub struct SamePriority {
@@ -130,8 +129,7 @@ impl Policy {
         &self.rows
     }
 
-    /// The first match of the header: of all rows that match, the one of the greatest priority
-    /// decides.
+    /// The first match of the header: of the rows that match, the one of greatest priority decides.
     pub fn scan(&self, header: &Header) -> Hit
         ensures value { result ≡ scan self.now header.now }
         ensures first_match { IsFirstMatch self.now header.now result }

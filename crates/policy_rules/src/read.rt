@@ -20,8 +20,7 @@ pub fn read_action(text: &[u8]) -> Option<Action>
     Some(Action::Out(port as u32))
 }
 
-/// Each printed action is read back to the action, if its port is below 64: a law about the texts
-/// only.
+/// Each printed action with a port below 64 is read back to the action: a law about the texts only.
 pub fn printed_actions_are_read_back()
     ensures { (action : Action) → HasSmallPort action
         → action_of (action_text action) ≡ Some action }

@@ -27,8 +27,8 @@ pub struct TooManyWords {
 }
 
 /// The rules of a policy: for each row, by falling priority, a rule for each pair of a block of its
-/// source ports and one of its destination ports, the source block outermost; last the default,
-/// whose word holds each header.
+/// source ports and one of its destination ports, the source block outermost. Last comes the
+/// default, whose word holds each header.
 ///
 /// # Errors
 /// `TooManyWords` exactly if the rows have more than 4,096 words together; this is checked
@@ -55,8 +55,7 @@ pub fn to_rules(alloc: Global, policy: &Policy) -> Result<Vec<Rule>, Failure<Too
     Ok(rules)
 }
 
-/// How many words the rows of the policy have together: as many as it has rules, without the
-/// default.
+/// How many words the rows of the policy have together: as many as it has rules before the default.
 pub fn count_words(policy: &Policy) -> u64
     ensures { result ≡ word_total policy.now }
 {

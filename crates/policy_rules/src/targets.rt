@@ -5,8 +5,7 @@ use std::marker::Model;
 /// The most targets of a partition.
 const MAX_TARGETS: usize = 4;
 
-/// One to four numbers of switches, in order: a partition's authority switch and after it the
-/// backups.
+/// One to four numbers of switches, in order: a partition's authority switch, then the backups.
 ///
 /// They are stored in place, without an allocation. Contracts see the list.
 #[derive(Clone, Copy, Debug, PartialEq, Eq)]

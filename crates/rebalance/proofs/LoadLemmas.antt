@@ -1,4 +1,4 @@
--- What switches carry under a placement: the bound holds of each placement that fits, and running
+-- What switches carry under a placement: the bound is true of each placement that fits, and running
 -- sums come to the traffic.
 use Rattle.std.proofs.Common.{[], ◌*◌, ◌+◌, ◌<◌, ◌||◌, ◌∙◌, ◌∷◌, ◌≡◌, ◌≤◌, All, Bool, List, ap, arith, cond, eq-eqb, eqb, false, fold, get_or, length, map, max, ne_eqb, not, refl, suc, sum, sum_by, sym, take, true, true≢false, zero, zero-add, ℕ}
 use Rattle.base.proofs.Exports.{AllByRecursion, div_ceil, div_ceil_times, fun_ext, get_or-map-range_with_len, get_or_default, length-map-range_with_len, list_any, or_left, range_more, range_with_len, same_lists, sum_by-le-sum_by, sum_by_push}

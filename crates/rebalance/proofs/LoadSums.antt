@@ -113,8 +113,7 @@ put_both weight held p ps (s ∷ ss) = omega (
   put_both weight held p ps ss,
 )
 
--- where some switch has what each partition weighs, the sum over partitions is within that over
--- switches
+-- if some switch has each partition's weight, the sum over partitions is at most that over switches
 pub shared-le : (weight : ℕ → ℕ) (held : ℕ → ℕ → Bool) (switches parts : List ℕ)
     → AllByRecursion (λ p. weight p ≤ sum_by (λ s. cond (held p s) (weight p) 0) switches) parts
     → sum_by weight parts ≤ sum_by (λ s. sum_by (λ p. cond (held p s) (weight p) 0) parts) switches

@@ -4,10 +4,10 @@
 //! A partition's weight is how often its authorities decided a packet by the version that is
 //! current at the end. Packets go to the first of its targets, so a switch's traffic is the sum of
 //! the weights of the partitions whose first target it is, and the peak of a placement is the
-//! greatest traffic. `spread` promises the defined spread: partitions by falling weight, each on
-//! the switches of least traffic that have room. `spread_laws` says that it fits, that there is at
-//! most one, that no placement that fits has a peak below `bound`, and that a proposal is never
-//! higher than the old placement.
+//! greatest traffic. `spread` returns the defined spread: partitions by falling weight, each on the
+//! switches of least traffic that have room. `spread_laws` says that it fits, that there is at most
+//! one, that no placement that fits has a peak below `bound`, and that a proposal is never higher
+//! than the old placement.
 //!
 //! ```text
 //! let weights = weights(alloc, &journal, 3)?;          // 1, 0, 2

@@ -62,7 +62,7 @@ found_of journal packet is = is.found
 
 -- ---- what is sent
 
--- the rule stands at its place of its partition
+-- the rule is at its place of its partition
 abbrev pub IsOwnRule : AuthorityRule → Type 0
 IsOwnRule found = slice_get found.part.rules found.place ≡ Some found.rule
 

@@ -1,5 +1,4 @@
--- The definitions, computed on two switches: what acts write, what a controller is, and what it is
--- not.
+-- The definitions, computed on two switches: what acts write, and what a controller is or isn't.
 use Rattle.std.proofs.Common.{[], ◌++◌, ◌∙◌, ◌∷◌, ◌≡◌, Bool, List, None, Result, Some, ap, false, map, refl, sym, true, ℕ}
 use Rattle.base.proofs.Exports.{option_map_or, result_ok}
 use Rattle.update_machine.specs.Exports.{Drop, Hello, Inapplicable, Install, Item, Out, Row, Stamp, after_hello, controller_heard, current_mark, file_of, installs_to_all, known_boot, message_of, next_message, next_policy, policy_at, retired_mark, sent_from, touched_by, update_code, version_count, versions_from_current}

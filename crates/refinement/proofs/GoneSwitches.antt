@@ -1,5 +1,4 @@
--- A switch that is down is confirmed to be gone: what is written then, and what the parts are
--- behind it.
+-- A switch that is down is confirmed to be gone: what is written, and the parts after it.
 use Rattle.std.proofs.Common.{[], ◌++◌, ◌+◌, ◌<◌, ◌∙◌, ◌∷◌, ◌≡◌, List, ap, false, get_or, length, refl, rules, sym, true, ℕ}
 use Rattle.refinement.specs.Exports.{AreWritten, IsBagOf, NetworkState, RefineJournal, switch_of}
 use Rattle.refinement.proofs.ControllerCalls.{confirms}

@@ -235,7 +235,7 @@ hopped_by w HopEnd.Arrive = refl
 hopped_by w (HopEnd.Move other) = refl
 hopped_by w (HopEnd.Stuck cause) = refl
 
--- the switch where the packet stands is called, and no other
+-- the packet's switch is called, and no other
 calls_of_hop : (setting : Setting) (journal items : List Item) (row i s k : ℕ) (end : HopEnd)
     (b : Bool) → AreInStep items → stays_on_way items ≡ stays_by end
     → NoneConcern (concerns_known k) journal (Item.Row row (Hop i) ∷ items)

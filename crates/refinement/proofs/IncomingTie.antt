@@ -151,7 +151,7 @@ module _ {setting : Setting} {journal : List Item} {state : NetworkState}
   once_in : count_of is_packet items ≡ 1
   once_in = entered_once number (coming_in i header s) answer
 
-  -- so the tie holds behind it
+  -- so the tie is kept after it
   steps_of : (after : Flights) → s < length state.switches → own ≡ switch_of setting journal s
       → WithOne state.travelling i (entered_flight answer) after → Steps setting journal row taken
       items state.switches (set state.switches s (call_counted own)) after

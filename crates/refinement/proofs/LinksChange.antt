@@ -1,5 +1,4 @@
--- Links change behind the first items of a step: what is told of that, and what the parts are
--- behind it.
+-- Links change after the first items of a step: what is sent about that, and the parts after it.
 use Rattle.std.proofs.Common.{[], ◌++◌, ◌+◌, ◌-◌, ◌<◌, ◌==◌, ◌^◌, ◌∙◌, ◌∷◌, ◌≡◌, All, Bool, IsFalse, List, ap, append_assoc, arith, eq-eqb, eqb-true, false, filter, get_or, get_or-set_other, get_or-set_same, length, length-set, map, refl, set, subst, sym, true, ℕ}
 use Rattle.base.proofs.Exports.{flat_map, has_mask}
 use Rattle.message_bag.specs.Exports.{Post, new_post}

@@ -1,5 +1,4 @@
--- A switch that was down begins its next boot: what is written then, and what the parts are behind
--- it.
+-- A switch that was down begins its next boot: what is written, and the parts after it.
 use Rattle.std.proofs.Common.{[], if◌then◌else◌, ◌&&◌, ◌++◌, ◌+◌, ◌<◌, ◌==◌, ◌∙◌, ◌∷◌, ◌≡◌, Bool, List, ap, append_assoc, arith, cond, eq-eqb, eqb-true, false, filter, get_or, length, not, refl, set, subst, sym, true, ℕ}
 use Rattle.base.proofs.Exports.{None, Some, length-set, option_or, unwrap_or}
 use Rattle.update_machine.specs.Exports.{HasRoom, HaveCauses, Hello, Item, LinkRow, Message, Restart, Setting, boot_of, gives_boot, gives_serving, has_changed, hello_of, is_link_up, is_up, is_usable, items_then, last_given, near, next_message, nothing, piece, restart_items, send_items, sent_from, serves}

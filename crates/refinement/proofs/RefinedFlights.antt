@@ -22,7 +22,7 @@ tunnel_on targets i header ingress leg route place down = record {
   down = down;
 }
 
--- what is known of it with these facts, wherever it stands
+-- what is known of it with these facts, wherever it is
 abbrev pub on_route_of : Targets → ℕ → PacketFacts → Header → ℕ → Leg → List ℕ → ℕ → List ℕ → Flight
 on_route_of targets i facts header ingress leg route place down = record {
   tunnel = tunnel_on targets i header ingress leg route place down;
@@ -51,7 +51,7 @@ pub got : (xs : List ℕ) (k x : ℕ) → slice_get xs k ≡ Some x → get_or x
 got xs k x is = let within : k < length xs = slice_get_within xs k x is in
     some_same (slice_get xs k) (get_or xs k 0) x (slice_get-get_or xs k 0 within) is
 
--- a packet that stands at a place of its route, at a switch that serves
+-- a packet at a place of its route, at a switch that serves
 pub record Stands (setting : Setting) (journal : List Item) (i s : ℕ) (header : Header)
     (ingress : ℕ) (leg : Leg) : Type 0 where
   pub knows : Known setting journal
@@ -67,7 +67,7 @@ pub record Stands (setting : Setting) (journal : List Item) (i s : ℕ) (header 
   pub on_leg : IsOnLeg setting journal (what_is_known journal i) header leg
   pub here : slice_get (what_is_known journal i).route (what_is_known journal i).hops ≡ Some s
 
--- a packet of the table, as the journal tells of it
+-- a packet of the table, as the journal says
 pub record IsStanding (setting : Setting) (journal : List Item) (i : ℕ) (t : Flight) : Type 0
   where
     pub switch : ℕ

@@ -16,7 +16,7 @@ use Rattle.refinement.specs.Exports.{switch_of}
 
 -- ---- items that concern neither the switch nor the links
 
--- they leave its facts as they are, but for its calls
+-- they leave its facts as they are, except for the count of its calls
 pub facts_kept : (setting : Setting) (s : ℕ) (before items : List Item)
     → NoneConcern (concerns_known s) before items → facts_of setting (before ++ items) s
     ≡ record (facts_of setting before s) { handled = handled_count (before ++ items) s }

@@ -52,7 +52,7 @@ same_ends : (one two s k : ℕ) → (min one two == min s k && max one two == ma
     ≡ joins s k (record { one = one; two = two })
 same_ends one two s k = grind (arith, nat_tests)
 
--- behind the item that tells of it, the link is as that says, and others are as before
+-- after the item that reports it, the link is as that says, and others are as before
 up_behind : (journal : List Item) (row : ℕ) (step : Step) (one two s k : ℕ) (up : Bool)
     → is_link_up (journal ++ Item.Row row step ∷ Item.LinkIs (min one two) (max one two) up ∷ [])
     s k ≡ (if joins s k (record { one = one; two = two }) then up else is_link_up journal s k)

@@ -254,7 +254,7 @@ unnamed i before [] facts none = refl
 unnamed i before (first ∷ items) facts none =
     rw none.0 (unnamed i (before ++ first ∷ []) items facts none.1)
 
--- so what stands behind them says what it says right away
+-- so only what follows them changes the facts
 pub unnamed_first : (i : ℕ) (before first items : List Item) (facts : PacketFacts)
     → NoneName i first
     → facts_along i before (first ++ items) facts ≡ facts_along i (before ++ first) items facts

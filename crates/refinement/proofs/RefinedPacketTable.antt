@@ -44,7 +44,7 @@ same_numbers test one other zero_fails none none_other =
 
 -- ---- the table
 
--- a packet is among those that stand at the switch where it stands there
+-- a packet is among those at the switch exactly if it is there
 pub among_numbers : (before : Flights) (s i : ℕ)
     → among i (numbers_at before s) ≡ stands_at s (flight before i)
 unfolding numbers_at
@@ -65,7 +65,7 @@ among_numbers before s i = by_test (test i) refl where
 
 module _ {setting : Setting} {journal : List Item} {state : NetworkState}
     (refines : RefineJournal setting journal state) (s : ℕ) where
-  -- where a packet stands by its route, it stands by the journal
+  -- a packet is at the same switch by its route and by the journal
   same_switch : (i : ℕ) → stands_at s (flight state.travelling i) ≡ travels_at journal s i
   unfolding flight_in what_is_known
   same_switch i = by_travels (travels journal i) refl where
@@ -130,7 +130,7 @@ losts_bring_none (k ∷ packets) =
 abbrev ended : PacketFacts → PacketFacts
 ended facts = record facts { travels = false }
 
--- those among them travel no more, and the rest is said of no packet
+-- those among them travel no more, and the other items don't name the packet
 facts_lost : (i : ℕ) (before : List Item) (packets : List ℕ) (more : List Item)
     (facts : PacketFacts) → NoneName i more
     → facts_along i before (map Item.Lost packets ++ more) facts

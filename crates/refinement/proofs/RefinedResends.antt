@@ -1,5 +1,4 @@
--- What a switch and the controller send again: what is written then, and what the parts are behind
--- it.
+-- What a switch and the controller send again: what is written, and the parts after it.
 use Rattle.std.proofs.Common.{[], if◌then◌else◌, ◌++◌, ◌+◌, ◌<◌, ◌==◌, ◌∙◌, ◌∷◌, ◌≡◌, ◌≢◌, Bool, List, ap, arith, eqb-true, false, flat_map, get_or, length, map, refl, sym, true, ℕ}
 use Rattle.message_bag.specs.Exports.{Post as BagPost}
 use Rattle.refinement.specs.Exports.{AreWritten, IsBagOf, NetworkState, RefineJournal, acts_of_resend, switch_of}
@@ -37,7 +36,7 @@ pub acts_same : (controller : ControllerValue) (s n count near had : ℕ) (own :
 acts_same controller s n count near had own told acts told_is count_is near_is acts_is =
     cc (acts_is, told_is, count_is, near_is)
 
--- what it tells these neighbours, where it holds these adverts
+-- what it sends these neighbours if it holds these adverts
 abbrev told_by : SwitchValue → ℕ → List ℕ → List Advert → List Message
 told_by switch s neighbours adverts = if switch.is_up then to_controller (Hello s switch.boot)
     ∷ flat_map (λ other. map (advert_to other) adverts) neighbours else []

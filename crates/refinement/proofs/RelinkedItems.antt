@@ -1,5 +1,5 @@
--- Behind items by which links changed, or switches began or ceased to serve: which links can be
--- used, and what the switches tell of that.
+-- After items by which links changed, or switches began or ceased to serve: which links are usable,
+-- and what the switches send about that.
 use Rattle.std.proofs.Common.{[], if◌then◌else◌, ◌&&◌, ◌++◌, ◌+◌, ◌<◌, ◌==◌, ◌||◌, ◌∙◌, ◌∷◌, ◌≡◌, ◌≤◌, Bool, List, None, Some, ap, append-nil, arith, cond, eqb-true, false, filter, get_or, length, not, refl, subst, suc, sym, true, zero, ℕ}
 use Rattle.base.proofs.Exports.{AllByRecursion, and_parts, any_filter, filter_more, flat_map, flat_map-append, get_or-map-range_with_len, has_mask, list_any, mask_of_is, mask_of_lt, option_map_or, range_more, range_with_len, recursion_from_All, slice_get-get_or}
 use Rattle.update_machine.specs.Exports.{Item, LinkRow, Message, Setting, has_changed, is_up, is_usable, messages_of, near, own_advert, serves as serves_in, switches_of, usable_links}
@@ -21,7 +21,7 @@ same_mask test other same = mask_of_is (mask_of test) other (mask_of_lt test)
 
 -- ---- links
 
--- a link that joins two switches can be used where it is up and both serve
+-- a link that joins two switches is usable exactly if it is up and both serve
 joined_usable : (journal : List Item) (s k : ℕ) (link : LinkRow) → joins s k link ≡ true
     → is_usable journal link
     ≡ (is_up_link journal link && serves_in journal s && serves_in journal k)

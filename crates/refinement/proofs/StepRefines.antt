@@ -192,8 +192,7 @@ module _ {setting : Setting} {journal : List Item} {state : NetworkState}
   switches_stay none calls s d there =
       refines.each s d there ∙ sym (kept_is setting s journal items (none s) (calls s))
 
--- what a step writes, and what the switches, the packets on their way and the control plane are
--- behind it
+-- what a step writes, and the switches, the packets on their way and the control plane after it
 pub record IsTaken (setting : Setting) (journal : List Item) (row : ℕ) (step : Step)
     (items : List Item) (state later : NetworkState) : Type 0 where
   pub may : IsStep setting.net (length setting.files) step

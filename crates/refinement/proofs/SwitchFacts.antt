@@ -166,7 +166,7 @@ collected_from v k (_ ∷ bodies) = collected_from v k bodies
 none_le : (v : ℕ) → 1 ≤ v → nat_le v 0 ≡ false
 none_le v one = grind (arith, nat_tests)
 
--- a version is collected exactly where it isn't above the mark
+-- a version is collected exactly if it isn't above the mark
 collected_is : (v : ℕ) (bodies : List Body) → 1 ≤ v
     → list_any (collects_version v) bodies ≡ nat_le v (collected_by bodies)
 collected_is v bodies one = cc (none_le v one, collected_from v 0 bodies)
@@ -241,7 +241,7 @@ tables_are tables first bodies one versioned = filter_same_on (HasCome first bod
 
 -- ---- tables above a mark
 
--- a version above it is among them exactly where it came
+-- a version above it is among them exactly if it came
 pub found_above : (mark v : ℕ) → nat_lt mark v ≡ true → (all : List Tables)
     → is_some (find (λ tables. tables.version == v) (above mark all))
     ≡ list_any (λ other. other.version == v) all

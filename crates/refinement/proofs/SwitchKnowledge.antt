@@ -260,7 +260,7 @@ looks_up setting journal s hold there serving =
 
 -- ---- at an authority
 
--- what holds of each partition of the number holds of the switch's own one
+-- what is true of each partition of the number is true of the switch's own one
 own_found : (P : Partition → Type 0) (s partition : ℕ) (plan : List Hosted)
     → AllByRecursion (λ hosted. hosted.0.number ≡ partition → P (part_of hosted)) plan
     → list_any (λ hosted. (hosted.0.number == partition) && has_target s hosted) plan ≡ true
@@ -301,7 +301,7 @@ one_of_number P plan partition hosted numbers there holds k d within is =
     let both : Some hosted ≡ Some each = sym there ∙ at in
     let same : hosted ≡ each = cc in subst (λ one. P (part_of one)) same holds
 
--- so what holds of a partition of a plan holds of the own one, by its number, of a target
+-- so what is true of a partition of a plan is true of the one that a target has by its number
 pub own_has : (P : Partition → Type 0) (plan : List Hosted) (s version partition : ℕ)
     (hosted : Hosted) → ArePartsNumbered (map part_of plan)
     → slice_get plan partition ≡ Some hosted → hosted.0.number ≡ partition

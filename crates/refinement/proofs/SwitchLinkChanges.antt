@@ -33,7 +33,7 @@ blank w boot up links = record {
 none_set : (s : ℕ) → set no_adverts s None ≡ no_adverts
 none_set s = set-replicate None 64 s
 
--- behind its first boot it is as a switch that crashed, but for its boot and whether it is up
+-- in a boot after its first it is as a crashed switch, except for the boot and whether it is up
 forgets : (setting : Setting) (s : ℕ) (w : SwitchFacts) (boot : ℕ) (up : Bool) (links : ℕ)
     → switch_in setting s (blank w boot up links) false
     ≡ record (crashed_switch (switch_by setting s w)) { boot = boot; is_up = up }

@@ -1,4 +1,4 @@
--- What is said of a switch and of its calls, computed on journals of few items.
+-- What journals say about a switch and its calls, computed on journals of few items.
 use Rattle.std.proofs.Common.{[], ◌++◌, ◌∙◌, ◌∷◌, ◌≡◌, List, None, Some, ap, false, map, nat_eq, refl, slice_get, subst, sym, true, ℕ}
 use Rattle.base.proofs.Exports.{list_any}
 use Rattle.update_machine.specs.Exports.{Body, Collect, Drop, Install, Item, Out, Seek, Step, boot_of, cache_of, has_changed, heard, holds_version, is_link_up, is_up, message_of, near, own_seq, serves, stamp_of, steps_in}

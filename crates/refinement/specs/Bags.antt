@@ -3,8 +3,7 @@ use Rattle.std.specs.Prelude.{◌+◌, ◌<◌, ◌≡◌, List, Option, false, 
 use Rattle.message_bag.specs.Exports.{Post, item_numbered, posted_frames}
 use Rattle.update_machine.specs.Exports.{Item, is_forgotten, message_of, next_message, was_delivered}
 
--- what the journal says of the message of a number, if it was sent: its frames, and what became of
--- it
+-- what the journal says of the message of a number, if sent: its frames, and what became of it
 unfoldable pub post_in : List Item → ℕ → Option Post
 post_in journal n = option_map (λ message. (
   posted_frames message,

@@ -14,7 +14,7 @@ abbrev pub NoRows : List Item → Type 0
 NoRows [] = ⊤
 NoRows (first ∷ items) = NoRow first × NoRows items
 
--- an item that begins no step, and by which no packet enters or is refused
+-- an item that begins no step, and by which no packet enters or is closed
 abbrev pub IsInStep : Item → Type 0
 IsInStep (item.Row row step) = ⊥
 IsInStep (item.Entered packet switch header) = ⊥
@@ -25,8 +25,8 @@ abbrev pub AreInStep : List Item → Type 0
 AreInStep [] = ⊤
 AreInStep (first ∷ items) = IsInStep first × AreInStep items
 
--- what a packet or a hop does to a switch's record: it counts one call if the packet enters or is
--- refused there, one if a packet there moves on or is stuck at a down link, two if it arrives
+-- what a packet or a hop does to a switch's record. It counts one call if the packet enters or is
+-- closed there, one if a packet there moves on or is stuck at a down link, two if it arrives
 pub record CallsRefine : Type 0 where
   pub entered : (setting : Setting) (before : List Item) (row i s t : ℕ) (header : Header)
       (items : List Item) → AreInStep items →

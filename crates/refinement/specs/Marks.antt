@@ -1,5 +1,5 @@
 -- The controller's marks, as a journal says them: how many versions there are, the current and the
--- last retired one, and what each switch acknowledged, in the two-phase update of Reitblatt,
+-- last retired one, and what each switch acknowledged. The two-phase update is that of Reitblatt,
 -- Foster, Rexford, Schlesinger and Walker, "Abstractions for Network Update", SIGCOMM 2012.
 use Rattle.std.specs.Prelude.{◌<◌, ◌≡◌, ◌≤◌, IsFalse, IsTrue, List, length, ℕ}
 use Rattle.update_machine.specs.Exports.{Item, Setting, version_count}
@@ -8,7 +8,7 @@ use Rattle.version_update.specs.Exports.{MarksValue, has_acked, is_member, is_ov
 use Rattle.version_update.specs.declared.record.SwitchRecord.{SwitchRecord}
 
 -- what the controller knows of a switch is what the journal says: its boot, and whether it is over
--- or a member; while it isn't over, which versions it acknowledged; and of a member at which
+-- or a member. While it isn't over, also which versions it acknowledged; and of a member at which
 -- version it was opened, and its acknowledged stamp
 pub record IsKnown (items : List Item) (s : ℕ) (known : SwitchRecord) : Type 0 where
   pub boot : known.boot ≡ machine.known_boot items s

@@ -1,5 +1,4 @@
--- What a switch returns for a packet is what the packet's step writes by the definitions over
--- journals.
+-- What a switch returns for a packet is what its step writes by the definitions over journals.
 use Rattle.std.specs.Prelude.{[], ◌++◌, ◌+◌, ◌<◌, ◌==◌, ◌∷◌, ◌≡◌, ◌≤◌, IsTrue, List, Option, Some, false, length, ℕ}
 use Rattle.message_bag.specs.Exports.{Post, new_post, with_delivered, with_forgotten}
 use Rattle.update_machine.specs.Exports.{Header, Hop, IsReached, IsSetting, Item, Message, NoneConcern, Packet, Ports, Setting, concerns_messages, near, next_message, next_packet, piece}

@@ -11,9 +11,9 @@ use Rattle.switch_core.specs.Exports.{SwitchValue}
 use Rattle.refinement.specs.SwitchOf.{switch_of}
 use Rattle.travelling.specs.Travelling.{Flights, flight}
 
--- all that a world has: the switches, the packets on their way, how many entered or were refused,
--- the controller, the messages that were sent, and the switches to which each switch has a link
--- that is up, and to which it has a usable one, as masks
+-- all that a world has: the switches, the packets on their way, how many entered or were closed,
+-- the controller, and the messages that were sent. And, as masks, the switches to which each switch
+-- has a link that is up, and those to which it has a usable one
 pub record NetworkState : Type 0 where
   pub switches : List SwitchValue
   pub travelling : Flights

@@ -2,10 +2,10 @@
 //!
 //! Its switches, the packets on their way, the messages, the controller and the links are what the
 //! journal says (`RefineJournal`), and they are again after the items of the step. The laws say
-//! what each call of a switch adds to the journal, and that it may be made; they give the acts of
+//! what each call of a switch adds to the journal, and that it may be made. They give the acts of
 //! the controller as items one after another, and what a switch returns for a packet as the items
-//! of its step; they say that each message that is sent has a short encoding, and that there is
-//! room for this many messages. No code: each function is the law that it ensures.
+//! of its step. They also say that each message that is sent has a short encoding, and that there
+//! is room for this many messages. No code: each function is the law that it ensures.
 #![tactic(auto)]
 
 mod switch_laws;

@@ -20,7 +20,7 @@ pub fn switches_forget()
     ensures { LivesRefine }
 {}
 
-/// The calls of a switch are counted: one for a packet that enters or is refused, one for a packet
+/// The calls of a switch are counted: one for a packet that enters or is closed, one for a packet
 /// that moves on or is stuck at a down link, and two for one that arrives.
 pub fn calls_are_counted()
     ensures { CallsRefine }
@@ -32,8 +32,7 @@ pub fn switches_know()
     ensures { KnowledgeRefines }
 {}
 
-/// What each call requires of its switch follows from the laws of versions, tables, boots and
-/// adverts.
+/// What a call requires of its switch follows from the laws of versions, tables, boots and adverts.
 pub fn calls_may_be_made()
     ensures { RequirementsHold }
 {}

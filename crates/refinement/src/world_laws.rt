@@ -128,8 +128,7 @@ pub fn acts_write_in_turn()
 {}
 
 /// A packet enters at a switch that is as the journal says: the call may be made, and its result
-/// is what the step writes. The packet is then where the result leaves it, and no other packet
-/// moves.
+/// is what the step writes. The packet is then where the result leaves it, and no other moves.
 pub fn packets_come_in()
     ensures { EntriesRefine }
 {}

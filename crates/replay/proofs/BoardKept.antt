@@ -8,7 +8,7 @@ use Rattle.replay.specs.Leavings.{KeepUp, StayOn, left_by, left_in}
 left_append : (here items : List Item) → left_in here ++ left_in items ≡ left_in (here ++ items)
 left_append here items = sym (flat_map-append left_by here items)
 
--- what stands behind the items that were there before
+-- what follows the items that were there before
 pub rest_is : (here after before items : List Item) → before ≡ here → items ≡ after
     → take (length items - length before) (drop (length before) items) ≡ drop (length here) after
 rest_is here after before items old is = take_all (length items - length before)

@@ -17,7 +17,7 @@ next_step (One step) true journal = None
 next_step Flush is_begun journal = next_delivery journal
 next_step Drain is_begun journal = next_hop journal
 
--- how many packets enter or are refused in the steps of an event
+-- how many packets enter or are closed in the steps of an event
 abbrev pub brought_in : Event → ℕ
 brought_in (One step) = comes_in step
 brought_in _ = 0
@@ -42,8 +42,7 @@ pub record StopsWithin (setting : Setting) (row : ℕ) (event : Event) (before a
   pub written : after ≡ after_steps setting before steps
   pub full : IsFull after
 
--- after this journal, the event of the row took its first steps, and items of the last one may be
--- missing
+-- after this journal, the event of the row took its first steps, the last of them perhaps in part
 pub record BeginsEvent (setting : Setting) (row : ℕ) (event : Event) (before after : List Item)
     : Type 0 where
   pub steps : List StepOfRow

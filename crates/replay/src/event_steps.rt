@@ -13,10 +13,10 @@ use packet_laws::{deliveries_rise, drains_end};
 use steps::{Event, Step};
 use world::{StepError, World};
 
-/// Takes all steps of an event of this row: the one that it names; for a drain, hops of the packet
-/// with the least number that travels, until none travels; for a flush, deliveries of the message
-/// with the least number that waits, until none waits, including those that are sent meanwhile.
-/// After each step the meters record the packets that left in it.
+/// Takes all steps of an event of this row: the one that it names, or those of a drain or a flush.
+/// A drain takes hops of the packet with the least number that travels, until none travels. A flush
+/// takes deliveries of the message with the least number that waits, until none waits, including
+/// those that are sent meanwhile. After each step the meters record the packets that left in it.
 ///
 /// # Errors
 /// `Full` if a step would begin with a full journal; then the journal has the steps before it, and

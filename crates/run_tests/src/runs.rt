@@ -47,8 +47,7 @@ pub fn run_over(alloc: Global, args: &[&str], files: &[(&str, &str)]) -> Result<
     ran(alloc, args, shelf_of(alloc, files)?)
 }
 
-/// A run with these arguments over these files, with a recorder for each port as the program has
-/// them.
+/// A run with these arguments over these files, with a recorder for each port as in the program.
 pub fn recorded(alloc: Global, args: &[&str], files: &[(&str, &str)]) -> Result<Ran, AllocError> {
     let shelf = shelf_of(alloc, files)?;
     let (ran, _) = recorded_over(alloc, args, shelf, sink(alloc), sink(alloc))?;
@@ -74,8 +73,7 @@ pub fn recorded_over(
     Ok((ran, journal.items().len()))
 }
 
-/// A shelf of files with these names and texts; if a number isn't 0, the read of that number
-/// fails.
+/// A shelf of files with these names and texts; if a number isn't 0, the read with it fails.
 pub fn shelf_with_fault(
     alloc: Global,
     files: &[(&str, &str)],

@@ -1,6 +1,6 @@
 //! Schedules as CSV text, a heading and a record for each event; and the load cases.
 //!
-//! `read_schedule` promises the events that the text states for a network and this many policy
+//! `read_schedule` returns the events that the text states for a network and this many policy
 //! files, or the text's first refusal and its row. In a row the kind is looked at first, then the
 //! number of fields, and then the fields from left to right. Which bytes make a record is what the
 //! crate `csv` defines.

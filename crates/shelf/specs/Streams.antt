@@ -15,8 +15,7 @@ abbrev pub cause_by_kind : ErrorKind → ShelfError → ShelfError
 cause_by_kind OutOfMemory other = NoMemory
 cause_by_kind kind other = other
 
--- what contracts see of each reader: the bytes that it has left, if they are known, and how often
--- it failed
+-- what contracts see of each reader: the bytes that it has left, if known, and how often it failed
 pub record ReaderState : Type 0 where
   pub left : Option (List ℕ)
   pub faults : ℕ

@@ -41,8 +41,7 @@ impl From<AllocError> for ShelfError {
 }
 
 impl ShelfError {
-    /// Why a call of the system failed, by the kind of its error: out of memory, otherwise
-    /// `other`.
+    /// Why a call of the system failed, by its error's kind: out of memory, otherwise `other`.
     pub fn by_kind(error: &io::Error, other: ShelfError) -> ShelfError
         ensures { result ≡ cause_by_kind (error_kind error.now) other }
     {

@@ -1,8 +1,7 @@
 //! The edge: files, standard output and standard error of the system.
 //!
-//! Contracts know neither what is in a file nor what reaches a stream of the system. For readers
-//! and writers whose bytes are known, it is proved what `read_up_to` returns and what a `StdSink`
-//! accepts.
+//! Contracts know neither what is in a file nor what reaches a stream of the system. With readers
+//! and writers of known bytes it is proved what `read_up_to` returns and what a `StdSink` accepts.
 ghost use Rattle.std.specs.Prelude.{◌≡◌, ◌≤◌, None, false, length, IfOk, ◌≢◌, if◌then◌else◌};
 ghost use Rattle.shelf.specs.Sink.{next_count};
 

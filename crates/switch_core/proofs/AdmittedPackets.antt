@@ -1,4 +1,4 @@
--- What is said of a packet before a route is taken, by the switch that counted the call.
+-- What the switch that counted the call returns for a packet before a route is taken.
 use Rattle.std.proofs.Common.{◌≡◌, List, None, Option, Some, false, option_map, refl, true, ℕ, rules}
 use Rattle.failover.specs.Exports.{no_links}
 use Rattle.five_tuple.specs.declared.header.Header.{Header}
@@ -22,7 +22,7 @@ answer_counted s after site packet forwarding is = cc (is, by_forwarding forward
 
 module _ (s after : SwitchValue) (site : Site) (number : ℕ) (header : Header)
     (forwarding : Forwarding) where
-  -- what is said of a packet that enters at a switch that serves
+  -- what is returned for a packet that enters at a switch that serves
   pub was_admitted : (ingress : ℕ) → after ≡ call_counted s → serves s ≡ true → ingress ≡ s.number →
       answer_of s site (packet_with number header ingress no_links) forwarding
       ≡ Answered (looked_up s site (packet_with number header ingress no_links)) →

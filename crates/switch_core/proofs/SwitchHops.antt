@@ -75,7 +75,7 @@ same_but : (t : TunnelValue) (route : List ℕ) (place : ℕ) (down : List ℕ) 
     IsSamePacket t (record t { route = route; place = place; down = down })
 same_but t route place down = refl
 
--- what holds of each move, and where a packet is stuck, holds of a hop
+-- what is true of each move, and where a packet is stuck, is true of a hop
 each_hop : (s : SwitchValue) (near : ℕ) (t : TunnelValue) (P : Moved → Type 0) →
     ((on : TunnelValue) → IsSamePacket t on → P (move_answer on (next on))) →
     ((other : ℕ) (cause : Cause) → P (record { end = Stuck cause; tunnel = marked_down t other })) →
@@ -185,7 +185,7 @@ path_begins : (links : List ℕ) (from target : ℕ) (way : List ℕ) →
 unfolding IsPath
 path_begins links from target way path = search rules
 
--- a packet that stands here and arrives still stands here
+-- a packet that is here and arrives is still here
 pub hop_stays : (s : SwitchValue) (near : ℕ) (t : TunnelValue) → StandsAt s t.route t.place →
     (hop_answer s near t).end ≡ Arrive →
     StandsAt s (hop_answer s near t).tunnel.route (hop_answer s near t).tunnel.place

@@ -1,6 +1,5 @@
 -- What a switch returns for packets, as relations in terms of lookups, rules, routes and tunnels:
--- `x_laws` of the crate ensures that each call's result is in its relation, and that nothing else
--- is.
+-- `x_laws` of the crate ensures that the relation of each call allows its result, and no other.
 use Rattle.std.specs.Prelude.{[], if◌then◌else◌, ◌+◌, ◌==◌, ◌↔◌, ◌∷◌, ◌≡◌, ◌≢◌, ◌⊎◌, Bool, IsFalse, IsSome, IsTrue, List, MatchOption, None, Option, Some, false, map, slice_get, true, ℕ}
 use Rattle.five_tuple.specs.Exports.{IsHeader, number_of}
 use Rattle.five_tuple.specs.declared.header.Header.{Header}
@@ -77,8 +76,7 @@ pub record OwnRule (tables : Tables) (header : Header) : Type 0 where
 abbrev pub route_known : SwitchValue → ℕ → Packet → List ℕ → Option (List ℕ)
 route_known s near packet targets = route_of s.database s.number targets near packet.down
 
--- the packet at the beginning of a route, on its leg to these targets, with the links that it found
--- down
+-- the packet as its route begins, on its leg to these targets, with the links that it found down
 abbrev pub setting_out : Packet → Leg → List ℕ → List ℕ → TunnelValue
 setting_out packet leg targets route =
     tunnel_begun packet.number packet.header packet.ingress leg targets route packet.down
@@ -127,8 +125,7 @@ pub record IsRightAnswer (s : SwitchValue) (site : Site) (packet : Packet)
   -- a cached rule decides with its version, its rule and its action
   pub cached : (entry : CacheEntry) → lookup_by_stamp s packet.header ≡ Cached entry →
       answer ≡ Decided (by_entry entry) None (next_of s site packet entry.action)
-  -- an authority rule decides with the stamp's version: the first of its partition to hold the
-  -- header
+  -- an authority rule decides with the stamp's version: its partition's first to hold the header
   pub authority : (partition place : ℕ) →
       lookup_by_stamp s packet.header ≡ Authority partition place →
       (by : IsDecidedIn s site packet s.stamp (stamp_tables s) partition answer)
@@ -179,8 +176,7 @@ pub record IsNextOf (s : SwitchValue) (site : Site) (packet : Packet) (action : 
   -- out here exactly if the action's port is one of this switch
   pub out : (port : ℕ) → (way ≡ goes.Out port)
       ↔ ((action ≡ OutBy port) × (port_owner site.ports port ≡ Some s.number))
-  -- to another switch's port only by the route to that switch, and stuck exactly if none leads
-  -- there
+  -- to another switch's port only by the route to that switch; stuck exactly if there is none
   pub exit : (port owner : ℕ) → action ≡ OutBy port →
       port_owner site.ports port ≡ Some owner → owner ≢ s.number →
       MatchOption (route_known s site.near packet (owner ∷ [])) (way ≡ goes.Stuck NoRoute)
@@ -285,8 +281,7 @@ pub record IsHop (s : SwitchValue) (near : ℕ) (t : TunnelValue) (after : Moved
   -- over a usable link it moves one place on
   pub moves : (other : ℕ) → next t ≡ Some other → IsTrue (has near other) →
       after ≡ record { end = hop.Move other; tunnel = record t { place = t.place + 1 } }
-  -- a link that is found down joins the others, and the packet is stuck if no route leads around
-  -- them
+  -- a link that is found down joins the others; the packet is stuck if no route leads around them
   pub stuck : (other : ℕ) → link_found_down near (next t) ≡ Some other →
       route_around s near t other ≡ None →
       after ≡ record {

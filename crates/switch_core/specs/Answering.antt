@@ -91,8 +91,7 @@ enter_answer s site packet = entry_of (admitted s site packet)
 abbrev pub packet_of : TunnelValue → Packet
 packet_of t = packet_with t.packet t.header t.ingress t.down
 
--- on a leg of a version whose tables the switch has, the leg's partition is one of its own and has
--- the header
+-- with the tables of the leg's version, the leg's partition is the switch's own and has the header
 abbrev pub IsAtAuthority : SwitchValue → Header → Leg → Type 0
 IsAtAuthority s header (SeekLeg version partition) =
     IfSome (held_tables s version)

@@ -11,7 +11,7 @@ use Rattle.switch_core.specs.declared.tunnel_calls.Entered.TheVariants as entere
 use Rattle.switch_core.specs.declared.tunnel_calls.Next.{Next}
 use Rattle.tunnel.specs.Exports.{TunnelValue}
 
--- the result for a packet whose header was looked up: it is decided, with a rule for the cache of
+-- the result for a packet whose header was looked up. It is decided, with a rule for the cache of
 -- the switch where it entered, unless that is this one; or it is sent to an authority switch of its
 -- partition; or no route leads there
 pub data Answer : Type 0 where

@@ -37,8 +37,7 @@ abbrev pub is_seek : Leg → Bool
 is_seek (SeekLeg version partition) = true
 is_seek (ExitLeg port) = false
 
--- each target is another switch, at which no link ends that the switch knows and the packet didn't
--- find down
+-- each target is another switch, where no link ends that the switch knows, except links found down
 unfoldable pub are_isolated : SwitchValue → ℕ → List ℕ → List ℕ → Bool
 are_isolated s near down targets =
     list_all (λ target. is_isolated s.database s.number target near down) targets

@@ -20,8 +20,7 @@ near_changed s near = record s {
 abbrev pub entry_expired : SwitchValue → ℕ → SwitchValue
 entry_expired s place = record s { cache = after_expire place s.cache }
 
--- closed, and with nothing of what it learnt: only its number, boot, cache capacity and count
--- remain
+-- closed, and without what it learnt: only its number, boot, cache capacity and count remain
 abbrev pub without_memory : SwitchValue → SwitchValue
 without_memory s = record s {
   is_open = false;

@@ -1,7 +1,7 @@
--- One switch of the data plane, as contracts see it, and what is read off it: cached rules,
+-- One switch of the data plane, as contracts see it, and what is read off it. It has cached rules,
 -- authority rules and partition rules (Yu, Rexford, Freedman and Wang, "Scalable Flow-Based
--- Networking with DIFANE", SIGCOMM 2010), by the versions of a two-phase update (Reitblatt, Foster,
--- Rexford, Schlesinger and Walker, "Abstractions for Network Update", SIGCOMM 2012).
+-- Networking with DIFANE", SIGCOMM 2010). Each is of a version of a two-phase update (Reitblatt,
+-- Foster, Rexford, Schlesinger and Walker, "Abstractions for Network Update", SIGCOMM 2012).
 use Rattle.std.specs.Prelude.{[], ◌&&◌, ◌+◌, ◌-◌, ◌<◌, ◌==◌, ◌^◌, ◌∷◌, ◌≡◌, All, Bool, IsFalse, List, Option, Some, find, is_some, min, true, unwrap_or, ℕ}
 use Rattle.failover.specs.Exports.{held_advert, is_newer}
 use Rattle.failover.specs.declared.advert.Advert.{Advert}

@@ -162,8 +162,7 @@ impl Switch {
         Ok(())
     }
 
-    // Stamps with at least this version from now on; if the stamp rises, the cache is raised to
-    // it.
+    // Stamps with at least this version from now on, and raises the cache to it if the stamp rises.
     #[tactic(auto, unfolding(crate::specs::Hearing::raised_to))]
     fn raise(&mut self, version: u32)
         ensures { self.new ≡ raised_to self.old version }

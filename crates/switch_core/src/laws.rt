@@ -30,8 +30,8 @@ pub fn arrive_laws()
     ensures { ArriveLaws }
 {}
 
-/// By which rules a switch decides packets that enter or arrive, when and which rule it sends to
-/// a cache, and that by the tables of a plan its own rules decide as the plan's policy does: a law
+/// By which rules a switch decides packets that enter or arrive, when and which rule it sends to a
+/// cache, and that by the tables of a plan its own rules decide as the plan's policy does. A law
 /// about the definitions only.
 pub fn decision_laws()
     ensures { DecisionLaws }

@@ -121,7 +121,7 @@ impl Switch {
     }
 
     /// How many packet calls it counted: `admit` for a packet that enters here, `pass` for one that
-    /// is here at a place of its route, and `receive` for one at the end of its route; `enter`,
+    /// is here at a place of its route, and `receive` for one at the end of its route. `enter`,
     /// `hop` and `arrive` each make one of these. A call needs the packet's header, or its route
     /// and its place on it, which has to be this switch. The count stops at its greatest value.
     pub fn handled(&self) -> u64

@@ -1,4 +1,4 @@
--- What a cache keeps as it goes over to a version.
+-- What a cache keeps when it is carried to a version.
 use Rattle.std.proofs.Common.{[], ◌&&◌, ◌++◌, ◌+◌, ◌||◌, ◌∙◌, ◌∷◌, ◌≡◌, ◌≤◌, ◌⊎◌, All, AllPairs, Any, Bool, Contains, IfSome, List, None, Option, Some, ap, arith, cond, drop, eq-eqb, eqb, eqb-true, false, filter, filter_map, get_or, inl, inr, le-leb, le-ltb, leb, leb-true, length, length-append, not, refl, subst, sym, true, ℕ, rules}
 use Rattle.base.proofs.Exports.{All-contains_itself, All-filter_map, All-weaker, AllPairs-filter_map, Any-from_list_any, Contains-filter_map, cons_option, false_from_ne_true, filter_map-append, get_or_default, length-filter_map, list_any, list_any-from_Any}
 use Rattle.ternary.specs.Exports.{WordValue, any_word}

@@ -1,5 +1,5 @@
 -- Counts of live places by blocks of 64: what they sum up to, what a place that comes or dies
--- makes of them, and where the place stands that has so many live ones before it.
+-- makes of them, and which place has so many live ones before it.
 use Rattle.std.proofs.Common.{[], ◌%◌, ◌*◌, ◌++◌, ◌+◌, ◌-◌, ◌/◌, ◌<◌, ◌^◌, ◌∙◌, ◌∷◌, ◌≡◌, ◌≤◌, Bool, List, ap, arith, cond, div-add-mod', drop, drop-set-lt, false, get_or, get_or-drop, get_or-set_other, get_or-set_same, get_or-take, inl, inr, length, length-append, length-drop, length-set, length-take, min, mod-eq_of_lt, mul-le-mul_left, refl, replicate, set, subst, suc, sum, sym, take, take-take, take_all, true, zero, ℕ, rules}
 use Rattle.base.proofs.Exports.{cases_eq, cases_lt, count_by-le-length, drop-append-le, drop-replicate, drop-set-add, drop-take, drop_all, get_or_append_left, get_or_push, get_or_read, length-replicate, mod-mul-add, mod_below, sum_by-replicate, sum_by-set, sum_by-take-drop, sum_by_more, sum_by_push, take-append-le, take-replicate, take-set-le, take-set-lt, take_min}
 use Rattle.switch_table.specs.Exports.{AreBlocks, count_set}
@@ -116,7 +116,7 @@ inside_counts : (block at : ℕ) (counts : List ℕ) (flags : List Bool) →
     AreBlocks counts flags → 64 * block + at < length flags → block < length counts
 inside_counts block at counts flags are there = search (rules, mul-le-mul_left)
 
--- the live place dies that stands there in this block
+-- the live place at this place of this block dies
 pub died : (block at : ℕ) (counts : List ℕ) (flags : List Bool) → AreBlocks counts flags
     → at < 64 → 64 * block + at < length flags → get_or flags (64 * block + at) false ≡ true
     → (0 < get_or counts block 0) × (get_or counts block 0 ≤ 64)
@@ -177,7 +177,7 @@ filled places counts room are = record {
       ∙ take_min 64 flags ∙ ap (take 64) (sym (drop-replicate (64 * k) places true)));
 }
 
--- ---- where so many live places come to an end
+-- ---- where so many live places end
 
 pub block_holds : (counts : List ℕ) (flags : List Bool) (before block left : ℕ) →
     AreBlocks counts flags → before < count_set flags → block ≤ length counts →

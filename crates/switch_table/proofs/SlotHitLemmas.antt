@@ -1,4 +1,4 @@
--- Where the first live slot stands whose key has a header's bits under one of some masks.
+-- Where the first live slot is whose key has a header's bits under one of some masks.
 use Rattle.std.proofs.Common.{[], ◌&&◌, ◌+◌, ◌<◌, ◌^◌, ◌||◌, ◌∙◌, ◌∷◌, ◌≡◌, Bool, List, Some, ap, arith, bit_and, cond, false, find, get_or, length, min, not, option_map, refl, slice_get, subst, suc, sym, take, true, ℕ, rules}
 use Rattle.base.proofs.Exports.{AllByRecursion, IsDistinct, and_assoc, and_self, find_at, keys_of, list_any_more, none_both, place_both, place_either, position_or_len, same_Some}
 use Rattle.ternary.specs.Exports.{IsWord, WordValue}
@@ -129,7 +129,7 @@ first_live : (test : CacheKey → Bool) (slots : List SlotPair) →
 first_live test [] = refl
 first_live test (x ∷ xs) = search (rules, first_live test xs)
 
--- what stands at the first place is the first one
+-- what is at the first place is the first one
 pub hit_at : (test : CacheKey → Bool) (slots : List SlotPair) (place : ℕ) →
     place ≡ position_or_len (λ slot. test slot.0 && is_live slot) slots →
     option_map pair_at (slice_get slots place) ≡ find (λ pair. test pair.0) (live_pairs slots)

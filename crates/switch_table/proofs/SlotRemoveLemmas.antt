@@ -227,7 +227,7 @@ nth_slot : (slots : List SlotPair) (before at : ℕ) → IsNthSet before at (fla
     (slot : SlotPair) × (slice_get slots at ≡ Some slot)
 nth_slot slots before at nth = search (rules, slice_get-map, none-some)
 
--- what stands there is the pair in that place
+-- what is there is the pair in that place
 pub nth_pair : (slots : List SlotPair) (before at : ℕ) → IsNthSet before at (flags_of slots) →
     option_map (λ (slot : SlotPair). (slot.0, slot.1.learnt)) (slice_get slots at)
     ≡ slice_get (live_pairs slots) before

@@ -40,7 +40,7 @@ at_header rows plan header sound is =
       },
     )
 
--- a partition of a plan stands at the place of its number
+-- a partition of a plan is at the place of its number
 numbered_at : (plan : List Hosted) (hosted : Hosted) → ArePartsNumbered (map part_of plan)
     → Contains plan hosted → slice_get plan hosted.0.number ≡ Some hosted
 numbered_at plan hosted numbers (k, within, is) =
@@ -137,7 +137,7 @@ tables_lead rows plan version switch header sound some is =
     by_case hosted true own others = own
     by_case hosted false own others = others
 
--- the row that holds a header stands at the number of the partition that does, and has its targets
+-- the row that holds a header is at the number of the partition that does, and has its targets
 redirect_there : (rows : List Row) (plan : List Hosted) (header : Header) (hosted : Hosted) →
     ArePartsNumbered (map part_of plan) → IsAt rows plan header hosted →
     redirect_of header (map row_of plan) ≡ Redirect hosted.0.number hosted.1
@@ -176,7 +176,7 @@ tables_planned rows plan version switch header sound is =
     ap (option_map (lookup_in switch header)) at.found
     ∙ ap Some (sym (lookup_at rows plan version switch header hosted sound is at ∙ says))
 
--- a fact of each partition of a plan holds of those in a switch's tables
+-- a fact of each partition of a plan is true of those in a switch's tables
 own_all : (P : Partition → Type 0) (plan : List Hosted) (kept : Hosted → Bool)
     → ((hosted : Hosted) → Contains plan hosted → P (part_of hosted))
     → All P (map part_of (filter kept plan))

@@ -5,8 +5,7 @@ use Rattle.switch_table.specs.Cache.{CacheValue, IsCache, after_accept, after_ex
 use Rattle.switch_table.specs.Carried.{after_carry, all_touched, meets_any, under}
 use Rattle.switch_table.specs.declared.cache.CacheEntry.{CacheEntry}
 
--- a cache that begins without entries has distinct keys and no more entries than its capacity after
--- any calls
+-- after any calls, a cache that began empty has distinct keys and no more entries than its capacity
 pub record CacheLaws : Type 0 where
   pub begun : (capacity : ℕ) → IsCache (record { entries = []; capacity = capacity })
   pub kept_by_accept : (stamp : ℕ) (entry : CacheEntry) (cache : CacheValue) → IsCache cache →

@@ -16,8 +16,7 @@ use Rattle.switch_table.specs.declared.tables.Tables.{Tables}
 abbrev pub row_has : Header → PartRow → Bool
 row_has header row = holds row.region (number_of header)
 
--- some rule of the partition holds each header of its region, for example because the last one
--- covers it
+-- some rule of the partition holds each header of its region, for example if the last one covers it
 abbrev pub DecidesAll : Partition → Type 0
 DecidesAll part =
     (header : Header) → IsHeader header → IsTrue (is_in header part)

@@ -167,8 +167,8 @@ impl Cache {
     /// that version and all of earlier ones are removed, and so is one whose word an entry of the
     /// version has.
     ///
-    /// If no entry came with or was carried to this version or a later one, this allocates
-    /// nothing; otherwise what is left is written to new slots, which then replace the old ones.
+    /// If no entry came with or was carried to this version or a later one, this allocates nothing.
+    /// Otherwise what is left is written to a new cache, which then replaces this one.
     ///
     /// # Errors
     /// Only out of memory; then nothing changes.
@@ -267,9 +267,8 @@ pub fn cache_laws()
     ensures { CacheLaws }
 {}
 
-/// What is carried to a version: no rule of the version before that the change doesn't touch is
-/// lost, and each carried rule was in the cache and isn't touched. A law about the definitions
-/// only.
+/// What is carried to a version: no rule of the version before is lost that the change doesn't
+/// touch; each carried rule was in the cache, untouched. A law about the definitions only.
 pub fn carry_laws()
     ensures { CarryLaws }
 {}

@@ -3,13 +3,12 @@
 //!
 //! Contracts see a `Cache` as a list: each call is an operation on the list of its entries, and
 //! running out of memory changes nothing. `cache_laws` says of lists only that no call makes two
-//! entries of one version and word, and `carry_laws` that a change of the policy removes no rule
-//! that it doesn't touch, unless the cache has one of the same word under the new version.
-//! `lookup` returns the first cached rule of the tables' version, otherwise the first authority
-//! rule, otherwise the redirect; it allocates nothing.
-//! `tables_laws` says of the tables that a plan gives a switch that they are sound, that they say
-//! what the plan says, and that they lead each header to the policy's first match, by the switch's
-//! own rules or by those of any target.
+//! entries of one version and word. `carry_laws` says that a change of the policy removes no rule
+//! that it doesn't touch, unless the cache has one of the same word under the new version. `lookup`
+//! returns the first cached rule of the tables' version, otherwise the first authority rule,
+//! otherwise the redirect; it allocates nothing. `tables_laws` says of the tables that a plan gives
+//! a switch that they are sound and say what the plan says. They lead each header to the policy's
+//! first match, by the switch's own rules or by those of any target.
 #![tactic(auto)]
 
 mod cache;

@@ -17,8 +17,7 @@ const MAX_FEW: usize = 256;
 /// The masks of a cache's entries, if they are few compared with the entries: a word for each mask.
 /// If they are too many, they are collected again after as many new entries as there are now.
 ///
-/// Contracts see the words, or `None` if the masks aren't known. A mask may stay longer than its
-/// entries.
+/// Contracts see the words, or `None` if the masks aren't known. A mask may outlast its entries.
 #[derive(Drop)]
 pub struct Masks {
     words: Vec<Word>,

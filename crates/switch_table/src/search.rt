@@ -75,9 +75,9 @@ fn row_place(rows: &[PartRow], number: u128) -> Option<usize>
     rows.iter().position(|row| row.region.holds(number))
 }
 
-/// Tables of a plan of sound partitions, whose last rules cover their regions, are sound, and lead
+/// Tables of a plan of sound partitions, whose last rules cover their regions, are sound. They lead
 /// each header to the policy's first match, by a switch's own authority rules or by those of any
-/// target; they name the partition that holds it: a law about the definitions only.
+/// target. They name the partition that holds it. A law about the definitions only.
 pub fn tables_laws()
     ensures { TablesLaws }
 {}

@@ -153,8 +153,7 @@ impl Slots {
         SlotItems::new(from_first(&self.map, self.first).iter())
     }
 
-    /// The first pair whose key has this number and, under one of the masks, the bits of the
-    /// header.
+    /// The first pair whose key has this number and, under one of the masks, the header's bits.
     pub fn first_hit(&self, number: u64, header: u128, masks: &[Word]) -> Option<(CacheKey, Learnt)>
         ensures { result ≡ find (λ pair. is_hit number header masks.now pair.0) self.now }
     {
@@ -200,8 +199,7 @@ fn place_under(map: &IndexMap<CacheKey, Slot>, number: u64, header: u128, mask: 
     }
 }
 
-// The place of the live slot that has this many live ones before it. All slots before `first` are
-// dead.
+// The place of the live slot with this many live ones before it. All slots before `first` are dead.
 fn place_of_live(
     map: &IndexMap<CacheKey, Slot>,
     live: &LiveCounts,

@@ -9,12 +9,10 @@ pub struct PartRow {
     pub targets: Targets,
 }
 
-/// The partition rules of one version, in the order of the partitions' numbers. Its clones share
-/// them.
+/// The partition rules of one version, in the order of the partitions' numbers. Clones share them.
 pub type PartRows = SharedList<PartRow>;
 
-/// The partitions of which a switch is a target, in the order of their numbers. Its clones share
-/// them.
+/// The partitions of which a switch is a target, in the order of their numbers. Clones share them.
 pub type Partitions = SharedList<Partition>;
 
 /// What a switch knows about one version: the partition rules, and the authority rules of its own

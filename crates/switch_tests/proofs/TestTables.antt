@@ -59,7 +59,7 @@ pub looks_up : (t : Tables) (capacity : ℕ) (base : List (Option Advert)) → t
     CanLookUp (new_switch 1 capacity t base)
 looks_up t capacity base version serving = rw (eq-eqb t.version 1 version) refl
 
--- a packet stands at the switch that has this number
+-- a packet is at the switch that has this number
 pub stands : (s : SwitchValue) (route : List ℕ) (place at number : ℕ) → IsOnRoute route place →
     at ≡ get_or route place 0 → number ≡ s.number → (at == number) ≡ true → StandsAt s route place
 stands s route place at number on is own same = slice_get-get_or route place 0 on.within

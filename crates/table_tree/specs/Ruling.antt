@@ -44,8 +44,7 @@ abbrev pub paying_cut : ℕ → List Rule → WordValue → Option Cost
 paying_cut zero rules region = None
 paying_cut (suc cuts) rules region = if_pays (length rules) (least_below 104 rules region)
 
--- the places of these rules, if there is no cut; otherwise both sides of it, built by this
--- function
+-- the places of these rules, if there is no cut; otherwise both sides, built by this function
 abbrev pub tree_by_cut : (List Rule → WordValue → LookupTree (List ℕ)) → List Rule → WordValue
     → Option Cost → LookupTree (List ℕ)
 tree_by_cut grow rules region None = Leaf (map (λ (rule : Rule). rule.rank) rules)

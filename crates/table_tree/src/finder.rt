@@ -43,8 +43,7 @@ impl Model for Finder {
 
 impl Finder {
     /// A finder for these tables. Each cut of its tree separates the regions that are left at the
-    /// least bit that each of them fixes or, if there is none, at the least one that some region
-    /// fixes.
+    /// least bit that each of them fixes or, if there is none, the least that some region fixes.
     ///
     /// # Errors
     /// Only out of memory.

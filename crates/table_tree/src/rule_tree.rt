@@ -28,9 +28,9 @@ pub struct RuleTree {
 impl RuleTree {
     /// The tree of these rules in this region.
     ///
-    /// A node is cut at its free bit that costs least if it has more than 16 rules, is fewer than
-    /// 12 cuts deep, its larger side has fewer rules, and both together have at most five quarters
-    /// of its rules.
+    /// A node is cut at its free bit that costs least if it has more than 16 rules and fewer than
+    /// 12 cuts above it. Its larger side must have fewer rules, and both sides together at most
+    /// five quarters of its rules.
     ///
     /// # Errors
     /// Only out of memory.

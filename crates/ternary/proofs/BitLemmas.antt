@@ -24,7 +24,7 @@ same_of_min x y m x_fits y_fits e set = omega arith
 
 -- ---- masks
 
--- x and y under one mask are equal exactly where they agree on its bits
+-- x and y under one mask are equal exactly if they agree on its bits
 pub masked : (x y m : ℕ) → ((k : ℕ) → bit_at m k ≡ 1 → bit_at x k ≡ bit_at y k)
     → bit_and x m ≡ bit_and y m
 masked x y m h = search (rules, same_from_bits, bit_at_and, min_same, bit_at-lt)
@@ -34,7 +34,7 @@ pub unmasked : (x y m : ℕ) → bit_and x m ≡ bit_and y m → (k : ℕ) → b
 unmasked x y m e k = same_of_min _ _ _ (bit_at-lt x k) (bit_at-lt y k)
     (sym (bit_at_and x m k) ∙ ap (λ n. bit_at n k) e ∙ bit_at_and y m k)
 
--- m lies in n exactly where n has each bit of m
+-- m lies in n exactly if n has each bit of m
 pub part : (m n : ℕ) → ((k : ℕ) → bit_at m k ≡ 1 → bit_at n k ≡ 1) → bit_and m n ≡ m
 part m n h = same_from_bits _ _ (λ k. bit_at_and m n k ∙ grind (arith, bit_at-lt, h))
 

@@ -1,4 +1,4 @@
--- What holds of all words.
+-- What is true of all words.
 use Rattle.std.proofs.Common.{◌%◌, ◌&&◌, ◌*◌, ◌-◌, ◌/◌, ◌<◌, ◌==◌, ◌^◌, ◌||◌, ◌↔◌, ◌∙◌, ◌≡◌, ◌≢◌, ◌⊎◌, Bool, Decides, IsFalse, IsNone, IsTrue, None, Option, Some, ap, arith, cond, eqb-true, false, inl, inr, is_some, mod-eq_of_lt, not, option_and_then, refl, subst, sym, true, ℕ, rules}
 use Rattle.std.specs.Int.{bit_at, from_bool}
 use Rattle.std.specs.Int.Bits.{bit_and, bit_or, and_self, or_comm, or_lt}
@@ -373,8 +373,7 @@ admits_decides : (w : WordValue) (k : ℕ) (one : Bool)
 unfolding admits
 admits_decides w k one = search (rules, implies_decides, is_fixed_decides)
 
--- A word that fixes each of the 104 bits fixes what any word does, so what agrees with it covers
--- it.
+-- A word that fixes all of the 104 bits fixes what any word does: what agrees with it covers it.
 pub covers_full : (a b : WordValue) → IsWord a → ((k : ℕ) → k < 104 → IsTrue (is_fixed_of b k))
     → IsTrue (meets a b) → IsTrue (covers_of a b)
 covers_full a b a_word full agree = (covers_decides a b).1

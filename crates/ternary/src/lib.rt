@@ -3,8 +3,7 @@
 //!
 //! A word fixes some bits and leaves the others free. Each operation is exact about the headers
 //! that a word holds, and allocates nothing. The laws, functions with an empty body, ensure what is
-//! true of all words, for proofs in which no call runs. A map whose keys are words compares them by
-//! `word_eq`.
+//! true of all words, for proofs in which no call runs. `word_eq` compares words as keys of a map.
 //!
 //! A caller, which imports `IfSome` and `IsNone` from std, `AreDisjoint` and `IsMeet` from
 //! `specs/Meets.antt`:

@@ -7,7 +7,7 @@ use Rattle.update_machine.specs.Machine.{Packet}
 use Rattle.trace_audit.specs.Exports.{IsPrinted, packets_seen, with_one}
 use Rattle.trace_audit.specs.declared.auditor.Auditor.{Auditor}
 
--- what is known, but for the packets
+-- what is known, except the packets
 abbrev with_packets : Auditor → (ℕ → Option Packet) → Machine
 with_packets a packets = record { policies = a.policies.items; mark = a.mark; packets = packets }
 

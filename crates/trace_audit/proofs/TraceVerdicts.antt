@@ -1,4 +1,4 @@
--- What is said of a whole trace, as far as it was read.
+-- The verdict on a whole trace, as far as it was read.
 use Rattle.std.proofs.Common.{[], ◌++◌, ◌+◌, ◌-◌, ◌==◌, ◌↔◌, ◌∙◌, ◌∷◌, ◌≡◌, All, List, ap, append-nil, append_assoc, arith, drop, eqb-true, false, length, length-append, min, refl, subst, sym, take, take-append-drop, take_at, true, ℕ}
 use Rattle.policy_rules.specs.Exports.{IsPolicyFile}
 use Rattle.update_machine.specs.Exports.{PolicyFile}

@@ -1,5 +1,4 @@
--- An index of a policy's rows: which of them are in the same slot, and which are compared with a
--- header.
+-- An index of a policy's rows: which are in the same slot, and which are compared with a header.
 use Rattle.std.specs.Prelude.{if◌then◌else◌, ◌%◌, ◌&&◌, ◌*◌, ◌+◌, ◌/◌, ◌<◌, ◌==◌, ◌^◌, ◌≡◌, ◌≢◌, ◌≤◌, All, Bool, Contains, List, MatchOption, None, Option, Some, length, nat_lt, slice_get, true, ℕ}
 use Rattle.base.specs.Exports.{option_map_or, position_or_len}
 use Rattle.update_machine.specs.Exports.{Drop, Fields, Hit, Row}

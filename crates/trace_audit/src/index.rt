@@ -36,8 +36,7 @@ pub(crate) struct Index {
     earlier: Vec<Option<u32>>,
 }
 
-/// A policy that was submitted, with an index of its rows if they have few shapes. Contracts see
-/// the rows.
+/// A submitted policy, with an index of its rows if they have few shapes. Contracts see the rows.
 #[derive(Drop)]
 pub(crate) struct IndexedPolicy {
     policy: Policy,

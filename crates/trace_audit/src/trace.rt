@@ -23,10 +23,10 @@ pub enum Verdict {
     No { line: u32 },
 }
 
-/// Whether the trace is the printed run of an abstract machine that has these files of policies
-/// and changes, and begins with the policy of the first one: each line has the form of a line of
-/// a printed journal, and if it states a move, the machine may take it then. If the first file is
-/// a change, the machine begins with no policy.
+/// Whether the trace is the printed run of an abstract machine that has these files of policies and
+/// changes, and begins with the policy of the first one. It is exactly if each line has the form of
+/// a line of a printed journal and, if it states a move, the machine may take it then. If the first
+/// file is a change, the machine begins with no policy.
 ///
 /// # Errors
 /// Only out of memory.

@@ -37,8 +37,7 @@ told_item (item.Lost packet) = told.Ended packet Lost
 told_item (item.Stuck packet switch cause leg down) = told.Ended packet Stuck
 told_item _ = told.Nothing
 
--- the numbers that a reader looks at are as great as he takes them, and switches that he looks at
--- have names
+-- the numbers that a reader looks at are within its bounds, and the switches have names
 abbrev IsReadableRow : Net → ℕ → Step → Type 0
 IsReadableRow net row (Packet switch header) =
     (1 ≤ row) × (row ≤ max_events) × HasSwitch net switch × IsHeader header
@@ -67,7 +66,7 @@ onto_more byte (part ∷ parts) more some = refl
 some_words : (text : List ℕ) → 0 < length (words_of text)
 some_words text = omega (arith, length-slice_split (λ b. b == 32) text)
 
--- a blank stands between the words before it and those behind it
+-- a blank is between the words before it and those after it
 words_blank : (xs ys : List ℕ) → words_of (xs ++ 32 ∷ ys) ≡ words_of xs ++ words_of ys
 words_blank [] ys = refl
 words_blank (byte ∷ xs) ys = by (byte == 32) (words_blank xs ys) where
@@ -133,7 +132,7 @@ any_some : (parts : List (List ℕ)) → 0 < length parts → any_told parts ≡
 any_some [] some = absurd (omega (arith, some))
 any_some (part ∷ parts) some = refl
 
--- whatever stands behind the first word
+-- whatever follows the first word
 pub silent : (text : List ℕ) → any_told (words_of text) ≡ Some told.Nothing
 silent text = any_some (words_of text) (some_words text)
 

@@ -20,7 +20,7 @@ unfolding lines_of
 line_off text rest one = ap lines_of_parts (first_line text rest one)
     ∙ some_left text (parts_round 10 rest) (omega (arith, length-slice_split))
 
--- a line for each item, and what stands behind them
+-- a line for each item, and what follows them
 pub lines_each : {A : Type 0} (line : A → List ℕ) (items : List A) (rest : List ℕ)
     → All (λ item. IsOneLine (line item)) items
     → lines_of (flat_map (λ item. line item ++ 10 ∷ []) items ++ rest)

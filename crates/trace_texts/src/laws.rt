@@ -7,9 +7,8 @@ use packet_laws::{
     answered_rows_are_entered, answers_are_runs, ends_have_causes, packet_rows_are_entered,
 };
 
-/// Each line of the text of a journal that answers a schedule is good, and so are whole lines of
-/// meters, and the one that says whether the network is quiet, after it: `audit` returns Yes for
-/// them.
+/// Each line of the text of a journal that answers a schedule is good. So are whole lines of meters
+/// after it, and the one that says whether the network is quiet: `audit` returns Yes for them.
 pub fn texts_are_good()
     ensures { TextsAreGood }
 {

@@ -9,8 +9,7 @@ use Rattle.travelling.specs.SwitchIndex.{is_marked}
 use Rattle.travelling.specs.declared.stored_flight.StoredFlight.TheInside.{Inside}
 use Rattle.travelling.specs.declared.standing.Standing as standing
 
--- a packet on its way: its tunnel, and the version and the rule of its decision, 0 and None before
--- it
+-- a packet on its way: its tunnel, and the version and rule of its decision, 0 and None before it
 pub record Flight : Type 0 where
   pub tunnel : TunnelValue
   pub version : ℕ
@@ -137,8 +136,7 @@ AreMarked flights by_switch =
 abbrev pub StandBelow : Flights → Type 0
 StandBelow flights = (i s : ℕ) → 64 ≤ s → stands_at s (flight flights i) ≡ false
 
--- numbers have 32 bits, no packet below the first one travels, and packets are marked where they
--- are
+-- numbers have 32 bits, no packet below the first one travels, and each is marked where it is
 pub record IsTable (flights : Flights) (first : ℕ) (by_switch : List ℕ) : Type 0 where
   pub few : length flights ≤ 4_294_967_296
   pub none : (i : ℕ) → i < first → flight flights i ≡ None

@@ -11,8 +11,7 @@ use std::marker::Model;
 use tunnel::Route;
 
 /// What the table keeps of a packet on its way: its route is the one that the journal's item has,
-/// and there is a set of links only if the packet found one down. Contracts see the packet in
-/// flight.
+/// and there is a set of links only if the packet found one down. Contracts see its flight.
 #[derive(Drop)]
 pub struct StoredFlight {
     packet: u32,

@@ -75,8 +75,7 @@ impl SwitchIndex {
         }
     }
 
-    // Flips the mark of the packet at the switch, and that of its block if it is the block's only
-    // one.
+    // Flips the mark of the packet at the switch, and its block's if it is the only one there.
     fn flip(&mut self, number: usize, switch: u32)
         requires room { number + 64 ≤ length self.old }
         requires switch { switch < 64 }
@@ -93,8 +92,7 @@ impl SwitchIndex {
         let _ = turn(&mut self.groups, number / 64 / 64, switch);
     }
 
-    /// The least number at or above `from` of a packet that is marked at the switch, if there is
-    /// one.
+    /// The least number, `from` or above, of a packet that is marked at the switch, if any.
     pub fn next(&self, from: usize, switch: u32) -> Option<usize>
         requires { switch < 64 }
         ensures { IsNextMarked self.now switch from result }

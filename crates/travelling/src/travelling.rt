@@ -20,8 +20,7 @@ use journal::SharedLinks;
 use std::alloc::{AllocError, Global};
 use std::marker::Model;
 
-/// The packets on their way. Contracts see what is known of the packet of each number, if it
-/// travels.
+/// The packets on their way. Contracts see what is known of the packet of each number that travels.
 #[derive(Drop)]
 pub struct Travelling {
     slots: Vec<Option<HeldFlight>>,

@@ -1,4 +1,4 @@
--- The switch after the one where a packet stands.
+-- The switch after the one where a packet is.
 use Rattle.std.proofs.Common.{◌+◌, ◌<◌, ◌==◌, ◌↔◌, ◌∙◌, ◌≡◌, ◌≢◌, ◌≤◌, ◌⊎◌, IfSome, IsSome, List, None, Option, Some, arith, false, get_or, inl, inr, length, nat_eq, refl, slice_get, subst, sym, ℕ}
 use Rattle.std.proofs.lemmas.Bool.{cases_lt}
 use Rattle.std.proofs.lemmas.Bool.Decides.{nat_tests}

@@ -6,8 +6,7 @@ use five_tuple::Header;
 use policy_rules::{Leg, Targets};
 use std::marker::Model;
 
-/// A packet on its way along a route. Contracts see its fields, with the place below the length of
-/// the route.
+/// A packet on its way along a route. Contracts see its fields, with a place within the route.
 #[derive(Clone, Copy, Debug, PartialEq, Eq)]
 pub struct Tunnel {
     /// The packet's number.

@@ -1,9 +1,9 @@
--- There is an answer exactly where each event has its steps.
+-- There is an answer exactly if each event has its steps.
 use Rattle.std.proofs.Common.{[], ◌++◌, ◌+◌, ◌<◌, ◌↔◌, ◌∙◌, ◌∷◌, ◌≡◌, List, None, Option, Some, ap, append-nil, append_assoc, arith, length, map, refl, subst, suc, sym, zero, ℕ}
 use Rattle.update_machine.specs.Exports.{Answers, AreAll, AreAnswered, AreSteps, AreStepsOf, Event, HaveSteps, Item, One, Setting, Step, StepOfRow, after_steps, piece}
 use Rattle.update_machine.proofs.FirstSteps.{one_answer}
 
--- steps behind steps write behind what these wrote
+-- steps after others write after what those wrote
 pub after_append : (setting : Setting) (before : List Item) (steps more : List StepOfRow)
     → after_steps setting before (steps ++ more)
     ≡ after_steps setting (after_steps setting before steps) more
@@ -137,8 +137,8 @@ steps_answered setting steps = from setting [] steps ([], none_answered setting)
 
 -- ---- flushes and drains
 
--- as long as these facts hold of the journal, each next step keeps them and brings the loop nearer
--- to its end
+-- as long as these facts are true of the journal, each next step keeps them and brings the loop
+-- nearer to its end
 pub record Nears (setting : Setting) (next : List Item → Option Step) (row : ℕ)
     (holds : List Item → Type 0) (left : List Item → ℕ) : Type 0 where
   pub kept : (before : List Item) (step : Step) → holds before → next before ≡ Some step
@@ -146,7 +146,7 @@ pub record Nears (setting : Setting) (next : List Item → Option Step) (row : �
   pub nearer : (before : List Item) (step : Step) → holds before → next before ≡ Some step
       → left (before ++ piece setting before row step) < left before
 
--- so it comes to its end
+-- so it ends
 abbrev pub HasEnd : Setting → (List Item → Option Step) → ℕ → List Item → Type 0
 HasEnd setting next row before = (steps : List StepOfRow) × AreAll setting next row before steps
 

@@ -1,5 +1,5 @@
--- A cache rule, computed: an authority decides a packet, and its ingress the next one until the
--- rule times out.
+-- A cache rule, computed: an authority decides a packet, and then its ingress the next one, until
+-- the rule expires.
 use Rattle.std.proofs.Common.{[], ◌∷◌, ◌≡◌, Some, refl}
 use Rattle.update_machine.specs.Exports.{Body, How, Item, Out, Step}
 use Rattle.update_machine.proofs.ExampleNetworks.{at, cached, denied, leaving, left_by, one, other, shielded, to}

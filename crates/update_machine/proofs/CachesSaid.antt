@@ -37,8 +37,7 @@ entry number version word = record {
 
 -- ---- the cache of a
 
--- two versions of one word stand beside each other; the same version of it once more changes
--- nothing
+-- two versions of one word are beside each other; the same version once more changes nothing
 pub by_version_and_word : (cache_of moved (cached 1 1 web ++ cached 2 2 web ++ cached 3 1 web)
     0).entries ≡ entry 1 1 web ∷ entry 2 2 web ∷ []
 unfolding cache_of stamp_of heard is_up boot_of message_of same_key

@@ -13,7 +13,7 @@ same_next next row x y mine yours first second =
     ∙ ap (λ step. record { row = y.row; step = step })
     (same_Some x.step y.step (sym first ∙ second))
 
--- and what holds behind the one holds behind the other
+-- and what is true after the one is true after the other
 pub same_onward : (setting : Setting) (before : List Item) (Onward : List Item → Type 0)
     (x y : StepOfRow) → x ≡ y → Onward (before ++ piece setting before y.row y.step)
     → Onward (before ++ piece setting before x.row x.step)

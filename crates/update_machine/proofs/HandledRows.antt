@@ -12,7 +12,7 @@ pub round_at_b : handled_count round 1 ≡ 1
 unfolding handled_count steps_in travels standing
 round_at_b = refl
 
--- a switch that is down refuses the packet, which is a call too; the hop of a packet that didn't
+-- a packet is closed at a switch that is down, which is a call too; the hop of a packet that didn't
 -- enter is none
 pub closed_at_b : handled_count (Item.Row 1 (Step.Crash 1) ∷ Item.Down 1 ∷ Item.Row 2
     (Step.Packet 1 one) ∷ Item.Closed 1 1 ∷ Item.Row 3 (Step.Hop 1) ∷ Item.Nothing ∷ []) 1 ≡ 1

@@ -256,7 +256,7 @@ near_usable setting journal one two small =
     has_mask (are_linked (usable_links setting journal) one) two small
     ∙ any_filtered (joins one two) (is_usable journal) setting.net.links
 
--- a link that can be used is of the network
+-- a usable link is of the network
 pub usable_linked : (setting : Setting) (journal : List Item) (one two : ℕ)
     → IsTrue (can_use setting journal one two) → IsTrue (are_linked setting.net.links one two)
 usable_linked setting journal one two is =

@@ -142,8 +142,7 @@ updated =
     ∷ Item.Decided 1 2 (Some 100) Drop (How.Authority 1 0)
     ∷ Item.Sent 11 (to 0 (Body.CacheRule 2 any_word (Some 100) Drop)) ∷ Item.Dropped 1 ∷ []
 
--- while a packet is on its way its version is retired, and the authority looks it up anew under the
--- next one
+-- while a packet is on its way its version is retired; the authority looks it up by the next one
 pub update_rows : left_by open_net (at 1 (Step.Packet 0 one) ∷ at 2 (Step.Update 2)
     ∷ at 3 (Step.Deliver 1) ∷ at 3 (Step.Deliver 2) ∷ at 3 (Step.Deliver 3) ∷ at 3 (Step.Deliver 4)
     ∷ at 3 (Step.Deliver 5) ∷ at 3 (Step.Deliver 6) ∷ at 3 (Step.Deliver 7) ∷ at 3 (Step.Deliver 8)
@@ -163,7 +162,7 @@ by_parts journal switches messages = record {
   messages = messages;
 }
 
--- what holds of a and of b holds of each switch
+-- what is true of a and of b is true of each switch
 of_both : (P : ℕ → Type 0) → P 0 → P 1 → (s : ℕ) → s < 2 → P s
 of_both P a b zero there = a
 of_both P a b (suc zero) there = b

@@ -153,7 +153,7 @@ room_before setting before [] y zs room = room.0
 room_before setting before (x ∷ xs) y zs room =
     room_before setting (before ++ piece setting before x.row x.step) xs y zs room.1
 
--- so none of them stands where a play stops
+-- so none of them is where a play stops
 none_stops : {X : Type 0} (setting : Setting) (xs : List StepOfRow) (x : StepOfRow)
     (ys : List StepOfRow) → IsFull (after_steps setting [] xs) → HaveRoom setting [] ys
     → Begins (xs ++ x ∷ []) ys → X

@@ -1,5 +1,4 @@
--- The files, the policies and the plans of versions: what more items make of them, and how they are
--- numbered.
+-- The files, policies and plans of versions: what more items make of them, and their numbers.
 use Rattle.std.proofs.Common.{[], ◌++◌, ◌+◌, ◌-◌, ◌<◌, ◌==◌, ◌↔◌, ◌∙◌, ◌∷◌, ◌≡◌, ◌≢◌, ◌≤◌, ◌⊎◌, Bool, Err, IsFalse, IsOk, IsTrue, List, None, Ok, Option, Result, Some, ap, arith, eq-eqb, false, if◌then◌else◌, inl, inr, is_some, length, length-append, option_and_then, option_to_list, refl, slice_get, subst, suc, sym, true, unwrap_or, zero, ℕ}
 use Rattle.base.proofs.Exports.{cases_eq, nat_tests, option_map_or, option_or, result_ok}
 use Rattle.partition.specs.Plan.{Hosted}

@@ -129,8 +129,7 @@ out = all_to (Out 2)
 abbrev drop : Row
 drop = record (all_to Drop) { priority = 50 }
 
--- the first file has the one row, the second one adds the other, and the third one removes the
--- first
+-- the first file has the one row, the second adds the other, and the third removes the first
 abbrev changed : Setting
 changed = record {
   net = two_switches;

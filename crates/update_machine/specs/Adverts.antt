@@ -18,8 +18,7 @@ has_change setting s boot step =
     boot_of step.before s == boot
     && not (near setting step.before s == near setting (step.before ++ step.items) s)
 
--- how many steps of its boot changed the switch's usable links, and one more in boot 1; 0 if it is
--- down
+-- how many steps of its boot changed the switch's usable links, plus one in boot 1; 0 if it is down
 unfoldable pub own_seq : Setting → List Item → ℕ → ℕ
 own_seq setting journal s = elim (is_up journal s) [
   | false ↦ 0

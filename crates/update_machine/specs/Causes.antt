@@ -110,8 +110,7 @@ HasCause setting before (item.LinkIs one two up) = IsLinkStep (present_step befo
 HasCause setting before (item.Submitted file version) = present_step before ≡ Some (Update file)
 HasCause setting before _ = ⊤
 
--- after this journal, each of the items has its cause in what comes before it: for any table of
--- causes
+-- after this journal, each item has its cause in what comes before it: for any table of causes
 abbrev pub HaveCauses : (List Item → Item → Type 0) → List Item → List Item → Type 0
 HaveCauses cause before [] = ⊤
 HaveCauses cause before (item ∷ items) =

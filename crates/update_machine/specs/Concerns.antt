@@ -96,8 +96,7 @@ concerns_waiting s before (item.Down switch) = switch == s
 concerns_waiting s before (item.OverNow switch) = switch == s
 concerns_waiting s before _ = false
 
--- the calls of a switch: packets that enter there, hops of those that are there, and how a hop
--- ends
+-- the calls of a switch: packets that enter there, hops of those there, and how a hop ends
 abbrev pub concerns_calls : ℕ → List Item → Item → Bool
 concerns_calls s before (item.Entered packet switch header) = switch == s
 concerns_calls s before (item.Closed packet switch) = switch == s
@@ -108,7 +107,7 @@ concerns_calls s before _ = false
 
 -- ---- packets, messages and steps as wholes
 
--- a packet enters, is refused or ends
+-- a packet enters, is closed or ends
 abbrev pub concerns_packets : List Item → Item → Bool
 concerns_packets before (item.Entered packet switch header) = true
 concerns_packets before (item.Closed packet switch) = true

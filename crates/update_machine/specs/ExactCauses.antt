@@ -20,8 +20,7 @@ pub record FindsNextDown (setting : Setting) (before : List Item) (packet one tw
   pub next : next_switch before packet ≡ Some two
   pub unusable : IsFalse (has (near setting before one) two)
 
--- the leg is to the partition whose region holds the packet's header, or to the port of its
--- decision
+-- the leg is to the partition that holds the packet's header, or to the port of its decision
 abbrev pub SeeksOwn : Setting → List Item → ℕ → Leg → Type 0
 SeeksOwn setting before packet (Seek version partition) =
     (header : Header) × (header_in before packet ≡ Some header)

@@ -9,7 +9,7 @@ use Rattle.update_machine.specs.Folds.{count_of}
 use Rattle.update_machine.specs.Travels.{travels_at}
 use Rattle.update_machine.specs.Steps.{StepItems, steps_in}
 
--- a packet was let in, or refused
+-- a packet entered, or is closed
 abbrev pub is_entry_at : ℕ → Item → Bool
 is_entry_at s (item.Entered packet switch header) = switch == s
 is_entry_at s (item.Closed packet switch) = switch == s

@@ -127,8 +127,7 @@ pub record ControllerKeeps (before after : List Item) : Type 0 where
   pub retired : retired_mark after ≡ retired_mark before
   pub count : version_count after ≡ version_count before
 
--- those that don't concern the links don't change which of them are usable, and what switches say
--- of them
+-- what doesn't concern links changes neither which of them are usable nor what switches say of them
 pub record LinksKeep (setting : Setting) (before after : List Item) : Type 0 where
   pub up : (one other : ℕ) → is_link_up after one other ≡ is_link_up before one other
   pub near : (s : ℕ) → near setting after s ≡ near setting before s

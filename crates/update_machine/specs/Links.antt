@@ -99,8 +99,7 @@ unfoldable pub claim_of : Setting → List Item → ℕ → ℕ → Option Claim
 claim_of setting journal s one =
     folded_value (changes_claim s one) (Some (first_claim setting one)) journal
 
--- as switch s sees it, switch one has a link to two: for itself it sees this, for others it uses
--- the claim
+-- as switch s sees it, switch one has a link to two: it sees its own, and uses the claims of others
 abbrev pub is_end : Setting → List Item → ℕ → ℕ → ℕ → Bool
 is_end setting journal s one two = if one == s then can_use setting journal s two
     else option_map_or (λ claim. claim.links two) (claim_of setting journal s one) false

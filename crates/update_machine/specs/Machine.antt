@@ -20,8 +20,7 @@ pub data End : Type 0 where
   Lost : End
   Stuck : End
 
--- what the machine knows of a packet: its header, the mark when it entered, its decision and its
--- end
+-- what the machine knows of a packet: header, mark at entry, decision and end
 pub record Packet : Type 0 where
   pub header : Header
   pub entry_mark : ℕ
@@ -74,8 +73,7 @@ pub record Enters (old : Machine) (number : ℕ) (header : Header) (new : Machin
   pub after : new ≡ with_packet old number
       (record { header = header; entry_mark = old.mark; decision = None; end = None })
 
--- a packet gets the first match of one whole version that wasn't retired when it entered, and gets
--- it once
+-- a packet gets, once, the first match of one whole version that wasn't retired when it entered
 pub record Decides (old : Machine) (number version : ℕ) (hit : Hit) (new : Machine) : Type 0 where
   pub packet : Packet
   pub policy : List Row

@@ -62,8 +62,7 @@ stuck_on setting journal i s leg =
     item.Stuck i s (cause_at setting journal s (found_down journal i) leg) leg
     (found_down journal i)
 
--- the route from the switch to the targets of the leg, without the links that the packet found
--- down
+-- the route from the switch to the leg's targets, without the links that the packet found down
 abbrev pub route_for : Setting → List Item → ℕ → ℕ → Leg → Option (List ℕ)
 route_for setting journal i s leg =
     route_from setting journal s (targets_of setting journal leg) (found_down journal i)

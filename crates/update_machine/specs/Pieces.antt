@@ -34,7 +34,7 @@ nothing = item.Nothing ∷ []
 
 -- ---- packets
 
--- a packet enters at a switch that serves and is looked up there; another switch refuses it
+-- a packet enters at a switch that serves and is looked up there; at another one it is closed
 unfoldable pub packet_items : Setting → ℕ → ℕ → Header → List Item → List Item
 packet_items setting i s header journal = elim (serves journal s) [
   | false ↦ item.Closed i s ∷ []

@@ -54,9 +54,9 @@ abbrev pub begins_boot : ℕ → Item → Bool
 begins_boot s (item.Booted switch boot) = switch == s
 begins_boot s _ = false
 
--- the message, with these items after it in the journal, matters to a switch that is up: the switch
--- says it in its boot to the controller, and it is no old acknowledgement; or it was sent to the
--- switch since that boot began, is an advert or for that boot, and has no old tables
+-- the message, with these items after it in the journal, matters to a switch that is up if the
+-- switch says it in its boot to the controller, and it is no old acknowledgement. It matters too if
+-- it was sent to the switch since that boot began, is an advert or for that boot, and no old tables
 abbrev pub matters : List Item → ℕ → Message → List Item → Bool
 matters journal s message after = elim message.to [
   | receiver.Controller ↦

@@ -124,8 +124,7 @@ resent_to_member setting journal s =
     ++ (if retired_mark journal == 0
     then [] else collect_for journal (retired_mark journal) s ∷ [])
 
--- what the controller sends again: only tables to a joining switch, and nothing to one that is
--- over
+-- what the controller sends again: only tables to a joining switch, nothing to one that is over
 unfoldable pub resent_by_controller : Setting → List Item → ℕ → List Message
 resent_by_controller setting journal s = elim (is_over journal s) [
   | true ↦ []

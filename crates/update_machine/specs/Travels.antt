@@ -1,5 +1,4 @@
--- Which packets travel, where they entered, and on which leg they are: more about the packets of
--- `Packets`.
+-- Which packets travel, where they entered, and on which leg they are: what `Packets` doesn't say.
 use Rattle.std.specs.Prelude.{if◌then◌else◌, ◌&&◌, ◌==◌, Bool, List, None, Option, Some, false, filter, find, option_and_then, true, unwrap_or, ℕ}
 use Rattle.base.specs.Exports.{range_with_len}
 use Rattle.policy_rules.specs.declared.packet.Leg.{Leg}

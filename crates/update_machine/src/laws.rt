@@ -1,5 +1,4 @@
-//! Laws about journals: functions without a body, whose contracts are facts about definitions
-//! only.
+//! Laws about journals: functions without a body, with contracts about the definitions only.
 ghost use Rattle.std.specs.Prelude.{◌≡◌, ◌+◌, ◌++◌, ◌↔◌, ◌≤◌, ℕ, Bool, Option, Some, Ok, List, [], ◌∷◌, length, map, All, IsTrue};
 ghost use Rattle.std.specs.Option.{option_or};
 ghost use Rattle.policy_rules.specs.Policy.{IsPolicy};
@@ -12,8 +11,7 @@ ghost use Rattle.update_machine.specs.Folds.{all_given, count_of, folded_value, 
 ghost use Rattle.update_machine.specs.Setting.{first_given};
 ghost use Rattle.update_machine.specs.declared.full.TheConstants.{FULL_AT};
 
-/// What a journal says after more items follow it: a law for each of the folds, whatever an item
-/// says.
+/// What a journal says after more items: a law for each of the folds, whatever an item says.
 #[tactic(auto, using(crate::proofs::NumberBlocks::last_given_append, crate::proofs::NumberBlocks::first_given_append, crate::proofs::NumberBlocks::folded_append))]
 pub fn journals_grow<X>()
     ensures last { (tells : Item → Option X) (before items : List Item)
@@ -45,9 +43,8 @@ pub fn answers_are_one()
         → AnswersSoFar setting events journal → BeginsAnswer setting events journal }
 {}
 
-/// A schedule has an answer exactly if each of its events has all its steps, so if each flush and
-/// each drain ends; a schedule of single steps always has one. The steps of one more event continue
-/// an answer.
+/// A schedule has an answer exactly if each of its events has all its steps, so if its flushes and
+/// drains end. One of single steps always has one. The steps of one more event continue an answer.
 pub fn answers_exist()
     ensures exactly { (setting : Setting) (events : List Event)
         → AreAnswered setting events ↔ HaveSteps setting events }
@@ -127,9 +124,9 @@ pub fn other_items_change_nothing()
     ensures { ConcernLaws }
 {}
 
-/// A switch knows the newest advert of each other one, and routes by the least shortest path over
-/// the links that it knows. A target is isolated exactly if it is another switch and no known link
-/// ends at it. There is no route to a port that no switch has.
+/// A switch knows the newest advert of each other switch, and routes by the least shortest path
+/// over the links that it knows. A target is isolated exactly if it is another switch and no known
+/// link ends at it. There is no route to a port that no switch has.
 pub fn switches_know_links()
     ensures { KnownLinkLaws }
 {}

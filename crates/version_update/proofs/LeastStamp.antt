@@ -39,7 +39,7 @@ stamps-versions count (known ∷ more) sound = by_phase (is_member known.phase) 
         (omega (arith, here.open_version is, high), here.stamp_bound) rest
     by_phase false is rest = rest
 
--- the least acknowledged stamp is a version, and so is what stands where there is no member
+-- the least acknowledged stamp is a version, and so is the value if there is no member
 pub least_stamp-version : (count d : ℕ) (switches : List SwitchRecord) → 1 ≤ d → d ≤ count
     → All (IsSoundRecord count) switches → (1 ≤ unwrap_or (least_of (acked_stamps switches)) d)
     × (unwrap_or (least_of (acked_stamps switches)) d ≤ count)

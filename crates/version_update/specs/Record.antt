@@ -36,8 +36,7 @@ first_record = record { boot = 1; phase = Member; acked = 1; open_version = 1; a
 abbrev pub unknown_switch : SwitchRecord
 unknown_switch = record { boot = 0; phase = Over; acked = 0; open_version = 0; acked_stamp = 0 }
 
--- it names only the versions 1 to count, and what a member acknowledged is at least what it was
--- opened at
+-- it names only the versions 1 to count, and a member acknowledged at least what it was opened at
 pub record IsSoundRecord (count : ℕ) (known : SwitchRecord) : Type 0 where
   pub acked : known.acked < 2 ^ count
   pub open_version : IsTrue (is_member known.phase) → 1 ≤ known.open_version

@@ -45,10 +45,10 @@ pub enum SubmitError {
 
 /// The marks of a policy's versions, settled after each call.
 ///
-/// Versions are numbered from 1, switches from 0. Each call changes what is known of one switch,
-/// or the number of versions, and then settles: the current version rises as far as each member
-/// acknowledged every version on the way; the joining switches that acknowledged it open there;
-/// and versions that no member stamps packets with any more are retired.
+/// Versions are numbered from 1, switches from 0. Each call changes what is known of one switch, or
+/// the number of versions, and then settles. The current version rises as far as each member
+/// acknowledged every version on the way; the joining switches that acknowledged it open there.
+/// Versions that no member stamps packets with any more are retired.
 #[derive(Drop)]
 pub struct Marks {
     ledger: Ledger,

@@ -19,8 +19,7 @@ pub fn members_where(rose: bool, switches: &[SwitchRecord]) -> u64
     mask
 }
 
-/// Opens each joining switch that acknowledged the current version, and returns these switches as a
-/// mask.
+/// Opens each joining switch that acknowledged the current version, and returns these as a mask.
 pub fn open_if_acked(switches: &mut [SwitchRecord], current: u32) -> u64
     requires few { length switches.old ≤ 64 }
     requires first { 1 ≤ current }

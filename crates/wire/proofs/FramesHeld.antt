@@ -43,7 +43,7 @@ other_than g gs place le none = elim (cases_lt place (place_in_frame g)) [
 
 -- ---- frames behind a place
 
--- no frame stands at a lower place
+-- no frame is at a lower place
 pub none_below : (from count : ℕ) (fs : List (List ℕ)) (place : ℕ) → AreRising from count fs → place < from → held_at fs place ≡ None
 none_below from count [] place rising lt = refl
 none_below from count (f ∷ fs) place rising lt = let le = rising.0 in
@@ -62,7 +62,7 @@ all_higher from count (f ∷ fs) place rising lt = let le = rising.0 in
     rw (lt-ltb place (place_in_frame f) (omega arith))
     (ap (λ gs. f ∷ gs) (all_higher (place_in_frame f + 1) count fs place rising.2 (omega arith)))
 
--- ---- all places are held exactly where there are as many frames as the count
+-- ---- all places are held exactly if there are as many frames as the count
 
 pub step_held : (f : List ℕ) (fs : List (List ℕ)) (place : ℕ) → place_in_frame f < place → held_at (f ∷ fs) place ≡ held_at fs place
 step_held f fs place lt = rw (other_place (place_in_frame f) place lt) refl

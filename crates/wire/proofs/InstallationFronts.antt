@@ -1,4 +1,4 @@
--- What stands before the tables in an installation is read as it is spelled.
+-- What comes before the tables in an installation is read as it is spelled.
 use Rattle.std.proofs.Common.{[], ◌++◌, ◌∙◌, ◌≡◌, Err, IfErr, IfOk, List, None, Ok, Result, Some, ap, append-nil, cond, eqb, eqb-true, length, refl, subst, sym, true, ℕ}
 use Rattle.base.proofs.Exports.{IfRefused-weaker, cond_some, nil_from_length, none_is_not, passes_then_some, same_Some}
 use Rattle.ctrl_msg.specs.declared.message.Place.{Place}

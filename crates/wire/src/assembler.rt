@@ -47,7 +47,7 @@ impl Assembler {
     /// # Errors
     /// `Malformed` if the frame isn't of 9 to 16,384 bytes, its place isn't below its
     /// count, an earlier frame has another count, another frame has its place, or all frames have
-    /// come and are those of no message; or out of memory. An error changes nothing.
+    /// come and are those of no message. Otherwise only out of memory. An error changes nothing.
     pub fn feed(&mut self, frame: &[u8]) -> Result<Option<Message>, WireError>
         ensures refused { IfErr result (IfRefused (λ _. IsRefusedFrame self.old frame.now)) }
         ensures taken { OnOk result (IsRefusedFrame self.old frame.now → ⊥) }

@@ -1,4 +1,4 @@
--- Whether a step may begin behind the journal, by the count of the messages that were sent.
+-- Whether a step may begin after the journal, by the count of the messages that were sent.
 use Rattle.std.proofs.Common.{◌<◌, ◌≡◌, ◌≤◌, Err, IsErrAnd, IsErrOf, List, Ok, Result, arith, length}
 use Rattle.update_machine.specs.Exports.{Failure, HasRoom, IsFull, Item, NoMemory, Setting}
 use Rattle.update_machine.specs.declared.full.TheConstants.{FULL_AT}

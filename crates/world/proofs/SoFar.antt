@@ -8,7 +8,7 @@ use Rattle.steps.specs.Exports.{IsStep}
 use Rattle.world.specs.Exports.{RefinesJournal, WorldValue, setting_at}
 use Rattle.world_log.specs.Exports.{IsPart}
 
--- the law of what is written so far, and that of what is kept behind steps
+-- the law of what is written so far, and that of what is kept after steps
 abbrev pub SoFarLaw : Type 0
 SoFarLaw = HoldsReached (λ setting journal. IsSetting setting → HoldsSoFar setting journal)
 

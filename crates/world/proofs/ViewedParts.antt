@@ -2,7 +2,7 @@
 use Rattle.std.proofs.Common.{◌≡◌, false, subst}
 use Rattle.world.specs.Exports.{RefinesJournal, WorldValue}
 
--- what follows from the tie to the journal holds of a world that isn't spent
+-- what follows from the tie to the journal is true of a world that isn't spent
 pub by_view : (P : WorldValue → Type 0) {own now : WorldValue} → own ≡ now
     → (own.is_spent ≡ false → RefinesJournal own) → (RefinesJournal own → P own)
     → now.is_spent ≡ false → P now

@@ -32,7 +32,7 @@ pub record Tells {T E : Type 0} (r : Result T E) (before : List Item) (row : ℕ
       (before ++ item.Row row step ∷ first ∷ tail (length old.log.bag + 1))
       (record (state_in new) { travelling = old.log.travelling; posts = posts ++ more }))
 
--- acts that were noted behind this journal and these posts, under the numbers behind this one
+-- acts that were noted after this journal and these posts, under the numbers after this one
 pub record AreNoted {T E : Type 0} (r : Result T E) (begun : List Item) (number : ℕ)
     (posts : List Post) (now : Log) (acts : List Act) : Type 0 where
   pub written : OnOk r (now.journal ≡ begun ++ act_items (number + 1) acts)

@@ -1,5 +1,5 @@
--- What a kind of step owes to the frame that all of them share: its row stands behind the journal,
--- and it writes the rest.
+-- What a kind of step owes to the frame that all of them share: its row follows the journal, and it
+-- writes the rest.
 use Rattle.std.proofs.Common.{[], ◌++◌, ◌+◌, ◌∙◌, ◌∷◌, ◌≡◌, IsErr, List, OnErr, OnOk, Result, Some, ap, arith, refl, rules, subst, sym, ℕ}
 use Rattle.base.proofs.Exports.{both_ok, on_err, on_err_weaker, on_ok_failed, on_ok_weaker}
 use Rattle.message_bag.specs.Exports.{Post}
@@ -49,7 +49,7 @@ as_kept : (old new : Parts) → KeepNet old new
     → RefineJournal (setting_in old) new.log.journal (state_in new) → PartsRefineJournal new
 as_kept old new keeps refines = rw (keeps.same_net, keeps.same_files) refines
 
--- the controller stayed, and which links are up and can be used
+-- the controller stayed, and which links are up and usable
 pub record KeepControl (old new : Parts) : Type 0 where
   pub same_controller : new.controller ≡ old.controller
   pub same_links : new.links ≡ old.links

@@ -15,7 +15,7 @@ pub record WorldValue : Type 0 where
   pub travelling : Flights
   -- the frames of the messages that were sent, and what became of each
   pub bag : List Post
-  -- how many packets entered or were refused
+  -- how many packets entered or were closed
   pub packets : ℕ
   pub controller : ControllerValue
   -- for each switch, as masks, the switches to which it has a link that is up, and those to which
@@ -53,7 +53,7 @@ pub record IsBegun (setting : Setting) (world : WorldValue) : Type 0 where
   pub silent : world.journal ≡ []
   pub able : world.is_spent ≡ false
 
--- how many packets enter or are refused in a step
+-- how many packets enter or are closed in a step
 abbrev pub comes_in : Step → ℕ
 comes_in (Packet switch header) = 1
 comes_in _ = 0

@@ -1,6 +1,6 @@
 //! The controller's part: policies that are updated, switches that are confirmed as down, and what
-//! is sent again because it may have been lost: the hello and the adverts of a switch, and what
-//! the controller didn't hear that it has.
+//! is sent again because it may have been lost. That is the hello and the adverts of a switch, and
+//! what the controller didn't hear that it has.
 ghost use Rattle.std.specs.Prelude.{◌≡◌, ◌==◌, ◌++◌, length, map};
 ghost use Rattle.controller.specs.declared.sends.Act.TheVariants.{Post};
 ghost use Rattle.steps.specs.declared.step.Step.TheVariants.{Confirm as ConfirmStep, Resend as ResendStep, Update as UpdateStep};

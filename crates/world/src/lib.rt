@@ -1,14 +1,17 @@
 //! The world: switches, the packets on their way between them, and the journal of what happens.
 //!
-//! A `World` promises that each step writes exactly the items that the definitions over journals
-//! state, and that it stays what its journal says: each switch is as the journal says, with as
-//! many calls as the journal counts; the packets on their way are those that travel; the bag has
-//! the messages that were sent, each with whether it was delivered or forgotten; the controller's
-//! marks and plans are those that the journal says, and so are each switch's usable links. The
-//! invariants are true after each step. After a full journal no step begins (`Full`). If memory
+//! Each step of a `World` writes exactly the items that the definitions over journals state. After
+//! it the world is as its journal says:
+//!
+//! - each switch, with as many calls as the journal counts, and its usable links;
+//! - the packets on their way, which are those that travel;
+//! - the bag, with the messages that were sent, each with whether it was delivered or forgotten;
+//! - the controller's marks and plans.
+//!
+//! The invariants are true after each step. After a full journal no step begins (`Full`). If memory
 //! runs out within a step, a part of the step's items is written, which is a run whose ends have
 //! causes too, and no further step is taken. A file of a policy is compiled at most once, when it
-//! is first asked for, and a change once for each newest version that it is applied to; all that
+//! is first asked for, and a change once for each newest version that it is applied to. All that
 //! use a plan share it (`Files`).
 //!
 //! ```text

@@ -128,8 +128,7 @@ impl World {
         ensures spent { self.old.is_spent ≡ true
             → (IsErrOf result NoMemory) × (self.new ≡ self.old) }
 
-        // However the step ends, the journal is a run whose ends have causes, and the versions are
-        // whole.
+        // However it ends, the journal is a run whose ends have causes, and the versions are whole.
         ensures so_far { self.old.is_spent ≡ false
             → HoldsSoFar (setting_at self.old) self.new.journal }
     {
@@ -147,8 +146,7 @@ impl World {
         Ok(())
     }
 
-    /// The least number at or above `from` of a packet that travels; `None` exactly if there is
-    /// none.
+    /// The least number, `from` or above, of a packet that travels; `None` exactly if none does.
     pub fn next_travelling(&self, from: u32) -> Option<u32>
         ensures next { IsNextFrom self.now.travelling from result }
         ensures least { self.now.is_spent ≡ false
@@ -231,8 +229,8 @@ impl World {
     }
 
     /// As long as memory didn't run out within a step, the journal is a run of the machine whose
-    /// ends have causes, and the versions are whole; and after the last step packets are on their
-    /// way, and the marks are settled.
+    /// ends have causes, and the versions are whole. After the last step packets are on their way,
+    /// and the marks are settled.
     pub fn keeps_on_the_way(&self)
         ensures so_far { self.now.is_spent ≡ false
             → HoldsSoFar (setting_at self.now) self.now.journal }

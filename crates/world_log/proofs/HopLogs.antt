@@ -14,7 +14,7 @@ use Rattle.world_log.specs.Exports.{HasHopped, IsPart, LogAfter, arrival, arriva
 use Rattle.world_log.specs.declared.log.Log.{Log}
 use Rattle.world_log.proofs.StepWrites.{part_first}
 
--- what is said of the packet at this place of this route is said of it as it is kept
+-- the answer for the packet at this place of this route is that for it as it is kept
 pub passed_by : (near : ℕ) (answer : Onward) (route : List ℕ) (place : ℕ) (t : TunnelValue)
     → route ≡ t.route → place ≡ t.place → answer ≡ onward_to near (slice_get route (place + 1))
     → answer ≡ onward_to near (next t)
@@ -109,8 +109,7 @@ pub placed : (P : List ℕ → ℕ → Type 0) (route : List ℕ) (place : ℕ) 
     → route ≡ t.route → place ≡ t.place → P t.route t.place → P route place
 placed P route place t route_is place_is holds = rw route_is (rw place_is holds)
 
--- what was written of the packet that stands there, by its switch's answer, is what its arrival
--- writes
+-- what was written of the packet that is there, by its switch's answer, is what its arrival writes
 pub arrival_log : {T E : Type 0} (r : Result T E) (number : ℕ) (w : SwitchValue) (near : ℕ)
     (ports : Ports) (t : Flight) (at : Standing) (version : ℕ) (rule : Option ℕ)
     (leg : Leg) (packet : ℕ) (said : Arrival) (old new : Log) → at ≡ standing_at w.number t

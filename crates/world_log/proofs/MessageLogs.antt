@@ -66,7 +66,7 @@ come_all all first [] left come none = sym (append-nil first) ∙ come.parts
 come_all all first (one ∷ rest) left come none =
     absurd (omega (arith, come.many, none, ap length come.parts, length-append first (one ∷ rest)))
 
--- the first acts are done, behind this journal and these posts
+-- the first acts are done, after this journal and these posts
 pub record AreDone (journal : List Item) (bag : List Post) (acts : List Act)
     (now : List Item) (posts : List Post) : Type 0 where
   pub written : now ≡ journal ++ act_items (length bag + 1) acts

@@ -1,4 +1,4 @@
--- What switches tell of their links, one switch, one neighbour and one advert after another.
+-- What switches send about their links, one switch, one neighbour and one advert after another.
 use Rattle.std.proofs.Common.{[], if◌then◌else◌, ◌&&◌, ◌++◌, ◌+◌, ◌<◌, ◌^◌, ◌||◌, ◌∙◌, ◌∷◌, ◌≡◌, ◌≤◌, Bool, List, None, Option, Some, ap, append-nil, arith, bit_and, bit_or, cond, false, filter, filter_map, flat_map, get_or, inl, inr, length, map, refl, suc, sym, true, zero, ℕ}
 use Rattle.base.proofs.Exports.{and_le_l, cases_lt, common_steps, filter_map-append, filter_more, flat_map-append, has-and, has-or, has-zero, has_mask, has_only_other, has_only_same, map-append, mask_of_is, mask_of_lt, option_map_or, range_more, range_with_len, slice_get-get_or}
 use Rattle.update_machine.specs.Exports.{Advert, Hello, Message, advert_to}
@@ -10,7 +10,7 @@ use Rattle.world_log.specs.Exports.{advert_if_held, adverts_again, adverts_at, a
 
 -- ---- adverts
 
--- what it tells of the origins below n
+-- what it sends about the origins below n
 unfoldable pub held_below : SwitchValue → ℕ → ℕ → List Message
 held_below switch other n =
     map (advert_to other) (filter_map (held_advert switch.database) (range_with_len 0 n))
@@ -71,12 +71,12 @@ near_step send_adverts near n = ap (flat_map send_adverts) (filter_more (has nea
 
 pub ruleset near_steps = (common_steps, near_none, near_step)
 
--- what it tells the neighbours below n of its links
+-- what it sends the neighbours below n about its links
 abbrev pub told_below : SwitchValue → Advert → ℕ → ℕ → ℕ → List Message
 told_below switch own had near n =
     near_below (λ other. adverts_over switch own (has had other) other) near n
 
--- and what it tells them again
+-- and what it sends them again
 abbrev pub again_below : SwitchValue → ℕ → ℕ → List Message
 again_below switch near n = near_below (λ other. map (advert_to other) (all_held switch)) near n
 
@@ -179,7 +179,7 @@ serve_all mask all n least most so k = elim (cases_lt k n) [
   | inr more ↦ so.past k more ∙ sym (none_there all k (omega (arith, least, more)))
 ]
 
--- the links that can be used, as bits
+-- the usable links, as bits
 pub usable_bits : (links serving s : ℕ) → links < 2 ^ 64
     → has serving s ≡ true → bit_and links serving ≡ near_where links (has serving s) (has serving)
 usable_bits links serving s fits is = mask_of_is (bit_and links serving)

@@ -26,8 +26,7 @@ coming_in packet header switch = record {
 abbrev pub entry : SwitchValue → ℕ → Ports → ℕ → Header → Option Answer
 entry s near ports packet header = admitted s (around near ports) (incoming_packet s packet header)
 
--- what its arrival writes if the next message has this number, what it posts, and where the packet
--- is then
+-- what its arrival writes and posts if the next message has this number, and where it then is
 unfoldable pub arrival_items : ℕ → SwitchValue → ℕ → Ports → Flight → List Item
 arrival_items number s near ports flight =
     arrived_items number (standing_at s.number flight) flight.version flight.rule

@@ -1,18 +1,17 @@
 //! What happened in a network so far, with the packets that are on their way and the messages that
 //! were sent, what each result of a switch for a packet does to them, and which links are usable.
 //!
-//! A `Log` promises that each call writes exactly the items that the definitions state for the
-//! result, posts the messages that it sends under the next numbers, and changes, of the packets on
-//! their way, only the one that it names, or at a crash those that are there. `hop` takes all
-//! switches, and changes only the packet's own. If memory runs out, the journal has a part of the
-//! items. How the items depend on earlier ones is stated by the crates that use this one, such as
-//! `refinement`.
+//! Each call of a `Log` writes exactly the items that the definitions state for the result, and
+//! posts the messages that it sends under the next numbers. Of the packets on their way it changes
+//! only the one that it names, or at a crash those that are there. `hop` takes all switches, and
+//! changes only the packet's own. If memory runs out, the journal has a part of the items. How the
+//! items depend on earlier ones is stated by the crates that use this one, such as `refinement`.
 //!
-//! A link is usable if it is up and both of its ends serve. `usable` promises these links as
-//! masks, and `relink` that each switch that is up and whose usable links changed makes its next
-//! advert, and sends it over each link that it had, and all that it knows over each new one.
-//! `link_masks` and `set_ends` keep which links are up, and `adverts_again` is what a switch sends
-//! again.
+//! A link is usable if it is up and both of its ends serve. `usable` returns these links as masks.
+//! `relink` returns what is sent when they change: each switch that is up and whose usable links
+//! changed makes its next advert, and sends it over each link that it had, and all that it knows
+//! over each new one. `link_masks` and `set_ends` keep which links are up, and `adverts_again` is
+//! what a switch sends again.
 //!
 //! ```text
 //! let site = Site { near: near[0], ports: &ports };

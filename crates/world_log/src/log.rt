@@ -73,8 +73,7 @@ impl Log {
         self.journal.push(item)
     }
 
-    // Moves the packet on to this place of its route, at this switch. Allocates only the journal's
-    // memory.
+    // Moves the packet on to this place of its route, at this switch. Only the journal allocates.
     pub(crate) fn move_on(&mut self, packet: u32, place: u32, switch: u32) -> Result<(), AllocError>
         requires { IsSomeAnd (flight self.old.travelling packet) (HasPlace place) }
         ensures { LogAfter result (HoppedItem packet switch ∷ []) [] packet

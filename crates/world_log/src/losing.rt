@@ -27,8 +27,7 @@ impl Log {
     }
 
     /// Loses the packets at the switch, ascending by number; each leaves the table once its loss is
-    /// written. The search for the next one continues after each of them, and reads no other
-    /// packet.
+    /// written. After each the search for the next one continues, and reads no other packet.
     ///
     /// # Errors
     /// Only out of memory. Then a part of the items is written, and only the packets of

@@ -303,8 +303,7 @@ impl Log {
         }
     }
 
-    // Sends the decision's rule with this word, if there is one, to the switch where the packet
-    // entered.
+    // Sends the decision's rule with this word, if there is one, to the packet's ingress.
     fn send_rule(
         &mut self,
         alloc: Global,

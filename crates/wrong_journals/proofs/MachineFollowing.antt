@@ -1,5 +1,5 @@
--- The machine behind items that it took, as a function of them; and so the move that it makes by an
--- item in the midst of a run.
+-- The machine after items that it took, as a function of them; and so the move that it makes by an
+-- item in the middle of a run.
 use Rattle.std.proofs.Common.{[], ◌++◌, ◌∙◌, ◌∷◌, ◌≡◌, List, None, Option, Some, ap, length, option_to_list, refl, subst, sym, ℕ}
 use Rattle.std.specs.Prelude.{⊤}
 use Rattle.std.specs.Result.{result_ok}

@@ -1,5 +1,4 @@
--- A network of two switches with two policies, on which small journals are judged, and how these
--- begin.
+-- Two switches with two policies, on which small journals are judged, and how these journals begin.
 use Rattle.std.specs.Prelude.{[], ◌++◌, ◌∷◌, List, Some, codes, flat_map, ℕ}
 use Rattle.five_tuple.specs.Exports.{AddressBlock, header_of}
 use Rattle.update_machine.specs.Exports.{Action, Any, Authority, Drop, Header, Item, Net, Out, Packet, Row, Setting, Update, Whole, setting_of}

@@ -35,12 +35,12 @@ pub fn wrong_journals_print()
     ensures entered_unasked { PrintsAs entered_unasked (codes "  entered 1 a" ∷ []) }
 {}
 
-/// A packet is decided once, only by the first match and by no other row that matches it: not by a
-/// version that was retired when it entered, nor by one that was never submitted; not by an old
-/// version and then by a new one, nor by the rule of the new one with the old one's action. One
-/// that wasn't decided isn't dropped, and a packet leaves only by the port of its decision. It is
-/// lost only by its row or by the crash of its switch, isn't stuck if its switch knows a route to a
-/// target of its leg, and enters only by a row of the schedule.
+/// A packet is decided once, only by the first match and by no other row that matches it. It isn't
+/// decided by a version that was retired when it entered, nor by one that was never submitted. Nor
+/// is it decided by an old version and then by a new one, nor by the rule of the new one with the
+/// old one's action. One that wasn't decided isn't dropped, and a packet leaves only by the port of
+/// its decision. It is lost only by its row or by the crash of its switch, isn't stuck if its
+/// switch knows a route to a target of its leg, and enters only by a row of the schedule.
 #[tactic(auto, using(crate::proofs::NoRuns::another_row_is_no_run, crate::proofs::NoRuns::retired_version_is_no_run, crate::proofs::NoRuns::unknown_version_is_no_run, crate::proofs::NoRuns::decided_twice_is_no_run, crate::proofs::NoRuns::half_and_half_is_no_run, crate::proofs::NoRuns::other_port_is_no_run, crate::proofs::NoRuns::dropped_undecided_is_no_run, crate::proofs::ComputedRuns::lost_by_nothing_is_run, crate::proofs::ComputedRuns::stuck_beside_a_way_is_run, crate::proofs::ComputedRuns::entered_unasked_is_run, crate::proofs::WrongCauses::other_port_has_no_cause, crate::proofs::WrongCauses::lost_by_nothing_has_no_cause, crate::proofs::WrongCauses::stuck_beside_a_way_has_no_cause), unfolding(update_machine::specs::Causes::present_step, update_machine::specs::Links::serves, update_machine::specs::Packets::next_packet))]
 pub fn wrong_journals_are_refused()
     ensures no_runs { IsNoRun another_row × IsNoRun retired_version × IsNoRun unknown_version
@@ -50,9 +50,9 @@ pub fn wrong_journals_are_refused()
     ensures no_row { LacksRow entered_unasked }
 {}
 
-/// With the right item instead each is right: the packet is dropped by the first match, or
-/// leaves by its port; it is decided only by the new version, or by the old one while that isn't
-/// retired; it is lost by its row; and it is stuck where the link is down.
+/// With the right item instead each is right. The packet is dropped by the first match, or leaves
+/// by its port. It is decided only by the new version, or by the old one while that isn't retired.
+/// It is lost by its row; and it is stuck where the link is down.
 #[tactic(auto, using(crate::proofs::ComputedRuns::dropped_rightly_is_run, crate::proofs::ComputedRuns::left_rightly_is_run, crate::proofs::ComputedRuns::updated_rightly_is_run, crate::proofs::ComputedRuns::decided_rightly_is_run, crate::proofs::ComputedRuns::lost_rightly_is_run, crate::proofs::ComputedRuns::stuck_rightly_is_run, crate::proofs::WrongCauses::left_rightly_has_causes, crate::proofs::WrongCauses::stuck_rightly_has_causes), unfolding(update_machine::specs::Causes::present_step, update_machine::specs::Links::serves, update_machine::specs::Packets::next_packet))]
 pub fn right_journals_hold()
     ensures { IsRight dropped_rightly × IsRight left_rightly × IsRight updated_rightly

@@ -79,7 +79,7 @@ fn amended(alloc: Global, change: &Amendment) -> Option<Result<Policy, Failure<I
     Some(apply(alloc, &policy(alloc)?, change))
 }
 
-// The change that puts the secure row in the place of the web row.
+// The change that replaces the web row by the secure one.
 fn securing(alloc: Global) -> Option<Amendment> {
     change(alloc, &[100], &[secure_row()]).ok()
 }

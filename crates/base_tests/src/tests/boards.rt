@@ -16,8 +16,7 @@ fn has_default(held: &[Leaving]) -> bool
     held.iter().any(|one| one.rule.is_none())
 }
 
-/// A kind that a caller made: it is complete once it has recorded a packet that the default
-/// decided.
+/// A caller's own kind: it is complete once it has recorded a packet that the default decided.
 #[derive(Drop)]
 struct UntilDefault {
     port: u32,

@@ -82,8 +82,7 @@ const DAY_END: &[u8] = b"meter port 2 notes 2\nmeter port 3 notes 1\nquiet yes\n
 
 const READ_FAULT: &str = "difane: read fault\n";
 
-/// What goes wrong before the day is played, and the status and the line of errors that the run
-/// ends with.
+/// What goes wrong before the day is played, and the run's status and line of errors.
 const REFUSED: [(Fault<'static>, u8, &str); 9] = [
     (Fault::Read(1), 4, READ_FAULT),
     (Fault::Read(2), 4, READ_FAULT),

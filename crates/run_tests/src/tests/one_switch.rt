@@ -10,8 +10,7 @@ const TWO_ROWS: &str = "priority,src,dst,sport,dport,proto,action\n\
     100,10.0.0.0/8,any,any,80,tcp,out:3\n\
     50,any,any,any,any,any,drop\n";
 
-// The same in quotes, with a range of ports, CR LF at the ends of lines, a blank line and no last
-// line end.
+// The same in quotes, with a range of ports, lines that end in CR LF, a blank line and no last end.
 const QUOTED: &str = "priority,src,dst,sport,dport,proto,action\r\n\
     100,\"10.0.0.0/8\",any,any,80-90,\"tcp\",out:3\r\n\r\n50,any,any,any,any,any,drop";
 

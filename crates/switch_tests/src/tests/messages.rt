@@ -77,8 +77,7 @@ fn rules(alloc: Global, defaults: u32, rows: u32) -> Result<Vec<Rule>, Fail>
     Ok(rules)
 }
 
-/// An installation of one partition: its tables are encoded in 52 bytes, and 38 or 42 for each
-/// rule.
+/// An installation of one partition: its tables take 52 bytes, and 38 or 42 for each rule.
 pub fn install(alloc: Global, defaults: u32, rows: u32) -> Result<Message, Fail>
     ensures { IfOk result HasSpelling }
 {

@@ -21,7 +21,7 @@ returns-in_err-tree-clause-refused c =
     c.in_ok-rules.ensures.few (c.deref.ensures.value ∙ c.in_ok-rules.ensures.rules)
     c.in_err-tree.ensures.refused)
 
--- what stands as targets are chosen
+-- what is ready when targets are chosen
 ready_to_host : (c : After-place) → IsReady c.args.policy.now c.args.net.now c.deref.result.now
     (shape_of c.in_ok-tree.tree) c.deref-3.result.now c.deref-4.result.now
 ready_to_host c = record {

@@ -1,4 +1,4 @@
--- What is to be told decides which play comes to pass.
+-- What is to be printed decides which play takes place.
 use Rattle.std.proofs.Common.{◌≡◌, Ok, Some, subst}
 use Rattle.base.proofs.Exports.{ForSome}
 use Rattle.command_line.specs.Exports.{Command}

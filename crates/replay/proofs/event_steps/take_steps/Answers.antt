@@ -23,7 +23,7 @@ loop-next-init g c = record {
   kept = keep_up_none c.args.world.now.journal (seen_board g.M.Meter.seen c.args.board.now);
 }
 
--- what holds of the step that is asked for next
+-- what is true of the step that is asked for next
 next_asked : (g : Over) (c : After-refines g) → Asked (setting_at c.loop-next.world) c.args.row
     c.args.event.now c.loop-next.is_begun c.loop-next.world.journal c.in-Some.next
 next_asked g c = asked c.drains_end.ensures.fewer c.deliveries_rise.ensures c.loop-next.world

@@ -1,4 +1,4 @@
--- The plan of the current version stands first.
+-- The plan of the current version comes first.
 use Rattle.std.proofs.Common.{◌∙◌, Some, ap, arith, sym}
 use Rattle.controller.specs.Exports.{ControllerValue, current_plan}
 use Rattle.controller.proofs.KeptPlans.{current_kept, current_there}

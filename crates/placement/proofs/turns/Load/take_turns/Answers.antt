@@ -8,7 +8,7 @@ use Rattle.placement.proofs.TurnLemmas.{Loaded, carried-room, loaded_more, loade
 use Rattle.placement.proofs.turns.Load.take_turns.Goals as goal
 use Rattle.placement.proofs.turns.Load.take_turns.Goals.{After-items, After-number_at-key}
 
--- what holds of all targets holds of those that are loaded
+-- what is true of all targets is true of those that are loaded
 all_loaded : (load : Load) (P : ℕ → Type 0) (xs : List ℕ) → All P xs → All P (loaded_by load xs)
 all_loaded load P xs all = search (rules, length-take, get_or-take)
 
