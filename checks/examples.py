@@ -2,9 +2,10 @@
 """Compares the texts of examples/ with the models, and the pictures with the scripts that draw them.
 
 Plans and tables are those of `model/plan_model.py`, what replays print is that of
-`model/slow_replay.py`, and verdicts on traces are those of `model/slow_audit.py`. The gate compares
-the same texts with the program (crates/examples). What the program prints for commands that are
-refused, and for traces that aren't good, is what `model/refusals.py` says.
+`model/slow_replay.py`, counts of load cases are those of `model/load_case.py`, and verdicts on
+traces are those of `model/slow_audit.py`. The gate compares the same texts with the program
+(crates/examples). What the program prints for commands that are refused, and for traces that aren't
+good, is what `model/refusals.py` says.
 """
 import re
 import subprocess
@@ -27,6 +28,7 @@ MODELS = {
     "flows": "slow_replay.py",
     "audit": "slow_audit.py",
     "rebalance": "rebalance.py",
+    "load": "load_case.py",
 }
 # Each picture, and the script that draws it.
 PICTURES = {

@@ -103,7 +103,8 @@ HEADER_FIELDS = [is_address, is_address, is_port, is_port, is_protocol]
 def content(path, most=MOST_BYTES):
     """The bytes of a file."""
     try:
-        found = path.read_bytes()
+        with open(path, "rb") as file:
+            found = file.read(most + 1)
     except FileNotFoundError as error:
         raise Refusal(0) from error
     except OSError as error:

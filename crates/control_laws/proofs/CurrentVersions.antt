@@ -313,7 +313,7 @@ current_at_first = record {
   retired = omega (arith, start_laws.retired, start_laws.current);
 }
 
--- ---- what holds of all that is said to a switch holds of all that it heard
+-- ---- what is true of all that is said to a switch is true of all that it heard
 
 -- what it heard before goes on to hold, and what it hears now was sent to it
 pub heard_on : (P Q : Body → Type 0) (before : List Item) (next : Item) (s : ℕ)

@@ -92,7 +92,7 @@ control_is_plain before _ is = tt
 pub control_plain : (journal items : List Item) → Control journal items → ArePlain journal items
 control_plain = have_weaker IsControl IsPlain control_is_plain
 
--- ---- what holds behind each item, and what at the end of each step
+-- ---- what is true after each item, and what at the end of each step
 
 -- what is true after any steps is true in answers to schedules
 pub at_ends : (Holds : Setting → List Item → Type 0)

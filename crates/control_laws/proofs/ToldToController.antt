@@ -7,7 +7,7 @@ use Rattle.ctrl_msg.specs.Exports.{to_controller}
 use Rattle.control_laws.proofs.FactsGrown.{said_sent, told_more}
 pub use Rattle.control_laws.proofs.MessageSends.{each_weaker}
 
--- ---- what holds behind the items of a step, by what the step comes to
+-- ---- what is true after the items of a step, by what the step comes to
 
 -- two blocks in turn
 pub in_two : (a b : List Item → List Item) (journal : List Item)
@@ -110,8 +110,7 @@ restart_cases F s here none booted = by_up (is_up here s) refl where
   by_up true e = none
   by_up false e = subst F (append_assoc here (next ∷ []) (hello (here ++ next ∷ []))) (booted e)
 
--- ---- what stands in a journal just before an item that changes links, or by which an advert is
--- sent
+-- ---- what is in a journal just before an item that changes links, or by which an advert is sent
 
 -- ---- adverts
 

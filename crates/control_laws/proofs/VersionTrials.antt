@@ -9,8 +9,7 @@ use Rattle.control_laws.specs.Exports.{AreTablesOf, BringsTables, HasItemCause, 
 use Rattle.control_laws.proofs.PlannedTables.{tables_planned}
 use Rattle.control_laws.proofs.MarkLaws.{serving_hold}
 
--- ---- causes of submissions, on journals of few items, and a fact that doesn't hold of all that is
--- reached.
+-- ---- causes of submissions, on journals of few items, and a fact that some reached journal lacks
 
 -- ---- submissions
 

@@ -189,8 +189,7 @@ spread_agree setting journal are gets s neighbour origin a linked small known =
           (as_new_through found.advert told.advert a found.as_new told.as_new) found.given
     ]
 
--- ---- News, links that can be used and finished updates, computed on networks of two and four
--- switches
+-- ---- news, usable links and finished updates, computed on networks of two and four switches
 
 -- ---- usable links
 

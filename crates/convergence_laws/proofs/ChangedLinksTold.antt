@@ -14,7 +14,7 @@ use Rattle.convergence_laws.specs.Exports.{IsAsNew}
 use Rattle.convergence_laws.proofs.SpreadAdverts.{HasNews, HaveNews, IsHad, IsOther, IsStill, as_new_itself, given_grows, news_on, sends_tell, stills_news}
 use Rattle.convergence_laws.proofs.PlainItems.{IsIn, all_in, in_either, in_filter, in_filter_map, in_flat_map, in_left, in_map, in_range, in_right}
 
--- ---- neighbours over links that can be used
+-- ---- neighbours over usable links
 
 -- ---- a link has both its ends
 

@@ -15,7 +15,7 @@ use Rattle.convergence_laws.proofs.ConvergedKnownLinks.{AreAgreed, agreed_conver
 use Rattle.convergence_laws.proofs.PlainItems.{HasOthers, others_have}
 
 -- ---- what packets' steps write: a packet is stuck only where its switch knows no route, and finds
--- down only links that can't be used.
+-- down only links that aren't usable.
 
 abbrev pub Walks : Setting → List Item → Item → Type 0
 Walks setting before (Item.Stuck i s cause leg down) = KnowsNoRoute setting before i s leg down

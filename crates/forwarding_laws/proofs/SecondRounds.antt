@@ -101,8 +101,7 @@ marks_stay setting journal before next passes stay =
       plan = λ v. policies.plan setting v ∙ stay.plan v;
     }
 
--- ---- ways over links that can be used lead back, and what isn't reached from their end isn't
--- reached from their beginning.
+-- ---- walks over usable links lead back: what their end doesn't reach, their beginning doesn't
 
 turn_round : (setting : Setting) (journal : List Item) → IsNet setting.net → (there at target : ℕ)
     (rest : List ℕ) → LeadsOver setting journal there at rest
@@ -288,7 +287,7 @@ cache_newest setting journal causes rules updated s there up =
     stamp = of_network (λ t. IsTrue (is_up journal t) → stamp_of journal t ≡ version_count journal)
         setting s there updated.stamps up
 
--- ---- behind recovery and one more round nothing old is left
+-- ---- after recovery and one more round nothing old is left
 
 -- what holds of cache rules, of each journal of the network
 abbrev pub RulesLaw : Type 0

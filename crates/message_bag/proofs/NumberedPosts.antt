@@ -48,7 +48,7 @@ post_failed (Ok number) x old new failed same = absurd cc
 post_failed (Err e) x old new failed same = record { number = tt; posted = tt; unchanged = same }
 
 module _ {X E : Type 0} (x : X) (old new : List X) where
-  -- what held of all holds of all, if it holds of this one
+  -- what was true of all is true of all, if it is true of this one
   pub all_posted : (P : X → Type 0) (r : Result ℕ E) → HasPosted r x old new → All P old → P x → All P new
   all_posted P (Ok number) post all is = rw post.posted (All-push P old x all is)
   all_posted P (Err e) post all is = rw post.unchanged all

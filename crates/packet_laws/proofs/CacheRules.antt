@@ -135,7 +135,7 @@ pub cache_rule_right : (setting : Setting) (rows : List Row) (plan : List Hosted
 unfolding widen
 cache_rule_right setting rows plan header hosted finds is sound = search (rules, widened_settles)
 
--- ---- cache rules that go over to a version decide as its policy does
+-- ---- cache rules that are carried to a version decide as its policy does
 
 module _ (setting : Setting) (before : List Item) (version : ℕ) (cache : CacheValue)
     (is : IsSetting setting) (has : HasPlan setting before version)
@@ -285,7 +285,7 @@ kept_on setting before after facts stage grow kept = record {
   avoids = kept.avoids;
 }
 
--- ---- what holds of each cache rule that was said to a switch holds of each entry of its cache
+-- ---- what is true of each cache rule that was said to a switch is true of each entry of its cache
 
 -- the entry of a cache rule
 abbrev pub entry_of : ℕ → ℕ → WordValue → Option ℕ → Action → CacheEntry

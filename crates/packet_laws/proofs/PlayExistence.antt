@@ -88,7 +88,7 @@ together laws = let causes = always_reached _ laws.causes in record {
       (laws.alike.begun setting events journal own begins is);
 }
 
--- ---- in a play a flush comes to its end, or to a full journal
+-- ---- in a play a flush ends, or comes to a full journal
 
 -- the next message that waits is among the last of those that a journal with room may number
 abbrev IsAmong : ℕ → List Item → Type 0

@@ -13,7 +13,7 @@ use Rattle.packet_laws.proofs.OtherBlocks.{AreAside, IsAside, hop_done, packet_d
 use Rattle.packet_laws.proofs.PacketHeaderLookups.{FindsRule, authority_found, rule_there, stamped}
 use Rattle.packet_laws.proofs.SparedPackets.{IsInStep, IsNoRow, Spares, SparesAll, aside_spares, crash_spares, hop_spares, in_step, lose_spares, packet_spares, piece_ways, row_rests, spare, spared, step_aside}
 
--- ---- what is carried from step to step holds behind each step of a play
+-- ---- what is carried from step to step is true after each step of a play
 
 are_front : (Is : Step → Type 0) (xs ys : List StepOfRow) → AreOf Is (xs ++ ys) → AreOf Is xs
 are_front Is [] ys are = tt

@@ -107,7 +107,7 @@ can_be_asked setting journal i t s mask w ports knows owners standing at own usa
           (sym standing.is) ∙ arrive)))).authority);
     }
 
--- ---- the switch where a packet enters, or stands on its way, as it is asked what becomes of it
+-- ---- the switch where a packet enters, or is on its way, when it is asked what becomes of it
 
 module _ {setting : Setting} {journal : List Item} {state : NetworkState}
     (refines : RefineJournal setting journal state) where

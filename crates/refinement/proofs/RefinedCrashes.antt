@@ -23,7 +23,7 @@ use Rattle.refinement.proofs.RefinedPacketTable.{among, among_numbers, flight_lo
 use Rattle.refinement.proofs.RefinedPacketFacts.{flight_along, flight_now}
 use Rattle.refinement.proofs.LinksChange.{LinksChange, change_may, change_piece, change_refines, one_advert, one_next, one_relinks, relinked_state}
 
--- ---- a cached rule times out
+-- ---- a cached rule expires
 
 -- what the step writes, by the number of the message that brought the entry
 abbrev expired_item : ℕ → ℕ → Option ℕ → Item

@@ -1,7 +1,8 @@
-//! Worked runs of the program, over files and outputs in memory: faults, refusals, meters, load
-//! cases and plans at their limits, files that are cut short, and plays that stop full.
+//! Worked runs of the program, over files and outputs in memory: reads, writes and allocations that
+//! fail, arguments that the grammar doesn't have, the case of a load, meters that a caller made, and
+//! plays that stop full.
 //!
-//! Only tests, mostly of cases that no file of `examples` can have.
+//! Only tests, of what no file of `examples` can show.
 #![tactic(auto)]
 
 #[cfg(test)]

@@ -1,5 +1,5 @@
 //! Runs of the program over files and outputs in memory.
-use difane_cli::{Meter, Recorder, run};
+use difane_cli::{Meter, run};
 use journal::Journal;
 use shelf::{MemShelf, MemSink};
 use std::alloc::{AllocError, Global};
@@ -45,32 +45,6 @@ pub fn ran(alloc: Global, args: &[&str], shelf: MemShelf) -> Result<Ran, AllocEr
 /// A run with these arguments over these files, without meters.
 pub fn run_over(alloc: Global, args: &[&str], files: &[(&str, &str)]) -> Result<Ran, AllocError> {
     ran(alloc, args, shelf_of(alloc, files)?)
-}
-
-/// A run with these arguments over these files, with a recorder for each port as in the program.
-pub fn recorded(alloc: Global, args: &[&str], files: &[(&str, &str)]) -> Result<Ran, AllocError> {
-    let shelf = shelf_of(alloc, files)?;
-    let (ran, _) = recorded_over(alloc, args, shelf, sink(alloc), sink(alloc))?;
-    Ok(ran)
-}
-
-/// A run, and how many items its journal has.
-pub type Recorded = (Ran, usize);
-
-/// The same over this shelf and these sinks.
-pub fn recorded_over(
-    alloc: Global,
-    args: &[&str],
-    shelf: MemShelf,
-    out: MemSink,
-    errs: MemSink,
-) -> Result<Recorded, AllocError> {
-    let mut meters: Vec<Box<dyn Meter>> = Vec::new(alloc);
-    for port in 0..64 {
-        meters.push(Box::new(alloc, Recorder::new(alloc, port))?)?;
-    }
-    let (ran, journal, _) = metered(alloc, args, shelf, out, errs, meters)?;
-    Ok((ran, journal.items().len()))
 }
 
 /// A shelf of files with these names and texts; if a number isn't 0, the read with it fails.

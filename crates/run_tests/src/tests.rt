@@ -1,11 +1,5 @@
-mod campus;
-mod changes;
-mod days;
+mod faults;
 mod full;
 mod grammar;
 mod loads;
 mod meter_runs;
-mod networks;
-mod one_switch;
-mod plans;
-mod policies;

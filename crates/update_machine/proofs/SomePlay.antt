@@ -37,8 +37,7 @@ begins_itself setting events journal answers = record {
   written = sym (take_all (length journal) journal (omega arith));
 }
 
--- ---- what the steps of events are: whatever holds of each single one of them, of each delivery
--- and of each hop.
+-- ---- what the steps of events are: whatever is true of each single one, each delivery, each hop
 
 -- a kind of steps that has each delivery and each hop
 pub record HasNexts (Is : Step → Type 0) : Type 0 where

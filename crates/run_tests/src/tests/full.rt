@@ -41,16 +41,6 @@ fn told_again(alloc: Global, rows: u32, failing_write: u64) -> Result<Ran, Fail>
     Ok(ran)
 }
 
-/// The hub's Hello, 64 adverts to each of 63 switches, and its Open.
-#[test]
-fn tells_all_again(rt: HostRuntime) -> Result<(), Fail> {
-    let (status, out, _) = told_again(rt.alloc(), 1, 0)?;
-    let first = b"row 1: resend hub\n  sent 1 controller hello hub boot 1\n";
-    let last = b"  sent 4034 hub open boot 1 version 1\n";
-    assert!(rt; status == 0 && out.bytes().starts_with(first) && out.bytes().ends_with(last));
-    Ok(())
-}
-
 // The play stops full at its last row, and its first write fails.
 #[test]
 fn prints_nothing_of_a_full_play(rt: HostRuntime) -> Result<(), Fail> {
@@ -59,7 +49,8 @@ fn prints_nothing_of_a_full_play(rt: HostRuntime) -> Result<(), Fail> {
     Ok(())
 }
 
-/// 246 rows send 992,364 messages, and the last step begins below 990,000; the 247th begins full.
+/// A row sends the hub's Hello, 64 adverts to each of 63 switches, and its Open: 4,034 messages. So
+/// 246 rows send 992,364, and the last step begins below 990,000; the 247th begins full.
 #[test]
 fn tells_all_again_until_full(rt: HostRuntime) -> Result<(), Fail> {
     let (status, whole, _) = told_again(rt.alloc(), 246, 0)?;

@@ -1,13 +1,13 @@
 //! Arguments that the grammar doesn't have.
 use crate::files::{NO_ROW, PAIR};
-use crate::runs::{ends, recorded};
+use crate::runs::{ends, run_over};
 
 const ONE_PACKET: &str = "event,arguments\npacket,b,10.1.1.1,9.9.9.9,5000,80,tcp\n";
 
 const FILES: [(&str, &str); 3] = [("n.toml", PAIR), ("s.csv", ONE_PACKET), ("p.csv", NO_ROW)];
 
 /// Arguments that the grammar doesn't have, whatever files there are.
-const OFF: [&[&str]; 24] = [
+const OFF: [&[&str]; 26] = [
     &[],
     &["load"],
     &["load", "0"],
@@ -33,6 +33,8 @@ const OFF: [&[&str]; 24] = [
     &["replay", "--quiet", "s.csv", "p.csv", "--quiet"],
     &["replay", "s.csv", "--quiet", "p.csv"],
     &["compile", "p.csv", "--quiet"],
+    &["compile", "p.csv", "--net"],
+    &["compile", "p.csv", "--net="],
     &["flows", "s.csv", "p.csv", "--quiet"],
     &["flows", "s.csv"],
     &["rebalance", "s.csv", "p.csv", "--quiet"],
@@ -44,7 +46,7 @@ const OFF: [&[&str]; 24] = [
 #[test]
 fn refuses_arguments_off_the_grammar(rt: HostRuntime) {
     for args in &OFF {
-        let off = recorded(rt.alloc(), args, &FILES);
+        let off = run_over(rt.alloc(), args, &FILES);
         assert!(rt; ends(off, 2, "", "difane: words\n"));
     }
 }

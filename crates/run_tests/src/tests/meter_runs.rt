@@ -1,6 +1,6 @@
-//! Worked runs with meters at the ports, of each kind.
+//! Worked runs with meters at the ports, of each kind, that a caller made.
 use crate::files::NO_ROW;
-use crate::runs::{ended, ends, metered, recorded, shelf_of, sink};
+use crate::runs::{ended, metered, shelf_of, sink};
 use difane_cli::FlowMeter;
 use meters::{FirstN, Meter, Recorder};
 use std::test::Fail;
@@ -13,12 +13,6 @@ const ONE_PACKET: &str = "event,arguments\npacket,s0,10.1.1.1,9.9.9.9,5000,80,tc
 const TWO_PACKETS: &str = "event,arguments\npacket,s0,10.1.1.1,9.9.9.9,5000,80,tcp\n\
     packet,s0,10.1.1.1,9.9.9.9,5000,80,tcp\n";
 
-const FIRST_LINES: &str = "row 1: packet s0 10.1.1.1 9.9.9.9 5000 80 tcp\n\
-    \x20 entered 1 s0\n\
-    \x20 decided 1 v1 rule 100 out:3 authority s0 part 0\n\
-    \x20 out 1 port 3\n\
-    meter port 3 notes 1\n";
-
 const TWICE: &str = "row 1: packet s0 10.1.1.1 9.9.9.9 5000 80 tcp\n\
     \x20 entered 1 s0\n\
     \x20 decided 1 v1 rule 100 out:3 authority s0 part 0\n\
@@ -28,15 +22,6 @@ const TWICE: &str = "row 1: packet s0 10.1.1.1 9.9.9.9 5000 80 tcp\n\
     \x20 decided 2 v1 rule 100 out:3 authority s0 part 0\n\
     \x20 out 2 port 3\n\
     meter port 3 notes 2\n";
-
-/// The first packet leaves by port 3, and is the one that its recorder has.
-#[test]
-fn recorders_tell_what_left(rt: HostRuntime) {
-    let alloc = rt.alloc();
-    let args = ["replay", "s.csv", "p.csv"];
-    let files = [("s.csv", ONE_PACKET), ("p.csv", TWO_ROWS)];
-    assert!(rt; ends(recorded(alloc, &args, &files), 0, FIRST_LINES, ""));
-}
 
 /// Meters leave when they are complete, each of its own kind, and those that left have no line.
 #[test]
