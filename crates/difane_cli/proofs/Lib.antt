@@ -8,6 +8,7 @@ mod GoodTraces
 mod MeterLines
 mod RefusedNames
 mod OneSwitch
+mod PerformedCommands
 mod PlayOutcomes
 mod FlowTexts
 mod FileReads
@@ -17,6 +18,7 @@ mod StatedInputs
 mod QuietVerdicts
 mod WorkStatus
 mod ReplayReports
-mod ProposedPlans
+mod PrintedTexts
+mod ProposalOutcomes
 mod AsksFlows
 mod MeteredFlows

@@ -9,9 +9,9 @@ pub use Rattle.difane_cli.specs.Inputs.{IsAccepted, and_then, auditing_of, case_
 pub use Rattle.difane_cli.specs.Laws.{AnswerLaws}
 pub use Rattle.difane_cli.specs.Metered.{MeteredOutcome, TellsFlows, WritesCounts}
 pub use Rattle.difane_cli.specs.NewMeters.{asks_flows, most_headers, new_meter, new_meters}
+pub use Rattle.difane_cli.specs.Performed.{IsPerformed}
 pub use Rattle.difane_cli.specs.Prints.{IsAfterText, IsPrintingOf, IsSwitchOf, PrintOutcome, printing_text}
-pub use Rattle.difane_cli.specs.Proposals.{IsAfterProposal, IsFoundFor, IsProposedFor, Proposes, ProposesFor, sizes_in, targets_by_partition, weights_in, with_targets}
-pub use Rattle.difane_cli.specs.Proposed.{ProposalOutcome}
+pub use Rattle.difane_cli.specs.Proposed.{IsAfterProposal, IsAfterProposing, ProposalOutcome, Proposes}
 pub use Rattle.difane_cli.specs.Run.{AreStated, AreStatedBy, ByReport, IsAnswer, IsPlayOf, IsReplayOf, MayBePlayed, Outcome, PlayOutcome, Played, States, Unfinished, WantsMemory, is_made}
 pub use Rattle.difane_cli.specs.Tasks.{Audit, Auditing, Inputs, IsNetOf, Play, Print, Task}
 pub use Rattle.difane_cli.specs.Texts.{input_line, last_lines, line_by, meter_line, meter_lines, notes_line, numbered_line, play_text, quiet_line, replay_text, status_line}

@@ -10,9 +10,9 @@ pub mod Prints
 pub mod Audits
 pub mod Writes
 pub mod Ending
+pub mod Performed
 pub mod Verdict
 pub mod Commands
-pub mod Proposals
 pub mod Proposed
 pub mod Exports
 pub mod FlowLines

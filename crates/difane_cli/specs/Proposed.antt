@@ -1,12 +1,48 @@
 -- The outcome of a replay that proposes a placement, by its status.
-use Rattle.std.specs.Prelude.{◌≡◌, ◌⊎◌, Bool, IsTrue, List, None, Option, Some, ℕ}
-use Rattle.update_machine.specs.Exports.{Item}
-use Rattle.shelf.specs.Exports.{GainedPart, SinkState}
-use Rattle.difane_cli.specs.Proposals.{Proposes}
+use Rattle.std.specs.Prelude.{◌≡◌, ◌≢◌, ◌≤◌, ◌⊎◌, Bool, Err, IsErrOf, IsOk, IsTrue, List, None, OnOk, Option, Result, Some, ℕ, ⊤}
+use Rattle.update_machine.specs.Exports.{Item, Net, Row, Setting, current_mark, plan_at, policy_at}
+use Rattle.partition.specs.Plan.{Hosted}
+use Rattle.rebalance.specs.Proposals.{ProposesFor}
+use Rattle.shelf.specs.Exports.{GainedPart, Rose, SinkState}
+use Rattle.shelf.specs.declared.output.SinkError.{SinkError}
+use Rattle.shelf.specs.declared.output.SinkError.TheVariants.{Failed, NoMemory}
 use Rattle.difane_cli.specs.Tasks.{Inputs}
 use Rattle.difane_cli.specs.Writes.{Unplayed, Wrote}
 use Rattle.difane_cli.specs.declared.status.Status.{Status}
 use Rattle.difane_cli.specs.declared.status.Status.TheVariants as status
+
+-- ---- what is written
+
+-- there is a proposal for the plan that is in force after the journal, and this is true of its text
+abbrev pub Proposes : Setting → List Item → (List ℕ → Type 0) → Type 0
+Proposes setting journal IsWritten =
+    ProposesFor (policy_at setting journal (current_mark journal))
+    (plan_at setting journal (current_mark journal)) setting.net journal IsWritten
+
+-- the output after writing a proposal: it gained all of its text, or a part of it; or memory ran
+-- out before the output was touched
+pub record IsAfterProposal (rows : List Row) (plan : List Hosted) (net : Net)
+    (journal : List Item) (takes_memory : Bool) (before now : SinkState)
+    (result : Result (⊤) SinkError) : Type 0 where
+  pub whole : OnOk result (ProposesFor rows plan net journal (λ text. Wrote text before now))
+  pub part : IsErrOf result Failed
+      → ProposesFor rows plan net journal (λ text. GainedPart before.bytes text now.bytes)
+  pub some : IsErrOf result NoMemory → (now ≡ before)
+      ⊎ (IsTrue takes_memory
+      × ProposesFor rows plan net journal (λ text. GainedPart before.bytes text now.bytes))
+  pub calm : result ≢ Err Failed → now.faults ≡ before.faults
+  pub failed : IsErrOf result Failed → Rose before.faults now.faults
+  pub faults : before.faults ≤ now.faults
+
+-- the output after a play that may propose a placement: if it stopped full, nothing was written
+abbrev pub IsAfterProposing : (full : Option ℕ) → List Row → List Hosted → Net → List Item
+    → (takes_memory : Bool) → (before now : SinkState) → Result (⊤) SinkError → Type 0
+IsAfterProposing None rows plan net journal takes_memory before now result =
+    IsAfterProposal rows plan net journal takes_memory before now result
+IsAfterProposing (Some row) rows plan net journal takes_memory before now result =
+    IsOk result × (now ≡ before)
+
+-- ---- by the status
 
 -- a play to its end, after which a placement is proposed
 pub record Rebalanced (IsAnswer : Inputs → List Item → Option ℕ → Type 0) (journal : List Item)

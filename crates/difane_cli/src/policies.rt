@@ -90,7 +90,11 @@ pub fn check_file(
 pub fn as_files(alloc: Global, policies: Vec<Policy>) -> Result<Vec<PolicyFile>, AllocError>
     ensures { IfOk result (λ files. files.items ≡ map Whole policies.items) }
 {
-    policies.into_iter().map(PolicyFile::Whole).collect(alloc)
+    let mut files = Vec::with_capacity(alloc, policies.len())?;
+    for policy in policies {
+        files.push(PolicyFile::Whole(policy))?;
+    }
+    Ok(files)
 }
 
 /// The stop at a policy of this file that has no plan.

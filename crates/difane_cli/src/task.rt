@@ -2,7 +2,7 @@
 ghost use Rattle.std.specs.Prelude.{◌≡◌, Ok, Option, Some, IfOk, Result, [], map};
 ghost use Rattle.std.specs.Option.{ForSome};
 ghost use Rattle.shelf.specs.Shelf.{Files};
-ghost use Rattle.difane_cli.specs.Exports.{Accounts, EndsRead, EndsWork, IsReadyTask, IsTaskOf, Outcome, GivesBack, RanOut, ReadsFor, ReadsNothing, Task as Stated, known_task, task_stated};
+ghost use Rattle.difane_cli.specs.Exports.{Accounts, EndsRead, EndsWork, IsPerformed, IsReadyTask, IsTaskOf, Outcome, GivesBack, RanOut, ReadsFor, ReadsNothing, Task as Stated, known_task, task_stated};
 ghost use Rattle.difane_cli.specs.declared.status.Refusal.{Refusal};
 ghost use Rattle.command_line.specs.Named.{NamesPolicies, command_named};
 ghost use Rattle.command_line.specs.Commands as grammar;
@@ -29,12 +29,33 @@ pub enum Task {
     Audit(AuditInputs),
 }
 
-/// Reads the task of a command: reads and checks one file after another, or makes its load case.
-pub fn read_task<F: Shelf>(
+/// Does a command: reads the files that it names, or makes its load case, and then does its
+/// task.
+pub fn obey<F: Shelf, K: Sink, M: Meter>(
     alloc: Global,
-    shelf: &mut F,
     command: &Command<'_>,
-) -> Result<Task, Stop>
+    shelf: &mut F,
+    out: &mut K,
+    meters: Vec<M>,
+) -> Ended<M>
+    requires { NamesPolicies command.now }
+    ensures performed { IsPerformed (Some (command_named command.now)) K.takes_memory
+        result.status result.journal (map M.seen meters.items) (map M.seen result.meters.items)
+        (F.state shelf.old) (F.state shelf.new) (K.state out.old) (K.state out.new) }
+    ensures meters { GivesBack (Some (command_named command.now)) → result.meters ≡ meters }
+{
+    match read_task(alloc, shelf, command) {
+        Err(stop) => Ended {
+            status: Status::from(stop),
+            journal: Journal::new(alloc),
+            meters: unplayed(alloc, command, meters),
+        },
+        Ok(task) => work(alloc, task, meters, out),
+    }
+}
+
+/// Reads the task of a command: reads and checks one file after another, or makes its load case.
+fn read_task<F: Shelf>(alloc: Global, shelf: &mut F, command: &Command<'_>) -> Result<Task, Stop>
     requires { NamesPolicies command.now }
     ensures read { EndsRead
         (known_task (F.state shelf.old).files (Some (command_named command.now))) (λ read. read)
@@ -68,7 +89,7 @@ pub fn read_task<F: Shelf>(
 }
 
 /// Does the task and writes its result. The outcome is stated for whatever is known of the files.
-pub fn work<M: Meter, K: Sink>(alloc: Global, task: Task, meters: Vec<M>, out: &mut K) -> Ended<M>
+fn work<M: Meter, K: Sink>(alloc: Global, task: Task, meters: Vec<M>, out: &mut K) -> Ended<M>
     requires { IsReadyTask task }
     ensures outcome { (command : grammar.Command) (files : Option Files)
         → IsTaskOf command (task_stated task)
@@ -106,7 +127,7 @@ pub fn work<M: Meter, K: Sink>(alloc: Global, task: Task, meters: Vec<M>, out: &
 
 /// The meters that remain if nothing was played: all of them if the command gives them back,
 /// otherwise none.
-pub fn unplayed<M: Meter>(alloc: Global, command: &Command<'_>, meters: Vec<M>) -> Vec<M>
+fn unplayed<M: Meter>(alloc: Global, command: &Command<'_>, meters: Vec<M>) -> Vec<M>
     ensures none { ¬ GivesBack (Some (command_named command.now)) → result.items ≡ [] }
     ensures all { GivesBack (Some (command_named command.now)) → result ≡ meters }
 {

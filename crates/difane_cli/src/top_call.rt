@@ -3,14 +3,13 @@ ghost use Rattle.std.specs.Prelude.{◌≡◌, ◌≢◌, ◌≤◌, ◌⊎◌, 
 ghost use Rattle.std.specs.Option.{ForSome};
 ghost use Rattle.shelf.specs.Sink.{Rose};
 ghost use Rattle.shelf.specs.Shelf.{IsAfterReads};
-ghost use Rattle.difane_cli.specs.Exports.{Accounts, GivesBack, IsAccepted, MayFollowFault, NamesOneOf, NeedsReadFault, Outcome, RanOut, ReadsNothing, WritesLine, known_task, most_reads, names_in, status_line};
+ghost use Rattle.difane_cli.specs.Exports.{Accounts, GivesBack, IsAccepted, IsPerformed, MayFollowFault, NamesOneOf, NeedsReadFault, Outcome, RanOut, ReadsNothing, WritesLine, known_task, most_reads, names_in, status_line};
 ghost use Rattle.command_line.specs.Grammar.{command_of};
 ghost use Rattle.command_line.specs.Commands.{argument_texts};
 ghost use Rattle.difane_cli.specs.declared.status.Status.TheVariants as status;
-ghost use Rattle.difane_cli.specs.declared.status.Status.TheVariants.{Ok as DoneStatus};
 
 use crate::status::{Ended, Finished, Status, write_status};
-use crate::task::{read_task, unplayed, work};
+use crate::task::obey;
 use command_line::read_command;
 use journal::Journal;
 use meters::Meter;
@@ -109,40 +108,35 @@ pub fn run<F: Shelf, K: Sink, E: Sink>(
         → F.state shelf.new ≡ F.state shelf.old }
     ensures faults { (K.state out.old).faults ≤ (K.state out.new).faults }
 {
-    match read_command(alloc, words) {
-        Err(AllocError) => end(Status::NoMemory, Journal::new(alloc), meters, errs),
-        Ok(None) => end(Status::Words, Journal::new(alloc), meters, errs),
-        Ok(Some(command)) => match read_task(alloc, shelf, &command) {
-            Err(stop) => {
-                let meters = unplayed(alloc, &command, meters);
-                end(Status::from(stop), Journal::new(alloc), meters, errs)
-            }
-            Ok(task) => {
-                let ended = work(alloc, task, meters, out);
-                end(ended.status, ended.journal, ended.meters, errs)
-            }
-        },
-    }
+    let ended = perform(alloc, words, shelf, out, meters);
+    write_status(&ended.status, errs);
+    ended
 }
 
-/// Writes the status of a command that ended.
-fn end<M: Meter, E: Sink>(
-    status: Status,
-    journal: Journal,
+/// Does what the arguments ask, without the line of the status.
+fn perform<F: Shelf, K: Sink, M: Meter>(
+    alloc: Global,
+    words: &Vec<String>,
+    shelf: &mut F,
+    out: &mut K,
     meters: Vec<M>,
-    errs: &mut E,
 ) -> Ended<M>
-    ensures status { result.status ≡ status }
-    ensures journal { result.journal ≡ journal }
-    ensures meters { result.meters ≡ meters }
-    ensures line { WritesLine (status_line status) E.takes_memory
-        (E.state errs.old) (E.state errs.new) }
-    ensures silent { status ≡ DoneStatus → errs.new ≡ errs.old }
+    ensures performed { IsPerformed (command_of (argument_texts words.now)) K.takes_memory
+        result.status result.journal (map M.seen meters.items) (map M.seen result.meters.items)
+        (F.state shelf.old) (F.state shelf.new) (K.state out.old) (K.state out.new) }
+    ensures meters { GivesBack (command_of (argument_texts words.now)) → result.meters ≡ meters }
 {
-    write_status(&status, errs);
-    Ended {
-        status,
-        journal,
-        meters,
+    match read_command(alloc, words) {
+        Err(AllocError) => Ended {
+            status: Status::NoMemory,
+            journal: Journal::new(alloc),
+            meters,
+        },
+        Ok(None) => Ended {
+            status: Status::Words,
+            journal: Journal::new(alloc),
+            meters,
+        },
+        Ok(Some(command)) => obey(alloc, &command, shelf, out, meters),
     }
 }

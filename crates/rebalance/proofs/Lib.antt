@@ -2,3 +2,4 @@ mod LoadSums
 mod LoadLemmas
 mod WeightLemmas
 mod SpreadLemmas
+mod ProposedPlans

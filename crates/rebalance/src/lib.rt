@@ -7,7 +7,8 @@
 //! greatest traffic. `spread` returns the defined spread: partitions by falling weight, each on the
 //! switches of least traffic that have room. `spread_laws` says that it fits, that there is at most
 //! one, that no placement that fits has a peak below `bound`, and that a proposal is never higher
-//! than the old placement.
+//! than the old placement. `proposal_text` is the text of the proposal for a plan: all this
+//! is true of it, and with the new targets too the tables lead each header to its first match.
 //!
 //! ```text
 //! let weights = weights(alloc, &journal, 3)?;          // 1, 0, 2
@@ -20,6 +21,7 @@
 
 mod laws;
 mod peaks;
+mod plan_proposal;
 mod proposing;
 mod spreading;
 mod weighing;
@@ -27,6 +29,7 @@ mod weighing;
 pub use laws::spread_laws;
 pub use peaks::{bound, peak};
 pub use placement::NoRoom;
+pub use plan_proposal::proposal_text;
 pub use proposing::proposed;
 pub use spreading::spread;
 pub use weighing::weights;

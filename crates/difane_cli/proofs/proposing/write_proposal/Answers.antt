@@ -1,17 +1,25 @@
-use Rattle.std.proofs.Common.{◌∙◌, ◌≡◌, decimal}
-use Rattle.difane_cli.proofs.ProposedPlans.{wrote_proposal}
+use Rattle.std.proofs.Common.{[], ◌≡◌, List, ap, subst, sym, ℕ}
+use Rattle.rebalance.specs.Proposals.{ProposesFor}
+use Rattle.difane_cli.specs.Exports.{IsAfterProposing}
+use Rattle.difane_cli.proofs.ProposalOutcomes.{no_proposal, wrote_proposal}
 use Rattle.difane_cli.proofs.proposing.write_proposal.Goals as goal
 
-pub returns : goal.returns
-returns g c =
-    let found = c.in_ok-proposal.proposal in
-    let old : c.as_bytes.result.now ≡ decimal found.old_peak = c.as_bytes.ensures.value
-    ∙ c.format.ensures.text in
-    let new : c.as_bytes-2.result.now ≡ decimal found.new_peak = c.as_bytes-2.ensures.value
-    ∙ c.format-2.ensures.text in
-    let least : c.as_bytes-3.result.now ≡ decimal found.bound = c.as_bytes-3.ensures.value
-    ∙ c.format-3.ensures.text in
-    wrote_proposal c.args.plan.policy c.args.plan.hosted c.args.net.now c.args.journal.now found
-    g.K.Sink.takes_memory (g.K.Sink.state c.args.out.now) (g.K.Sink.state c.write_pieces.new.errs)
-    c.write_pieces.result c.in_ok-proposal.ensures
-    (rw (old, new, least, c.deref.ensures.value, c.in_ok-text.ensures) at c.write_pieces.ensures)
+pub returns-in-Ok : goal.returns-in-Ok
+returns-in-Ok g c =
+    let plan = c.args.played.now.plan in
+    let journal = c.args.played.now.journal in
+    let net = c.args.net.now in
+    let before = g.K.Sink.state c.args.out.now in
+    let now = g.K.Sink.state c.write_whole.new.sink in
+    rw c.in-None.is (wrote_proposal plan.policy plan.hosted net journal c.deref.result.now
+    g.K.Sink.takes_memory before now c.write_whole.result
+    (subst (λ (text : List ℕ). ProposesFor plan.policy plan.hosted net journal
+    (λ whole. text ≡ whole)) (sym c.deref.ensures.value) c.in-Ok.ensures)
+    c.write_whole.ensures.after
+    (λ none. ap (λ k. g.K.Sink.state k) (c.write_whole.ensures.no_bytes none).1))
+
+pub returns-in-Err : goal.returns-in-Err
+returns-in-Err g c =
+    let plan = c.args.played.now.plan in
+    rw c.in-None.is (no_proposal plan.policy plan.hosted c.args.net.now c.args.played.now.journal
+    g.K.Sink.takes_memory (g.K.Sink.state c.args.out.now))

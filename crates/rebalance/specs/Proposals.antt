@@ -1,20 +1,15 @@
--- The placement that `rebalance` proposes after a play, computed from the weights of the
--- partitions.
-use Rattle.std.specs.Prelude.{[], ◌∷◌, ◌≡◌, ◌≢◌, ◌≤◌, ◌⊎◌, Bool, Err, IsErrOf, IsTrue, List, OnOk, Result, codes, decimal, length, map, zip, ℕ, ⊤}
-use Rattle.base.specs.Exports.{concat}
+-- The placement that is proposed for a plan after a journal, computed from the weights of its
+-- partitions, and the text of the proposal.
+use Rattle.std.specs.Prelude.{◌++◌, ◌≡◌, ◌≤◌, List, codes, decimal, length, map, zip, ℕ}
 use Rattle.controller.specs.Exports.{LeadEveryHeader}
-use Rattle.update_machine.specs.Exports.{Header, Item, Net, Row, Setting, current_mark, plan_at, policy_at}
+use Rattle.update_machine.specs.Exports.{Header, Item, Net, Row}
 use Rattle.partition.specs.Plan.{Hosted, IsPlan, rooms_of}
 use Rattle.policy_rules.specs.Exports.{IsFirstMatch, scan}
 use Rattle.rebalance.specs.Loads.{Fits, bound, peak, weights_of}
 use Rattle.rebalance.specs.Spread.{IsProposal}
-use Rattle.shelf.specs.Exports.{GainedPart, Rose, SinkState}
-use Rattle.shelf.specs.declared.output.SinkError.{SinkError}
-use Rattle.shelf.specs.declared.output.SinkError.TheVariants.{Failed, NoMemory}
+use Rattle.rebalance.specs.declared.plan_proposal.Proposal.{Proposal}
 use Rattle.show_text.specs.Text.{compile_text}
 use Rattle.switch_table.specs.Exports.{part_of}
-use Rattle.difane_cli.specs.Writes.{Wrote}
-use Rattle.difane_cli.specs.declared.proposing.Proposal.{Proposal}
 
 -- ---- a plan, and the sizes and weights of its partitions
 
@@ -55,13 +50,18 @@ pub record IsProposedFor (rows : List Row) (plan : List Hosted) (net : Net) (jou
   -- what a scan finds, to which the tables lead, is the first match
   pub first_match : (header : Header) → IsFirstMatch rows header (scan rows header)
 
--- the peaks of the old and the new placement, the bound, and the plan with the new one
+-- the peaks of the old and the new placement, and the bound
+abbrev pub peaks_text : ℕ → ℕ → ℕ → List ℕ
+peaks_text old new least =
+    codes "peak " ++ decimal old ++ codes " " ++ decimal new ++ codes "\nbound " ++ decimal least
+    ++ codes "\n"
+
+-- the same of a placement for the plan, and the plan with this placement
 abbrev pub placement_text : List Row → List Hosted → Net → List Item → List (List ℕ) → List ℕ
 placement_text rows plan net journal placement =
     let weights = weights_in journal plan in
-    concat (codes "peak " ∷ decimal (peak weights (targets_by_partition plan)) ∷ codes " "
-    ∷ decimal (peak weights placement) ∷ codes "\nbound " ∷ decimal (bound weights (rooms_of net))
-    ∷ codes "\n" ∷ compile_text rows (with_targets plan placement) net ∷ [])
+    peaks_text (peak weights (targets_by_partition plan)) (peak weights placement)
+    (bound weights (rooms_of net)) ++ compile_text rows (with_targets plan placement) net
 
 -- what was found is the plan with the targets of a placement that is proposed, and the peaks of
 -- these and of the plan's own
@@ -75,32 +75,9 @@ pub record IsFoundFor (rows : List Row) (plan : List Hosted) (net : Net) (journa
   pub new_peak : found.new_peak ≡ peak (weights_in journal plan) placement
   pub least : found.bound ≡ bound (weights_in journal plan) (rooms_of net)
 
--- ---- what is written
-
--- there is a proposal, and the output has this relation to its text
+-- there is a proposal, and this is true of its text
 pub record ProposesFor (rows : List Row) (plan : List Hosted) (net : Net) (journal : List Item)
     (IsWritten : List ℕ → Type 0) : Type 0 where
   pub placement : List (List ℕ)
   pub proposed : IsProposedFor rows plan net journal placement
   pub written : IsWritten (placement_text rows plan net journal placement)
-
--- the same for the plan that is in force after the journal
-abbrev pub Proposes : Setting → List Item → (List ℕ → Type 0) → Type 0
-Proposes setting journal IsWritten =
-    ProposesFor (policy_at setting journal (current_mark journal))
-    (plan_at setting journal (current_mark journal)) setting.net journal IsWritten
-
--- the output after writing a proposal: it gained all of its text, or a part of it; or memory ran
--- out before the output was touched
-pub record IsAfterProposal (rows : List Row) (plan : List Hosted) (net : Net)
-    (journal : List Item) (takes_memory : Bool) (before now : SinkState)
-    (result : Result (⊤) SinkError) : Type 0 where
-  pub whole : OnOk result (ProposesFor rows plan net journal (λ text. Wrote text before now))
-  pub part : IsErrOf result Failed
-      → ProposesFor rows plan net journal (λ text. GainedPart before.bytes text now.bytes)
-  pub some : IsErrOf result NoMemory → (now ≡ before)
-      ⊎ (IsTrue takes_memory
-      × ProposesFor rows plan net journal (λ text. GainedPart before.bytes text now.bytes))
-  pub calm : result ≢ Err Failed → now.faults ≡ before.faults
-  pub failed : IsErrOf result Failed → Rose before.faults now.faults
-  pub faults : before.faults ≤ now.faults

@@ -1,6 +1,6 @@
 use Rattle.std.proofs.Common.{◌≡◌, take}
-use Rattle.difane_cli.specs.Exports.{targets_by_partition}
-use Rattle.difane_cli.proofs.proposing.targets_of.Given as goal
+use Rattle.rebalance.specs.Proposals.{targets_by_partition}
+use Rattle.rebalance.proofs.plan_proposal.targets_of.Given as goal
 
 abbrev pub invariant-loop-targets : goal.invariant-loop-targets
 invariant-loop-targets l = l.all.items ≡ targets_by_partition (take l.targets-index l.hosted)

@@ -1,26 +1,19 @@
 -- What is proposed for a plan fits it, and its peak is between the bound and the old one.
-use Rattle.std.proofs.Common.{[], ◌<◌, ◌∙◌, ◌∷◌, ◌≡◌, ◌≤◌, ◌⊎◌, All, Bool, Err, IsTrue, List, None, Ok, Option, Result, ap, arith, codes, decimal, get_or, inl, inr, length, length-append, map, refl, subst, suc, sym, zero, ℕ}
-use Rattle.base.proofs.Exports.{concat, firsts-zip, get_or_default, length-map, length-range_with_len, range_with_len, ⊤}
-use Rattle.controller.specs.Exports.{LeadEveryHeader, PlanValue}
-use Rattle.update_machine.specs.Exports.{Item, Net, Partition, Row, Setting, current_mark, plan_at}
+use Rattle.std.proofs.Common.{[], ◌++◌, ◌<◌, ◌∙◌, ◌∷◌, ◌≡◌, ◌≤◌, All, Err, Global, IfOk, List, Ok, Result, Vec, ap, arith, get_or, inl, inr, length, length-append, map, refl, subst, suc, sym, zero, ℕ}
+use Rattle.base.proofs.Exports.{firsts-zip, get_or_default, length-map, length-range_with_len, range_with_len}
+use Rattle.controller.specs.Exports.{LeadEveryHeader}
+use Rattle.update_machine.specs.Exports.{Item, Net, Partition, Row}
 use Rattle.net_file.specs.Exports.{IsNet}
 use Rattle.partition.specs.Plan.{Hosted, IsPlan, rooms_of, sizes_of}
 use Rattle.placement.specs.Placement.{IsPlacement}
 use Rattle.policy_rules.specs.Exports.{LastCovers}
 use Rattle.policy_rules.proofs.CallerLemmas.{first_match-scan}
 use Rattle.rebalance.specs.Loads.{Fits, bound, peak, weight}
+use Rattle.rebalance.specs.Proposals.{IsFoundFor, IsProposedFor, ProposesFor, peaks_text, sizes_in, targets_by_partition, weights_in, with_targets}
 use Rattle.rebalance.specs.Spread.{AreWeighed, IsProposal, SpreadLaws}
-use Rattle.replay.specs.InForce.{IsPlanInForce}
-use Rattle.shelf.specs.Exports.{Files, GainedPart, IsAfterWrite, SinkState}
-use Rattle.shelf.specs.declared.output.SinkError.{SinkError}
-use Rattle.shelf.specs.declared.output.SinkError.TheVariants as sink
+use Rattle.rebalance.specs.declared.plan_proposal.Proposal.{Proposal}
 use Rattle.show_text.specs.Text.{compile_text}
 use Rattle.switch_table.specs.Exports.{part_of}
-use Rattle.command_line.specs.Exports.{ReplayCommand}
-use Rattle.command_line.specs.Commands as asked
-use Rattle.difane_cli.specs.Exports.{Inputs, IsAfterProposal, IsAnswer, IsFoundFor, IsProposedFor, ProposalOutcome, Proposes, ProposesFor, Wrote, sizes_in, status_after, targets_by_partition, weights_in, with_targets}
-use Rattle.difane_cli.specs.declared.proposing.Proposal.{Proposal}
-use Rattle.difane_cli.specs.declared.status.Status.TheVariants as status
 
 -- ---- the plan
 
@@ -170,111 +163,29 @@ found_for rows plan net journal found sizes weights rooms old new laws sound is 
       least = rw (are.weights_are, are.rooms_are) at least;
     }
 
--- ---- what is written
+-- ---- the text
 
--- the text of what was found
-abbrev pub found_text : Proposal → Net → List ℕ
-found_text found net =
-    concat (codes "peak " ∷ decimal found.old_peak ∷ codes " " ∷ decimal found.new_peak
-    ∷ codes "\nbound " ∷ decimal found.bound ∷ codes "\n"
-    ∷ compile_text found.plan.policy found.plan.hosted net ∷ [])
-
-module _ (rows : List Row) (plan : List Hosted) (net : Net) (journal : List Item) where
-  pub no_proposal : (takes_memory : Bool) (before : SinkState)
-      → IsAfterProposal rows plan net journal takes_memory before before (Err sink.NoMemory)
-  no_proposal takes_memory before = record {
-    whole = tt;
-    part = λ is. absurd (cc is);
-    some = λ is. inl refl;
-    calm = λ not. refl;
-    failed = λ is. absurd (cc is);
-    faults = omega arith;
-  }
-
-  proposes : (found : Proposal) (IsWritten : List ℕ → Type 0)
-      → IsFoundFor rows plan net journal found → IsWritten (found_text found net)
-      → ProposesFor rows plan net journal IsWritten
-  proposes found IsWritten is written = record {
-    placement = is.placement;
-    proposed = is.proposed;
-    written = rw (is.old_peak, is.new_peak, is.least, is.policy, is.hosted) at written;
-  }
-
-  pub wrote_proposal : (found : Proposal) (takes_memory : Bool) (before now : SinkState)
-      (result : Result (⊤) SinkError) → IsFoundFor rows plan net journal found
-      → IsAfterWrite (found_text found net) takes_memory before now result
-      → IsAfterProposal rows plan net journal takes_memory before now result
-  wrote_proposal found takes_memory before now (Ok done) is after = record {
-    whole = proposes found (λ text. Wrote text before now) is
-        (record { whole = after.whole; untouched = λ none. absurd (cc none) });
-    part = λ same. absurd (cc same);
-    some = λ same. absurd (cc same);
-    calm = after.calm;
-    failed = after.failed;
-    faults = after.faults;
-  }
-  wrote_proposal found takes_memory before now (Err error) is after =
-      let part : ProposesFor rows plan net journal
-      (λ text. GainedPart before.bytes text now.bytes) = proposes found _ is after.part in record {
-        whole = tt;
-        part = λ same. part;
-        some = λ same. inr (after.no_memory same, part);
-        calm = after.calm;
-        failed = after.failed;
-        faults = after.faults;
-      }
-
--- where memory ran out
-pub out_of_room : {A B C : Type 0} → A ⊎ (B × C) → B ⊎ A
-out_of_room (inl same) = inr same
-out_of_room (inr (takes, rest)) = inl takes
-
--- ---- what comes of the play
-
-in_force : (setting : Setting) (journal : List Item) (plan : PlanValue)
-    (IsWritten : List ℕ → Type 0) → IsPlanInForce setting journal plan
-    → ProposesFor plan.policy plan.hosted setting.net journal IsWritten
-    → Proposes setting journal IsWritten
-in_force setting journal plan IsWritten is proposes = subst (λ rows. ProposesFor rows
-    (plan_at setting journal (current_mark journal)) setting.net journal IsWritten) is.policy
-    (subst (λ hosted. ProposesFor plan.policy hosted setting.net journal IsWritten) is.hosted
-    proposes)
-
-pub whole_told : (command : ReplayCommand) (files : Option Files)
-    (inputs : Inputs) (journal : List Item) (plan : PlanValue) (takes_memory : Bool)
-    (before now : SinkState) (written : Result (⊤) SinkError)
-    → IsAnswer (asked.Replay command) files inputs journal None
-    → IsPlanInForce inputs.setting journal plan → IsAfterProposal plan.policy plan.hosted
-    inputs.setting.net journal takes_memory before now written
-    → ProposalOutcome (IsAnswer (asked.Replay command) files) takes_memory
-    (status_after written None) journal before now
-whole_told command files inputs journal plan takes_memory before now (Ok done) answer is after =
-    record {
-      inputs = inputs;
-      played = answer;
-      proposes = in_force inputs.setting journal plan (λ text. Wrote text before now) is after.whole;
+-- the text that was made of what was found
+pub text_of_found : {E : Type 0} (rows : List Row) (plan : List Hosted) (net : Net)
+    (journal : List Item) (found : Proposal) (text : List ℕ) (result : Result (Vec ℕ Global) E)
+    → IsFoundFor rows plan net journal found
+    → text ≡ compile_text found.plan.policy found.plan.hosted net
+    → IfOk result (λ whole.
+    whole.items ≡ peaks_text found.old_peak found.new_peak found.bound ++ text)
+    → IfOk result (λ whole. ProposesFor rows plan net journal (λ told. whole.items ≡ told))
+text_of_found rows plan net journal found text (Err error) is plan_text made = tt
+text_of_found rows plan net journal found text (Ok whole) is plan_text made =
+    let weights = weights_in journal plan in
+    let old = peak weights (targets_by_partition plan) in
+    let new = peak weights is.placement in
+    let least = bound weights (rooms_of net) in
+    let head : peaks_text found.old_peak found.new_peak found.bound ≡ peaks_text old new least =
+    ap (λ n. peaks_text n found.new_peak found.bound) is.old_peak
+    ∙ ap (λ n. peaks_text old n found.bound) is.new_peak ∙ ap (peaks_text old new) is.least in
+    let lines = ap (λ (rows : List Row). compile_text rows found.plan.hosted net) is.policy
+    ∙ ap (λ (hosted : List Hosted). compile_text rows hosted net) is.hosted in record {
+      placement = is.placement;
+      proposed = is.proposed;
+      written = made ∙ ap (λ first. first ++ text) head
+          ∙ ap (λ rest. peaks_text old new least ++ rest) (plan_text ∙ lines);
     }
-whole_told command files inputs journal plan takes_memory before now (Err sink.Failed) answer is
-    after = record {
-      inputs = inputs;
-      played = answer;
-      proposes = in_force inputs.setting journal plan
-          (λ text. GainedPart before.bytes text now.bytes) is (after.part refl);
-    }
-whole_told command files inputs journal plan takes_memory before now (Err sink.NoMemory) answer is
-    after = by_some (after.some refl)
-  where
-    by_some : (now ≡ before) ⊎ (IsTrue takes_memory × ProposesFor plan.policy plan.hosted
-        inputs.setting.net journal (λ text. GainedPart before.bytes text now.bytes))
-        → ProposalOutcome (IsAnswer (asked.Replay command) files) takes_memory status.NoMemory
-        journal before now
-    by_some (inl same) = inr (inl (record { inputs = inputs; played = answer; untouched = same }))
-    by_some (inr (takes, proposes)) = inr (inr (
-      takes,
-      record {
-        inputs = inputs;
-        played = answer;
-        proposes = in_force inputs.setting journal plan
-            (λ text. GainedPart before.bytes text now.bytes) is proposes;
-      },
-    ))

@@ -1,5 +1,5 @@
 -- A spread has targets for each partition, and a refusal says that there is none.
-use Rattle.difane_cli.proofs.proposing.proposed_targets.Goals as goal
+use Rattle.rebalance.proofs.plan_proposal.proposed_targets.Goals as goal
 
 pub proposed-requires-clause-new : goal.proposed-requires-clause-new
 proposed-requires-clause-new c = c.in-Ok.ensures.spread.number

@@ -6,17 +6,17 @@ use Rattle.switch_table.specs.Exports.{part_of}
 use Rattle.update_machine.specs.Exports.{Partition}
 use Rattle.rebalance.specs.Loads.{weights_of}
 use Rattle.rebalance.specs.Spread.{IsProposal}
-use Rattle.difane_cli.specs.Exports.{targets_by_partition}
-use Rattle.difane_cli.proofs.ProposedPlans.{AreMeasured, as_many_asked, as_many_sizes, as_many_targets, few_rooms, found_for, proposal_number, sizes_are}
-use Rattle.difane_cli.proofs.proposing.find_proposal.Goals as goal
-use Rattle.difane_cli.proofs.proposing.find_proposal.Goals.{In_ok-new, In_ok-old}
+use Rattle.rebalance.specs.Proposals.{targets_by_partition}
+use Rattle.rebalance.proofs.ProposedPlans.{AreMeasured, as_many_asked, as_many_sizes, as_many_targets, few_rooms, found_for, proposal_number, sizes_are}
+use Rattle.rebalance.proofs.plan_proposal.find_proposal.Goals as goal
+use Rattle.rebalance.proofs.plan_proposal.find_proposal.Goals.{In_ok-new, In_ok-old}
 
 measured : (c : In_ok-old)
-    → AreMeasured c.args.plan.hosted c.args.net.now c.args.journal.now c.in_ok-sizes.sizes.items
+    → AreMeasured c.args.plan.now.hosted c.args.net.now c.args.journal.now c.in_ok-sizes.sizes.items
     c.in_ok-weights.weights.items c.in_ok-rooms.rooms.items c.in_ok-old.old.items
 measured c = record {
   sizes_are = c.in_ok-sizes.ensures ∙ ap sizes_of (c.deref.ensures.value ∙ c.in_ok-parts.ensures
-      ∙ ap (map part_of) c.hosted-hosted.ensures.hosted) ∙ sizes_are c.args.plan.hosted;
+      ∙ ap (map part_of) c.hosted-hosted.ensures.hosted) ∙ sizes_are c.args.plan.now.hosted;
   weights_are = c.in_ok-weights.ensures.weights ∙ ap (λ (hosts : List Hosted). weights_of
       c.args.journal.now (length hosts)) c.hosted-hosted.ensures.hosted;
   rooms_are = c.in_ok-rooms.ensures;
@@ -38,7 +38,7 @@ new_number c each = proposal_number c.in_ok-sizes.sizes.items c.in_ok-weights.we
 pub sizes_of-requires : goal.sizes_of-requires
 sizes_of-requires c =
     rw (c.deref.ensures.value, c.in_ok-parts.ensures, c.hosted-hosted.ensures.hosted)
-    (All-map (λ (part : Partition). length part.rules < 2 ^ 32) part_of c.args.plan.hosted
+    (All-map (λ (part : Partition). length part.rules < 2 ^ 32) part_of c.args.plan.now.hosted
     c.hosted-hosted.ensures.sound.few_rules)
 
 pub peak-old_peak-requires-clause-each : goal.peak-old_peak-requires-clause-each
@@ -75,11 +75,11 @@ peak-new_peak-requires-clause-each c = rw (c.deref-7.ensures.value, c.deref-8.en
 
 pub with_targets-requires : goal.with_targets-requires
 with_targets-requires c = let are = measured (goal.at.with_targets-requires c).In_ok-old in
-    new_number (goal.at.with_targets-requires c).In_ok-new (as_many_targets _ _ _ _ _ _ _ are)
-    ∙ as_many_asked _ _ _ _ _ _ _ are
+    rw c.in_ok-copy.ensures.cases (new_number (goal.at.with_targets-requires c).In_ok-new (as_many_targets _ _ _ _ _ _ _ are)
+    ∙ as_many_asked _ _ _ _ _ _ _ are)
 
 pub returns : goal.returns
-returns c = found_for c.args.plan.policy c.args.plan.hosted c.args.net.now c.args.journal.now
+returns c = found_for c.args.plan.now.policy c.args.plan.now.hosted c.args.net.now c.args.journal.now
     (record {
       plan = c.in_ok-plan.plan;
       old_peak = c.peak-old_peak.result;
@@ -89,8 +89,10 @@ returns c = found_for c.args.plan.policy c.args.plan.hosted c.args.net.now c.arg
     c.in_ok-sizes.sizes.items c.in_ok-weights.weights.items c.in_ok-rooms.rooms.items
     c.in_ok-old.old.items c.in_ok-new.new.items c.spread_laws.ensures c.requires.net
     c.requires.plan (measured (goal.at.returns c).In_ok-old)
-    (chosen (goal.at.returns c).In_ok-new) c.in_ok-plan.ensures.policy
-    c.in_ok-plan.ensures.hosted c.in_ok-plan.ensures.leads
+    (chosen (goal.at.returns c).In_ok-new)
+    (rw c.in_ok-copy.ensures.cases at c.in_ok-plan.ensures.policy)
+    (rw c.in_ok-copy.ensures.cases at c.in_ok-plan.ensures.hosted)
+    (rw c.in_ok-copy.ensures.cases at c.in_ok-plan.ensures.leads)
     (rw (c.deref-2.ensures.value, c.deref-3.ensures.value) at c.peak-old_peak.ensures)
     (rw (c.deref-7.ensures.value, c.deref-8.ensures.value) at c.peak-new_peak.ensures)
     (rw (c.deref-9.ensures.value, c.deref-10.ensures.value) at c.bound-bound.ensures)

@@ -1,0 +1,41 @@
+-- What the status says of a plan or of tables that were written.
+use Rattle.std.proofs.Common.{[], ◌≡◌, Bool, Err, List, None, Ok, Option, Result, Some, inr, refl}
+use Rattle.base.proofs.Exports.{ForSome, ⊤}
+use Rattle.shelf.specs.Exports.{Files, IsAfterWrite, SinkState}
+use Rattle.shelf.specs.declared.output.SinkError.{SinkError}
+use Rattle.shelf.specs.declared.output.SinkError.TheVariants as sink
+use Rattle.command_line.specs.Exports.{PrintCommand}
+use Rattle.command_line.specs.Commands as asked
+use Rattle.difane_cli.specs.Exports.{IsPrintingOf, Print, PrintOutcome, known_task, printing_text, status_after}
+use Rattle.difane_cli.specs.NotPlayed.{Printing}
+
+pub printed : (command : PrintCommand) (files : Option Files) (printing : Printing)
+    (takes_memory : Bool) (before now : SinkState) (result : Result (⊤) SinkError)
+    → IsPrintingOf command printing
+    → ForSome (known_task files (Some (asked.Print command))) (λ read. read ≡ Ok (Print printing))
+    → IsAfterWrite (printing_text printing) takes_memory before now result
+    → (printing_text printing ≡ [] → now ≡ before)
+    → PrintOutcome command files (status_after result None) [] before now
+printed command files printing takes_memory before now (Ok done) own read after untouched = record {
+  printing = printing;
+  accepted = read;
+  planned = own;
+  nothing_played = refl;
+  written = record { whole = after.whole; untouched = untouched };
+}
+printed command files printing takes_memory before now (Err sink.Failed) own read after untouched =
+    record {
+      printing = printing;
+      accepted = read;
+      planned = own;
+      nothing_played = refl;
+      written = after.part;
+    }
+printed command files printing takes_memory before now (Err sink.NoMemory) own read after untouched =
+    inr (record {
+      printing = printing;
+      accepted = read;
+      planned = own;
+      nothing_played = refl;
+      written = after.part;
+    })

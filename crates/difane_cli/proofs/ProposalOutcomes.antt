@@ -1,0 +1,150 @@
+-- What a replay that proposes a placement comes to.
+use Rattle.std.proofs.Common.{[], ◌≡◌, ◌⊎◌, Bool, Err, IsTrue, List, None, Ok, Option, Result, Some, ap, arith, inl, inr, refl, subst, sym, ℕ}
+use Rattle.base.proofs.Exports.{⊤}
+use Rattle.controller.specs.Exports.{PlanValue}
+use Rattle.update_machine.specs.Exports.{Item, Net, Row, Setting, current_mark, plan_at}
+use Rattle.partition.specs.Plan.{Hosted}
+use Rattle.rebalance.specs.Proposals.{ProposesFor}
+use Rattle.replay.specs.InForce.{IsPlanInForce}
+use Rattle.shelf.specs.Exports.{Files, GainedPart, IsAfterWrite, SinkState}
+use Rattle.shelf.specs.declared.output.SinkError.{SinkError}
+use Rattle.shelf.specs.declared.output.SinkError.TheVariants as sink
+use Rattle.command_line.specs.Exports.{ReplayCommand}
+use Rattle.command_line.specs.Commands as asked
+use Rattle.difane_cli.specs.Exports.{EndsWork, Inputs, IsAfterProposal, IsAfterProposing, IsAnswer, ProposalOutcome, Proposes, Wrote, status_after}
+use Rattle.difane_cli.specs.declared.status.Status.TheVariants as status
+use Rattle.difane_cli.proofs.WorkStatus.{after_work, by_failed, by_memory, of_failed}
+
+-- ---- what is written
+
+module _ (rows : List Row) (plan : List Hosted) (net : Net) (journal : List Item) where
+  pub no_proposal : (takes_memory : Bool) (before : SinkState)
+      → IsAfterProposal rows plan net journal takes_memory before before (Err sink.NoMemory)
+  no_proposal takes_memory before = record {
+    whole = tt;
+    part = λ is. absurd (cc is);
+    some = λ is. inl refl;
+    calm = λ not. refl;
+    failed = λ is. absurd (cc is);
+    faults = omega arith;
+  }
+
+  proposes : (text : List ℕ) (IsWritten : List ℕ → Type 0)
+      → ProposesFor rows plan net journal (λ whole. text ≡ whole) → IsWritten text
+      → ProposesFor rows plan net journal IsWritten
+  proposes text IsWritten is written = record {
+    placement = is.placement;
+    proposed = is.proposed;
+    written = subst IsWritten is.written written;
+  }
+
+  pub wrote_proposal : (text : List ℕ) (takes_memory : Bool) (before now : SinkState)
+      (result : Result (⊤) SinkError) → ProposesFor rows plan net journal (λ whole. text ≡ whole)
+      → IsAfterWrite text takes_memory before now result → (text ≡ [] → now ≡ before)
+      → IsAfterProposal rows plan net journal takes_memory before now result
+  wrote_proposal text takes_memory before now (Ok done) is after untouched = record {
+    whole = proposes text (λ text. Wrote text before now) is
+        (record { whole = after.whole; untouched = untouched });
+    part = λ same. absurd (cc same);
+    some = λ same. absurd (cc same);
+    calm = after.calm;
+    failed = after.failed;
+    faults = after.faults;
+  }
+  wrote_proposal text takes_memory before now (Err error) is after untouched =
+      let part : ProposesFor rows plan net journal
+      (λ text. GainedPart before.bytes text now.bytes) = proposes text _ is after.part in record {
+        whole = tt;
+        part = λ same. part;
+        some = λ same. inr (after.no_memory same, part);
+        calm = after.calm;
+        failed = after.failed;
+        faults = after.faults;
+      }
+
+  -- ---- what the status says of it
+
+  -- where memory ran out
+  out_of_room : {A B C : Type 0} → A ⊎ (B × C) → B ⊎ A
+  out_of_room (inl same) = inr same
+  out_of_room (inr (takes, rest)) = inl takes
+
+  pub out_of_proposing : (full : Option ℕ) (takes_memory : Bool) (before now : SinkState)
+      (result : Result (⊤) SinkError)
+      → IsAfterProposing full rows plan net journal takes_memory before now result
+      → status_after result full ≡ status.NoMemory → IsTrue takes_memory ⊎ (now ≡ before)
+  out_of_proposing None takes_memory before now result after is =
+      out_of_room (after.some (by_memory result None is))
+  out_of_proposing (Some row) takes_memory before now result after is = inr after.1
+
+  pub proposing_ends : (full : Option ℕ) (takes_memory : Bool) (before now : SinkState)
+      (result : Result (⊤) SinkError)
+      → IsAfterProposing full rows plan net journal takes_memory before now result
+      → EndsWork (status_after result full) before now
+  proposing_ends None takes_memory before now result after = record {
+    worked = after_work result None;
+    failed = λ is. after.failed (by_failed result None is);
+    calm = λ not. after.calm (λ is. not (of_failed result None is));
+    faults = after.faults;
+  }
+  proposing_ends (Some row) takes_memory before now (Err error) after = absurd (cc after.0)
+  proposing_ends (Some row) takes_memory before now (Ok done) after = record {
+    worked = tt;
+    failed = λ is. absurd (cc is);
+    calm = λ not. ap (λ (s : SinkState). s.faults) after.1;
+    faults = omega (arith, ap (λ (s : SinkState). s.faults) after.1);
+  }
+
+-- ---- what comes of the play
+
+in_force : (setting : Setting) (journal : List Item) (plan : PlanValue)
+    (IsWritten : List ℕ → Type 0) → IsPlanInForce setting journal plan
+    → ProposesFor plan.policy plan.hosted setting.net journal IsWritten
+    → Proposes setting journal IsWritten
+in_force setting journal plan IsWritten is proposes = subst (λ rows. ProposesFor rows
+    (plan_at setting journal (current_mark journal)) setting.net journal IsWritten) is.policy
+    (subst (λ hosted. ProposesFor plan.policy hosted setting.net journal IsWritten) is.hosted
+    proposes)
+
+pub whole_told : (command : ReplayCommand) (files : Option Files) (inputs : Inputs)
+    (journal : List Item) (full : Option ℕ) (plan : PlanValue) (takes_memory : Bool)
+    (before now : SinkState) (written : Result (⊤) SinkError)
+    → IsAnswer (asked.Replay command) files inputs journal full
+    → IsPlanInForce inputs.setting journal plan → IsAfterProposing full plan.policy plan.hosted
+    inputs.setting.net journal takes_memory before now written
+    → ProposalOutcome (IsAnswer (asked.Replay command) files) takes_memory
+    (status_after written full) journal before now
+whole_told command files inputs journal (Some row) plan takes_memory before now (Ok done) answer is
+    after = record { inputs = inputs; played = answer; untouched = after.1 }
+whole_told command files inputs journal (Some row) plan takes_memory before now (Err error) answer
+    is after = absurd (cc after.0)
+whole_told command files inputs journal None plan takes_memory before now (Ok done) answer is
+    after = record {
+      inputs = inputs;
+      played = answer;
+      proposes = in_force inputs.setting journal plan (λ text. Wrote text before now) is after.whole;
+    }
+whole_told command files inputs journal None plan takes_memory before now (Err sink.Failed) answer
+    is after = record {
+      inputs = inputs;
+      played = answer;
+      proposes = in_force inputs.setting journal plan
+          (λ text. GainedPart before.bytes text now.bytes) is (after.part refl);
+    }
+whole_told command files inputs journal None plan takes_memory before now (Err sink.NoMemory) answer
+    is after = by_some (after.some refl)
+  where
+    by_some : (now ≡ before) ⊎ (IsTrue takes_memory × ProposesFor plan.policy plan.hosted
+        inputs.setting.net journal (λ text. GainedPart before.bytes text now.bytes))
+        → ProposalOutcome (IsAnswer (asked.Replay command) files) takes_memory status.NoMemory
+        journal before now
+    by_some (inl same) = inr (inl (record { inputs = inputs; played = answer; untouched = same }))
+    by_some (inr (takes, part)) = inr (inr (
+      takes,
+      record {
+        inputs = inputs;
+        played = answer;
+        proposes = in_force inputs.setting journal plan
+            (λ text. GainedPart before.bytes text now.bytes) is part;
+      },
+    ))
