@@ -14,15 +14,15 @@ from lemmas import HOME, TOKEN, Reader, is_statement, own_modules
 LOWEST = "base"
 PATHS = "`cache_maker` doesn't depend on `base`, which would cost 82 paths"
 STAYS = {
-    "cache_maker.PlaceSearch.found_before": PATHS,
-    "cache_maker.PlaceSearch.found_from": PATHS,
-    "cache_maker.PlaceSearch.if_some": PATHS,
-    "cache_maker.PlaceSearch.not_found": PATHS,
-    "cache_maker.PlaceSearch.not_found_on_both_sides": PATHS,
+    "cache_maker.CacheWordPlaces.found_before": PATHS,
+    "cache_maker.CacheWordPlaces.found_from": PATHS,
+    "cache_maker.CacheWordPlaces.if_some": PATHS,
+    "cache_maker.CacheWordPlaces.not_found": PATHS,
+    "cache_maker.CacheWordPlaces.not_found_on_both_sides": PATHS,
     "placement.turns.front.Answers.made": "the answer of one goal, with the numbers of its function",
-    "ternary.WordLemmas.cond_and": "`ternary` depends on no crate",
-    "ternary.WordLemmas.implies_decides": "`ternary` depends on no crate",
-    "ternary.WordLemmas.then_cond": "`ternary` depends on no crate",
+    "ternary.TernaryWords.cond_and": "`ternary` depends on no crate",
+    "ternary.TernaryWords.implies_decides": "`ternary` depends on no crate",
+    "ternary.TernaryWords.then_cond": "`ternary` depends on no crate",
 }
 
 

@@ -1,5 +1,5 @@
-pub mod DifferingBits
-pub mod FixedBits
-pub mod IndependentWords
-pub mod PlaceSearch
-pub mod WidenedWords
+pub mod CacheWordDifferences
+pub mod CacheWordFixedBits
+pub mod IndependentCacheWords
+pub mod CacheWordPlaces
+pub mod WidenedCacheWords

@@ -5,18 +5,18 @@ use Rattle.ternary.specs.Exports.{WordValue}
 use Rattle.policy_rules.specs.declared.rules.Rule.{Rule}
 
 -- the bits that the word fixes to a value that h doesn't have
-abbrev pub differing_bits : ℕ → WordValue → ℕ
-differing_bits h word = bit_and (bit_xor h word.value) word.mask
+abbrev pub widened_difference : ℕ → WordValue → ℕ
+widened_difference h word = bit_and (bit_xor h word.value) word.mask
 
 -- the word that fixes these bits of h meets the other: h and the other differ in none of them
 abbrev pub is_met : ℕ → ℕ → WordValue → Bool
-is_met h fixed word = bit_and (differing_bits h word) fixed == 0
+is_met h fixed word = bit_and (widened_difference h word) fixed == 0
 
 abbrev pub rule_is_met : ℕ → ℕ → Rule → Bool
 rule_is_met h fixed rule = is_met h fixed rule.word
 
 -- of the fixed bits, those whose reasons don't have the bit b
-pub record IsWithout (fixed : ℕ) (reasons : List ℕ) (b stays : ℕ) : Type 0 where
+pub record IsWithoutReasons (fixed : ℕ) (reasons : List ℕ) (b stays : ℕ) : Type 0 where
   pub small : stays < 2 ^ 104
   pub gone : (n : ℕ) → bit_at stays n ≡ 1
       → (bit_at fixed n ≡ 1) × (bit_at (get_or reasons n 0) b ≡ 0)

@@ -15,15 +15,15 @@ pub record IsIndependent (region : WordValue) (rules : List Rule) (index : ℕ)
   pub earlier : All (λ rule. IsNone (meet_of word rule.word)) (take index rules)
 
 -- the test that a word meets no word of these rules
-unfoldable pub is_apart : WordValue → List Rule → Bool
-is_apart word rules = list_all (λ rule. is_none (meet_of word rule.word)) rules
+unfoldable pub is_word_apart : WordValue → List Rule → Bool
+is_word_apart word rules = list_all (λ rule. is_none (meet_of word rule.word)) rules
 
 -- the test that a word is independent
 unfoldable pub is_independent : WordValue → List Rule → ℕ → WordValue → Bool
 is_independent region rules index word =
     covers_of region word && option_map_or (λ rule. covers_of rule.word word)
     (slice_get rules index) false
-    && is_apart word (take index rules)
+    && is_word_apart word (take index rules)
 
 -- the word with this bit freed, if that is independent
 abbrev pub with_bit_freed : WordValue → List Rule → ℕ → ℕ → WordValue → WordValue

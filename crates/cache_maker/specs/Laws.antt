@@ -28,7 +28,7 @@ pub record IsDecidedWithin (h : ℕ) (region : WordValue) (rules : List Rule) (i
   pub first_hit : position (is_held h) rules ≡ Some index
 
 -- an independent word that holds the header, and none of whose fixed bits can be freed
-pub record IsWidest (h : ℕ) (region : WordValue) (rules : List Rule) (index : ℕ)
+pub record IsWidestWord (h : ℕ) (region : WordValue) (rules : List Rule) (index : ℕ)
     (word : WordValue) : Type 0 where
   pub is_word : IsWord word
   pub header : IsTrue (holds word h)
@@ -39,4 +39,4 @@ pub record IsWidest (h : ℕ) (region : WordValue) (rules : List Rule) (index : 
 -- what `widen` ensures of its result, for proofs in which no call runs
 pub record WidenLaws : Type 0 where
   pub widest : (h : ℕ) (region : WordValue) (rules : List Rule) (index : ℕ)
-      → IsDecidedWithin h region rules index → IsWidest h region rules index (widen h region rules index)
+      → IsDecidedWithin h region rules index → IsWidestWord h region rules index (widen h region rules index)

@@ -6,7 +6,7 @@ ghost use Rattle.ternary.specs.Meets.{is_fixed_of, free_of};
 ghost use Rattle.policy_rules.specs.Rules.{is_held};
 ghost use Rattle.policy_rules.specs.declared.rules.Rule.{Rule};
 ghost use Rattle.cache_maker.specs.Independent.{IsIndependent, widen};
-ghost use Rattle.cache_maker.specs.Differing.{IsWithout, differing_bits, is_met, rule_is_met};
+ghost use Rattle.cache_maker.specs.Differing.{IsWithoutReasons, widened_difference, is_met, rule_is_met};
 
 use five_tuple::Header;
 use policy_rules::Rule;
@@ -50,7 +50,7 @@ pub fn widen(h: &Header, region: &Word, rules: &[Rule], index: u32) -> Word
     let mut fixed = closed;
     let mut reasons = no_reasons();
     let mut from = 0;
-    while let Some(place) = next_met(number, fixed, earlier, from) {
+    while let Some(place) = next_overlapped_rule(number, fixed, earlier, from) {
         let reason = differing(number, &earlier[place].word);
         let bit = reason.ilog2();
         fixed = closed | without(fixed ^ closed, &reasons, bit) | 1 << bit;
@@ -68,20 +68,20 @@ fn no_reasons() -> [u128; 104]
 
 // The place of a rule that the word of these bits of the header meets; `None` if there is none. The
 // search begins at the rule at `from`, and then at the first.
-fn next_met(h: u128, fixed: u128, rules: &[Rule], from: usize) -> Option<usize>
+fn next_overlapped_rule(h: u128, fixed: u128, rules: &[Rule], from: usize) -> Option<usize>
     requires { from ≤ length rules.now }
     ensures met { IfSome result (λ place. (place < length rules.now)
         × IsSomeAnd (slice_get rules.now place) (λ rule. IsTrue (rule_is_met h fixed rule))) }
     ensures none { IsNone result → All (λ rule. IsFalse (rule_is_met h fixed rule)) rules.now }
 {
     let (before, after) = rules.split_at(from);
-    match first_met(h, fixed, after) {
+    match first_overlapped_rule(h, fixed, after) {
         Some(place) => Some(from + place),
-        None => first_met(h, fixed, before),
+        None => first_overlapped_rule(h, fixed, before),
     }
 }
 
-fn first_met(h: u128, fixed: u128, rules: &[Rule]) -> Option<usize>
+fn first_overlapped_rule(h: u128, fixed: u128, rules: &[Rule]) -> Option<usize>
     ensures { result ≡ position (rule_is_met h fixed) rules.now }
 {
     rules.iter().position(|rule| is_met(h, fixed, &rule.word))
@@ -91,13 +91,13 @@ fn first_met(h: u128, fixed: u128, rules: &[Rule]) -> Option<usize>
 fn is_met(h: u128, fixed: u128, word: &Word) -> bool
     ensures { result ≡ is_met h fixed word.now }
 {
-    let upper = (upper_half(h) ^ upper_half(word.value())) & upper_half(word.mask());
-    upper & upper_half(fixed) == 0
+    let upper = (upper_word_half(h) ^ upper_word_half(word.value())) & upper_word_half(word.mask());
+    upper & upper_word_half(fixed) == 0
         && are_same(
-            lower_half(h),
-            lower_half(word.value()),
-            lower_half(word.mask()),
-            lower_half(fixed),
+            lower_word_half(h),
+            lower_word_half(word.value()),
+            lower_word_half(word.mask()),
+            lower_word_half(fixed),
         )
 }
 
@@ -110,13 +110,13 @@ fn are_same(h: u64, value: u64, mask: u64, fixed: u64) -> bool
     (h ^ value) & mask & fixed == 0
 }
 
-fn upper_half(n: u128) -> u64
+fn upper_word_half(n: u128) -> u64
     ensures { result ≡ n / 2 ^ 64 }
 {
     (n >> 64) as u64
 }
 
-fn lower_half(n: u128) -> u64
+fn lower_word_half(n: u128) -> u64
     ensures { result ≡ n % 2 ^ 64 }
 {
     (n % HALF) as u64
@@ -124,7 +124,7 @@ fn lower_half(n: u128) -> u64
 
 // The bits that the word fixes to a value that h doesn't have.
 fn differing(h: u128, word: &Word) -> u128
-    ensures { result ≡ differing_bits h word.now }
+    ensures { result ≡ widened_difference h word.now }
 {
     (h ^ word.value()) & word.mask()
 }
@@ -133,7 +133,7 @@ fn differing(h: u128, word: &Word) -> u128
 fn without(fixed: u128, reasons: &[u128; 104], bit: u32) -> u128
     requires fixed { fixed < 2 ^ 104 }
     requires bit { bit < 104 }
-    ensures { IsWithout fixed reasons.now bit result }
+    ensures { IsWithoutReasons fixed reasons.now bit result }
 {
     let mut stays = fixed;
     let mut left = fixed;

@@ -2,7 +2,7 @@
 use Rattle.std.proofs.Common.{[], ◌&&◌, ◌++◌, ◌+◌, ◌∙◌, ◌∷◌, ◌≡◌, Bool, List, None, Option, Some, ap, append-nil, append_assoc, ap₂, arith, bytes_eq, codes, cond, drop, eqb, eqb-true, false, is_some, length, refl, subst, suc, sym, take, true, true≢false, unwrap_or, ℕ}
 use Rattle.base.proofs.Exports.{bytes_eq-Decides, list_all, option_map_or, pointwise, prefix_len, starts_with}
 use Rattle.clap.proofs.WalkLemmas.{both}
-use Rattle.command_line.specs.Exports.{Cut, cut_net, cut_options, cut_pair, cut_quiet, is_file_name, joined_net, net_and_quiet, quiet_and_net}
+use Rattle.command_line.specs.Exports.{Cut, cut_net_option, cut_options, cut_option_pair, cut_quiet_flag, is_file_name, joined_net_option, net_and_quiet, quiet_and_net}
 
 -- an option, as it is written
 pub data Given : Type 0 where
@@ -60,7 +60,7 @@ pub record IsNetCut (all : List (List ℕ)) (net : List ℕ) (rest : List (List 
   pub args : all ≡ spell (net_given form net) ++ rest
   pub good : is_good (net_given form net) ≡ true
 
-joined_is : (arg net : List ℕ) → joined_net arg ≡ Some net → arg ≡ codes "--net=" ++ net
+joined_is : (arg net : List ℕ) → joined_net_option arg ≡ Some net → arg ≡ codes "--net=" ++ net
 joined_is arg net e = go (starts_with eqb arg (codes "--net=")) refl e where
   go : (b : Bool) → starts_with eqb arg (codes "--net=") ≡ b
       → cond (b && is_file_name (drop 6 arg)) (Some (drop 6 arg)) None ≡ Some net
@@ -74,7 +74,7 @@ joined_is arg net e = go (starts_with eqb arg (codes "--net=")) refl e where
         ∙ ap (λ text. codes "--net=" ++ text) (ap (λ o. unwrap_or o []) e)
 
 pair_is : (option : List ℕ) (args : List (List ℕ)) (net : List ℕ) (rest : List (List ℕ))
-    → cut_pair option args ≡ Some (net, rest) → IsNetCut (option ∷ args) net rest
+    → cut_option_pair option args ≡ Some (net, rest) → IsNetCut (option ∷ args) net rest
 unfolding cut_or
 pair_is option [] net rest e = absurd (true≢false (ap is_some (sym e)))
 pair_is option (value ∷ args) net rest e = go (bytes_eq option (codes "--net")) refl e where
@@ -96,12 +96,12 @@ pair_is option (value ∷ args) net rest e = go (bytes_eq option (codes "--net")
     }
 
 net_cut : (args : List (List ℕ)) (net : List ℕ) (rest : List (List ℕ))
-    → cut_net args ≡ Some (net, rest) → IsNetCut args net rest
+    → cut_net_option args ≡ Some (net, rest) → IsNetCut args net rest
 unfolding cut_or
 net_cut [] net rest e = absurd (true≢false (ap is_some (sym e)))
-net_cut (option ∷ args) net rest e = go (joined_net option) refl e where
-  go : (o : Option (List ℕ)) → joined_net option ≡ o
-      → option_map_or (λ n. Some (n, args)) o (cut_pair option args) ≡ Some (net, rest)
+net_cut (option ∷ args) net rest e = go (joined_net_option option) refl e where
+  go : (o : Option (List ℕ)) → joined_net_option option ≡ o
+      → option_map_or (λ n. Some (n, args)) o (cut_option_pair option args) ≡ Some (net, rest)
       → IsNetCut (option ∷ args) net rest
   go None s e = pair_is option args net rest e
   go (Some value) s e = record {
@@ -112,7 +112,7 @@ net_cut (option ∷ args) net rest e = go (joined_net option) refl e where
     good = refl;
   }
 
-quiet_cut : (args rest : List (List ℕ)) → cut_quiet args ≡ Some rest
+quiet_cut : (args rest : List (List ℕ)) → cut_quiet_flag args ≡ Some rest
     → args ≡ codes "--quiet" ∷ rest
 quiet_cut [] rest e = absurd (true≢false (ap is_some (sym e)))
 quiet_cut (option ∷ args) rest e = go (bytes_eq option (codes "--quiet")) refl e where
@@ -128,8 +128,8 @@ form_good form net more e m = rw (e, m) refl
 
 pub quiet_and_net_is : (args : List (List ℕ))
     → IsCut (codes "--quiet" ∷ args) (quiet_and_net args)
-quiet_and_net_is args = go (cut_net args) refl where
-  go : (o : Option (List ℕ × List (List ℕ))) → cut_net args ≡ o
+quiet_and_net_is args = go (cut_net_option args) refl where
+  go : (o : Option (List ℕ × List (List ℕ))) → cut_net_option args ≡ o
       → IsCut (codes "--quiet" ∷ args) (elim o [
         | None ↦ record { net = None; quiet = true; args = args }
         | Some found ↦ record { net = Some found.0; quiet = true; args = found.1 }
@@ -146,11 +146,11 @@ quiet_and_net_is args = go (cut_net args) refl where
 pub net_and_quiet_is : (form : Bool) (net : List ℕ) (args : List (List ℕ))
     → is_good (net_given form net) ≡ true
     → IsCut (spell (net_given form net) ++ args) (net_and_quiet net args)
-net_and_quiet_is form net args good = go (cut_quiet args) refl where
+net_and_quiet_is form net args good = go (cut_quiet_flag args) refl where
   spelling : List (List ℕ)
   spelling = spell (net_given form net)
 
-  go : (o : Option (List (List ℕ))) → cut_quiet args ≡ o
+  go : (o : Option (List (List ℕ))) → cut_quiet_flag args ≡ o
       → IsCut (spell (net_given form net) ++ args) (elim o [
         | None ↦ record { net = Some net; quiet = false; args = args }
         | Some rest ↦ record { net = Some net; quiet = true; args = rest }
@@ -170,8 +170,8 @@ net_and_quiet_is form net args good = go (cut_quiet args) refl where
   }
 
 pub cut_is : (args : List (List ℕ)) → IsCut args (cut_options args)
-cut_is args = go (cut_quiet args) refl where
-  after_net : (o : Option (List ℕ × List (List ℕ))) → cut_net args ≡ o → IsCut args (elim o [
+cut_is args = go (cut_quiet_flag args) refl where
+  after_net : (o : Option (List ℕ × List (List ℕ))) → cut_net_option args ≡ o → IsCut args (elim o [
     | None ↦ record { net = None; quiet = false; args = args }
     | Some found ↦ net_and_quiet found.0 found.1
   ])
@@ -180,14 +180,14 @@ cut_is args = go (cut_quiet args) refl where
       subst (λ ws. IsCut ws (net_and_quiet found.0 found.1)) (sym net.args)
       (net_and_quiet_is net.form found.0 found.1 net.good)
 
-  go : (o : Option (List (List ℕ))) → cut_quiet args ≡ o → IsCut args (elim o [
+  go : (o : Option (List (List ℕ))) → cut_quiet_flag args ≡ o → IsCut args (elim o [
     | Some rest ↦ quiet_and_net rest
-    | None ↦ elim (cut_net args) [
+    | None ↦ elim (cut_net_option args) [
       | None ↦ record { net = None; quiet = false; args = args }
       | Some found ↦ net_and_quiet found.0 found.1
     ]
   ])
-  go None e = after_net (cut_net args) refl
+  go None e = after_net (cut_net_option args) refl
   go (Some rest) e = rw (quiet_cut args rest e) (quiet_and_net_is rest)
 
 -- ---- names

@@ -7,7 +7,7 @@ use Rattle.clap.specs.Takes.{takes}
 use Rattle.clap.specs.Walk.{rows_of}
 use Rattle.clap.specs.declared.parser.matches.ArgMatches.{ArgMatches}
 use Rattle.clap.proofs.WalkLemmas.{both}
-use Rattle.command_line.specs.Exports.{Command, StatedLine, audit_from, audit_of, command_by, command_in, kind_name, line_app, line_of, load_from, load_number, load_of, net_and, none, options_of, play_from, print_of}
+use Rattle.command_line.specs.Exports.{Command, StatedLine, audit_from, audit_of, command_by, command_of_kind, command_kind_name, command_app, line_of, load_command_from, load_number, load_of, net_and, none, command_options_of, play_from, print_of}
 use Rattle.command_line.proofs.ClapParses.{Found, IsWithin, WalksTo, matches_found, reads, taken}
 use Rattle.command_line.specs.declared.grammar.CommandKind.{CommandKind}
 use Rattle.command_line.specs.declared.grammar.CommandKind.TheVariants as kind
@@ -40,7 +40,7 @@ print_names count line some few e =
 load_names : (line : StatedLine) → is_some (load_of line) ≡ true → HaveNames line.names
 load_names line e = go (is_some line.net || line.quiet) line.names e where
   go : (b : Bool) (names : List (List ℕ))
-      → is_some (cond b None (load_from (load_number names))) ≡ true → HaveNames names
+      → is_some (cond b None (load_command_from (load_number names))) ≡ true → HaveNames names
   go true names e = absurd (true≢false (sym e))
   go false [] e = absurd (true≢false (sym e))
   go false (n ∷ []) e = (omega arith, omega arith)
@@ -56,7 +56,7 @@ audit_names line e = go (is_some line.net || line.quiet) line.names e where
       (omega arith, omega (arith, leb-true (length ps) 64 may.1))
 
 -- each line of a command has names
-line_names : (k : CommandKind) (line : StatedLine) → is_some (command_by (kind_name k) line) ≡ true
+line_names : (k : CommandKind) (line : StatedLine) → is_some (command_by (command_kind_name k) line) ≡ true
     → HaveNames line.names
 line_names kind.Replay line e = play_names (report.Lines line.quiet) line line.names e
 line_names kind.Flows line e = play_names report.Flows line line.names (unflagged line.quiet _ e).1
@@ -89,8 +89,8 @@ bare_within line o e = let bare = neither (is_some line.net) line.quiet o e in
     record { has_net = λ some. sym bare.0 ∙ some; has_flag = λ some. sym bare.1 ∙ some }
 
 -- each line of a command has options of its own alone
-line_within : (k : CommandKind) (line : StatedLine) → is_some (command_by (kind_name k) line) ≡ true
-    → IsWithin (options_of k) line.net line.quiet
+line_within : (k : CommandKind) (line : StatedLine) → is_some (command_by (command_kind_name k) line) ≡ true
+    → IsWithin (command_options_of k) line.net line.quiet
 line_within kind.Replay line e = record { has_net = λ some. refl; has_flag = λ some. refl }
 line_within kind.Flows line e = let none = (unflagged line.quiet _ e).0 in
     record { has_net = λ some. refl; has_flag = λ some. sym none ∙ some }
@@ -98,33 +98,33 @@ line_within kind.Rebalance line e = let none = (unflagged line.quiet _ e).0 in
     record { has_net = λ some. refl; has_flag = λ some. sym none ∙ some }
 line_within kind.Compile line e = print_within 1 line e
 line_within kind.Show line e = print_within 2 line e
-line_within kind.Load line e = bare_within line (load_from (load_number line.names)) e
+line_within kind.Load line e = bare_within line (load_command_from (load_number line.names)) e
 line_within kind.Audit line e = bare_within line (audit_from line.names) e
 
 -- the line of arguments that are a command of this kind, and the walk of that command over them
 pub record Walked (k : CommandKind) (args : List (List ℕ)) : Type 0 where
   pub line : StatedLine
   pub is : line_of args ≡ Some line
-  pub walks : WalksTo (kind_name k) (options_of k) args line
+  pub walks : WalksTo (command_kind_name k) (command_options_of k) args line
 
-pub line_walked : (k : CommandKind) (args : List (List ℕ)) → is_some (command_in k args) ≡ true
+pub line_walked : (k : CommandKind) (args : List (List ℕ)) → is_some (command_of_kind k args) ≡ true
     → Walked k args
 line_walked k args e = go (line_of args) refl e where
   go : (o : Option StatedLine) → line_of args ≡ o
-      → is_some (option_and_then (command_by (kind_name k)) o) ≡ true → Walked k args
+      → is_some (option_and_then (command_by (command_kind_name k)) o) ≡ true → Walked k args
   go None is e = absurd (true≢false (sym e))
   go (Some line) is e = let names = line_names k line e in record {
     line = line;
     is = is;
-    walks = reads (kind_name k) (options_of k) args line is names.0 names.1 (line_within k line e);
+    walks = reads (command_kind_name k) (command_options_of k) args line is names.0 names.1 (line_within k line e);
   }
 
 -- that command takes the arguments, and what it matches is the line
-module _ (k : CommandKind) (app : App) (all : List (List ℕ)) (is : app ≡ line_app k)
+module _ (k : CommandKind) (app : App) (all : List (List ℕ)) (is : app ≡ command_app k)
     (w : Walked k (drop 1 all)) where
   pub takes_line : takes app all ≡ true
-  takes_line = ap (λ a. takes a all) is ∙ taken (kind_name k) (options_of k) all w.line w.walks
+  takes_line = ap (λ a. takes a all) is ∙ taken (command_kind_name k) (command_options_of k) all w.line w.walks
 
   pub finds_line : (m : ArgMatches) → HasMatchesOf app all m
-      → Found (options_of k) (rows_of (found_of m)) w.line
-  finds_line m has = matches_found (kind_name k) (options_of k) app all m w.line is has w.walks
+      → Found (command_options_of k) (rows_of (found_of m)) w.line
+  finds_line m has = matches_found (command_kind_name k) (command_options_of k) app all m w.line is has w.walks

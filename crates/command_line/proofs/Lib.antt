@@ -2,4 +2,4 @@ pub mod ArgumentShapes
 pub mod ClapWalks
 pub mod ClapParses
 pub mod CommandLines
-mod GrammarTrials
+mod ArgumentTrials

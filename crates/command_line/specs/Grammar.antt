@@ -13,28 +13,28 @@ is_file_name arg = nat_lt 0 (length arg) && not (slice_index arg 0 == 45)
 -- ---- options
 
 -- the network of an option `--net=NET`
-abbrev pub joined_net : List ℕ → Option (List ℕ)
-joined_net arg =
+abbrev pub joined_net_option : List ℕ → Option (List ℕ)
+joined_net_option arg =
     if starts_with eqb arg (codes "--net=") && is_file_name (drop 6 arg)
     then Some (drop 6 arg)
     else None
 
 -- the network of an option `--net NET` of these arguments, and the arguments after it
-abbrev pub cut_pair : List ℕ → List (List ℕ) → Option (List ℕ × List (List ℕ))
-cut_pair option [] = None
-cut_pair option (net ∷ args) =
+abbrev pub cut_option_pair : List ℕ → List (List ℕ) → Option (List ℕ × List (List ℕ))
+cut_option_pair option [] = None
+cut_option_pair option (net ∷ args) =
     if bytes_eq option (codes "--net") && is_file_name net then Some (net, args) else None
 
 -- the network of an option, in either form, that begins the arguments, and the arguments after it
-abbrev pub cut_net : List (List ℕ) → Option (List ℕ × List (List ℕ))
-cut_net [] = None
-cut_net (option ∷ args) =
-    option_map_or (λ net. Some (net, args)) (joined_net option) (cut_pair option args)
+abbrev pub cut_net_option : List (List ℕ) → Option (List ℕ × List (List ℕ))
+cut_net_option [] = None
+cut_net_option (option ∷ args) =
+    option_map_or (λ net. Some (net, args)) (joined_net_option option) (cut_option_pair option args)
 
 -- the arguments after a flag `--quiet`, if they begin with it
-abbrev pub cut_quiet : List (List ℕ) → Option (List (List ℕ))
-cut_quiet [] = None
-cut_quiet (option ∷ args) = if bytes_eq option (codes "--quiet") then Some args else None
+abbrev pub cut_quiet_flag : List (List ℕ) → Option (List (List ℕ))
+cut_quiet_flag [] = None
+cut_quiet_flag (option ∷ args) = if bytes_eq option (codes "--quiet") then Some args else None
 
 -- the options that begin some arguments, each at most once, and the arguments after them
 pub record Cut : Type 0 where
@@ -44,22 +44,22 @@ pub record Cut : Type 0 where
 
 -- a network's option may follow the flag
 abbrev pub quiet_and_net : List (List ℕ) → Cut
-quiet_and_net args = elim (cut_net args) [
+quiet_and_net args = elim (cut_net_option args) [
   | None ↦ record { net = None; quiet = true; args = args }
   | Some found ↦ record { net = Some found.0; quiet = true; args = found.1 }
 ]
 
 -- a flag may follow the network's option
 abbrev pub net_and_quiet : List ℕ → List (List ℕ) → Cut
-net_and_quiet net args = elim (cut_quiet args) [
+net_and_quiet net args = elim (cut_quiet_flag args) [
   | None ↦ record { net = Some net; quiet = false; args = args }
   | Some rest ↦ record { net = Some net; quiet = true; args = rest }
 ]
 
 abbrev pub cut_options : List (List ℕ) → Cut
-cut_options args = elim (cut_quiet args) [
+cut_options args = elim (cut_quiet_flag args) [
   | Some rest ↦ quiet_and_net rest
-  | None ↦ elim (cut_net args) [
+  | None ↦ elim (cut_net_option args) [
     | None ↦ record { net = None; quiet = false; args = args }
     | Some found ↦ net_and_quiet found.0 found.1
   ]
@@ -74,13 +74,13 @@ pub record StatedLine : Type 0 where
   pub quiet : Bool
 
 -- no option is given twice, and nothing follows the last ones
-abbrev pub end_together : Cut → Cut → Bool
-end_together front back =
+abbrev pub options_end_together : Cut → Cut → Bool
+options_end_together front back =
     not (is_some front.net && is_some back.net) && not (front.quiet && back.quiet)
     && length back.args == 0
 
-abbrev pub line_from : Cut → List (List ℕ) → Cut → Option StatedLine
-line_from front names back = if end_together front back then Some (record {
+abbrev pub argument_line_from : Cut → List (List ℕ) → Cut → Option StatedLine
+argument_line_from front names back = if options_end_together front back then Some (record {
   names = names;
   net = option_or front.net back.net;
   quiet = front.quiet || back.quiet;
@@ -92,7 +92,7 @@ abbrev pub line_of : List (List ℕ) → Option StatedLine
 line_of args =
     let front = cut_options args in
     let count = prefix_len is_file_name front.args in
-    line_from front (take count front.args) (cut_options (drop count front.args))
+    argument_line_from front (take count front.args) (cut_options (drop count front.args))
 
 -- ---- the commands
 
@@ -140,20 +140,20 @@ print_of count line =
     if length line.names == count && not line.quiet then print_from line line.names else None
 
 -- the greatest number of `load N`, and the number that these names are, if they are one
-abbrev pub most_load : ℕ
-most_load = 1000
+abbrev pub greatest_load_number : ℕ
+greatest_load_number = 1000
 
 abbrev pub load_number : List (List ℕ) → Option ℕ
-load_number (number ∷ []) = number_up_to most_load number
+load_number (number ∷ []) = number_up_to greatest_load_number number
 load_number _ = None
 
-abbrev pub load_from : Option ℕ → Option Command
-load_from None = None
-load_from (Some n) = if nat_le 1 n then Some (Load n) else None
+abbrev pub load_command_from : Option ℕ → Option Command
+load_command_from None = None
+load_command_from (Some n) = if nat_le 1 n then Some (Load n) else None
 
 -- `load` has no option
 abbrev pub load_of : StatedLine → Option Command
-load_of line = if is_some line.net || line.quiet then None else load_from (load_number line.names)
+load_of line = if is_some line.net || line.quiet then None else load_command_from (load_number line.names)
 
 -- an audit names as many policies as a replay may
 abbrev pub audit_from : List (List ℕ) → Option Command

@@ -5,7 +5,7 @@ use Rattle.clap.specs.Simple.{App, new_app, new_rule, on_top, with_rule}
 use Rattle.clap.specs.Lexer.{usize_max}
 use Rattle.clap.specs.Values.{bool_text}
 use Rattle.clap.specs.declared.builder.action.ArgAction.TheVariants.{Append, Set, SetTrue}
-use Rattle.command_line.specs.Named.{kind_name}
+use Rattle.command_line.specs.Named.{command_kind_name}
 use Rattle.command_line.specs.declared.grammar.CommandKind.{CommandKind}
 use Rattle.command_line.specs.declared.grammar.CommandKind.TheVariants as kind
 
@@ -23,45 +23,45 @@ abbrev pub quiet_arg : Rule
 quiet_arg = record (new_rule (codes "quiet")) { long = Some (codes "quiet"); action = Some SetTrue }
 
 -- the options that a command takes: none, or a network's, and perhaps the flag
-pub data Options : Type 0 where
-  none : Options
-  net_and : Bool → Options
+pub data CommandOptions : Type 0 where
+  none : CommandOptions
+  net_and : Bool → CommandOptions
 
-abbrev pub options_of : CommandKind → Options
-options_of kind.Replay = net_and true
-options_of kind.Flows = net_and false
-options_of kind.Rebalance = net_and false
-options_of kind.Compile = net_and false
-options_of kind.Show = net_and false
-options_of kind.Load = none
-options_of kind.Audit = none
+abbrev pub command_options_of : CommandKind → CommandOptions
+command_options_of kind.Replay = net_and true
+command_options_of kind.Flows = net_and false
+command_options_of kind.Rebalance = net_and false
+command_options_of kind.Compile = net_and false
+command_options_of kind.Show = net_and false
+command_options_of kind.Load = none
+command_options_of kind.Audit = none
 
 abbrev pub flag_args : Bool → List Rule
 flag_args true = quiet_arg ∷ []
 flag_args false = []
 
-abbrev pub option_args : Options → List Rule
+abbrev pub option_args : CommandOptions → List Rule
 option_args none = []
 option_args (net_and flag) = net_arg ∷ flag_args flag
 
 -- only names and these options; the last of two options of one name counts, but none occurs twice
-abbrev pub app_with : List ℕ → Options → App
+abbrev pub app_with : List ℕ → CommandOptions → App
 app_with name options = on_top (λ s. record s { args_override_self = true })
     (fold with_rule (new_app name) (names_arg ∷ option_args options))
 
 -- each command has its own app
-abbrev pub line_app : CommandKind → App
-line_app k = app_with (kind_name k) (options_of k)
+abbrev pub command_app : CommandKind → App
+command_app k = app_with (command_kind_name k) (command_options_of k)
 
 -- ---- what is read of the matches
 
 -- a network, if the command takes one
-abbrev pub IsNetRead : Options → Option Text → Option Text → Type 0
+abbrev pub IsNetRead : CommandOptions → Option Text → Option Text → Type 0
 IsNetRead none found net = net ≡ None
 IsNetRead (net_and flag) found net = net ≡ found
 
 -- the flag, if the command takes it
-abbrev pub IsFlagRead : Options → Option Text → Bool → Type 0
+abbrev pub IsFlagRead : CommandOptions → Option Text → Bool → Type 0
 IsFlagRead none found quiet = quiet ≡ false
 IsFlagRead (net_and false) found quiet = quiet ≡ false
 IsFlagRead (net_and true) found quiet = found ≡ Some (bool_text quiet)

@@ -3,7 +3,7 @@ use Rattle.std.specs.Prelude.{◌≤◌, List, Option, String, codes, length, ma
 use Rattle.base.specs.Exports.{Bor, Global}
 use Rattle.command_line.specs.Grammar as grammar
 use Rattle.command_line.specs.Commands as grammar_commands
-use Rattle.command_line.specs.Grammar.{command_by, line_of, most_load, most_policies}
+use Rattle.command_line.specs.Grammar.{command_by, line_of, greatest_load_number, most_policies}
 use Rattle.command_line.specs.Others.{AuditCommand, PrintCommand}
 use Rattle.command_line.specs.declared.command.AuditArgs.{AuditArgs}
 use Rattle.command_line.specs.declared.command.Command.{Command}
@@ -20,13 +20,13 @@ use Rattle.command_line.specs.declared.read.ArgumentLine.{ArgumentLine}
 abbrev pub net_named : Option (Bor (List ℕ)) → Option (List ℕ)
 net_named name = option_map (λ n. n.now) name
 
-abbrev pub names_seen : List (Bor (List ℕ)) → List (List ℕ)
-names_seen names = map (λ n. n.now) names
+abbrev pub argument_names_seen : List (Bor (List ℕ)) → List (List ℕ)
+argument_names_seen names = map (λ n. n.now) names
 
 abbrev pub replay_named : ReplayArgs → grammar_commands.ReplayCommand
 replay_named args = record {
   schedule = args.schedule.now;
-  policies = names_seen args.policies.items;
+  policies = argument_names_seen args.policies.items;
   net = net_named args.net;
   report = args.report;
 }
@@ -36,7 +36,7 @@ print_named args =
     record { policy = args.policy.now; switch = net_named args.switch; net = net_named args.net }
 
 abbrev pub audit_named : AuditArgs → AuditCommand
-audit_named args = record { trace = args.trace.now; policies = names_seen args.policies.items }
+audit_named args = record { trace = args.trace.now; policies = argument_names_seen args.policies.items }
 
 -- the command that names these files
 abbrev pub command_named : Command → grammar_commands.Command
@@ -55,13 +55,13 @@ HasPolicies args = MayBePolicies (length args.policies.items)
 abbrev pub NamesPolicies : Command → Type 0
 NamesPolicies (given.Replay args) = HasPolicies args
 NamesPolicies (given.Print args) = ⊤
-NamesPolicies (given.Load n) = (1 ≤ n) × (n ≤ most_load)
+NamesPolicies (given.Load n) = (1 ≤ n) × (n ≤ greatest_load_number)
 NamesPolicies (given.Audit args) = MayBePolicies (length args.policies.items)
 
 -- the line that was read
-abbrev pub line_seen : ArgumentLine → grammar.StatedLine
-line_seen line = record {
-  names = names_seen line.names.items;
+abbrev pub argument_line_seen : ArgumentLine → grammar.StatedLine
+argument_line_seen line = record {
+  names = argument_names_seen line.names.items;
   net = net_named line.net;
   quiet = line.quiet;
 }
@@ -69,34 +69,34 @@ line_seen line = record {
 -- ---- the test of the grammar
 
 -- the options and arguments that were cut, and the parts of a line
-abbrev pub cut_seen : Cut → grammar.Cut
-cut_seen cut = record {
+abbrev pub option_cut_seen : Cut → grammar.Cut
+option_cut_seen cut = record {
   net = net_named cut.net;
   quiet = cut.quiet;
   args = map string_bytes cut.args.now;
 }
 
-abbrev pub parts_seen : ArgumentParts → grammar.StatedLine
-parts_seen parts = record {
+abbrev pub argument_parts_seen : ArgumentParts → grammar.StatedLine
+argument_parts_seen parts = record {
   names = map string_bytes parts.names.now;
   net = net_named parts.net;
   quiet = parts.quiet;
 }
 
 -- the name of this kind of command
-abbrev pub kind_name : CommandKind → List ℕ
-kind_name kind.Replay = codes "replay"
-kind_name kind.Flows = codes "flows"
-kind_name kind.Rebalance = codes "rebalance"
-kind_name kind.Compile = codes "compile"
-kind_name kind.Show = codes "show"
-kind_name kind.Load = codes "load"
-kind_name kind.Audit = codes "audit"
+abbrev pub command_kind_name : CommandKind → List ℕ
+command_kind_name kind.Replay = codes "replay"
+command_kind_name kind.Flows = codes "flows"
+command_kind_name kind.Rebalance = codes "rebalance"
+command_kind_name kind.Compile = codes "compile"
+command_kind_name kind.Show = codes "show"
+command_kind_name kind.Load = codes "load"
+command_kind_name kind.Audit = codes "audit"
 
 -- the command of this kind with these arguments after its name
-abbrev pub command_in : CommandKind → List (List ℕ) → Option grammar_commands.Command
-command_in kind args = option_and_then (command_by (kind_name kind)) (line_of args)
+abbrev pub command_of_kind : CommandKind → List (List ℕ) → Option grammar_commands.Command
+command_of_kind kind args = option_and_then (command_by (command_kind_name kind)) (line_of args)
 
 -- the network of an option, and the arguments after it
-abbrev pub pair_seen : Bor (List ℕ) × Bor (List (String Global)) → List ℕ × List (List ℕ)
-pair_seen (net, args) = (net.now, map string_bytes args.now)
+abbrev pub option_pair_seen : Bor (List ℕ) × Bor (List (String Global)) → List ℕ × List (List ℕ)
+option_pair_seen (net, args) = (net.now, map string_bytes args.now)

@@ -1,7 +1,7 @@
 ghost use Rattle.std.specs.Prelude.{◌≡◌, ◌≤◌, true, IfOk, IfErr, IfSome, Some, is_some, length, map, string_bytes, option_map};
-ghost use Rattle.command_line.specs.Named.{HasPolicies, MayBePolicies, NamesPolicies, audit_named, command_named, kind_name, line_seen, names_seen, replay_named};
+ghost use Rattle.command_line.specs.Named.{HasPolicies, MayBePolicies, NamesPolicies, audit_named, command_named, command_kind_name, argument_line_seen, argument_names_seen, replay_named};
 ghost use Rattle.command_line.specs.Commands as grammar;
-ghost use Rattle.command_line.specs.Grammar.{audit_from, command_by, command_of, load_from, play_from};
+ghost use Rattle.command_line.specs.Grammar.{audit_from, command_by, command_of, load_command_from, play_from};
 ghost use Rattle.five_tuple.specs.Texts.{number_up_to};
 
 use crate::grammar::{CommandKind, kind_of};
@@ -79,33 +79,33 @@ pub fn read_command(alloc: Global, args: &[String]) -> Result<Option<Command<'_>
 
 // The command of this kind with this line of arguments.
 fn command_from<'a>(kind: CommandKind, line: ArgumentLine<'a>) -> Command<'a>
-    requires { is_some (command_by (kind_name kind) (line_seen line)) ≡ true }
+    requires { is_some (command_by (command_kind_name kind) (argument_line_seen line)) ≡ true }
     ensures command { Some (command_named result)
-        ≡ command_by (kind_name kind) (line_seen line.entry) }
+        ≡ command_by (command_kind_name kind) (argument_line_seen line.entry) }
     ensures named { NamesPolicies result }
 {
     match kind {
         CommandKind::Replay => {
             let quiet = line.quiet;
-            Command::Replay(replay_from(Report::Lines { quiet }, line))
+            Command::Replay(replay_command_from(Report::Lines { quiet }, line))
         }
-        CommandKind::Flows => Command::Replay(replay_from(Report::Flows, line)),
-        CommandKind::Rebalance => Command::Replay(replay_from(Report::Placement, line)),
+        CommandKind::Flows => Command::Replay(replay_command_from(Report::Flows, line)),
+        CommandKind::Rebalance => Command::Replay(replay_command_from(Report::Placement, line)),
         CommandKind::Compile | CommandKind::Show => Command::Print(PrintArgs {
             policy: line.names[0],
             switch: line.names.get(1).copied(),
             net: line.net,
         }),
-        CommandKind::Load => Command::Load(load_from(line.names[0])),
+        CommandKind::Load => Command::Load(load_command_from(line.names[0])),
         CommandKind::Audit => Command::Audit(audit_from(line.names)),
     }
 }
 
 // The files that a line names, for a play that prints this report.
-fn replay_from<'a>(report: Report, line: ArgumentLine<'a>) -> ReplayArgs<'a>
-    requires { is_some (play_from report (line_seen line) (names_seen line.names.items)) ≡ true }
+fn replay_command_from<'a>(report: Report, line: ArgumentLine<'a>) -> ReplayArgs<'a>
+    requires { is_some (play_from report (argument_line_seen line) (argument_names_seen line.names.items)) ≡ true }
     ensures args { Some (grammar.Replay (replay_named result))
-        ≡ play_from report (line_seen line.entry) (names_seen line.entry.names.items) }
+        ≡ play_from report (argument_line_seen line.entry) (argument_names_seen line.entry.names.items) }
     ensures few { HasPolicies result }
 {
     let mut names = line.names;
@@ -119,9 +119,9 @@ fn replay_from<'a>(report: Report, line: ArgumentLine<'a>) -> ReplayArgs<'a>
 }
 
 fn audit_from<'a>(names: Vec<&'a str>) -> AuditArgs<'a>
-    requires { is_some (audit_from (names_seen names.items)) ≡ true }
+    requires { is_some (audit_from (argument_names_seen names.items)) ≡ true }
     ensures args { Some (grammar.Audit (audit_named result))
-        ≡ audit_from (names_seen names.entry.items) }
+        ≡ audit_from (argument_names_seen names.entry.items) }
     ensures few { MayBePolicies (length result.policies.items) }
 {
     let mut names = names;
@@ -133,9 +133,9 @@ fn audit_from<'a>(names: Vec<&'a str>) -> AuditArgs<'a>
 }
 
 // The number of a load case.
-fn load_from(number: &str) -> u32
-    requires { is_some (load_from (number_up_to 1000 number.now)) ≡ true }
-    ensures number { Some (grammar.Load result) ≡ load_from (number_up_to 1000 number.now) }
+fn load_command_from(number: &str) -> u32
+    requires { is_some (load_command_from (number_up_to 1000 number.now)) ≡ true }
+    ensures number { Some (grammar.Load result) ≡ load_command_from (number_up_to 1000 number.now) }
     ensures some { 1 ≤ result }
     ensures few { result ≤ 1000 }
 {

@@ -1,8 +1,8 @@
 //! The test of the grammar, which allocates nothing.
 ghost use Rattle.std.specs.Prelude.{◌≡◌, ◌≤◌, ◌⊎◌, true, IfSome, IfNone, None, drop, is_some, length, map, option_map, string_bytes};
 ghost use Rattle.std.specs.List.{prefix_len};
-ghost use Rattle.command_line.specs.Named.{command_in, cut_seen, kind_name, net_named, pair_seen, parts_seen};
-ghost use Rattle.command_line.specs.Grammar.{StatedLine as Stated, audit_of, command_by, command_of, cut_net, cut_options, cut_pair, cut_quiet, end_together, is_file_name, joined_net, line_from, line_of, load_of, net_and_quiet, print_of, play_from, quiet_and_net};
+ghost use Rattle.command_line.specs.Named.{command_of_kind, option_cut_seen, command_kind_name, net_named, option_pair_seen, argument_parts_seen};
+ghost use Rattle.command_line.specs.Grammar.{StatedLine as Stated, audit_of, command_by, command_of, cut_net_option, cut_options, cut_option_pair, cut_quiet_flag, options_end_together, is_file_name, joined_net_option, argument_line_from, line_of, load_of, net_and_quiet, print_of, play_from, quiet_and_net};
 ghost use Rattle.command_line.specs.declared.report.Report.{Report};
 
 use crate::command::{MAX_LOAD, MAX_POLICIES};
@@ -39,7 +39,7 @@ struct ArgumentParts<'a> {
 /// The kind of the command of the arguments; `None` exactly if the grammar doesn't have them.
 pub(crate) fn kind_of(args: &[String]) -> Option<CommandKind>
     ensures some { IfSome result (λ kind.
-        (command_in kind (drop 1 (map string_bytes args.now))
+        (command_of_kind kind (drop 1 (map string_bytes args.now))
         ≡ command_of (map string_bytes args.now))
         × (is_some (command_of (map string_bytes args.now)) ≡ true)) }
     ensures none { IfNone result (command_of (map string_bytes args.now) ≡ None) }
@@ -55,7 +55,7 @@ pub(crate) fn kind_of(args: &[String]) -> Option<CommandKind>
 impl CommandKind {
     // The command that the argument names.
     fn named(arg: &str) -> Option<CommandKind>
-        ensures some { IfSome result (λ kind. arg.now ≡ kind_name kind) }
+        ensures some { IfSome result (λ kind. arg.now ≡ command_kind_name kind) }
         ensures none { IfNone result ((line : Stated) → command_by arg.now line ≡ None) }
     {
         match arg {
@@ -72,7 +72,7 @@ impl CommandKind {
 
     // Whether these arguments may follow this command.
     fn takes(self, parts: &ArgumentParts<'_>) -> bool
-        ensures { result ≡ is_some (command_by (kind_name self) (parts_seen parts.now)) }
+        ensures { result ≡ is_some (command_by (command_kind_name self) (argument_parts_seen parts.now)) }
     {
         match self {
             CommandKind::Replay => takes_replay(parts),
@@ -88,7 +88,7 @@ impl CommandKind {
 // Whether the names are those of a play, whatever it prints.
 fn takes_replay(parts: &ArgumentParts<'_>) -> bool
     ensures { (report : Report) → result ≡
-        is_some (play_from report (parts_seen parts.now) (map string_bytes parts.now.names.now)) }
+        is_some (play_from report (argument_parts_seen parts.now) (map string_bytes parts.now.names.now)) }
 {
     let [_schedule, policies @ ..] = parts.names else {
         return false;
@@ -97,7 +97,7 @@ fn takes_replay(parts: &ArgumentParts<'_>) -> bool
 }
 
 fn takes_audit(parts: &ArgumentParts<'_>) -> bool
-    ensures { result ≡ is_some (audit_of (parts_seen parts.now)) }
+    ensures { result ≡ is_some (audit_of (argument_parts_seen parts.now)) }
 {
     if parts.net.is_some() || parts.quiet {
         return false;
@@ -110,13 +110,13 @@ fn takes_audit(parts: &ArgumentParts<'_>) -> bool
 
 fn takes_print(count: usize, parts: &ArgumentParts<'_>) -> bool
     requires { (count ≡ 1) ⊎ (count ≡ 2) }
-    ensures { result ≡ is_some (print_of count (parts_seen parts.now)) }
+    ensures { result ≡ is_some (print_of count (argument_parts_seen parts.now)) }
 {
     parts.names.len() == count && !parts.quiet
 }
 
 fn takes_load(parts: &ArgumentParts<'_>) -> bool
-    ensures { result ≡ is_some (load_of (parts_seen parts.now)) }
+    ensures { result ≡ is_some (load_of (argument_parts_seen parts.now)) }
 {
     if parts.net.is_some() || parts.quiet {
         return false;
@@ -132,19 +132,23 @@ fn takes_load(parts: &ArgumentParts<'_>) -> bool
 
 // The names and the options of the arguments after a command.
 fn parts_of(args: &[String]) -> Option<ArgumentParts<'_>>
-    ensures { option_map parts_seen result ≡ line_of (map string_bytes args.now) }
+    ensures { option_map argument_parts_seen result ≡ line_of (map string_bytes args.now) }
 {
     let front = cut_options(args);
-    let (names, rest) = front.args.split_at(name_count(front.args));
-    joined_parts(front, names, cut_options(rest))
+    let (names, rest) = front.args.split_at(argument_name_count(front.args));
+    joined_argument_parts(front, names, cut_options(rest))
 }
 
 // The names with the options around them; `None` if one is given twice, or arguments are left.
-fn joined_parts<'a>(front: Cut<'a>, names: &'a [String], back: Cut<'a>) -> Option<ArgumentParts<'a>>
-    ensures { option_map parts_seen result ≡ line_from
-        (cut_seen front.entry) (map string_bytes names.entry.now) (cut_seen back.entry) }
+fn joined_argument_parts<'a>(
+    front: Cut<'a>,
+    names: &'a [String],
+    back: Cut<'a>,
+) -> Option<ArgumentParts<'a>>
+    ensures { option_map argument_parts_seen result ≡ argument_line_from
+        (option_cut_seen front.entry) (map string_bytes names.entry.now) (option_cut_seen back.entry) }
 {
-    if !end_together(&front, &back) {
+    if !options_end_together(&front, &back) {
         return None;
     }
     Some(ArgumentParts {
@@ -155,8 +159,8 @@ fn joined_parts<'a>(front: Cut<'a>, names: &'a [String], back: Cut<'a>) -> Optio
 }
 
 // Whether no option is given twice, and nothing follows the last ones.
-fn end_together(front: &Cut<'_>, back: &Cut<'_>) -> bool
-    ensures { result ≡ end_together (cut_seen front.now) (cut_seen back.now) }
+fn options_end_together(front: &Cut<'_>, back: &Cut<'_>) -> bool
+    ensures { result ≡ options_end_together (option_cut_seen front.now) (option_cut_seen back.now) }
 {
     !(front.net.is_some() && back.net.is_some())
         && !(front.quiet && back.quiet)
@@ -164,7 +168,7 @@ fn end_together(front: &Cut<'_>, back: &Cut<'_>) -> bool
 }
 
 // How many of the first arguments may name a file, up to one that may not.
-fn name_count(args: &[String]) -> usize
+fn argument_name_count(args: &[String]) -> usize
     ensures value { result ≡ prefix_len is_file_name (map string_bytes args.now) }
     ensures within { result ≤ length args.now }
 {
@@ -173,12 +177,12 @@ fn name_count(args: &[String]) -> usize
 
 // The options that begin the arguments, and the arguments after them.
 fn cut_options(args: &[String]) -> Cut<'_>
-    ensures { cut_seen result ≡ cut_options (map string_bytes args.now) }
+    ensures { option_cut_seen result ≡ cut_options (map string_bytes args.now) }
 {
-    if let Some(rest) = cut_quiet(args) {
+    if let Some(rest) = cut_quiet_flag(args) {
         return quiet_and_net(rest);
     }
-    match cut_net(args) {
+    match cut_net_option(args) {
         None => Cut {
             net: None,
             quiet: false,
@@ -190,9 +194,9 @@ fn cut_options(args: &[String]) -> Cut<'_>
 
 // A network's option may follow the flag.
 fn quiet_and_net(args: &[String]) -> Cut<'_>
-    ensures { cut_seen result ≡ quiet_and_net (map string_bytes args.now) }
+    ensures { option_cut_seen result ≡ quiet_and_net (map string_bytes args.now) }
 {
-    match cut_net(args) {
+    match cut_net_option(args) {
         None => Cut {
             net: None,
             quiet: true,
@@ -208,9 +212,9 @@ fn quiet_and_net(args: &[String]) -> Cut<'_>
 
 // A flag may follow the network's option.
 fn net_and_quiet<'a>(net: &'a str, args: &'a [String]) -> Cut<'a>
-    ensures { cut_seen result ≡ net_and_quiet net.entry.now (map string_bytes args.now) }
+    ensures { option_cut_seen result ≡ net_and_quiet net.entry.now (map string_bytes args.now) }
 {
-    match cut_quiet(args) {
+    match cut_quiet_flag(args) {
         None => Cut {
             net: Some(net),
             quiet: false,
@@ -225,9 +229,9 @@ fn net_and_quiet<'a>(net: &'a str, args: &'a [String]) -> Cut<'a>
 }
 
 // The arguments after a flag, if they begin with one.
-fn cut_quiet(args: &[String]) -> Option<&[String]>
+fn cut_quiet_flag(args: &[String]) -> Option<&[String]>
     ensures { option_map (λ rest. map string_bytes rest.now) result
-        ≡ cut_quiet (map string_bytes args.now) }
+        ≡ cut_quiet_flag (map string_bytes args.now) }
 {
     let [option, rest @ ..] = args else {
         return None;
@@ -240,21 +244,21 @@ fn cut_quiet(args: &[String]) -> Option<&[String]>
 }
 
 // The network of an option that begins the arguments, and the arguments after it.
-fn cut_net(args: &[String]) -> Option<(&str, &[String])>
-    ensures { option_map pair_seen result ≡ cut_net (map string_bytes args.now) }
+fn cut_net_option(args: &[String]) -> Option<(&str, &[String])>
+    ensures { option_map option_pair_seen result ≡ cut_net_option (map string_bytes args.now) }
 {
     let [option, rest @ ..] = args else {
         return None;
     };
-    match joined_net(option.as_str()) {
+    match joined_net_option(option.as_str()) {
         Some(net) => Some((net, rest)),
-        None => cut_pair(option.as_str(), rest),
+        None => cut_option_pair(option.as_str(), rest),
     }
 }
 
 // The network of an option `--net NET`, of which the first argument is this.
-fn cut_pair<'a>(option: &str, args: &'a [String]) -> Option<(&'a str, &'a [String])>
-    ensures { option_map pair_seen result ≡ cut_pair option.now (map string_bytes args.entry.now) }
+fn cut_option_pair<'a>(option: &str, args: &'a [String]) -> Option<(&'a str, &'a [String])>
+    ensures { option_map option_pair_seen result ≡ cut_option_pair option.now (map string_bytes args.entry.now) }
 {
     let [net, rest @ ..] = args else {
         return None;
@@ -267,8 +271,8 @@ fn cut_pair<'a>(option: &str, args: &'a [String]) -> Option<(&'a str, &'a [Strin
 }
 
 // The network of an option `--net=NET`.
-fn joined_net(arg: &str) -> Option<&str>
-    ensures { net_named result ≡ joined_net arg.now }
+fn joined_net_option(arg: &str) -> Option<&str>
+    ensures { net_named result ≡ joined_net_option arg.now }
 {
     let net = arg.strip_prefix("--net=")?;
     if is_name(net) { Some(net) } else { None }

@@ -1,8 +1,8 @@
 //! Reads arguments of the grammar with the crate `clap`.
 ghost use Rattle.std.specs.Prelude.{◌≡◌, Bool, true, false, IfOk, Some, codes, drop, is_some, map, option_map, string_bytes};
 ghost use Rattle.clap.specs.Words.{app_of, first_value, found_of, matched_of, one_text, raw_values, rule_of};
-ghost use Rattle.command_line.specs.Line.{IsFlagRead, IsNetRead, app_with, line_app, names_arg, net_and, net_arg, none, options_of, quiet_arg};
-ghost use Rattle.command_line.specs.Named.{command_in, line_seen, names_seen, net_named};
+ghost use Rattle.command_line.specs.Line.{IsFlagRead, IsNetRead, app_with, command_app, names_arg, net_and, net_arg, none, command_options_of, quiet_arg};
+ghost use Rattle.command_line.specs.Named.{command_of_kind, argument_line_seen, argument_names_seen, net_named};
 ghost use Rattle.command_line.specs.Grammar.{line_of};
 
 use crate::grammar::CommandKind;
@@ -27,13 +27,13 @@ pub(crate) fn read_line<'a>(
     kind: CommandKind,
     args: &'a [String],
 ) -> Result<ArgumentLine<'a>, AllocError>
-    requires { is_some (command_in kind (drop 1 (map string_bytes args.now))) ≡ true }
+    requires { is_some (command_of_kind kind (drop 1 (map string_bytes args.now))) ≡ true }
     ensures { IfOk result (λ line.
-        line_of (drop 1 (map string_bytes args.now)) ≡ Some (line_seen line)) }
+        line_of (drop 1 (map string_bytes args.now)) ≡ Some (argument_line_seen line)) }
 {
     let command = line_command(alloc, kind)?;
     match command.try_get_matches_from(args) {
-        Ok(matches) => line_in(alloc, kind, &matches),
+        Ok(matches) => clap_line_in(alloc, kind, &matches),
         Err(error) => {
             if error.kind() == ErrorKind::OutOfMemory {
                 Err(AllocError)
@@ -46,7 +46,7 @@ pub(crate) fn read_line<'a>(
 
 // The `clap` command of this kind, which takes what this command may have, and nothing else.
 fn line_command<'a>(alloc: Global, kind: CommandKind) -> Result<Command<'a>, AllocError>
-    ensures { IfOk result (λ command. app_of command ≡ line_app kind) }
+    ensures { IfOk result (λ command. app_of command ≡ command_app kind) }
 {
     match kind {
         CommandKind::Replay => replay_command(alloc),
@@ -112,20 +112,20 @@ fn quiet_arg<'a>(alloc: Global) -> Arg<'a>
 }
 
 // The names and options that `clap` matched.
-fn line_in<'a>(
+fn clap_line_in<'a>(
     alloc: Global,
     kind: CommandKind,
     matches: &ArgMatches<'a>,
 ) -> Result<ArgumentLine<'a>, AllocError>
     requires names { is_some (matched_of (found_of matches.now) (codes "names")) ≡ true }
     requires quiet { (quiet : Bool) ×
-        IsFlagRead (options_of kind) (one_text (found_of matches.now) (codes "quiet")) quiet }
+        IsFlagRead (command_options_of kind) (one_text (found_of matches.now) (codes "quiet")) quiet }
     ensures names { IfOk result (λ line.
         option_map raw_values (matched_of (found_of matches.now) (codes "names"))
-        ≡ Some (names_seen line.names.items)) }
-    ensures net { IfOk result (λ line. IsNetRead (options_of kind)
+        ≡ Some (argument_names_seen line.names.items)) }
+    ensures net { IfOk result (λ line. IsNetRead (command_options_of kind)
         (first_value (found_of matches.now) (codes "net")) (net_named line.net)) }
-    ensures quiet { IfOk result (λ line. IsFlagRead (options_of kind)
+    ensures quiet { IfOk result (λ line. IsFlagRead (command_options_of kind)
         (one_text (found_of matches.now) (codes "quiet")) line.quiet) }
 {
     let names = match matches.get_strs("names") {
@@ -134,14 +134,14 @@ fn line_in<'a>(
     };
     Ok(ArgumentLine {
         names,
-        net: net_in(kind, matches),
-        quiet: flag_in(kind, matches),
+        net: clap_net_in(kind, matches),
+        quiet: clap_flag_in(kind, matches),
     })
 }
 
 // The network, if the command takes one.
-fn net_in<'a>(kind: CommandKind, matches: &ArgMatches<'a>) -> Option<&'a str>
-    ensures { IsNetRead (options_of kind)
+fn clap_net_in<'a>(kind: CommandKind, matches: &ArgMatches<'a>) -> Option<&'a str>
+    ensures { IsNetRead (command_options_of kind)
         (first_value (found_of matches.now) (codes "net")) (net_named result) }
 {
     match kind {
@@ -155,10 +155,10 @@ fn net_in<'a>(kind: CommandKind, matches: &ArgMatches<'a>) -> Option<&'a str>
 }
 
 // Whether the flag is given, if the command takes it.
-fn flag_in(kind: CommandKind, matches: &ArgMatches<'_>) -> bool
+fn clap_flag_in(kind: CommandKind, matches: &ArgMatches<'_>) -> bool
     requires { (quiet : Bool) ×
-        IsFlagRead (options_of kind) (one_text (found_of matches.now) (codes "quiet")) quiet }
-    ensures { IsFlagRead (options_of kind) (one_text (found_of matches.now) (codes "quiet")) result }
+        IsFlagRead (command_options_of kind) (one_text (found_of matches.now) (codes "quiet")) quiet }
+    ensures { IsFlagRead (command_options_of kind) (one_text (found_of matches.now) (codes "quiet")) result }
 {
     match kind {
         CommandKind::Replay => matches.get_flag("quiet"),

@@ -2,7 +2,7 @@
 -- switch hears an advert of itself that is newer than what it sends. An OSPF router that forgot its
 -- sequence number may (RFC 2328, section 13.4); boot numbers, which never repeat, prevent it here.
 use Rattle.std.specs.Prelude.{[], ◌<◌, ◌∷◌, ◌≡◌, ◌≤◌, ◌⊎◌, All, IsTrue, List, Some, ℕ, ⊤}
-use Rattle.failover.specs.Exports.{AreJoined, is_newer}
+use Rattle.failover.specs.Exports.{AreJoinedByLinks, is_newer}
 use Rattle.base.specs.Exports.{has}
 use Rattle.update_machine.specs.Exports.{Advert, Item, Net, Setting, advert_known, advert_to, adverts_heard, boot_of, is_up, links_known, message_of, near, own_advert, route_from}
 use Rattle.steps.specs.Exports.{HasLink, HasSwitch}
@@ -22,8 +22,8 @@ pub record AllAdverts (setting : Setting) (journal : List Item) (Holds : Advert 
 -- ---- links of the network
 
 -- the advert names only switches that the network links to its origin
-abbrev pub NamesLinks : Net → Advert → Type 0
-NamesLinks net advert = (k : ℕ) → IsTrue (has advert.up k) → HasLink net advert.origin k
+abbrev pub AdvertNamesLinks : Net → Advert → Type 0
+AdvertNamesLinks net advert = (k : ℕ) → IsTrue (has advert.up k) → HasLink net advert.origin k
 
 -- the route continues from the switch over links of the network
 abbrev pub GoesOverLinks : Net → ℕ → List ℕ → Type 0
@@ -36,10 +36,10 @@ IsOverLinks net (first ∷ route) = GoesOverLinks net first route
 
 -- all adverts name only links of the network, so known links are links of it, and routes use these
 pub record LinksAreThere (setting : Setting) (journal : List Item) : Type 0 where
-  pub adverts : AllAdverts setting journal (NamesLinks setting.net)
+  pub adverts : AllAdverts setting journal (AdvertNamesLinks setting.net)
   pub usable : (s k : ℕ) → IsTrue (has (near setting journal s) k) → HasLink setting.net s k
   pub known : (s one other : ℕ) (down : List ℕ) → one < 64 → other < 64 →
-      AreJoined (links_known setting journal s down) one other → HasLink setting.net one other
+      AreJoinedByLinks (links_known setting journal s down) one other → HasLink setting.net one other
   pub routes : (s : ℕ) (targets down route : List ℕ) →
       route_from setting journal s targets down ≡ Some route → IsOverLinks setting.net route
 

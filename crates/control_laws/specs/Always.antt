@@ -1,7 +1,7 @@
 -- What it means that a fact is true of each journal: of any steps in any order, or of the steps
 -- that a network may take.
 use Rattle.std.specs.Prelude.{[], ◌++◌, All, List, length, take, ℕ}
-use Rattle.update_machine.specs.Exports.{Answers, AnswersSoFar, BeginsAnswer, Event, HaveCauses, IsReached, Item, Setting, StepOfRow, after_steps}
+use Rattle.update_machine.specs.Exports.{Answers, AnswersSoFar, BeginsAnswer, Event, HaveCauses, IsReached, Item, Setting, StepOfRow, journal_after_steps}
 use Rattle.steps.specs.Exports.{IsEvent}
 use Rattle.control_laws.specs.ItemCauses.{HasItemCause}
 
@@ -9,7 +9,7 @@ use Rattle.control_laws.specs.ItemCauses.{HasItemCause}
 -- of one that ends where a step ends
 pub record HoldsAtEnds (Holds : Setting → List Item → Type 0) : Type 0 where
   pub stepped : (setting : Setting) (steps : List StepOfRow) →
-      Holds setting (after_steps setting [] steps)
+      Holds setting (journal_after_steps setting [] steps)
   pub answered : (setting : Setting) (events : List Event) (journal : List Item) →
       Answers setting events journal → Holds setting journal
   pub so_far : (setting : Setting) (events : List Event) (journal : List Item) →
@@ -19,7 +19,7 @@ pub record HoldsAtEnds (Holds : Setting → List Item → Type 0) : Type 0 where
 -- beginning of an answer to a schedule, which may end within a step
 pub record HoldsBehindItems (Holds : Setting → List Item → Type 0) : Type 0 where
   pub items : (setting : Setting) (steps : List StepOfRow) (n : ℕ) →
-      Holds setting (take n (after_steps setting [] steps))
+      Holds setting (take n (journal_after_steps setting [] steps))
   pub ends : HoldsAtEnds Holds
   pub begun : (setting : Setting) (events : List Event) (journal : List Item) →
       BeginsAnswer setting events journal → Holds setting journal
@@ -31,8 +31,8 @@ pub record HoldsAlways (Holds : Setting → List Item → Type 0) : Type 0 where
   pub behind : HoldsBehindItems Holds
 
 -- events of a schedule: they name only switches and links of the network, and files that exist
-abbrev pub AreEvents : Setting → List Event → Type 0
-AreEvents setting events = All (IsEvent setting.net (length setting.files)) events
+abbrev pub AreNetworkEvents : Setting → List Event → Type 0
+AreNetworkEvents setting events = All (IsEvent setting.net (length setting.files)) events
 
 -- it is true after any steps that the network may take, and after any first items that they wrote,
 -- which may end within a step; of each answer to its events, and of each beginning of one
@@ -42,6 +42,6 @@ pub record HoldsReached (Holds : Setting → List Item → Type 0) : Type 0 wher
   pub within : (setting : Setting) (journal rest : List Item)
       → IsReached setting (journal ++ rest) → Holds setting journal
   pub answered : (setting : Setting) (events : List Event) (journal : List Item)
-      → AreEvents setting events → Answers setting events journal → Holds setting journal
+      → AreNetworkEvents setting events → Answers setting events journal → Holds setting journal
   pub begun : (setting : Setting) (events : List Event) (journal : List Item)
-      → AreEvents setting events → BeginsAnswer setting events journal → Holds setting journal
+      → AreNetworkEvents setting events → BeginsAnswer setting events journal → Holds setting journal

@@ -19,7 +19,7 @@ pub record IsSoughtAt (setting : Setting) (journal : List Item) (s : ℕ) (heade
   pub target : IsTrue (list_any (nat_eq s) hosted.1)
 
 -- the switch is where the leg leads: at an authority of the partition, or at the port's switch
-abbrev pub EndsAt : Setting → List Item → ℕ → Header → Leg → Type 0
-EndsAt setting journal s header (Seek version partition) =
+abbrev pub LegEndsAt : Setting → List Item → ℕ → Header → Leg → Type 0
+LegEndsAt setting journal s header (Seek version partition) =
     IsSoughtAt setting journal s header version partition
-EndsAt setting journal s header (Exit port) = owner_of setting.net.switches port ≡ Some s
+LegEndsAt setting journal s header (Exit port) = owner_of setting.net.switches port ≡ Some s

@@ -1,7 +1,7 @@
 -- What is known of boots, whatever steps are taken, and if messages are lost, repeated or late.
 use Rattle.std.specs.Prelude.{◌≡◌, ◌≤◌, IfSome, IsFalse, IsTrue, List, Some, ℕ}
 use Rattle.ctrl_msg.specs.Exports.{body_boot}
-use Rattle.update_machine.specs.Exports.{Body, Item, Message, OpenAt, Place, boot_of, is_member, is_over, is_up, known_boot, message_of, serves, speaker, to_switch}
+use Rattle.update_machine.specs.Exports.{Body, Item, Message, OpenAt, Place, boot_of, is_member, is_over, is_up, known_boot, message_of, serves, speaking_in_body, to_switch}
 use Rattle.ctrl_msg.specs.declared.message.Place.TheVariants as receiver
 
 -- a message to a switch carries at most the boot that the controller knows of it, and one from a
@@ -10,7 +10,7 @@ abbrev pub HasPastBoot : List Item → Place → Body → Type 0
 HasPastBoot journal (receiver.Switch s) body =
     IfSome (body_boot body) (λ boot. boot ≤ known_boot journal s)
 HasPastBoot journal receiver.Controller body =
-    IfSome (speaker body) (λ of. of.1 ≤ boot_of journal of.0)
+    IfSome (speaking_in_body body) (λ of. of.1 ≤ boot_of journal of.0)
 
 -- the known boot of a switch is at most its own, and no message carries a later boot
 pub record BootsAreKnown (journal : List Item) : Type 0 where

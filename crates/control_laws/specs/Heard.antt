@@ -5,8 +5,8 @@ use Rattle.update_machine.specs.Exports.{Install, Installed, Item, Setting, Stam
 use Rattle.ctrl_msg.specs.Exports.{to_controller}
 
 -- the switch heard the tables of the version in its boot, or began with them
-abbrev pub HasTables : List Item → ℕ → ℕ → Type 0
-HasTables journal s version =
+abbrev pub HasHeardTables : List Item → ℕ → ℕ → Type 0
+HasHeardTables journal s version =
     ((version ≡ 1) × (boot_of journal s ≡ 1))
     ⊎ IsTrue (list_any (installs_version version) (heard journal s))
 
@@ -22,10 +22,10 @@ pub record AcksHold (journal : List Item) (s : ℕ) : Type 0 where
       → IsTrue (is_up journal s) → boot ≡ boot_of journal s → version ≤ stamp_of journal s
   -- so it has the tables of each version that the controller counts as acknowledged
   pub acked : (version : ℕ) → IsTrue (is_up journal s) → known_boot journal s ≡ boot_of journal s
-      → IsTrue (has_acked journal s version) → HasTables journal s version
+      → IsTrue (has_acked journal s version) → HasHeardTables journal s version
 
 -- the tables are those that some version's plan gives the switch
-pub record ArePlanned (setting : Setting) (journal : List Item) (s : ℕ) (installed : Tables)
+pub record ArePlannedTables (setting : Setting) (journal : List Item) (s : ℕ) (installed : Tables)
     : Type 0 where
   pub version : ℕ
   pub first : 1 ≤ version
@@ -36,4 +36,4 @@ pub record ArePlanned (setting : Setting) (journal : List Item) (s : ℕ) (insta
 abbrev pub InstallsArePlanned : Setting → List Item → Type 0
 InstallsArePlanned setting journal = (s boot n : ℕ) (installed : Tables)
     → message_of journal n ≡ Some (to_switch s (Install boot installed))
-    → ArePlanned setting journal s installed
+    → ArePlannedTables setting journal s installed

@@ -4,7 +4,7 @@
 -- Schlesinger and Walker, "Abstractions for Network Update"; boots and acknowledgements are ours.
 use Rattle.std.specs.Prelude.{◌+◌, ◌-◌, ◌<◌, ◌≡◌, ◌≢◌, ◌≤◌, ◌⊎◌, IsFalse, IsOk, IsTrue, List, None, Ok, Some, ℕ, ⊤}
 use Rattle.base.specs.Exports.{list_any}
-use Rattle.update_machine.specs.Exports.{Advertise, Body, CacheRule, Collect, Hello, Install, Installed, Item, MayRise, OpenAt, Place, Row, Setting, Stamp, Stamped, Tables, boot_of, current_mark, has_acked, heard, installs_version, is_member, is_over, is_up, known_boot, message_of, most_live, most_versions, next_policy, next_retired, opened_at, retired_mark, stamp_of, tables_at, to_switch, touched_by, version_count}
+use Rattle.update_machine.specs.Exports.{Advertise, Body, CacheRule, Collect, Hello, Install, Installed, Item, CurrentMayRise, OpenAt, Place, Row, Setting, Stamp, Stamped, Tables, boot_of, current_mark, has_acked, heard, installs_version, is_member, is_over, is_up, known_boot, message_of, most_live, most_versions, next_policy, next_retired, opened_at, retired_mark, stamp_of, tables_at, to_switch, touched_by, version_count}
 use Rattle.ctrl_msg.specs.declared.message.Place.TheVariants as receiver
 use Rattle.ternary.specs.Exports.{WordValue}
 use Rattle.journal.specs.declared.item.Item.TheVariants as item
@@ -92,13 +92,13 @@ IsRightMessage setting before receiver.Controller body = IsRightFrom before body
 -- ---- switches and marks
 
 -- a switch that was down begins its next boot
-pub record BeginsBoot (before : List Item) (s boot : ℕ) : Type 0 where
+pub record BeginsNextBoot (before : List Item) (s boot : ℕ) : Type 0 where
   pub down : IsFalse (is_up before s)
   pub next : boot ≡ boot_of before s + 1
 
 -- the switch is up and opens with its stamp, which is at least the version of some message that was
 -- sent to open it in this boot
-pub record OpensRightly (before : List Item) (s stamp : ℕ) : Type 0 where
+pub record OpenedHasCause (before : List Item) (s stamp : ℕ) : Type 0 where
   pub up : IsTrue (is_up before s)
   pub number : ℕ
   pub version : ℕ
@@ -108,7 +108,7 @@ pub record OpensRightly (before : List Item) (s stamp : ℕ) : Type 0 where
 
 -- the version is the next one: its file makes a policy from the newest one, that policy has a
 -- plan, and there is room for one more live version and for one more version in all
-pub record SubmitsRightly (setting : Setting) (before : List Item) (file version : ℕ) : Type 0 where
+pub record SubmissionHasCause (setting : Setting) (before : List Item) (file version : ℕ) : Type 0 where
   pub next : version ≡ version_count before + 1
   pub rows : List Row
   pub policy : next_policy setting before file ≡ Ok rows
@@ -117,7 +117,7 @@ pub record SubmitsRightly (setting : Setting) (before : List Item) (file version
   pub few : version_count before ≢ most_versions
 
 -- the retired mark rises as far as the members' acknowledged stamps allow
-pub record RetiresRightly (setting : Setting) (before : List Item) (version : ℕ) : Type 0 where
+pub record RetirementHasCause (setting : Setting) (before : List Item) (version : ℕ) : Type 0 where
   pub rises : retired_mark before < version
   pub least : version ≡ next_retired setting before
 
@@ -126,11 +126,11 @@ abbrev pub HasItemCause : Setting → List Item → Item → Type 0
 HasItemCause setting before (item.Sent number message) =
     IsRightMessage setting before message.to message.body
 HasItemCause setting before (item.Down s) = IsTrue (is_up before s)
-HasItemCause setting before (item.Booted s boot) = BeginsBoot before s boot
-HasItemCause setting before (item.Opened s version) = OpensRightly before s version
+HasItemCause setting before (item.Booted s boot) = BeginsNextBoot before s boot
+HasItemCause setting before (item.Opened s version) = OpenedHasCause before s version
 HasItemCause setting before (item.OverNow s) = IsFalse (is_up before s)
 HasItemCause setting before (item.Submitted file version) =
-    SubmitsRightly setting before file version
-HasItemCause setting before (item.Current version) = MayRise setting before version
-HasItemCause setting before (item.Retired version) = RetiresRightly setting before version
+    SubmissionHasCause setting before file version
+HasItemCause setting before (item.Current version) = CurrentMayRise setting before version
+HasItemCause setting before (item.Retired version) = RetirementHasCause setting before version
 HasItemCause setting before _ = ⊤

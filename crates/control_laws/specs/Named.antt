@@ -1,7 +1,7 @@
 -- What messages name: the switch that they are to or from, and the version that they are about.
 use Rattle.std.specs.Prelude.{◌≡◌, ◌≤◌, All, IfSome, List, None, Option, Some, ℕ}
 use Rattle.ctrl_msg.specs.Exports.{body_version, to_controller}
-use Rattle.update_machine.specs.Exports.{Body, Item, Message, Place, Setting, controller_heard, heard, message_of, speaker, to_switch, version_count}
+use Rattle.update_machine.specs.Exports.{Body, Item, Message, Place, Setting, controller_heard, heard, message_of, speaking_in_body, to_switch, version_count}
 use Rattle.ctrl_msg.specs.declared.message.Place.TheVariants as receiver
 use Rattle.steps.specs.Exports.{HasSwitch}
 
@@ -12,14 +12,14 @@ IsOfSwitch setting (Some of) = HasSwitch setting.net of.0
 
 -- a message to a switch goes to one of the network and names no sender; one to the controller is
 -- from a switch of the network
-abbrev pub IsAddressed : Setting → Place → Body → Type 0
-IsAddressed setting (receiver.Switch s) body = HasSwitch setting.net s × (speaker body ≡ None)
-IsAddressed setting receiver.Controller body = IsOfSwitch setting (speaker body)
+abbrev pub IsMessageAddressed : Setting → Place → Body → Type 0
+IsMessageAddressed setting (receiver.Switch s) body = HasSwitch setting.net s × (speaking_in_body body ≡ None)
+IsMessageAddressed setting receiver.Controller body = IsOfSwitch setting (speaking_in_body body)
 
 -- the message is addressed like this, and its version, if it carries one, exists
 pub record NamesOnlyThere (setting : Setting) (journal : List Item) (message : Message)
     : Type 0 where
-  pub addressed : IsAddressed setting message.to message.body
+  pub addressed : IsMessageAddressed setting message.to message.body
   pub version : IfSome (body_version message.body)
       (λ version. (1 ≤ version) × (version ≤ version_count journal))
 

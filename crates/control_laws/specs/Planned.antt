@@ -24,15 +24,15 @@ pub record AreTablesOf (setting : Setting) (journal : List Item) (s : ℕ) (inst
       → installed ≡ tables_at setting (journal ++ items) installed.version s
 
 -- tables in the body are those that their version's plan gives the switch
-abbrev pub BringsTables : Setting → List Item → ℕ → Body → Type 0
-BringsTables setting journal s (Install boot installed) = AreTablesOf setting journal s installed
-BringsTables setting journal s body = ⊤
+abbrev pub BringsPlannedTables : Setting → List Item → ℕ → Body → Type 0
+BringsPlannedTables setting journal s (Install boot installed) = AreTablesOf setting journal s installed
+BringsPlannedTables setting journal s body = ⊤
 
 -- this is true of all tables that a switch was sent or heard; and each version that it has exists
 pub record TablesArePlanned (setting : Setting) (journal : List Item) : Type 0 where
   pub sent : (s boot n : ℕ) (installed : Tables)
       → message_of journal n ≡ Some (to_switch s (Install boot installed))
       → AreTablesOf setting journal s installed
-  pub heard : (s : ℕ) → All (BringsTables setting journal s) (heard journal s)
+  pub heard : (s : ℕ) → All (BringsPlannedTables setting journal s) (heard journal s)
   pub held : (s version : ℕ) → IsTrue (holds_version journal s version)
       → (1 ≤ version) × (version ≤ version_count journal)

@@ -6,7 +6,7 @@ use Rattle.update_machine.specs.Exports.{Item, Setting, current_mark, holds_vers
 
 -- the switch has the version of its stamp, and each one from there up to the current version; the
 -- stamp isn't retired, and is at most the current version
-pub record HoldsStamp (journal : List Item) (s : ℕ) : Type 0 where
+pub record HoldsStampedVersions (journal : List Item) (s : ℕ) : Type 0 where
   pub stamp : IsTrue (holds_version journal s (stamp_of journal s))
   pub held : (version : ℕ) → version ≤ current_mark journal →
       IsTrue (holds_version journal s version) ⊎ (version < stamp_of journal s)
@@ -14,6 +14,6 @@ pub record HoldsStamp (journal : List Item) (s : ℕ) : Type 0 where
   pub current : stamp_of journal s ≤ current_mark journal
 
 -- this is true of each switch of the network that serves
-abbrev pub ServingHold : Setting → List Item → Type 0
-ServingHold setting journal = (s : ℕ) → s < length setting.net.switches
-    → IsTrue (serves journal s) → HoldsStamp journal s
+abbrev pub ServingHoldVersions : Setting → List Item → Type 0
+ServingHoldVersions setting journal = (s : ℕ) → s < length setting.net.switches
+    → IsTrue (serves journal s) → HoldsStampedVersions journal s

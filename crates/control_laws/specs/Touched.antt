@@ -4,19 +4,19 @@ use Rattle.update_machine.specs.Exports.{Item, Message, Setting, Stamp, message_
 use Rattle.ternary.specs.Exports.{WordValue}
 
 -- the version exists, and these are the words that its change touches
-pub record IsTouched (setting : Setting) (journal : List Item) (version : ℕ)
+pub record IsStampTouched (setting : Setting) (journal : List Item) (version : ℕ)
     (touched : List WordValue) : Type 0 where
   pub first : 1 ≤ version
   pub last : version ≤ version_count journal
   pub says : touched ≡ touched_by setting journal version
 
 -- the message that tells the switch, in this boot, to stamp with a version
-abbrev pub stamp_to : ℕ → ℕ → ℕ → List WordValue → Message
-stamp_to s boot version touched = to_switch s (Stamp boot version touched)
+abbrev pub stamp_message_to : ℕ → ℕ → ℕ → List WordValue → Message
+stamp_message_to s boot version touched = to_switch s (Stamp boot version touched)
 
 -- each message that tells a switch to stamp with a version, sent again or not, carries the words
 -- that the change of that version touches
 pub record StampsSayTouched (setting : Setting) (journal : List Item) : Type 0 where
   pub sent : (n s boot version : ℕ) (touched : List WordValue)
-      → message_of journal n ≡ Some (stamp_to s boot version touched)
-      → IsTouched setting journal version touched
+      → message_of journal n ≡ Some (stamp_message_to s boot version touched)
+      → IsStampTouched setting journal version touched

@@ -1,7 +1,7 @@
 //! Laws about adverts, and about how many messages, boots and sequence numbers there are.
 ghost use Rattle.std.specs.Prelude.{List, []};
 ghost use Rattle.net_file.specs.Net.{IsNet};
-ghost use Rattle.update_machine.specs.Exports.{HasRoom, HaveRoom, Setting, StepOfRow, after_steps};
+ghost use Rattle.update_machine.specs.Exports.{HasRoom, JournalsHaveRoom, Setting, StepOfRow, journal_after_steps};
 ghost use Rattle.control_laws.specs.Always.{HoldsBehindItems, HoldsAlways, HoldsAtEnds};
 ghost use Rattle.control_laws.specs.Adverts.{AdvertsAreOfSwitches, LinksAreThere, OwnAreNewest};
 ghost use Rattle.control_laws.specs.Sends.{NumbersAreFew, NumbersFit, StepsSendFew};
@@ -40,8 +40,8 @@ pub fn numbers_are_few()
 /// messages, boots and own adverts fit in 32 bits, and the next ones do too.
 pub fn numbers_fit()
     ensures before { (setting : Setting) (steps : List StepOfRow) → IsNet setting.net
-        → HasRoom (after_steps setting [] steps)
-        → NumbersFit setting (after_steps setting [] steps) }
+        → HasRoom (journal_after_steps setting [] steps)
+        → NumbersFit setting (journal_after_steps setting [] steps) }
     ensures behind { (setting : Setting) (steps : List StepOfRow) → IsNet setting.net
-        → HaveRoom setting [] steps → NumbersFit setting (after_steps setting [] steps) }
+        → JournalsHaveRoom setting [] steps → NumbersFit setting (journal_after_steps setting [] steps) }
 {}

@@ -2,7 +2,7 @@
 ghost use Rattle.std.specs.Prelude.{[], ℕ, ◌++◌, ◌≤◌, List, IsFalse};
 ghost use Rattle.net_file.specs.Net.{IsNet};
 ghost use Rattle.update_machine.specs.Exports.{AreSettled, ControllerKeeps, HaveCauses, Item, Setting, Step, VersionsAreNumbered, next_retired, piece, retired_mark};
-ghost use Rattle.control_laws.specs.Exports.{AcksHold, BodiesNameThere, BootsAreKnown, HasItemCause, HoldsAlways, HoldsAtEnds, HoldsReached, InstallsArePlanned, IsAckedFirst, MarksAreBounded, MembersAcknowledged, OpensAtOneVersion, RisesRightly, ServingHold, ServingIsKnown, StampsSayTouched, TablesArePlanned, VersionsArePlanned, asks_controller};
+ghost use Rattle.control_laws.specs.Exports.{AcksHold, BodiesNameThere, BootsAreKnown, HasItemCause, HoldsAlways, HoldsAtEnds, HoldsReached, InstallsArePlanned, IsAckedFirst, MarksAreBounded, MembersAcknowledged, OpensAtOneVersion, CurrentRiseHasCause, ServingHoldVersions, ServingIsKnown, StampsSayTouched, TablesArePlanned, VersionsArePlanned, asks_controller};
 
 /// Each item of switches and their controller has its cause in the journal before it.
 pub fn items_have_causes()
@@ -69,7 +69,7 @@ pub fn marks_are_bounded()
 /// A switch that serves has the version with which it stamps, and each version up to the current
 /// one that isn't below its stamp; its stamp is above all that is retired, and at most current.
 pub fn serving_switches_hold()
-    ensures { HoldsAlways (λ setting journal. ServingHold setting journal) }
+    ensures { HoldsAlways (λ setting journal. ServingHoldVersions setting journal) }
 {}
 
 /// At most 64 versions exist, at most eight of them not retired; each has a plan if version 1 has.
@@ -93,7 +93,7 @@ pub fn bodies_name_what_is_there()
 /// The current mark rises only to a version that exists, and only when each member has
 /// acknowledged every version above the old mark up to it.
 pub fn current_rises_rightly()
-    ensures { HoldsAlways (λ setting journal. HaveCauses (RisesRightly setting) [] journal) }
+    ensures { HoldsAlways (λ setting journal. HaveCauses (CurrentRiseHasCause setting) [] journal) }
 {}
 
 /// The retired mark is never above what the members' acknowledged stamps allow, not even in the

@@ -1,8 +1,8 @@
-pub mod CompiledPlans
-mod PickedSwitches
-mod SettledSends
-mod KeptPlanVersions
-mod TouchedWords
-mod UnheardMarks
-mod KeptPlans
-pub mod NewestPolicy
+pub mod ControllerCompiledPlans
+mod ControllerPickedSwitches
+mod ControllerSettledSends
+mod ControllerKeptVersions
+mod ControllerTouchedWords
+mod ControllerUnheardMarks
+mod ControllerKeptPlans
+pub mod ControllerNewestPolicy

@@ -7,14 +7,14 @@ use Rattle.policy_rules.specs.declared.rule_list.TooManyWords.{TooManyWords as N
 use Rattle.controller.specs.declared.plan_error.PlanError.{PlanError}
 use Rattle.controller.specs.declared.plan_error.PlanError.TheVariants.{TooManyWords, TooManyLeaves, NoRoom, NoMemory}
 
-abbrev pub of_rules : Failure NoRules → PlanError
-of_rules (failure.Refused many) = TooManyWords many.words
-of_rules failure.NoMemory = NoMemory
+abbrev pub rules_plan_cause : Failure NoRules → PlanError
+rules_plan_cause (failure.Refused many) = TooManyWords many.words
+rules_plan_cause failure.NoMemory = NoMemory
 
-abbrev pub of_tree : Failure NoTree → PlanError
-of_tree (failure.Refused many) = TooManyLeaves
-of_tree failure.NoMemory = NoMemory
+abbrev pub tree_plan_cause : Failure NoTree → PlanError
+tree_plan_cause (failure.Refused many) = TooManyLeaves
+tree_plan_cause failure.NoMemory = NoMemory
 
-abbrev pub of_placement : Failure NoPlacement → PlanError
-of_placement (failure.Refused lack) = NoRoom lack.partition
-of_placement failure.NoMemory = NoMemory
+abbrev pub placement_plan_cause : Failure NoPlacement → PlanError
+placement_plan_cause (failure.Refused lack) = NoRoom lack.partition
+placement_plan_cause failure.NoMemory = NoMemory

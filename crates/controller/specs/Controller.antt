@@ -77,16 +77,16 @@ pub record StaysController (old new : ControllerValue) : Type 0 where
   pub switches : length new.marks.switches ≡ length old.marks.switches
 
 -- the marks settle, whichever switches are sent to
-abbrev pub HasSettled : MarksValue → MarksValue → Type 0
-HasSettled before after = (answer : Settled) × Settles before after answer
+abbrev pub ControllerHasSettled : MarksValue → MarksValue → Type 0
+ControllerHasSettled before after = (answer : Settled) × Settles before after answer
 
 -- the plans from this version on
-abbrev pub plans_from : ℕ → List KeptPlan → List KeptPlan
-plans_from version plans = filter (λ kept. nat_le version kept.version) plans
+abbrev pub kept_plans_from : ℕ → List KeptPlan → List KeptPlan
+kept_plans_from version plans = filter (λ kept. nat_le version kept.version) plans
 
 -- from these marks and plans on: the marks settle, and the plans of the versions before the
 -- current one are dropped
 pub record SettlesWith (before : MarksValue) (kept : List KeptPlan)
     (new : ControllerValue) : Type 0 where
-  pub marks : HasSettled before new.marks
-  pub plans : new.plans ≡ plans_from new.marks.current kept
+  pub marks : ControllerHasSettled before new.marks
+  pub plans : new.plans ≡ kept_plans_from new.marks.current kept

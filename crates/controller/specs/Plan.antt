@@ -3,7 +3,7 @@ use Rattle.std.specs.Prelude.{◌<◌, ◌^◌, ◌≡◌, All, Err, List, lengt
 use Rattle.net_file.specs.declared.net.Net.{Net}
 use Rattle.partition.specs.Plan.{Hosted, plan_of}
 use Rattle.policy_rules.specs.Hosted as no_plan
-use Rattle.policy_rules.specs.Exports.{AreSoundPartitions, LastCovers}
+use Rattle.policy_rules.specs.Exports.{AreSoundPartitions, LastRuleCovers}
 use Rattle.policy_rules.specs.declared.policy.Row.{Row}
 use Rattle.switch_table.specs.Exports.{part_of}
 use Rattle.controller.specs.declared.plan_error.PlanError.{PlanError}
@@ -17,7 +17,7 @@ pub record PlanValue : Type 0 where
 -- numbers and places have 32 bits
 pub record IsSoundPlan (plan : PlanValue) : Type 0 where
   pub sound : AreSoundPartitions plan.policy (map (λ hosted. hosted.0) plan.hosted)
-  pub covers : All LastCovers (map part_of plan.hosted)
+  pub covers : All LastRuleCovers (map part_of plan.hosted)
   pub few : length plan.hosted < 2 ^ 32
   pub few_rules : All (λ hosted. length hosted.0.rules < 2 ^ 32) plan.hosted
 

@@ -6,6 +6,6 @@ use Rattle.controller.specs.declared.replying.Reply.{Reply}
 use Rattle.controller.specs.declared.replying.Reply.TheVariants.{Installed, Stamped}
 
 -- the record of a switch after its reply, in this boot and about this version
-abbrev pub after_reply : Reply → ℕ → ℕ → SwitchRecord → SwitchRecord
-after_reply Installed boot version = after_installed boot version
-after_reply Stamped boot version = after_stamped boot version
+abbrev pub record_after_reply : Reply → ℕ → ℕ → SwitchRecord → SwitchRecord
+record_after_reply Installed boot version = after_installed boot version
+record_after_reply Stamped boot version = after_stamped boot version

@@ -7,11 +7,11 @@ use Rattle.ctrl_msg.specs.declared.message.Body.{Body}
 use Rattle.ctrl_msg.specs.declared.message.Body.TheVariants.{Install, OpenAt, Stamp, Collect, Hello, Installed, Stamped}
 use Rattle.ctrl_msg.specs.declared.message.Place.TheVariants.{Switch}
 use Rattle.switch_table.specs.Exports.{tables_of}
-use Rattle.version_update.specs.Exports.{MarksValue, after_installed, after_stamped, at_switch, has_acked, hello_recorded, is_member, is_over, opens_at, record_of, takes_hello, with_version}
+use Rattle.version_update.specs.Exports.{MarksValue, after_installed, after_stamped, at_switch, has_acked, hello_recorded, is_member, is_over, joining_opens_at, record_of, takes_hello, with_version}
 use Rattle.version_update.specs.declared.record.Phase.{Phase}
 use Rattle.version_update.specs.declared.record.Phase.TheVariants.{Joining, Member, Over}
 use Rattle.version_update.specs.declared.record.SwitchRecord.{SwitchRecord}
-use Rattle.controller.specs.Controller.{KeptPlan, ControllerValue, current_touched, plans_from}
+use Rattle.controller.specs.Controller.{KeptPlan, ControllerValue, current_touched, kept_plans_from}
 use Rattle.controller.specs.declared.sends.Act.{Act}
 use Rattle.controller.specs.declared.sends.Act.TheVariants.{Current, Retired, Post}
 use Rattle.ternary.specs.Exports.{WordValue}
@@ -31,42 +31,41 @@ abbrev pub boot_recorded : MarksValue → ℕ → ℕ
 boot_recorded marks s = (record_of marks s).boot
 
 -- the switches that pass, by ascending number
-abbrev pub switches_where : (SwitchRecord → Bool) → List SwitchRecord → List ℕ
-switches_where passes switches =
+abbrev pub switches_by_record : (SwitchRecord → Bool) → List SwitchRecord → List ℕ
+switches_by_record passes switches =
     filter (λ s. option_map_or passes (slice_get switches s) false)
     (range_with_len 0 (length switches))
 
 -- to each of these switches the message for its known boot
-abbrev pub posts_to : MarksValue → (ℕ → Body) → List ℕ → List Act
-posts_to marks body switches = map (λ s. post_act s (body (boot_recorded marks s))) switches
+abbrev pub controller_posts_to : MarksValue → (ℕ → Body) → List ℕ → List Act
+controller_posts_to marks body switches = map (λ s. post_act s (body (boot_recorded marks s))) switches
 
 -- ---- settling
 
 -- if a mark rose: its act, and then a message to each member among these switches
-abbrev pub rising_acts : ℕ → ℕ → (ℕ → Act) → (ℕ → ℕ → Body) → MarksValue → List SwitchRecord
+abbrev pub mark_rising_acts : ℕ → ℕ → (ℕ → Act) → (ℕ → ℕ → Body) → MarksValue → List SwitchRecord
     → List Act
-rising_acts old new says body marks switches = if nat_lt old new
-    then says new ∷ posts_to marks (λ boot. body boot new)
-    (switches_where (λ known. is_member known.phase) switches)
-    else []
+mark_rising_acts old new says body marks switches = if nat_lt old new
+    then says new ∷ controller_posts_to marks (λ boot. body boot new)
+    (switches_by_record (λ known. is_member known.phase) switches) else []
 
 -- a new current version, and its stamps to the members from before, with what its change touches:
 -- they have its tables, and those that join open at it
 abbrev pub stamp_acts : List WordValue → MarksValue → MarksValue → List Act
 stamp_acts touched before after =
-    rising_acts before.current after.current Current (λ boot version. Stamp boot version touched)
+    mark_rising_acts before.current after.current Current (λ boot version. Stamp boot version touched)
     after before.switches
 
 -- the new members open at the current version, which they acknowledged
 abbrev pub open_acts : MarksValue → MarksValue → List Act
-open_acts before after = posts_to after (λ boot. OpenAt boot after.current)
-    (switches_where (opens_at after.current) before.switches)
+open_acts before after = controller_posts_to after (λ boot. OpenAt boot after.current)
+    (switches_by_record (joining_opens_at after.current) before.switches)
 
 -- a newly retired version, and to all members the message to drop the tables up to it: no member
 -- stamps with it any more
 abbrev pub collect_acts : MarksValue → MarksValue → List Act
 collect_acts before after =
-    rising_acts before.retired after.retired Retired Collect after after.switches
+    mark_rising_acts before.retired after.retired Retired Collect after after.switches
 
 -- what is sent when marks settle, if the change of the current version touches this
 abbrev pub settling_acts : List WordValue → MarksValue → MarksValue → List Act
@@ -79,7 +78,7 @@ settling_acts touched before after = stamp_acts touched before after ++ open_act
 abbrev pub submit_acts : MarksValue → KeptPlan → ControllerValue → List Act
 submit_acts old next new =
     map (λ s. install_act s (boot_recorded old s) next)
-    (switches_where (λ known. not (is_over known.phase)) old.switches)
+    (switches_by_record (λ known. not (is_over known.phase)) old.switches)
     ++ settling_acts (current_touched new) (with_version old) new.marks
 
 -- what a message changes of what is known
@@ -94,7 +93,7 @@ marks_after _ marks = marks
 -- to a new boot, which has no tables, the versions from the current one to the last
 abbrev pub installs_after : Body → MarksValue → ControllerValue → List Act
 installs_after (Hello switch boot) old new = if takes_hello boot (record_of old switch)
-    then map (install_act switch boot) (plans_from new.marks.current new.plans) else []
+    then map (install_act switch boot) (kept_plans_from new.marks.current new.plans) else []
 installs_after _ old new = []
 
 -- settling, and then what a new boot lacks
@@ -103,17 +102,17 @@ hear_acts body old new = settling_acts (current_touched new) (marks_after body o
     ++ installs_after body old new
 
 -- the switch exists, and so does the version
-pub record NamesBoth (switch version : ℕ) (marks : MarksValue) : Type 0 where
+pub record NamesSwitchAndVersion (switch version : ℕ) (marks : MarksValue) : Type 0 where
   pub switch_is : switch < length marks.switches
   pub first : 1 ≤ version
   pub last : version ≤ marks.count
 
 -- what a body for the controller names exists
-abbrev pub NamesThere : Body → MarksValue → Type 0
-NamesThere (Hello switch boot) marks = switch < length marks.switches
-NamesThere (Installed switch boot version) marks = NamesBoth switch version marks
-NamesThere (Stamped switch boot version) marks = NamesBoth switch version marks
-NamesThere _ marks = ⊤
+abbrev pub ReplyNamesExist : Body → MarksValue → Type 0
+ReplyNamesExist (Hello switch boot) marks = switch < length marks.switches
+ReplyNamesExist (Installed switch boot version) marks = NamesSwitchAndVersion switch version marks
+ReplyNamesExist (Stamped switch boot version) marks = NamesSwitchAndVersion switch version marks
+ReplyNamesExist _ marks = ⊤
 
 -- ---- sending again
 
@@ -134,8 +133,8 @@ stamp_again touched marks s = if nat_lt (record_of marks s).acked_stamp marks.cu
     then post_act s (Stamp (boot_recorded marks s) marks.current touched) ∷ [] else []
 
 -- to a member the message to drop the tables of the retired versions, if there are any
-abbrev pub collect_again : MarksValue → ℕ → List Act
-collect_again marks s = if nat_lt 0 marks.retired
+abbrev pub resend_collects : MarksValue → ℕ → List Act
+resend_collects marks s = if nat_lt 0 marks.retired
     then post_act s (Collect (boot_recorded marks s) marks.retired) ∷ [] else []
 
 -- what a switch in this phase may lack
@@ -146,7 +145,7 @@ resend_acts_to Member controller s =
     (record_of controller.marks s).open_version)
     ∷ missing_installs controller s (controller.marks.current + 1)
     ++ stamp_again (current_touched controller) controller.marks s
-    ++ collect_again controller.marks s
+    ++ resend_collects controller.marks s
 resend_acts_to Over controller s = []
 
 -- what a switch may lack, by its phase

@@ -9,8 +9,8 @@ use Rattle.controller.specs.Controller.{ControllerValue, KeptPlan, SettlesWith}
 use Rattle.ternary.specs.Exports.{WordValue}
 
 -- one more version with this plan, whose change touches this
-abbrev pub next_kept : ControllerValue → PlanValue → List WordValue → KeptPlan
-next_kept old plan touched = record {
+abbrev pub next_kept_plan : ControllerValue → PlanValue → List WordValue → KeptPlan
+next_kept_plan old plan touched = record {
   version = old.marks.count + 1;
   plan = plan;
   touched = touched;
@@ -22,6 +22,6 @@ SubmitsPlan old next new = SettlesWith (with_version old.marks) (old.plans ++ ne
 
 -- a refusal changes nothing; if memory ran out, either nothing changed, or the version is added
 -- and what it causes is lost
-abbrev pub IsLeft : ControllerValue → KeptPlan → ControllerValue → Failure SubmitError → Type 0
-IsLeft old next new (Refused refusal) = new ≡ old
-IsLeft old next new NoMemory = (new ≡ old) ⊎ SubmitsPlan old next new
+abbrev pub IsLeftByRefusal : ControllerValue → KeptPlan → ControllerValue → Failure SubmitError → Type 0
+IsLeftByRefusal old next new (Refused refusal) = new ≡ old
+IsLeftByRefusal old next new NoMemory = (new ≡ old) ⊎ SubmitsPlan old next new

@@ -3,18 +3,18 @@ use Rattle.std.specs.Prelude.{◌++◌, ◌<◌, ◌≡◌, ◌⊎◌, List, len
 use Rattle.policy_rules.specs.Exports.{touched_words}
 use Rattle.policy_rules.specs.declared.amendment.Edit.{Edit}
 use Rattle.policy_rules.specs.declared.policy.Row.{Row}
-use Rattle.switch_table.specs.Exports.{few_touched}
+use Rattle.switch_table.specs.Exports.{few_touched_words}
 use Rattle.ternary.specs.Exports.{WordValue}
 
 -- the words of the policy's rows that it removes, and of those that it adds, if they are few
 abbrev pub touched_few : List Row → List Edit → List WordValue
-touched_few rows change = few_touched (touched_words rows change)
+touched_few rows change = few_touched_words (touched_words rows change)
 
 -- the words that were listed are all of them, or both are too many to send
-abbrev pub AreListed : List WordValue → List WordValue → Type 0
-AreListed listed words = (listed ≡ words) ⊎ ((16 < length listed) × (16 < length words))
+abbrev pub AreTouchedListed : List WordValue → List WordValue → Type 0
+AreTouchedListed listed words = (listed ≡ words) ⊎ ((16 < length listed) × (16 < length words))
 
 -- these words are listed after those that were listed before
-abbrev pub ListsMore : List WordValue → List WordValue → List WordValue → Type 0
-ListsMore before after more =
-    (words : List WordValue) → AreListed before words → AreListed after (words ++ more)
+abbrev pub ListsMoreTouched : List WordValue → List WordValue → List WordValue → Type 0
+ListsMoreTouched before after more =
+    (words : List WordValue) → AreTouchedListed before words → AreTouchedListed after (words ++ more)

@@ -3,17 +3,17 @@ ghost use Rattle.net_file.specs.Net.{IsNet};
 ghost use Rattle.ctrl_msg.specs.Kinds.{is_for_controller};
 ghost use Rattle.ctrl_msg.specs.declared.message.Body.TheVariants.{Hello};
 ghost use Rattle.switch_table.specs.Tables.{AreSoundTables};
-ghost use Rattle.version_update.specs.Marks.{StaySettled, at_switch, record_of, with_version, MarksValue};
+ghost use Rattle.version_update.specs.Marks.{MarksStaySettled, at_switch, record_of, with_version, MarksValue};
 ghost use Rattle.version_update.specs.Record.{is_member, is_over, after_over};
 ghost use Rattle.version_update.specs.Settling.{Settles};
 ghost use Rattle.version_update.specs.declared.marks.SubmitError.TheVariants.{TooManyLive, TooManyVersions};
 ghost use Rattle.version_update.specs.declared.record.Phase.TheVariants.{Joining, Member};
-ghost use Rattle.controller.specs.Exports.{IsController, IsLeft, NamesBoth, NamesThere, SettlesWith, StaysController, SubmitsPlan, after_reply, boot_recorded, current_plan, current_touched, first_controller, hear_acts, install_act, kept_tables, kept_touched, marks_after, newest_policy, next_kept, plans_from, resend_acts, resend_acts_to, settling_acts, submit_acts, switches_where};
+ghost use Rattle.controller.specs.Exports.{IsController, IsLeftByRefusal, NamesSwitchAndVersion, ReplyNamesExist, SettlesWith, StaysController, SubmitsPlan, record_after_reply, boot_recorded, current_plan, current_touched, first_controller, hear_acts, install_act, kept_tables, kept_touched, marks_after, newest_policy, next_kept_plan, kept_plans_from, resend_acts, resend_acts_to, settling_acts, submit_acts, switches_by_record};
 ghost use Rattle.base.specs.declared.error.Failure.TheVariants.{Refused, NoMemory};
 
 use crate::plan::Plan;
 use crate::replying::Reply;
-use crate::resending::{collect_again, install_missing, stamp_again};
+use crate::resending::{install_missing, resend_collects, stamp_again};
 use crate::sends::{Act, Sends};
 use crate::settling::{settle, settled_sends};
 use crate::version::Version;
@@ -119,16 +119,16 @@ impl Controller {
     /// but what it causes is lost.
     pub fn submit(&mut self, plan: Plan, touched: Touched) -> Result<Sends, Failure<SubmitError>>
         ensures after { OnOk result
-            (SubmitsPlan self.old (next_kept self.old plan touched) self.new) }
+            (SubmitsPlan self.old (next_kept_plan self.old plan touched) self.new) }
         ensures newest { OnOk result (newest_policy self.new ≡ Some plan.policy) }
         ensures sends { IfOk result (λ sends.
-            sends ≡ submit_acts self.old.marks (next_kept self.old plan touched) self.new) }
+            sends ≡ submit_acts self.old.marks (next_kept_plan self.old plan touched) self.new) }
         ensures live { (result ≡ Err (Refused TooManyLive))
             ↔ (self.old.marks.count - self.old.marks.retired ≡ 8) }
         ensures versions { (result ≡ Err (Refused TooManyVersions))
             ↔ ((self.old.marks.count - self.old.marks.retired ≢ 8) × (self.old.marks.count ≡ 64)) }
         ensures refused { IfErr result
-            (IsLeft self.old (next_kept self.old plan touched) self.new) }
+            (IsLeftByRefusal self.old (next_kept_plan self.old plan touched) self.new) }
         ensures rule { StaysController self.old self.new }
     {
         let alloc = *self.versions.allocator();
@@ -146,7 +146,7 @@ impl Controller {
     /// # Errors
     /// Only out of memory; what the message says is recorded even then.
     pub fn hear(&mut self, body: &Body) -> Result<Sends, AllocError>
-        requires { NamesThere body.now self.old.marks }
+        requires { ReplyNamesExist body.now self.old.marks }
         ensures after { SettlesWith
             (marks_after body.now self.old.marks) self.old.plans self.new }
         ensures newest { newest_policy self.new ≡ newest_policy self.old }
@@ -230,7 +230,7 @@ impl Controller {
         acts.push(Act::post(s, Body::OpenAt { boot, version }))?;
         install_missing(&mut acts, alloc, &self.marks, &self.versions, s, next)?;
         stamp_again(&mut acts, &self.marks, &self.versions, s)?;
-        collect_again(&mut acts, &self.marks, s)?;
+        resend_collects(&mut acts, &self.marks, s)?;
         Ok(Sends::from_items(acts))
     }
 
@@ -239,19 +239,19 @@ impl Controller {
         requires live { self.old.marks.count - self.old.marks.retired ≢ 8 }
         requires versions { self.old.marks.count ≢ 64 }
         ensures after { OnOk result
-            (SubmitsPlan self.old (next_kept self.old plan touched) self.new) }
+            (SubmitsPlan self.old (next_kept_plan self.old plan touched) self.new) }
         ensures newest { OnOk result (newest_policy self.new ≡ Some plan.policy) }
         ensures sends { IfOk result (λ sends.
-            sends ≡ submit_acts self.old.marks (next_kept self.old plan touched) self.new) }
+            sends ≡ submit_acts self.old.marks (next_kept_plan self.old plan touched) self.new) }
         ensures left { OnErr result
-            (IsLeft self.old (next_kept self.old plan touched) self.new NoMemory) }
+            (IsLeftByRefusal self.old (next_kept_plan self.old plan touched) self.new NoMemory) }
         ensures rule { StaysController self.old self.new }
     {
         // For the proof: the contract of `hosted` says that the plan is sound.
         let _ = plan.hosted();
         let number = self.marks.count() + 1;
         let version = Version::new(alloc, number, plan, touched, self.marks.switches())?;
-        let mut acts = install_each(alloc, &self.marks, &version)?;
+        let mut acts = install_at_each(alloc, &self.marks, &version)?;
         self.versions.push(version)?;
         let settled = add_version(&mut self.marks);
         settle(&mut acts, &mut self.versions, &self.marks, &settled)?;
@@ -292,12 +292,12 @@ impl Controller {
         boot: u32,
         version: u32,
     ) -> Result<Sends, AllocError>
-        requires { NamesBoth s version self.old.marks }
-        ensures after { SettlesWith (at_switch s (after_reply reply boot version) self.old.marks)
+        requires { NamesSwitchAndVersion s version self.old.marks }
+        ensures after { SettlesWith (at_switch s (record_after_reply reply boot version) self.old.marks)
             self.old.plans self.new }
         ensures sends { IfOk result (λ sends. sends
             ≡ settling_acts (current_touched self.new)
-            (at_switch s (after_reply reply boot version) self.old.marks) self.new.marks) }
+            (at_switch s (record_after_reply reply boot version) self.old.marks) self.new.marks) }
         ensures rule { StaysController self.old self.new }
     {
         let settled = reply.take_in(&mut self.marks, s, boot, version);
@@ -310,7 +310,7 @@ fn add_version(marks: &mut Marks) -> Settled
     requires live { marks.old.count - marks.old.retired ≢ 8 }
     requires versions { marks.old.count ≢ 64 }
     ensures settled { Settles (with_version marks.old) marks.new result }
-    ensures rule { StaySettled marks.old marks.new }
+    ensures rule { MarksStaySettled marks.old marks.new }
 {
     match marks.submit() {
         Ok(settled) => settled,
@@ -320,10 +320,10 @@ fn add_version(marks: &mut Marks) -> Settled
 }
 
 // Sends the version to each switch that isn't over.
-fn install_each(alloc: Global, marks: &Marks, version: &Version) -> Result<Vec<Act>, AllocError>
+fn install_at_each(alloc: Global, marks: &Marks, version: &Version) -> Result<Vec<Act>, AllocError>
     ensures { IfOk result (λ acts. acts.items
         ≡ map (λ s. install_act s (boot_recorded marks.now s) version.now)
-        (switches_where (λ known. not (is_over known.phase)) marks.now.switches)) }
+        (switches_by_record (λ known. not (is_over known.phase)) marks.now.switches)) }
 {
     let mut acts = Vec::new(alloc);
     for s in 0..marks.switches() {
@@ -354,7 +354,7 @@ fn hello_sends(
         → IfOk result (λ sends. sends
         ≡ settling_acts (kept_touched versions.new.items marks.now.current) before marks.now
         ++ (if settled.now.taken then map (install_act s boot) versions.new.items else [])) }
-    ensures versions { versions.new.items ≡ plans_from marks.now.current versions.old.items }
+    ensures versions { versions.new.items ≡ kept_plans_from marks.now.current versions.old.items }
 {
     let mut acts = Vec::new(alloc);
     settle(&mut acts, versions, marks, settled)?;

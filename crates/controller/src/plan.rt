@@ -63,7 +63,7 @@ impl Plan {
         ensures policy { IfOk result (λ plan. plan.policy ≡ policy) }
         ensures hosted { IfOk result (λ plan. plan.hosted ≡ zip parts.items targets.now) }
     {
-        let hosted = host_each(alloc, parts, targets)?;
+        let hosted = hosted_partitions(alloc, parts, targets)?;
         let rows = rows_of(alloc, &hosted)?;
         let shared = Rc::new(
             alloc,
@@ -128,7 +128,7 @@ impl Clone for Plan {
 }
 
 // The partitions with their targets.
-fn host_each(
+fn hosted_partitions(
     alloc: Global,
     parts: Vec<Partition>,
     targets: &[Targets],

@@ -1,6 +1,6 @@
 ghost use Rattle.std.specs.Prelude.{◌≡◌};
 ghost use Rattle.controller.specs.declared.plan_error.PlanError.TheVariants.{NoMemory};
-ghost use Rattle.controller.specs.Causes.{of_rules, of_tree, of_placement};
+ghost use Rattle.controller.specs.Causes.{rules_plan_cause, tree_plan_cause, placement_plan_cause};
 
 use base::Failure;
 use cut_tree::TooManyLeaves;
@@ -26,7 +26,7 @@ pub enum PlanError {
 }
 
 impl From<Failure<TooManyWords>> for PlanError {
-    ghost from_gives = { λ error e. e ≡ of_rules error };
+    ghost from_gives = { λ error e. e ≡ rules_plan_cause error };
 
     fn from(error: Failure<TooManyWords>) -> Self {
         match error {
@@ -37,7 +37,7 @@ impl From<Failure<TooManyWords>> for PlanError {
 }
 
 impl From<Failure<TooManyLeaves>> for PlanError {
-    ghost from_gives = { λ error e. e ≡ of_tree error };
+    ghost from_gives = { λ error e. e ≡ tree_plan_cause error };
 
     fn from(error: Failure<TooManyLeaves>) -> Self {
         match error {
@@ -48,7 +48,7 @@ impl From<Failure<TooManyLeaves>> for PlanError {
 }
 
 impl From<Failure<NoRoom>> for PlanError {
-    ghost from_gives = { λ error e. e ≡ of_placement error };
+    ghost from_gives = { λ error e. e ≡ placement_plan_cause error };
 
     fn from(error: Failure<NoRoom>) -> Self {
         match error {

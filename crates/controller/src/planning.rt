@@ -1,6 +1,6 @@
 ghost use Rattle.std.specs.Prelude.{◌≡◌, ◌^◌, ◌<◌, length, All, Ok, IfOk, IfErr};
 ghost use Rattle.net_file.specs.Net.{IsNet};
-ghost use Rattle.partition.specs.Plan.{IsPlan, plan_of, rooms_of, sizes_of};
+ghost use Rattle.partition.specs.Plan.{IsPartitionPlan, plan_of, rooms_of, sizes_of};
 ghost use Rattle.controller.specs.Leads.{LeadEveryHeader};
 ghost use Rattle.controller.specs.Plan.{RefusesPlan};
 
@@ -24,7 +24,7 @@ use std::alloc::{AllocError, Global};
 pub fn compile(alloc: Global, policy: &Policy, net: &Net) -> Result<Plan, PlanError>
     requires { IsNet net.now }
     ensures plan { IfOk result (λ plan. plan_of policy.now net.now ≡ Ok plan.hosted) }
-    ensures parts { IfOk result (λ plan. IsPlan policy.now net.now plan.hosted) }
+    ensures parts { IfOk result (λ plan. IsPartitionPlan policy.now net.now plan.hosted) }
     ensures leads { IfOk result (λ plan. LeadEveryHeader policy.now plan.hosted) }
     ensures policy { IfOk result (λ plan. plan.policy ≡ policy.now) }
     ensures refused { IfErr result (RefusesPlan policy.now net.now) }

@@ -3,7 +3,7 @@ ghost use Rattle.std.specs.Prelude.{◌≡◌, ◌++◌, ◌+◌, ◌<◌, ◌�
 ghost use Rattle.version_update.specs.Record.{is_member};
 ghost use Rattle.version_update.specs.Marks.{record_of};
 ghost use Rattle.controller.specs.Controller.{kept_touched};
-ghost use Rattle.controller.specs.Sends.{is_missing, missing_installs, stamp_again, collect_again};
+ghost use Rattle.controller.specs.Sends.{is_missing, missing_installs, stamp_again, resend_collects};
 
 use crate::sends::Act;
 use crate::settling::touched_by;
@@ -84,9 +84,9 @@ pub fn stamp_again(
 ///
 /// # Errors
 /// Only out of memory.
-pub fn collect_again(acts: &mut Vec<Act>, marks: &Marks, s: u32) -> Result<(), AllocError>
+pub fn resend_collects(acts: &mut Vec<Act>, marks: &Marks, s: u32) -> Result<(), AllocError>
     requires { s < length marks.now.switches }
-    ensures { OnOk result (acts.new.items ≡ acts.old.items ++ collect_again marks.now s) }
+    ensures { OnOk result (acts.new.items ≡ acts.old.items ++ resend_collects marks.now s) }
 {
     let boot = marks.boot(s);
     let version = marks.retired();

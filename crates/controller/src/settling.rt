@@ -3,7 +3,7 @@ ghost use Rattle.std.specs.Prelude.{◌≡◌, ◌==◌, ◌∷◌, ◌++◌, �
 ghost use Rattle.std.specs.Option.{option_copied};
 ghost use Rattle.version_update.specs.Marks.{MarksValue};
 ghost use Rattle.version_update.specs.Settling.{Settles};
-ghost use Rattle.controller.specs.Exports.{body_of, kept_touched, plans_from, settling_acts, switches_named, posts_to};
+ghost use Rattle.controller.specs.Exports.{news_body_of, kept_touched, kept_plans_from, settling_acts, switches_in_mask, controller_posts_to};
 
 use crate::sends::{Act, Sends};
 use crate::version::Version;
@@ -24,7 +24,7 @@ pub enum News {
 
 impl News {
     fn body(&self, boot: u32, version: u32) -> Result<Body, AllocError>
-        ensures { IfOk result (λ body. body ≡ body_of self.now version boot) }
+        ensures { IfOk result (λ body. body ≡ news_body_of self.now version boot) }
     {
         let body = match self {
             News::Stamp(touched) => Body::Stamp {
@@ -53,24 +53,24 @@ pub fn settle(
     ensures acts { OnOk result ((before : MarksValue) → Settles before marks.now settled.now
         → acts.new.items ≡ acts.old.items
         ++ settling_acts (kept_touched versions.new.items marks.now.current) before marks.now) }
-    ensures versions { versions.new.items ≡ plans_from marks.now.current versions.old.items }
+    ensures versions { versions.new.items ≡ kept_plans_from marks.now.current versions.old.items }
 {
-    let_go(versions, marks.current());
+    drop_old_plans(versions, marks.current());
     if let Some(current) = settled.current {
-        tell_current(acts, versions, marks, settled.stamps, current)?;
+        tell_current_version(acts, versions, marks, settled.stamps, current)?;
     }
     let current = marks.current();
-    send_to_each(acts, marks, settled.opens, &News::OpenAt, current)?;
+    send_to_switches(acts, marks, settled.opens, &News::OpenAt, current)?;
     if let Some(retired) = settled.retired {
         acts.push(Act::Retired(retired))?;
-        send_to_each(acts, marks, settled.collects, &News::Collect, retired)?;
+        send_to_switches(acts, marks, settled.collects, &News::Collect, retired)?;
     }
     Ok(())
 }
 
 // Adds that a new version is the current one, and for the switches of the mask the message to stamp
 // with it, which carries what its change touches.
-fn tell_current(
+fn tell_current_version(
     acts: &mut Vec<Act>,
     versions: &[Version],
     marks: &Marks,
@@ -78,12 +78,12 @@ fn tell_current(
     current: u32,
 ) -> Result<(), AllocError>
     ensures { OnOk result (acts.new.items ≡ acts.old.items ++ Act.Current current ∷ []
-        ++ posts_to marks.now (λ boot. Body.Stamp boot current (kept_touched versions.now current))
-        (switches_named mask (length marks.now.switches))) }
+        ++ controller_posts_to marks.now (λ boot. Body.Stamp boot current (kept_touched versions.now current))
+        (switches_in_mask mask (length marks.now.switches))) }
 {
     acts.push(Act::Current(current))?;
     let news = News::Stamp(touched_by(*acts.allocator(), versions, current)?);
-    send_to_each(acts, marks, mask, &news, current)
+    send_to_switches(acts, marks, mask, &news, current)
 }
 
 /// What is sent after the marks settled with this result. It drops versions before the current one.
@@ -99,7 +99,7 @@ pub fn settled_sends(
     ensures sends { (before : MarksValue) → Settles before marks.now settled.now
         → IfOk result (λ sends. sends
         ≡ settling_acts (kept_touched versions.new.items marks.now.current) before marks.now) }
-    ensures versions { versions.new.items ≡ plans_from marks.now.current versions.old.items }
+    ensures versions { versions.new.items ≡ kept_plans_from marks.now.current versions.old.items }
 {
     let mut acts = Vec::new(alloc);
     settle(&mut acts, versions, marks, settled)?;
@@ -107,8 +107,8 @@ pub fn settled_sends(
 }
 
 // Drops the versions before the current one: no later call names them.
-fn let_go(versions: &mut Vec<Version>, current: u32)
-    ensures { versions.new.items ≡ plans_from current versions.old.items }
+fn drop_old_plans(versions: &mut Vec<Version>, current: u32)
+    ensures { versions.new.items ≡ kept_plans_from current versions.old.items }
 {
     versions.retain(|kept| current <= kept.version());
 }
@@ -124,20 +124,20 @@ pub fn touched_by(
 ) -> Result<Shared<Touched>, AllocError>
     ensures { IfOk result (λ touched. touched ≡ kept_touched versions.now version) }
 {
-    match find_version(versions, version) {
+    match find_kept_version(versions, version) {
         Some(kept) => kept.touched(),
         None => Shared::new(alloc, Touched::all()),
     }
 }
 
-fn find_version(versions: &[Version], version: u32) -> Option<&Version>
+fn find_kept_version(versions: &[Version], version: u32) -> Option<&Version>
     ensures { option_copied result ≡ find (λ kept. kept.version == version) versions.now }
 {
     versions.iter().find(|kept| kept.version() == version)
 }
 
 // Adds the message to each switch of the mask, for its known boot.
-fn send_to_each(
+fn send_to_switches(
     acts: &mut Vec<Act>,
     marks: &Marks,
     mask: u64,
@@ -145,8 +145,8 @@ fn send_to_each(
     version: u32,
 ) -> Result<(), AllocError>
     ensures { OnOk result (acts.new.items
-        ≡ acts.old.items ++ posts_to marks.now (body_of news.now version)
-        (switches_named mask (length marks.now.switches))) }
+        ≡ acts.old.items ++ controller_posts_to marks.now (news_body_of news.now version)
+        (switches_in_mask mask (length marks.now.switches))) }
 {
     for s in 0..marks.switches() {
         if has(mask, s) {

@@ -4,10 +4,10 @@ ghost use Rattle.std.specs.List.{flat_map};
 ghost use Rattle.std.specs.Option.{option_copied, option_map_or};
 ghost use Rattle.policy_rules.specs.Exports.{IsSoundRow};
 ghost use Rattle.policy_rules.specs.Words.{words_of_row};
-ghost use Rattle.switch_table.specs.Carried.{few_touched};
-ghost use Rattle.controller.specs.Exports.{ListsMore, touched_few};
+ghost use Rattle.switch_table.specs.Carried.{few_touched_words};
+ghost use Rattle.controller.specs.Exports.{ListsMoreTouched, touched_few};
 
-use policy_rules::{Amendment, Policy, Row, push_row_words};
+use policy_rules::{Amendment, Policy, Row, push_match_words};
 use std::alloc::{AllocError, Global};
 use switch_table::Touched;
 use ternary::Word;
@@ -25,14 +25,14 @@ pub fn touched(alloc: Global, policy: &Policy, change: &Amendment) -> Result<Tou
     ensures { IfOk result (λ touched. touched ≡ touched_few policy.now change.now) }
 {
     let mut words = Vec::new(alloc);
-    list_removed(&mut words, policy.rows(), change.removed())?;
-    list_added(&mut words, change.added())?;
+    touch_removed_rows(&mut words, policy.rows(), change.removed())?;
+    touch_added_rows(&mut words, change.added())?;
     Ok(touched_by_words(words))
 }
 
 // These words, or everything, if there are too many to send.
 fn touched_by_words(words: Vec<Word>) -> Touched
-    ensures { result ≡ few_touched words.items }
+    ensures { result ≡ few_touched_words words.items }
 {
     match Touched::new(words) {
         Some(touched) => touched,
@@ -41,41 +41,45 @@ fn touched_by_words(words: Vec<Word>) -> Touched
 }
 
 // Adds the words of the rows of these priorities, up to the most that may be sent.
-fn list_removed(words: &mut Vec<Word>, rows: &[Row], removed: &[u32]) -> Result<(), AllocError>
+fn touch_removed_rows(
+    words: &mut Vec<Word>,
+    rows: &[Row],
+    removed: &[u32],
+) -> Result<(), AllocError>
     requires { All IsSoundRow rows.now }
-    ensures { OnOk result (ListsMore words.old.items words.new.items (flat_map words_of_row
+    ensures { OnOk result (ListsMoreTouched words.old.items words.new.items (flat_map words_of_row
         (filter_map (λ priority. find (λ row. row.priority == priority) rows.now) removed.now))) }
 {
     for priority in removed {
-        list_row_of(words, rows, *priority)?;
+        touch_row_of(words, rows, *priority)?;
     }
     Ok(())
 }
 
 // Adds the words of the rows, up to the most that may be sent.
-fn list_added(words: &mut Vec<Word>, rows: &[Row]) -> Result<(), AllocError>
+fn touch_added_rows(words: &mut Vec<Word>, rows: &[Row]) -> Result<(), AllocError>
     requires { All IsSoundRow rows.now }
-    ensures { OnOk result (ListsMore words.old.items words.new.items
+    ensures { OnOk result (ListsMoreTouched words.old.items words.new.items
         (flat_map words_of_row rows.now)) }
 {
     for row in rows {
-        list_row(words, row)?;
+        touch_row(words, row)?;
     }
     Ok(())
 }
 
 // Adds the words of the row of this priority, unless there are already more than may be sent: then
 // it doesn't search for the row.
-fn list_row_of(words: &mut Vec<Word>, rows: &[Row], priority: u32) -> Result<(), AllocError>
+fn touch_row_of(words: &mut Vec<Word>, rows: &[Row], priority: u32) -> Result<(), AllocError>
     requires { All IsSoundRow rows.now }
-    ensures { OnOk result (ListsMore words.old.items words.new.items
+    ensures { OnOk result (ListsMoreTouched words.old.items words.new.items
         (option_map_or words_of_row (find (λ row. row.priority == priority) rows.now) [])) }
 {
     if words.len() > MAX_TOLD {
         return Ok(());
     }
     match find_row(rows, priority) {
-        Some(row) => list_row(words, row),
+        Some(row) => touch_row(words, row),
         None => Ok(()),
     }
 }
@@ -87,12 +91,12 @@ fn find_row(rows: &[Row], priority: u32) -> Option<&Row>
 }
 
 // Adds the words of a row, unless there are already more than may be sent.
-fn list_row(words: &mut Vec<Word>, row: &Row) -> Result<(), AllocError>
+fn touch_row(words: &mut Vec<Word>, row: &Row) -> Result<(), AllocError>
     requires { IsSoundRow row.now }
-    ensures { OnOk result (ListsMore words.old.items words.new.items (words_of_row row.now)) }
+    ensures { OnOk result (ListsMoreTouched words.old.items words.new.items (words_of_row row.now)) }
 {
     if words.len() > MAX_TOLD {
         return Ok(());
     }
-    push_row_words(words, row)
+    push_match_words(words, row)
 }

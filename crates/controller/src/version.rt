@@ -57,7 +57,7 @@ impl Version {
             kept ≡ record { version = version; plan = plan; touched = touched }) }
     {
         let touched = Shared::new(alloc, touched)?;
-        let made = make_each(alloc, version, &plan, switches)?;
+        let made = make_switch_tables(alloc, version, &plan, switches)?;
         Ok(Version {
             version,
             plan,
@@ -116,7 +116,7 @@ impl Version {
 }
 
 // The tables of each switch.
-fn make_each(
+fn make_switch_tables(
     alloc: Global,
     version: u32,
     plan: &Plan,

@@ -1,19 +1,19 @@
 -- So of the links that end where it reaches, a switch knows exactly the usable ones.
 use Rattle.std.proofs.Common.{[], ◌&&◌, ◌++◌, ◌<◌, ◌==◌, ◌∙◌, ◌∷◌, ◌≡◌, ◌≢◌, ◌⊎◌, All, Bool, IsTrue, List, None, Some, ap, arith, false, get_or, get_or-set_other, get_or-set_same, inl, inr, length, map, not, refl, set, slice_index, subst, sym, true, ℕ, rules}
 use Rattle.base.proofs.Exports.{All-from_recursion, cases_eq, length-map, nat_tests}
-use Rattle.failover.specs.Exports.{AreJoined, LinksLead, has_link, is_link, named_links, neighbours_named}
+use Rattle.failover.specs.Exports.{AreJoinedByLinks, LinksLeadTo, has_link, is_link, named_links, neighbours_named}
 use Rattle.update_machine.specs.Exports.{Advert, Item, Setting, advert_known, adverts_known, adverts_of_others, is_up, links_known, near, own_advert, route_from, serves}
 use Rattle.base.specs.Exports.{has}
 use Rattle.net_file.specs.Exports.{IsNet, are_linked}
 use Rattle.steps.specs.Exports.{HasSwitch}
 use Rattle.control_laws.specs.Exports.{OwnAreNewest}
 use Rattle.control_laws.proofs.Exports.{claimed_mask, ends_serve, near_linked, own_origin, second}
-use Rattle.convergence_laws.specs.Exports.{AreUnusable, HasConverged, IsAsNew, LeadsOver, NeighboursAgree, Reaches}
-use Rattle.convergence_laws.proofs.AgreeingNeighbours.{TellsOwn}
-use Rattle.convergence_laws.proofs.ChangedLinksTold.{AreEnds, ends_there, near_back, near_both, own_held}
+use Rattle.convergence_laws.specs.Exports.{AreUnusableLinks, HasConverged, IsAsNew, LeadsOverUsable, NeighboursAgree, Reaches}
+use Rattle.convergence_laws.proofs.ConvergenceAgreement.{TellsOwn}
+use Rattle.convergence_laws.proofs.ConvergenceLinkChanges.{AreEnds, ends_there, near_back, near_both, own_held}
 use Rattle.policy_rules.proofs.CallerLemmas.{each_weaker}
 use Rattle.failover.proofs.RouteSearch.{length-known_links, straight_path}
-use Rattle.net_file.proofs.RowPlaces.{links}
+use Rattle.net_file.proofs.NetFileRowPlaces.{links}
 use Rattle.update_machine.proofs.Exports.{has_known_link, known_places, unreached}
 
 -- ---- where neighbours agree the adverts have spread, so each switch knows the links that can be
@@ -75,7 +75,7 @@ edge_holds setting journal are at next origin small up linked holds = by_place (
 -- so does each switch from which links lead there
 pub leads_hold : (setting : Setting) (journal : List Item) → AreAgreed setting journal
     → (origin at : ℕ) (rest : List ℕ) → origin < 64 → IsTrue (is_up journal origin)
-    → LeadsOver setting journal origin at rest → HoldsOwn setting journal at origin
+    → LeadsOverUsable setting journal origin at rest → HoldsOwn setting journal at origin
 leads_hold setting journal are origin at [] small up leads = inl leads
 leads_hold setting journal are origin at (next ∷ rest) small up leads =
     search (rules, edge_holds, leads_hold setting journal are origin next rest small up leads.1)
@@ -87,7 +87,7 @@ pub record IsThere (setting : Setting) (journal : List Item) (s : ℕ) : Type 0 
 
 leads_there : (setting : Setting) (journal : List Item) → AreAgreed setting journal
     → (target at : ℕ) (rest : List ℕ) → IsThere setting journal at
-    → LeadsOver setting journal target at rest → IsThere setting journal target
+    → LeadsOverUsable setting journal target at rest → IsThere setting journal target
 leads_there setting journal are target at [] is leads = subst (IsThere setting journal) leads is
 leads_there setting journal are target at (next ∷ rest) is leads =
     leads_there setting journal are target next rest (record {
@@ -110,7 +110,7 @@ pub adverts_reach : (setting : Setting) (journal : List Item) → AreAgreed sett
 adverts_reach setting journal are s origin apart reaches = by_holds (reached_holds setting journal
     are s origin (begins reaches.rest reaches.leads) reaches)
   where
-    begins : (rest : List ℕ) → LeadsOver setting journal origin s rest → IsThere setting journal s
+    begins : (rest : List ℕ) → LeadsOverUsable setting journal origin s rest → IsThere setting journal s
     begins [] leads = absurd (apart leads)
     begins (next ∷ rest) leads = record {
       there = (ends_there setting journal s next are.net leads.0).one;
@@ -159,8 +159,8 @@ reach_more setting journal from at next reaches linked = record {
   rest = reaches.rest ++ next ∷ [];
   leads = longer from reaches.rest reaches.leads;
 } where
-  longer : (start : ℕ) (rest : List ℕ) → LeadsOver setting journal at start rest
-      → LeadsOver setting journal next start (rest ++ next ∷ [])
+  longer : (start : ℕ) (rest : List ℕ) → LeadsOverUsable setting journal at start rest
+      → LeadsOverUsable setting journal next start (rest ++ next ∷ [])
   longer start [] leads = (rw leads linked, refl)
   longer start (step ∷ rest) leads = (leads.0, longer step rest leads.1)
 
@@ -170,7 +170,7 @@ four w x y z p q r t = rw (p, q, r, t) refl
 
 known_usable : (setting : Setting) (journal : List Item) → AreAgreed setting journal
     → (s one other : ℕ) (down : List ℕ) → IsThere setting journal s → Reaches setting journal s one
-    → one < 64 → other < 64 → AreJoined (links_known setting journal s down) one other
+    → one < 64 → other < 64 → AreJoinedByLinks (links_known setting journal s down) one other
     → IsTrue (has (near setting journal one) other)
 unfolding is_link
 known_usable setting journal are s one other down is reaches small fits joined =
@@ -182,8 +182,8 @@ known_usable setting journal are s one other down is reaches small fits joined =
 
 usable_known : (setting : Setting) (journal : List Item) → AreAgreed setting journal
     → (s one other : ℕ) (down : List ℕ) → IsThere setting journal s → Reaches setting journal s one
-    → AreUnusable setting journal down → IsTrue (has (near setting journal one) other)
-    → AreJoined (links_known setting journal s down) one other
+    → AreUnusableLinks setting journal down → IsTrue (has (near setting journal one) other)
+    → AreJoinedByLinks (links_known setting journal s down) one other
 unfolding is_link
 usable_known setting journal are s one other down is reaches unusable linked =
     let rows : List ℕ = named_links (adverts_known setting journal s) s (near setting journal s) in
@@ -214,7 +214,7 @@ usable_known setting journal are s one other down is reaches unusable linked =
 -- where links lead is a switch with a number below 64
 reached_small : (setting : Setting) (journal : List Item) → AreAgreed setting journal
     → (s target : ℕ) → HasSwitch setting.net s → (rest : List ℕ)
-    → LeadsOver setting journal target s rest → target < 64
+    → LeadsOverUsable setting journal target s rest → target < 64
 reached_small setting journal are s target there [] leads = omega (arith, small_of)
 reached_small setting journal are s target there (next ∷ rest) leads = reached_small setting journal
     are next target (ends_there setting journal s next are.net leads.0).other rest leads.1
@@ -223,9 +223,9 @@ reached_small setting journal are s target there (next ∷ rest) leads = reached
 
 leads_known : (setting : Setting) (journal : List Item) → AreAgreed setting journal
     → (s target : ℕ) (down : List ℕ) → IsThere setting journal s
-    → AreUnusable setting journal down → (at : ℕ) (rest : List ℕ) → Reaches setting journal s at
-    → LeadsOver setting journal target at rest
-    → LinksLead (links_known setting journal s down) target at rest
+    → AreUnusableLinks setting journal down → (at : ℕ) (rest : List ℕ) → Reaches setting journal s at
+    → LeadsOverUsable setting journal target at rest
+    → LinksLeadTo (links_known setting journal s down) target at rest
 leads_known setting journal are s target down is unusable at [] reaches leads = leads
 leads_known setting journal are s target down is unusable at (next ∷ rest) reaches leads = (
   small_of setting are.net next (ends_there setting journal at next are.net leads.0).other,
@@ -235,9 +235,9 @@ leads_known setting journal are s target down is unusable at (next ∷ rest) rea
 
 -- a walk over usable links is one over known links
 way_known : (setting : Setting) (journal : List Item) → AreAgreed setting journal
-    → (s target : ℕ) (down : List ℕ) → AreUnusable setting journal down → (rest : List ℕ)
-    → LeadsOver setting journal target s rest
-    → LinksLead (links_known setting journal s down) target s rest
+    → (s target : ℕ) (down : List ℕ) → AreUnusableLinks setting journal down → (rest : List ℕ)
+    → LeadsOverUsable setting journal target s rest
+    → LinksLeadTo (links_known setting journal s down) target s rest
 way_known setting journal are s target down unusable [] leads = leads
 way_known setting journal are s target down unusable (next ∷ rest) leads =
     leads_known setting journal are s target down (record {
@@ -247,7 +247,7 @@ way_known setting journal are s target down unusable (next ∷ rest) leads =
 
 stuck_apart : (setting : Setting) (journal : List Item) → AreAgreed setting journal
     → (s : ℕ) (targets down : List ℕ) → HasSwitch setting.net s
-    → AreUnusable setting journal down → route_from setting journal s targets down ≡ None
+    → AreUnusableLinks setting journal down → route_from setting journal s targets down ≡ None
     → All (λ target. Reaches setting journal s target → ⊥) targets
 stuck_apart setting journal are s targets down there unusable none =
     All-from_recursion (λ target. Reaches setting journal s target → ⊥) targets

@@ -2,13 +2,13 @@
 use Rattle.std.proofs.Common.{[], ◌&&◌, ◌++◌, ◌<◌, ◌==◌, ◌||◌, ◌∙◌, ◌∷◌, ◌≡◌, ◌≤◌, ◌⊎◌, Bool, IsFalse, IsTrue, List, Some, ap, append-nil, append_assoc, arith, eq-eqb, eqb-true, false, inl, inr, refl, subst, sym, true, ℕ, rules}
 use Rattle.base.proofs.Exports.{list_any, nat_tests, ⊤}
 use Rattle.ctrl_msg.specs.Exports.{body_boot, to_controller}
-use Rattle.update_machine.specs.Exports.{AreReceived, Body, HaveCauses, IsQuiet, IsReceived, IsReplaced, Item, Message, Place, Replaces, Sending, Setting, are_old_tables, begins_boot, boot_at, boot_of, changes_sendings, controller_heard, current_mark, folded_from, heard, is_for_boot, is_later_body, is_old_answer, is_up, matters, sendings, speaker, to_switch, was_delivered}
+use Rattle.update_machine.specs.Exports.{AreMessagesReceived, Body, HaveCauses, IsQuiet, IsMessageReceived, IsMessageReplaced, Item, Message, Place, MessageReplaces, Sending, Setting, are_old_tables, begins_boot, receiver_boot_at, boot_of, changes_sendings, controller_heard, current_mark, folded_from, heard, is_for_boot, is_later_body, is_old_answer, is_up, matters, sendings, speaking_in_body, to_switch, was_delivered}
 use Rattle.steps.specs.Exports.{HasSwitch}
 use Rattle.update_machine.proofs.Exports.{count_of_append}
 use Rattle.control_laws.specs.Exports.{HasItemCause}
 use Rattle.control_laws.proofs.Exports.{boot_more, boot_rises, have_weaker}
-use Rattle.convergence_laws.proofs.PlainItems.{IsIn, each_in, in_either, in_left, in_right}
-use Rattle.convergence_laws.proofs.MessageCourses.{AreTraced, IsInOrder, IsSent, IsTraced, SwitchCourse, caused_traced, sendings_more, sent_by}
+use Rattle.convergence_laws.proofs.ConvergencePlainItems.{IsIn, each_in, in_either, in_left, in_right}
+use Rattle.convergence_laws.proofs.ConvergenceMessages.{AreTraced, IsInOrder, IsSent, IsTraced, SwitchCourse, caused_traced, sendings_more, sent_by}
 
 -- ---- sendings
 
@@ -37,14 +37,14 @@ sendings_on journal (next ∷ items) x is = rw (append_assoc journal (next ∷ [
 -- what an item of a journal sends
 pub in_sendings : (journal front : List Item) (number : ℕ) (message : Message) (rest : List Item)
     → journal ≡ front ++ Item.Sent number message ∷ rest
-    → IsIn (record { number = number; message = message; boot = boot_at front message.to })
+    → IsIn (record { number = number; message = message; boot = receiver_boot_at front message.to })
     (sendings journal)
 in_sendings journal front number message rest is =
     let next : Item = Item.Sent number message in
     let x : Sending = record {
       number = number;
       message = message;
-      boot = boot_at front message.to;
+      boot = receiver_boot_at front message.to;
     } in
     subst (λ now. IsIn x (sendings now)) (append_assoc front (next ∷ []) rest ∙ sym is)
     (sendings_on (front ++ next ∷ []) rest x
@@ -56,9 +56,9 @@ record IsSentBehind (setting : Setting) (journal before items : List Item) (x : 
   between : List Item
   after : List Item
   is : items ≡ between ++ Item.Sent x.number x.message ∷ after
-  boot : x.boot ≡ boot_at (before ++ between) x.message.to
+  boot : x.boot ≡ receiver_boot_at (before ++ between) x.message.to
   received : (s : ℕ) → HasSwitch setting.net s → IsTrue (matters journal s x.message after)
-      → IsReceived x.number x.message after
+      → IsMessageReceived x.number x.message after
 
 behind_one : (setting : Setting) (journal before : List Item) (next : Item) (items : List Item)
     (x : Sending) → IsSentBehind setting journal (before ++ next ∷ []) items x
@@ -66,7 +66,7 @@ behind_one : (setting : Setting) (journal before : List Item) (next : Item) (ite
 behind_one setting journal before next items x sent = search (rules, append_assoc)
 
 sent_behind : (setting : Setting) (journal before : List Item) (value : List Sending)
-    (items : List Item) (x : Sending) → AreReceived setting journal items
+    (items : List Item) (x : Sending) → AreMessagesReceived setting journal items
     → IsIn x (folded_from changes_sendings before value items)
     → IsIn x value ⊎ IsSentBehind setting journal before items x
 sent_behind setting journal before value [] x received is = inl is
@@ -86,20 +86,20 @@ sent_behind setting journal before value (Item.Sent number message ∷ items) x 
     next = Item.Sent number message
 
     own : Sending
-    own = record { number = number; message = message; boot = boot_at before message.to }
+    own = record { number = number; message = message; boot = receiver_boot_at before message.to }
 
     first : IsSentBehind setting journal before (next ∷ items) own
     first = record {
       between = [];
       after = items;
       is = refl;
-      boot = ap (λ js. boot_at js message.to) (sym (append-nil before));
+      boot = ap (λ js. receiver_boot_at js message.to) (sym (append-nil before));
       received = received.0;
     }
 sent_behind setting journal before value (next ∷ items) x received is = search
     (rules, behind_one, sent_behind setting journal (before ++ next ∷ []) value items x received is)
 
-sent_at : (setting : Setting) (journal : List Item) (x : Sending) → AreReceived setting journal
+sent_at : (setting : Setting) (journal : List Item) (x : Sending) → AreMessagesReceived setting journal
     journal → IsIn x (sendings journal) → IsSentBehind setting journal [] journal x
 unfolding sendings
 sent_at setting journal x received is = elim (sent_behind _ journal [] [] journal x received is) [
@@ -175,7 +175,7 @@ record IsReplacedBy (message : Message) (after : List Item) : Type 0 where
   between : List Item
   behind : List Item
   is : after ≡ between ++ Item.Sent number later ∷ behind
-  replaces : Replaces later message
+  replaces : MessageReplaces later message
   delivered : IsTrue (was_delivered behind number)
 
 replaced_on : (message : Message) (next : Item) (after : List Item) → IsReplacedBy message after
@@ -190,7 +190,7 @@ replaced_on message next after found = record {
   delivered = found.delivered;
 }
 
-replaced_by : (message : Message) (after : List Item) → IsReplaced message after
+replaced_by : (message : Message) (after : List Item) → IsMessageReplaced message after
     → IsReplacedBy message after
 replaced_by message [] replaced = absurd replaced
 replaced_by message (Item.Sent number later ∷ after) replaced = elim replaced [
@@ -267,7 +267,7 @@ got setting journal s number boot to body quiet have there is own matter =
     whole : (t : ℕ) → boot_of ((at.between ++ next ∷ []) ++ at.after) t ≡ boot_of journal t
     whole t = ap (λ js. boot_of js t) (append_assoc at.between (next ∷ []) at.after ∙ sym at.is)
 
-    since : (of : Place) → boot ≡ boot_at at.between of → IsOwn journal of boot
+    since : (of : Place) → boot ≡ receiver_boot_at at.between of → IsOwn journal of boot
         → IsSince of at.after
     since (Place.Switch t) before own = no_boot setting (at.between ++ next ∷ []) at.after t
         behind.1 (omega (arith, whole t, boot_more at.between next t, before, own))
@@ -276,12 +276,12 @@ got setting journal s number boot to body quiet have there is own matter =
     by_replaced : IsReplacedBy message at.after → IsGot journal to body
     by_replaced found = record {
       number = found.number;
-      boot = boot_at front to;
+      boot = receiver_boot_at front to;
       body = found.later.body;
       is = subst (λ of. IsIn (record {
         number = found.number;
         message = record { to = of; body = found.later.body };
-        boot = boot_at front of;
+        boot = receiver_boot_at front of;
       }) (sendings journal)) found.replaces.receiver
           (in_sendings journal front found.number found.later found.behind split);
       says = found.replaces.says;
@@ -303,8 +303,8 @@ got setting journal s number boot to body quiet have there is own matter =
           × HaveCauses (HasItemCause setting) front (later ∷ found.behind)
       parts = have_split _ at.between _ (later ∷ found.behind) (rw found.is at behind)
 
-      still : (of : Place) → boot ≡ boot_at at.between of → IsOwn journal of boot
-          → IsOwn journal of (boot_at front of)
+      still : (of : Place) → boot ≡ receiver_boot_at at.between of → IsOwn journal of boot
+          → IsOwn journal of (receiver_boot_at front of)
       still (Place.Switch t) before own = omega (
         arith,
         before,
@@ -315,7 +315,7 @@ got setting journal s number boot to body quiet have there is own matter =
       )
       still Place.Controller before own = tt
 
-    by_received : IsReceived number message at.after → IsGot journal to body
+    by_received : IsMessageReceived number message at.after → IsGot journal to body
     by_received (inl delivered) = record {
       number = number;
       boot = boot;
@@ -407,7 +407,7 @@ heard_of setting journal s body quiet causes there sent up of new =
 pub told_of : (setting : Setting) (journal : List Item) (s : ℕ) (body : Body)
     → IsQuiet setting journal → HaveCauses (IsInOrder setting) [] journal → HasSwitch setting.net s
     → IsSent journal (to_controller body) → IsTrue (is_up journal s)
-    → speaker body ≡ Some (s, boot_of journal s)
+    → speaking_in_body body ≡ Some (s, boot_of journal s)
     → IsFalse (is_old_answer (current_mark journal) body) → WasHeard (controller_heard journal) body
 told_of setting journal s body quiet causes there sent up speaks new = record {
   body = later.body;

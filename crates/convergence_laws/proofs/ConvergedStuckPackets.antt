@@ -5,14 +5,14 @@ use Rattle.base.specs.Exports.{has}
 use Rattle.update_machine.specs.Exports.{Cause, Exit, HaveCauses, Header, Hop, Item, Leg, LinksKeep, Packet, Seek, Setting, Step, adverts_known, boot_of, changes_found, concerns_links, concerns_policies, found_down, heard, hop_items, is_up, near, packet_items, piece, plan_at, route_from, step_items, targets_in, targets_of}
 use Rattle.control_laws.proofs.Exports.{AreKept, IsWork, KnowsNoRoute, boot_more, fact_on, have_front, have_rest, have_weaker, heard_more, hop_work, packet_works, up_more}
 use Rattle.failover.specs.Exports.{has_link, no_links, with_link}
-use Rattle.failover.proofs.LinkSets.{has_link-none}
+use Rattle.failover.proofs.FailoverLinkSets.{has_link-none}
 use Rattle.net_file.specs.Exports.{IsNet}
 use Rattle.steps.specs.Exports.{HasSwitch}
 use Rattle.update_machine.proofs.Exports.{folded_append, have_first, links_keep, policies_keep}
-use Rattle.convergence_laws.specs.Exports.{AreUnusable, GetStuckApart, Reaches}
-use Rattle.convergence_laws.proofs.ChangedLinksTold.{near_back}
+use Rattle.convergence_laws.specs.Exports.{AreUnusableLinks, GetStuckApart, Reaches}
+use Rattle.convergence_laws.proofs.ConvergenceLinkChanges.{near_back}
 use Rattle.convergence_laws.proofs.ConvergedKnownLinks.{AreAgreed, agreed_converged}
-use Rattle.convergence_laws.proofs.PlainItems.{HasOthers, others_have}
+use Rattle.convergence_laws.proofs.ConvergencePlainItems.{HasOthers, others_have}
 
 -- ---- what packets' steps write: a packet is stuck only where its switch knows no route, and finds
 -- down only links that aren't usable.
@@ -100,8 +100,8 @@ more_links down x y a b is = by_row (cases_eq (min a b) low) where
   by_row (inr apart) = inl (rw (get_or-set_other down low (min a b) row 0 apart) at is)
 
 unusable_more : (setting : Setting) (journal : List Item) → IsNet setting.net
-    → (down : List ℕ) (x y : ℕ) → AreUnusable setting journal down
-    → IsFalse (has (near setting journal x) y) → AreUnusable setting journal (with_link down x y)
+    → (down : List ℕ) (x y : ℕ) → AreUnusableLinks setting journal down
+    → IsFalse (has (near setting journal x) y) → AreUnusableLinks setting journal (with_link down x y)
 unusable_more setting journal net down x y unusable none a b linked =
     search (rules, cases_eq, near_back, more_links)
 
@@ -112,7 +112,7 @@ pub record StaysSo (setting : Setting) (journal now : List Item) (i : ℕ) : Typ
   pub routes : (s : ℕ) (targets down : List ℕ)
       → route_from setting now s targets down ≡ route_from setting journal s targets down
   pub targets : (leg : Leg) → targets_of setting now leg ≡ targets_of setting journal leg
-  pub found : AreUnusable setting journal (found_down now i)
+  pub found : AreUnusableLinks setting journal (found_down now i)
 
 -- the switch is up in its boot as before, and heard what it had heard
 record IsSame (before after : List Item) (s : ℕ) : Type 0 where
@@ -147,7 +147,7 @@ found_more before next i = folded_append (changes_found i) no_links before (next
 found_on : (setting : Setting) (journal : List Item) → IsNet setting.net
     → (before : List Item) (next : Item) (i : ℕ) → Walks setting before next
     → StaysSo setting journal before i
-    → AreUnusable setting journal (found_down (before ++ next ∷ []) i)
+    → AreUnusableLinks setting journal (found_down (before ++ next ∷ []) i)
 found_on setting journal net before next i walks stays = search (rules, found_more, unusable_more)
 
 pub stays_on : (setting : Setting) (journal : List Item) → IsNet setting.net → (i : ℕ)
@@ -192,7 +192,7 @@ walk_apart setting journal are items front rest i s cause leg down walk is none 
     let knows : KnowsNoRoute setting (journal ++ front) i s leg down =
     (have_rest (Walks setting) journal front _ whole).0 in
     (agreed_converged setting journal are).stuck s (targets_of setting journal leg) down there
-    (subst (AreUnusable setting journal) (sym knows.found) stays.found)
+    (subst (AreUnusableLinks setting journal) (sym knows.found) stays.found)
     (sym (stays.routes s (targets_of setting journal leg) down)
     ∙ ap (λ targets. route_from setting (journal ++ front) s targets down) (sym (stays.targets leg))
     ∙ knows.none)

@@ -2,25 +2,25 @@
 -- databases that agree are those of OSPF (RFC 2328, section 13); a link counts if both its ends
 -- name it (section 16.1).
 use Rattle.std.specs.Prelude.{[], ◌<◌, ◌↔◌, ◌∷◌, ◌≡◌, ◌≢◌, All, IsFalse, IsTrue, List, None, Some, ℕ}
-use Rattle.failover.specs.Exports.{AreJoined, has_link}
+use Rattle.failover.specs.Exports.{AreJoinedByLinks, has_link}
 use Rattle.base.specs.Exports.{has}
 use Rattle.update_machine.specs.Exports.{Item, Setting, advert_known, is_up, links_known, near, own_advert, route_from}
 use Rattle.steps.specs.Exports.{HasSwitch}
 
 -- usable links lead from the switch `at` to each of these switches in turn, and end at the target
-abbrev pub LeadsOver : Setting → List Item → ℕ → ℕ → List ℕ → Type 0
-LeadsOver setting journal target at [] = at ≡ target
-LeadsOver setting journal target at (next ∷ rest) =
-    IsTrue (has (near setting journal at) next) × LeadsOver setting journal target next rest
+abbrev pub LeadsOverUsable : Setting → List Item → ℕ → ℕ → List ℕ → Type 0
+LeadsOverUsable setting journal target at [] = at ≡ target
+LeadsOverUsable setting journal target at (next ∷ rest) =
+    IsTrue (has (near setting journal at) next) × LeadsOverUsable setting journal target next rest
 
 -- usable links lead from the switch to the target
 pub record Reaches (setting : Setting) (journal : List Item) (from target : ℕ) : Type 0 where
   pub rest : List ℕ
-  pub leads : LeadsOver setting journal target from rest
+  pub leads : LeadsOverUsable setting journal target from rest
 
 -- none of these links is usable: they are those that a packet just found down, for example
-abbrev pub AreUnusable : Setting → List Item → List ℕ → Type 0
-AreUnusable setting journal down = (one other : ℕ)
+abbrev pub AreUnusableLinks : Setting → List Item → List ℕ → Type 0
+AreUnusableLinks setting journal down = (one other : ℕ)
     → IsTrue (has (near setting journal one) other) → IsFalse (has_link down one other)
 
 pub record HasConverged (setting : Setting) (journal : List Item) : Type 0 where
@@ -30,11 +30,11 @@ pub record HasConverged (setting : Setting) (journal : List Item) : Type 0 where
   -- of the links that end at a switch that it reaches it knows exactly the usable ones
   pub links : (s one other : ℕ) (down : List ℕ) → HasSwitch setting.net s →
       IsTrue (is_up journal s) → Reaches setting journal s one → other < 64 →
-      AreUnusable setting journal down →
-      AreJoined (links_known setting journal s down) one other
+      AreUnusableLinks setting journal down →
+      AreJoinedByLinks (links_known setting journal s down) one other
       ↔ IsTrue (has (near setting journal one) other)
   -- so it finds no route only if it reaches no target, whatever unusable links a packet found down
   pub stuck : (s : ℕ) (targets down : List ℕ) → HasSwitch setting.net s →
-      AreUnusable setting journal down →
+      AreUnusableLinks setting journal down →
       route_from setting journal s targets down ≡ None →
       All (λ target. Reaches setting journal s target → ⊥) targets

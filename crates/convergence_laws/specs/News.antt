@@ -28,8 +28,8 @@ pub record IsSentAsNew (journal : List Item) (s : ℕ) (than : Advert) : Type 0 
 
 -- over a usable link each end has adverts at least as new as those of the other end, or was sent
 -- such adverts in its present boot
-abbrev pub NewsSpreads : Setting → List Item → Type 0
-NewsSpreads setting journal = (s neighbour origin : ℕ) (advert : Advert)
+abbrev pub AdvertNewsSpreads : Setting → List Item → Type 0
+AdvertNewsSpreads setting journal = (s neighbour origin : ℕ) (advert : Advert)
     → IsTrue (has (near setting journal s) neighbour) → origin < 64
     → advert_known setting journal s origin ≡ Some advert
     → HoldsAsNew setting journal neighbour advert ⊎ IsSentAsNew journal neighbour advert

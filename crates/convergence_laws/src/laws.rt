@@ -3,13 +3,13 @@ ghost use Rattle.std.specs.Prelude.{List};
 ghost use Rattle.net_file.specs.Net.{IsNet};
 ghost use Rattle.update_machine.specs.Exports.{Event, IsQuiet, Item, Setting};
 ghost use Rattle.control_laws.specs.Always.{HoldsAtEnds, HoldsBehindItems};
-ghost use Rattle.convergence_laws.specs.Exports.{EndsFinished, GetStuckApart, HasConverged, IsFinished, IsUpdated, NeighboursAgree, NewsSpreads};
+ghost use Rattle.convergence_laws.specs.Exports.{EndsInFinishedNetwork, GetStuckApart, HasConverged, IsNetworkFinished, IsQuietUpdated, NeighboursAgree, AdvertNewsSpreads};
 
 /// Over each usable link, each end holds adverts at least as new as those of the other end, or
 /// such an advert was sent to it in its present boot. This is true at the end of each step, in a
 /// quiet network or not.
 pub fn news_spreads()
-    ensures { HoldsAtEnds (λ setting journal. IsNet setting.net → NewsSpreads setting journal) }
+    ensures { HoldsAtEnds (λ setting journal. IsNet setting.net → AdvertNewsSpreads setting journal) }
 {}
 
 /// In a quiet network neighbours agree: over each usable link, each end has adverts at least as
@@ -47,14 +47,14 @@ pub fn packets_get_stuck_apart()
 /// In a quiet network every switch that is up serves and stamps with the newest version, which is
 /// the current one, and each version before it is retired.
 pub fn quiet_networks_are_updated()
-    ensures { HoldsAtEnds (λ setting journal. IsQuiet setting journal → IsUpdated setting journal) }
+    ensures { HoldsAtEnds (λ setting journal. IsQuiet setting journal → IsQuietUpdated setting journal) }
 {}
 
 /// A network is quiet if no message waits, none was forgotten, and each switch is up or the
 /// controller doesn't wait for it.
 pub fn finished_networks_are_quiet()
     ensures { HoldsBehindItems (λ setting journal.
-        IsFinished setting journal → IsQuiet setting journal) }
+        IsNetworkFinished setting journal → IsQuiet setting journal) }
 {}
 
 /// A schedule that ends with a flush leaves no message waiting. So if none was forgotten, and each
@@ -62,10 +62,10 @@ pub fn finished_networks_are_quiet()
 /// and every switch that is up stamps with the newest version.
 pub fn flushed_networks_have_converged()
     ensures quiet { (setting : Setting) (events : List Event) (journal : List Item)
-        → EndsFinished setting events journal → IsQuiet setting journal }
+        → EndsInFinishedNetwork setting events journal → IsQuiet setting journal }
     ensures converged { (setting : Setting) (events : List Event) (journal : List Item)
-        → IsNet setting.net → EndsFinished setting events journal
+        → IsNet setting.net → EndsInFinishedNetwork setting events journal
         → HasConverged setting journal }
     ensures updated { (setting : Setting) (events : List Event) (journal : List Item)
-        → EndsFinished setting events journal → IsUpdated setting journal }
+        → EndsInFinishedNetwork setting events journal → IsQuietUpdated setting journal }
 {}

@@ -1,2 +1,2 @@
 -- What proofs above cite: of records taken one after another.
-pub use Rattle.csv_records.proofs.RecordTaking.{over}
+pub use Rattle.csv_records.proofs.CsvRecordTaking.{over}

@@ -1,2 +1,2 @@
-mod RecordTaking
+mod CsvRecordTaking
 pub mod CallerLemmas

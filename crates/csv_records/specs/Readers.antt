@@ -11,15 +11,15 @@ abbrev pub bytes_left : Reader (Bor (List ℕ)) → Option (List ℕ)
 bytes_left reader = source_of (λ slice. Some slice.now) reader
 
 -- the records that it has yet to read: none after a failure
-abbrev pub records_left : Reader (Bor (List ℕ)) → List (List (List ℕ))
-records_left reader =
+abbrev pub csv_records_left : Reader (Bor (List ℕ)) → List (List (List ℕ))
+csv_records_left reader =
     option_map_or (λ bytes. records_from default_config (length bytes + 1) (reader_state reader)
     bytes)
     (bytes_left reader) []
 
 -- the reader has the presets of its crate, except that it treats no record as a header and allows
 -- records of any width
-pub record IsReading (reader : Reader (Bor (List ℕ))) : Type 0 where
+pub record IsCsvReading (reader : Reader (Bor (List ℕ))) : Type 0 where
   pub config : reader_config reader ≡ default_config
   pub trim : reader_trim reader ≡ trim.None
   pub flexible : is_flexible reader ≡ true

@@ -9,9 +9,9 @@ abbrev pub records_of : List ℕ → List (List (List ℕ))
 records_of text = records default_config (strip_bom text)
 
 -- a read returned these fields, the first of the records left; or it found none, and none was left
-abbrev pub TakesRecord : List (List (List ℕ)) → Bool → List (List ℕ) → List (List (List ℕ)) → Type 0
-TakesRecord before true fields after = before ≡ fields ∷ after
-TakesRecord before false fields after = (before ≡ []) × (after ≡ [])
+abbrev pub TakesCsvRecord : List (List (List ℕ)) → Bool → List (List ℕ) → List (List (List ℕ)) → Type 0
+TakesCsvRecord before true fields after = before ≡ fields ∷ after
+TakesCsvRecord before false fields after = (before ≡ []) × (after ≡ [])
 
 -- the field at this place, or an empty one if the record ends before it
 abbrev pub field_or_empty : List (List ℕ) → ℕ → List ℕ

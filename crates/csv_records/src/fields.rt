@@ -12,7 +12,7 @@ pub fn field(fields: &ByteRecord, place: usize) -> &[u8]
 }
 
 /// Whether the field at this place is this text.
-pub fn has_text(fields: &ByteRecord, place: usize, text: &str) -> bool
+pub fn csv_field_has_text(fields: &ByteRecord, place: usize, text: &str) -> bool
     ensures { result ≡ bytes_eq (field_or_empty (fields_of fields.now) place) text.now }
 {
     field(fields, place) == text.as_bytes()

@@ -19,5 +19,5 @@ mod fields;
 mod records;
 
 pub use csv::ByteRecord;
-pub use fields::{field, has_text};
+pub use fields::{csv_field_has_text, field};
 pub use records::Records;

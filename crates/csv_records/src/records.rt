@@ -1,6 +1,6 @@
 ghost use Rattle.std.specs.Prelude.{◌≡◌, [], IfOk, OnErr};
 ghost use Rattle.csv.specs.Records.{fields_of};
-ghost use Rattle.csv_records.specs.Texts.{TakesRecord, records_of};
+ghost use Rattle.csv_records.specs.Texts.{TakesCsvRecord, records_of};
 
 use csv::{ByteRecord, ErrorKind, Reader, ReaderBuilder};
 use std::alloc::{AllocError, Global};
@@ -16,13 +16,13 @@ pub struct Records<'a> {
 
 impl<'a> Model for Records<'a> {
     ghost use Rattle.std.specs.Prelude.{List, ℕ, [], if◌then◌else◌, ◌≡◌, false};
-    ghost use Rattle.csv_records.specs.Readers.{records_left, IsReading};
+    ghost use Rattle.csv_records.specs.Readers.{csv_records_left, IsCsvReading};
 
     ghost Value = { List (List (List ℕ)) };
 
-    ghost view = { λ r. if r.is_over then [] else records_left r.reader };
+    ghost view = { λ r. if r.is_over then [] else csv_records_left r.reader };
 
-    ghost invariant = { λ r. r.is_over ≡ false → IsReading r.reader };
+    ghost invariant = { λ r. r.is_over ≡ false → IsCsvReading r.reader };
 }
 
 impl<'a> Records<'a> {
@@ -46,7 +46,7 @@ impl<'a> Records<'a> {
     /// Only out of memory; then no record remains.
     pub fn read_next(&mut self, fields: &mut ByteRecord) -> Result<bool, AllocError>
         ensures takes { IfOk result (λ found.
-            TakesRecord self.old found (fields_of fields.new) self.new) }
+            TakesCsvRecord self.old found (fields_of fields.new) self.new) }
         ensures over { OnErr result (self.new ≡ []) }
     {
         if self.is_over {

@@ -3,7 +3,7 @@ use Rattle.std.proofs.Common.{◌<◌, ◌∙◌, ◌≡◌, IsFalse, List, None
 use Rattle.base.proofs.Exports.{both_ways, cases_Bool, cases_eq, cond-false, cond-true}
 use Rattle.ternary.specs.Exports.{WordValue, is_fixed_of}
 use Rattle.policy_rules.specs.declared.rules.Rule.{Rule}
-use Rattle.cut_tree.specs.Exports.{CostsAtMost, IsLeastCut, cheaper_cost, cost_of, is_cheaper, least_below}
+use Rattle.cut_tree.specs.Exports.{CostsAtMost, IsLeastCut, cheaper_cut_cost, cut_cost_of, is_cheaper_cut, least_below}
 use Rattle.cut_tree.specs.declared.choice.Cost.{Cost}
 
 pub least_none : (rules : List Rule) (region : WordValue) → least_below 0 rules region ≡ None
@@ -17,7 +17,7 @@ at_fixed n rules region fixed = rw fixed
 
 at_free : (n : ℕ) (rules : List Rule) (region : WordValue) → is_fixed_of region n ≡ false
     → least_below (suc n) rules region ≡ Some
-    (cheaper_cost (cost_of rules region n) (least_below n rules region))
+    (cheaper_cut_cost (cut_cost_of rules region n) (least_below n rules region))
 unfolding least_below
 at_free n rules region free = rw free
 
@@ -32,11 +32,11 @@ least_nowhere (suc n) rules region fixed = at_fixed n rules region (fixed n (ome
 
 -- what is known of the least cut at a bit below a number
 record IsLeastBelow (n : ℕ) (rules : List Rule) (region : WordValue) (cost : Cost) : Type 0 where
-  pub is : cost ≡ cost_of rules region cost.bit
+  pub is : cost ≡ cut_cost_of rules region cost.bit
   pub bound : cost.bit < n
   pub free : IsFalse (is_fixed_of region cost.bit)
   pub least : (other : ℕ) → other < n → IsFalse (is_fixed_of region other)
-      → CostsAtMost cost (cost_of rules region other)
+      → CostsAtMost cost (cut_cost_of rules region other)
 
 at_most_self : (a : Cost) → CostsAtMost a a
 at_most_self a = record { larger = omega arith; sum = λ e. omega arith; bit = λ e f. omega arith }
@@ -46,10 +46,10 @@ at_most_trans a b c p q =
     record { larger = omega arith; sum = λ e. omega arith; bit = λ e f. omega arith }
 
 -- a cheaper cost of a higher bit is less; one that isn't cheaper is at least that of a lower bit
-cheaper_less : (a b : Cost) → is_cheaper a b ≡ true → CostsAtMost a b
+cheaper_less : (a b : Cost) → is_cheaper_cut a b ≡ true → CostsAtMost a b
 cheaper_less a b is = grind arith
 
-not_cheaper : (a b : Cost) → b.bit < a.bit → is_cheaper a b ≡ false → CostsAtMost b a
+not_cheaper : (a b : Cost) → b.bit < a.bit → is_cheaper_cut a b ≡ false → CostsAtMost b a
 not_cheaper a b lower is = grind arith
 
 -- no bit is free where there is no least cut
@@ -67,14 +67,14 @@ least_missing (suc n) rules region none bit within = elim (cases_Bool (is_fixed_
 
 -- what is known one bit further
 further : (n : ℕ) (rules : List Rule) (region : WordValue) (cost : Cost) → IsLeastBelow n rules
-    region cost → (is_fixed_of region n ≡ false → CostsAtMost cost (cost_of rules region n))
+    region cost → (is_fixed_of region n ≡ false → CostsAtMost cost (cut_cost_of rules region n))
     → IsLeastBelow (suc n) rules region cost
 further n rules region cost below here = record {
   is = below.is;
   bound = omega (arith, below.bound);
   free = below.free;
   least = λ other within free. elim (cases_eq other n) [
-    | inl same ↦ let Goal : ℕ → Type 0 = λ k. CostsAtMost cost (cost_of rules region k) in
+    | inl same ↦ let Goal : ℕ → Type 0 = λ k. CostsAtMost cost (cut_cost_of rules region k) in
         subst Goal (sym same) (here (sym (ap (is_fixed_of region) same) ∙ free))
     | inr before ↦ below.least other (omega arith) free
   ];
@@ -83,16 +83,16 @@ further n rules region cost below here = record {
 -- a new least cut
 newest : (n : ℕ) (rules : List Rule) (region : WordValue) → is_fixed_of region n ≡ false
     → ((other : ℕ) → other < n → IsFalse (is_fixed_of region other)
-    → CostsAtMost (cost_of rules region n) (cost_of rules region other))
-    → IsLeastBelow (suc n) rules region (cost_of rules region n)
+    → CostsAtMost (cut_cost_of rules region n) (cut_cost_of rules region other))
+    → IsLeastBelow (suc n) rules region (cut_cost_of rules region n)
 newest n rules region free before = record {
   is = refl;
   bound = omega arith;
   free = free;
   least = λ other within freed. elim (cases_eq other n) [
     | inl same ↦
-        let Goal : ℕ → Type 0 = λ k. CostsAtMost (cost_of rules region n) (cost_of rules region k) in
-        subst Goal (sym same) (at_most_self (cost_of rules region n))
+        let Goal : ℕ → Type 0 = λ k. CostsAtMost (cut_cost_of rules region n) (cut_cost_of rules region k) in
+        subst Goal (sym same) (at_most_self (cut_cost_of rules region n))
     | inr lower ↦ before other (omega arith) freed
   ];
 }
@@ -100,17 +100,17 @@ newest n rules region free before = record {
 least_after : (n : ℕ) (rules : List Rule) (region : WordValue) (before : Option Cost)
     → least_below n rules region ≡ before
     → ((cost : Cost) → before ≡ Some cost → IsLeastBelow n rules region cost) → is_fixed_of region n
-    ≡ false → IsLeastBelow (suc n) rules region (cheaper_cost (cost_of rules region n) before)
+    ≡ false → IsLeastBelow (suc n) rules region (cheaper_cut_cost (cut_cost_of rules region n) before)
 least_after n rules region None is known free = newest n rules region free (λ other within freed.
     absurd (both_ways _ freed (least_missing n rules region is other within)))
 least_after n rules region (Some best) is known free =
-    let cost = cost_of rules region n in
+    let cost = cut_cost_of rules region n in
     let below = known best refl in
-    elim (cases_Bool (is_cheaper cost best)) [
+    elim (cases_Bool (is_cheaper_cut cost best)) [
       | inl less ↦
           rw (cond-true _ cost best less) (newest n rules region free (λ other within freed.
           at_most_trans cost best _ (cheaper_less cost best less) (below.least other within freed)))
-      | inr more ↦ let same : cheaper_cost cost (Some best) ≡ best = cond-false _ cost best more in
+      | inr more ↦ let same : cheaper_cut_cost cost (Some best) ≡ best = cond-false _ cost best more in
           rw same (further n rules region best below (λ _. not_cheaper cost best below.bound more))
     ]
 
@@ -133,7 +133,7 @@ pub least_cuts : (rules : List Rule) (region : WordValue) (cost : Cost)
     → least_below 104 rules region ≡ Some cost → IsLeastCut rules region cost.bit
 least_cuts rules region cost is =
     let below = least_some 104 rules region cost is in
-    let Goal : (ℕ → Cost → Type 0) = λ other best. CostsAtMost best (cost_of rules region other) in
+    let Goal : (ℕ → Cost → Type 0) = λ other best. CostsAtMost best (cut_cost_of rules region other) in
     record {
       cuts = record { bound = below.bound; free = below.free };
       least = λ other free. subst (Goal other) below.is (below.least other free.bound free.free);
@@ -146,7 +146,7 @@ at_most_both a b p q = grind arith
 -- and it is the only one
 pub least_only : (rules : List Rule) (region : WordValue) (a b : ℕ) → IsLeastCut rules region a
     → IsLeastCut rules region b → a ≡ b
-least_only rules region a b p q = at_most_both (cost_of rules region a) (cost_of rules region b)
+least_only rules region a b p q = at_most_both (cut_cost_of rules region a) (cut_cost_of rules region b)
     (p.least b q.cuts) (q.least a p.cuts)
 
 found_by : (rules : List Rule) (region : WordValue) (bit : ℕ) → IsLeastCut rules region bit
@@ -160,8 +160,8 @@ pub least_found : (rules : List Rule) (region : WordValue) (bit : ℕ) → IsLea
 least_found rules region bit p = found_by rules region bit p (least_below 104 rules region) refl
 
 pub least_is : (rules : List Rule) (region : WordValue) (bit : ℕ) → IsLeastCut rules region bit
-    → least_below 104 rules region ≡ Some (cost_of rules region bit)
+    → least_below 104 rules region ≡ Some (cut_cost_of rules region bit)
 least_is rules region bit p =
     let found = least_found rules region bit p in
     let below = least_some 104 rules region found.0 found.1 in
-    found.1 ∙ ap Some (below.is ∙ ap (cost_of rules region) found.2)
+    found.1 ∙ ap Some (below.is ∙ ap (cut_cost_of rules region) found.2)

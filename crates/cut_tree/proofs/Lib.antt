@@ -1,9 +1,9 @@
 pub mod CallerLemmas
-pub mod CountLemmas
+pub mod CutCounting
 pub mod CutLemmas
-pub mod HalfLemmas
-pub mod LeastLemmas
-pub mod NarrowLaw
-pub mod NarrowLemmas
-pub mod SideLemmas
-pub mod TreeLemmas
+pub mod CutHalves
+pub mod CutLeastCounts
+pub mod CutNarrowingTwice
+pub mod CutNarrowing
+pub mod CutSides
+pub mod CutTreeLemmas

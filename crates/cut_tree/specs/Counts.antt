@@ -3,10 +3,10 @@ use Rattle.std.specs.Prelude.{[], if◌then◌else◌, ◌*◌, ◌+◌, ◌==�
 use Rattle.base.specs.Exports.{bit_at}
 use Rattle.ternary.specs.Exports.{WordValue, covers_of, fix_of}
 use Rattle.policy_rules.specs.declared.rules.Rule.{Rule}
-use Rattle.cut_tree.specs.Cuts.{IsFreeBit, cost_from, side_of}
-use Rattle.cut_tree.specs.Nodes.{LiesIn}
+use Rattle.cut_tree.specs.Cuts.{IsFreeBit, cut_cost_from, side_of_cut}
+use Rattle.cut_tree.specs.Nodes.{LiesInRegion}
 use Rattle.cut_tree.specs.declared.choice.Cost.{Cost}
-use Rattle.cut_tree.specs.declared.choice.Side.{Side}
+use Rattle.cut_tree.specs.declared.choice.CutSide.{CutSide}
 
 -- plane k has the bits of weight 2 ^ k of all counters
 abbrev pub count_at : List ℕ → ℕ → ℕ
@@ -14,7 +14,7 @@ count_at [] bit = 0
 count_at (plane ∷ planes) bit = bit_at plane bit + 2 * count_at planes bit
 
 -- of the 32 planes this many, from the first, contain all the counts
-pub record IsHeight (planes : List ℕ) (height : ℕ) : Type 0 where
+pub record IsPlaneHeight (planes : List ℕ) (height : ℕ) : Type 0 where
   pub bound : height ≤ 32
   pub above : (bit : ℕ) → count_at (drop height planes) bit ≡ 0
 
@@ -29,34 +29,34 @@ pub record IsLeastOf (bits : ℕ) (count : ℕ → ℕ) (bit : ℕ) : Type 0 whe
   pub least : (other : ℕ) → bit_at bits other ≡ 1 → count bit ≤ count other
 
 -- the cost of a cut at the bit, by what is counted for its sides
-abbrev pub counted_cost : List ℕ → List ℕ → ℕ → Cost
-counted_cost low high bit = cost_from bit (count_at low bit) (count_at high bit)
+abbrev pub counted_cut_cost : List ℕ → List ℕ → ℕ → Cost
+counted_cut_cost low high bit = cut_cost_from bit (count_at low bit) (count_at high bit)
 
 -- what is counted for a bit
-abbrev pub count_on_side : Side → ℕ → ℕ
+abbrev pub count_on_side : CutSide → ℕ → ℕ
 count_on_side side bit = count_at side.counts.planes bit
 
 -- what will be counted for a bit in the end, if these rules are still to come
-abbrev pub expected_count : Side → WordValue → ℕ → List Rule → ℕ
-expected_count side region bit rules =
-    count_on_side side bit + bit_at side.open bit * length (side_of rules region bit side.one)
+abbrev pub expected_side_count : CutSide → WordValue → ℕ → List Rule → ℕ
+expected_side_count side region bit rules =
+    count_on_side side bit + bit_at side.open bit * length (side_of_cut rules region bit side.one)
 
 -- the side has counted the rules before this place
-pub record IsCounting (side : Side) (upper : Bool) (rules : List Rule)
+pub record IsSideCounting (side : CutSide) (upper : Bool) (rules : List Rule)
     (region : WordValue) (place : ℕ) : Type 0 where
   pub one : side.one ≡ upper
   pub few : (bit : ℕ) → count_on_side side bit ≤ place
   pub rest : (bit : ℕ) → IsFreeBit region bit →
-      expected_count side region bit (drop place rules) ≡ length (side_of rules region bit upper)
+      expected_side_count side region bit (drop place rules) ≡ length (side_of_cut rules region bit upper)
 
 -- the side has counted the rules of each half
-abbrev pub HasCounted : Side → Bool → List Rule → WordValue → Type 0
-HasCounted side one rules region =
-    (bit : ℕ) → IsFreeBit region bit → count_on_side side bit ≡ length (side_of rules region bit one)
+abbrev pub HaveSidesCounted : CutSide → Bool → List Rule → WordValue → Type 0
+HaveSidesCounted side one rules region =
+    (bit : ℕ) → IsFreeBit region bit → count_on_side side bit ≡ length (side_of_cut rules region bit one)
 
 -- the rule lies in the region and covers no half of it
 pub record IsNarrowIn (region : WordValue) (rule : Rule) : Type 0 where
-  pub within : LiesIn region rule
+  pub within : LiesInRegion region rule
   pub covers : (bit : ℕ) (one : Bool) → IsFreeBit region bit →
       IsFalse (covers_of rule.word (fix_of region bit one))
 

@@ -7,19 +7,19 @@ use Rattle.cut_tree.specs.Narrow.{narrow}
 use Rattle.cut_tree.specs.declared.choice.Cost.{Cost}
 
 -- the rules of the half in which the bit is 1 if `one` is true, otherwise 0
-abbrev pub side_of : List Rule → WordValue → ℕ → Bool → List Rule
-side_of rules region bit one = narrow rules (fix_of region bit one)
+abbrev pub side_of_cut : List Rule → WordValue → ℕ → Bool → List Rule
+side_of_cut rules region bit one = narrow rules (fix_of region bit one)
 
 -- the cost of a cut at this bit into sides of these sizes
-abbrev pub cost_from : ℕ → ℕ → ℕ → Cost
-cost_from bit low high = record { larger = max low high; sum = low + high; bit = bit }
+abbrev pub cut_cost_from : ℕ → ℕ → ℕ → Cost
+cut_cost_from bit low high = record { larger = max low high; sum = low + high; bit = bit }
 
 -- what it costs to cut the region at this bit
-abbrev pub cost_of : List Rule → WordValue → ℕ → Cost
-cost_of rules region bit =
-    cost_from bit
-    (length (side_of rules region bit false))
-    (length (side_of rules region bit true))
+abbrev pub cut_cost_of : List Rule → WordValue → ℕ → Cost
+cut_cost_of rules region bit =
+    cut_cost_from bit
+    (length (side_of_cut rules region bit false))
+    (length (side_of_cut rules region bit true))
 
 -- a costs no more than b
 pub record CostsAtMost (a b : Cost) : Type 0 where
@@ -36,20 +36,20 @@ pub record IsFreeBit (region : WordValue) (bit : ℕ) : Type 0 where
 pub record IsLeastCut (rules : List Rule) (region : WordValue) (bit : ℕ) : Type 0 where
   pub cuts : IsFreeBit region bit
   pub least : (other : ℕ) → IsFreeBit region other →
-      CostsAtMost (cost_of rules region bit) (cost_of rules region other)
+      CostsAtMost (cut_cost_of rules region bit) (cut_cost_of rules region other)
 
 -- the larger side of a is smaller than that of b, or these are equal and the sum of a is smaller
-abbrev pub is_cheaper : Cost → Cost → Bool
-is_cheaper a b = nat_lt a.larger b.larger || ((a.larger == b.larger) && nat_lt a.sum b.sum)
+abbrev pub is_cheaper_cut : Cost → Cost → Bool
+is_cheaper_cut a b = nat_lt a.larger b.larger || ((a.larger == b.larger) && nat_lt a.sum b.sum)
 
 -- of a cut and the least one so far, the one that costs less
-abbrev pub cheaper_cost : Cost → Option Cost → Cost
-cheaper_cost cost None = cost
-cheaper_cost cost (Some best) = if is_cheaper cost best then cost else best
+abbrev pub cheaper_cut_cost : Cost → Option Cost → Cost
+cheaper_cut_cost cost None = cost
+cheaper_cut_cost cost (Some best) = if is_cheaper_cut cost best then cost else best
 
 -- what the least cut at a bit below this number costs
 unfoldable pub least_below : ℕ → List Rule → WordValue → Option Cost
 least_below zero rules region = None
 least_below (suc bit) rules region =
     if is_fixed_of region bit then least_below bit rules region
-    else Some (cheaper_cost (cost_of rules region bit) (least_below bit rules region))
+    else Some (cheaper_cut_cost (cut_cost_of rules region bit) (least_below bit rules region))

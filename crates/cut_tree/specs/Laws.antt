@@ -5,7 +5,7 @@ use Rattle.policy_rules.specs.Exports.{is_held}
 use Rattle.policy_rules.specs.declared.rules.Rule.{Rule}
 use Rattle.cut_tree.specs.DefinedTree.{IsDefinedTree, tree_of}
 use Rattle.cut_tree.specs.Narrow.{narrow, narrowed_rule}
-use Rattle.cut_tree.specs.Nodes.{AreWords}
+use Rattle.cut_tree.specs.Nodes.{AreRuleWords}
 use Rattle.cut_tree.specs.Shape.{Shape}
 
 pub record NarrowLaws : Type 0 where
@@ -19,7 +19,7 @@ pub record NarrowLaws : Type 0 where
 
 pub record TreeLaws : Type 0 where
   -- a list of rules has a tree for each cap of one or more
-  pub exists : (rules : List Rule) (cap : ℕ) → 0 < cap → AreWords rules →
+  pub exists : (rules : List Rule) (cap : ℕ) → 0 < cap → AreRuleWords rules →
       IsDefinedTree rules cap (tree_of rules cap)
   -- and only one
   pub only : (rules : List Rule) (cap : ℕ) (a b : Shape) →

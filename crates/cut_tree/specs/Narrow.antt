@@ -9,11 +9,11 @@ abbrev pub up_to_first : {X : Type 0} → (X → Bool) → List X → List X
 up_to_first passes [] = []
 up_to_first passes (x ∷ xs) = x ∷ (if passes x then [] else up_to_first passes xs)
 
-abbrev pub meets_region : WordValue → Rule → Bool
-meets_region region rule = meets rule.word region
+abbrev pub narrow_meets_region : WordValue → Rule → Bool
+narrow_meets_region region rule = meets rule.word region
 
-abbrev pub covers_region : WordValue → Rule → Bool
-covers_region region rule = covers_of rule.word region
+abbrev pub narrow_covers_region : WordValue → Rule → Bool
+narrow_covers_region region rule = covers_of rule.word region
 
 -- the rule for only those of its headers that are in the region
 unfoldable pub narrowed_rule : WordValue → Rule → Rule
@@ -22,5 +22,5 @@ narrowed_rule region rule = record rule { word = meeting_word rule.word region }
 -- the rules that meet the region, each cut down to it, up to and including the first that covers it
 unfoldable pub narrow : List Rule → WordValue → List Rule
 narrow rules region =
-    map (narrowed_rule region) (up_to_first (covers_region region)
-    (filter (meets_region region) rules))
+    map (narrowed_rule region) (up_to_first (narrow_covers_region region)
+    (filter (narrow_meets_region region) rules))

@@ -8,16 +8,16 @@ abbrev pub IsOneHeader : WordValue → Type 0
 IsOneHeader region = (bit : ℕ) → bit < 104 → IsTrue (is_fixed_of region bit)
 
 -- the region holds each header of the rule
-abbrev pub LiesIn : WordValue → Rule → Type 0
-LiesIn region rule = IsTrue (covers_of region rule.word)
+abbrev pub LiesInRegion : WordValue → Rule → Type 0
+LiesInRegion region rule = IsTrue (covers_of region rule.word)
 
 -- the words of the rules satisfy `IsWord`
-abbrev pub AreWords : List Rule → Type 0
-AreWords rules = All (λ rule. IsWord rule.word) rules
+abbrev pub AreRuleWords : List Rule → Type 0
+AreRuleWords rules = All (λ rule. IsWord rule.word) rules
 
 -- each rule lies within the region, and one header has at most one rule
 pub record AreNodeRules (rules : List Rule) (region : WordValue) : Type 0 where
   pub whole : IsWord region
-  pub words : AreWords rules
-  pub within : All (LiesIn region) rules
+  pub words : AreRuleWords rules
+  pub within : All (LiesInRegion region) rules
   pub ended : IsOneHeader region → length rules ≤ 1

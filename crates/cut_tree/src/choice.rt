@@ -1,13 +1,13 @@
 ghost use Rattle.std.specs.Prelude.{ℕ, ◌≡◌, ◌≢◌, ◌+◌, ◌*◌, ◌<◌, ◌≤◌, ◌^◌, ◌↔◌, Bool, true, false, List, ◌∷◌, length, All, IsFalse, IsTrue};
 ghost use Rattle.std.specs.Int.{bit_at, from_bool, trailing_zeros, w128};
 ghost use Rattle.ternary.specs.Word.{WordValue};
-ghost use Rattle.ternary.specs.Meets.{admits, covers_of, fix_of};
+ghost use Rattle.ternary.specs.Meets.{word_admits, covers_of, fix_of};
 ghost use Rattle.policy_rules.specs.declared.rules.Rule.{Rule};
-ghost use Rattle.cut_tree.specs.Counts.{IsHeight, count_on_side, counted_cost, expected_count, AreNarrowIn, HasCounted, IsCounting, IsNarrowIn};
-ghost use Rattle.cut_tree.specs.Cuts.{CostsAtMost, IsFreeBit, cost_from, least_below, side_of};
-ghost use Rattle.cut_tree.specs.Nodes.{LiesIn};
+ghost use Rattle.cut_tree.specs.Counts.{IsPlaneHeight, count_on_side, counted_cut_cost, expected_side_count, AreNarrowIn, HaveSidesCounted, IsSideCounting, IsNarrowIn};
+ghost use Rattle.cut_tree.specs.Cuts.{CostsAtMost, IsFreeBit, cut_cost_from, least_below, side_of_cut};
+ghost use Rattle.cut_tree.specs.Nodes.{LiesInRegion};
 
-use crate::counters::Counters;
+use crate::counters::CutCounters;
 use policy_rules::Rule;
 use ternary::{ALL_BITS, Word};
 
@@ -23,7 +23,7 @@ pub struct Cost {
 
 impl Cost {
     fn new(bit: u32, low: u32, high: u32) -> Cost
-        ensures { result ≡ cost_from bit low high }
+        ensures { result ≡ cut_cost_from bit low high }
     {
         Cost {
             larger: low.max(high),
@@ -36,16 +36,16 @@ impl Cost {
 /// The cost of the least cut of the region; `None` if no bit is free.
 pub fn least_cut(rules: &[Rule], region: &Word) -> Option<Cost>
     requires few { length rules.now < 2 ^ 32 }
-    requires within { All (LiesIn region.now) rules.now }
+    requires within { All (LiesInRegion region.now) rules.now }
     ensures { result ≡ least_below 104 rules.now region.now }
 {
     let free = free_bits(region);
     if free == 0 {
         return None;
     }
-    let (low, high) = count_sides(rules, region);
+    let (low, high) = count_cut_sides(rules, region);
     let height = low.counts.height(&high.counts);
-    let bit = least_bit(&low.counts, &high.counts, free, height);
+    let bit = least_cut_bit(&low.counts, &high.counts, free, height);
     Some(Cost::new(
         bit,
         low.counts.count(bit, height),
@@ -61,14 +61,14 @@ pub fn free_bits(region: &Word) -> u128
 }
 
 // The first bit of the set whose cut costs least; the first `height` planes have all counts.
-fn least_bit(low: &Counters, high: &Counters, bits: u128, height: usize) -> u32
+fn least_cut_bit(low: &CutCounters, high: &CutCounters, bits: u128, height: usize) -> u32
     requires some { bits ≢ 0 }
-    requires low { IsHeight low.now.planes height }
-    requires high { IsHeight high.now.planes height }
+    requires low { IsPlaneHeight low.now.planes height }
+    requires high { IsPlaneHeight high.now.planes height }
     ensures member { bit_at bits result ≡ 1 }
     ensures least { (other : ℕ) → bit_at bits other ≡ 1 →
-        CostsAtMost (counted_cost low.now.planes high.now.planes result)
-        (counted_cost low.now.planes high.now.planes other) }
+        CostsAtMost (counted_cut_cost low.now.planes high.now.planes result)
+        (counted_cut_cost low.now.planes high.now.planes other) }
 {
     let above = high.more_than(low, height);
     let fewest = low.least(high, above, bits, height);
@@ -77,31 +77,37 @@ fn least_bit(low: &Counters, high: &Counters, bits: u128, height: usize) -> u32
 }
 
 // The rules of both halves at each bit, counted in one pass.
-fn count_sides(rules: &[Rule], region: &Word) -> (Side, Side)
+fn count_cut_sides(rules: &[Rule], region: &Word) -> (CutSide, CutSide)
     requires few { length rules.now < 2 ^ 32 }
-    requires within { All (LiesIn region.now) rules.now }
-    ensures low { HasCounted result.0 false rules.now region.now }
-    ensures high { HasCounted result.1 true rules.now region.now }
+    requires within { All (LiesInRegion region.now) rules.now }
+    ensures low { HaveSidesCounted result.0 false rules.now region.now }
+    ensures high { HaveSidesCounted result.1 true rules.now region.now }
 {
-    let mut low = Side::new(false);
-    let mut high = Side::new(true);
+    let mut low = CutSide::new(false);
+    let mut high = CutSide::new(true);
     let mut place = 0;
     while place < rules.len() {
-        place = count_next(&mut low, &mut high, rules, place, region);
+        place = count_next_rules(&mut low, &mut high, rules, place, region);
     }
     (low, high)
 }
 
 // Counts the next four rules, or only the next one if one of the four may cover a half or fewer
 // are left. Returns the place of the rule after these.
-fn count_next(low: &mut Side, high: &mut Side, rules: &[Rule], place: usize, region: &Word) -> usize
+fn count_next_rules(
+    low: &mut CutSide,
+    high: &mut CutSide,
+    rules: &[Rule],
+    place: usize,
+    region: &Word,
+) -> usize
     requires few { length rules.now < 2 ^ 32 }
-    requires within { All (LiesIn region.now) rules.now }
+    requires within { All (LiesInRegion region.now) rules.now }
     requires place { place < length rules.now }
-    requires low { IsCounting low.old false rules.now region.now place }
-    requires high { IsCounting high.old true rules.now region.now place }
-    ensures low { IsCounting low.new false rules.now region.now result }
-    ensures high { IsCounting high.new true rules.now region.now result }
+    requires low { IsSideCounting low.old false rules.now region.now place }
+    requires high { IsSideCounting high.old true rules.now region.now place }
+    ensures low { IsSideCounting low.new false rules.now region.now result }
+    ensures high { IsSideCounting high.new true rules.now region.now result }
     ensures later { place < result }
     ensures bound { result ≤ length rules.now }
 {
@@ -110,7 +116,7 @@ fn count_next(low: &mut Side, high: &mut Side, rules: &[Rule], place: usize, reg
         let b = &rules[place + 1];
         let c = &rules[place + 2];
         let d = &rules[place + 3];
-        let fit = fix_many(a, b, region) && fix_many(c, d, region);
+        let fit = rules_fix_many_bits(a, b, region) && rules_fix_many_bits(c, d, region);
         if fit {
             low.count_four(a, b, c, d, false);
             high.count_four(a, b, c, d, true);
@@ -124,35 +130,35 @@ fn count_next(low: &mut Side, high: &mut Side, rules: &[Rule], place: usize, reg
 }
 
 // Whether both rules fix two bits or more that the region doesn't, so that neither covers a half.
-fn fix_many(one: &Rule, other: &Rule, region: &Word) -> bool
-    requires one { LiesIn region.now one.now }
-    requires other { LiesIn region.now other.now }
+fn rules_fix_many_bits(one: &Rule, other: &Rule, region: &Word) -> bool
+    requires one { LiesInRegion region.now one.now }
+    requires other { LiesInRegion region.now other.now }
     ensures one { IsTrue result → IsNarrowIn region.now one.now }
     ensures other { IsTrue result → IsNarrowIn region.now other.now }
 {
-    !fixes_few(&one.word, region) && !fixes_few(&other.word, region)
+    !fixes_one_bit_more(&one.word, region) && !fixes_one_bit_more(&other.word, region)
 }
 
 /// For each bit, how many rules one half of a region keeps: that in which the bit is 1 if `one` is
 /// true, otherwise 0.
 #[derive(Clone, Copy)]
-pub struct Side {
+pub struct CutSide {
     pub one: bool,
-    pub counts: Counters,
+    pub counts: CutCounters,
     /// The bits whose half no rule has covered yet.
     pub open: u128,
 }
 
-impl Side {
-    fn new(one: bool) -> Side
+impl CutSide {
+    fn new(one: bool) -> CutSide
         ensures one { result.one ≡ one }
         ensures none { (bit : ℕ) → count_on_side result bit ≡ 0 }
         ensures expected { (region : WordValue) (bit : ℕ) (rules : List Rule) → bit < 104 →
-            expected_count result region bit rules ≡ length (side_of rules region bit one) }
+            expected_side_count result region bit rules ≡ length (side_of_cut rules region bit one) }
     {
-        Side {
+        CutSide {
             one,
-            counts: Counters::new(),
+            counts: CutCounters::new(),
             open: u128::MAX,
         }
     }
@@ -160,12 +166,12 @@ impl Side {
     // Counts the next rule in each half that keeps it.
     fn count(&mut self, rule: &Rule, region: &Word)
         requires room { (bit : ℕ) → count_on_side self.old bit + 1 < 2 ^ 32 }
-        requires within { LiesIn region.now rule.now }
+        requires within { LiesInRegion region.now rule.now }
         ensures one { self.new.one ≡ self.old.one }
         ensures few { (bit : ℕ) → count_on_side self.new bit ≤ count_on_side self.old bit + 1 }
         ensures expected { (bit : ℕ) (rules : List Rule) → IsFreeBit region.now bit →
-            expected_count self.new region.now bit rules
-            ≡ expected_count self.old region.now bit (rule.now ∷ rules) }
+            expected_side_count self.new region.now bit rules
+            ≡ expected_side_count self.old region.now bit (rule.now ∷ rules) }
     {
         let kept = pass(&mut self.open, self.one, rule, region);
         self.counts.add(kept);
@@ -180,8 +186,8 @@ impl Side {
         ensures few { (bit : ℕ) → count_on_side self.new bit ≤ count_on_side self.old bit + 4 }
         ensures expected { (region : WordValue) (bit : ℕ) (rules : List Rule) →
             AreNarrowIn region a.now b.now c.now d.now → IsFreeBit region bit →
-            expected_count self.new region bit rules
-            ≡ expected_count self.old region bit (a.now ∷ b.now ∷ c.now ∷ d.now ∷ rules) }
+            expected_side_count self.new region bit rules
+            ≡ expected_side_count self.old region bit (a.now ∷ b.now ∷ c.now ∷ d.now ∷ rules) }
     {
         let left = self.open;
         let first = halves_met(&a.word, one);
@@ -196,35 +202,39 @@ impl Side {
 // Of the bits that are left, those whose half keeps the next rule. Then only those bits are left
 // whose half the rule doesn't cover.
 fn pass(left: &mut u128, one: bool, rule: &Rule, region: &Word) -> u128
-    requires { LiesIn region.now rule.now }
+    requires { LiesInRegion region.now rule.now }
     ensures { (bit : ℕ) (rules : List Rule) → IsFreeBit region.now bit →
-        bit_at result bit + bit_at left.new bit * length (side_of rules region.now bit one)
-        ≡ bit_at left.old bit * length (side_of (rule.now ∷ rules) region.now bit one) }
+        bit_at result bit + bit_at left.new bit * length (side_of_cut rules region.now bit one)
+        ≡ bit_at left.old bit * length (side_of_cut (rule.now ∷ rules) region.now bit one) }
 {
     let was = *left;
     let met = halves_met(&rule.word, one);
-    let may_cover = fixes_few(&rule.word, region);
+    let may_cover = fixes_one_bit_more(&rule.word, region);
     if !may_cover {
         return was & met;
     }
-    let covered = halves_covered(&rule.word, region, one);
+    let covered = cut_halves_covered(&rule.word, region, one);
     *left = was & !covered;
     was & met
 }
 
 // Whether the word fixes at most one bit more than the region; if not, it covers no half of it.
-fn fixes_few(word: &Word, region: &Word) -> bool
+fn fixes_one_bit_more(word: &Word, region: &Word) -> bool
     requires { IsTrue (covers_of region.now word.now) }
     ensures { IsFalse result → (bit : ℕ) (one : Bool) → IsFreeBit region.now bit →
         IsFalse (covers_of word.now (fix_of region.now bit one)) }
 {
     let fixed = word.mask() ^ region.mask();
-    if fixed == 0 { true } else { is_one_bit(fixed) }
+    if fixed == 0 {
+        true
+    } else {
+        is_one_cut_bit(fixed)
+    }
 }
 
 // Whether a set of bits that isn't empty has only one bit.
 #[inline(always)]
-fn is_one_bit(bits: u128) -> bool
+fn is_one_cut_bit(bits: u128) -> bool
     requires { bits ≢ 0 }
     ensures { IsTrue result ↔ (bits ≡ 2 ^ trailing_zeros w128 bits) }
 {
@@ -233,14 +243,14 @@ fn is_one_bit(bits: u128) -> bool
 
 // The bits whose half the word meets, if it meets the region.
 fn halves_met(word: &Word, one: bool) -> u128
-    ensures { (bit : ℕ) → bit < 104 → bit_at result bit ≡ from_bool (admits word.now bit one) }
+    ensures { (bit : ℕ) → bit < 104 → bit_at result bit ≡ from_bool (word_admits word.now bit one) }
 {
     let value = word.value();
     if one { value | !word.mask() } else { !value }
 }
 
 // The bits whose half the word covers.
-fn halves_covered(word: &Word, region: &Word, one: bool) -> u128
+fn cut_halves_covered(word: &Word, region: &Word, one: bool) -> u128
     requires { IsTrue (covers_of region.now word.now) }
     ensures { (bit : ℕ) → IsFreeBit region.now bit →
         bit_at result bit ≡ from_bool (covers_of word.now (fix_of region.now bit one)) }
@@ -249,7 +259,7 @@ fn halves_covered(word: &Word, region: &Word, one: bool) -> u128
     let fixed = word.mask() ^ region.mask();
     if fixed == 0 {
         met
-    } else if is_one_bit(fixed) {
+    } else if is_one_cut_bit(fixed) {
         fixed & met
     } else {
         0

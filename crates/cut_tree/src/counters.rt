@@ -1,6 +1,6 @@
 ghost use Rattle.std.specs.Prelude.{ℕ, ◌≡◌, ◌≢◌, ◌+◌, ◌*◌, ◌<◌, ◌^◌, ◌↔◌};
 ghost use Rattle.std.specs.Int.{bit_at};
-ghost use Rattle.cut_tree.specs.Counts.{IsHeight, IsLeastOf, count_at, count_by};
+ghost use Rattle.cut_tree.specs.Counts.{IsPlaneHeight, IsLeastOf, count_at, count_by};
 
 /// How many bits a counter has.
 const PLANES: usize = 32;
@@ -9,7 +9,7 @@ const PLANES: usize = 32;
 /// the bit of weight 2^k of each counter. So a set of bits is counted in a few operations on
 /// numbers of 128 bits.
 #[derive(Clone, Copy)]
-pub struct Counters {
+pub struct CutCounters {
     pub planes: [u128; PLANES],
 }
 
@@ -22,11 +22,11 @@ fn added(a: u128, b: u128, c: u128) -> (u128, u128)
     (odd ^ c, (a & b) | (odd & c))
 }
 
-impl Counters {
-    pub fn new() -> Counters
+impl CutCounters {
+    pub fn new() -> CutCounters
         ensures { (bit : ℕ) → count_at result.planes bit ≡ 0 }
     {
-        Counters {
+        CutCounters {
             planes: [0; PLANES],
         }
     }
@@ -64,9 +64,9 @@ impl Counters {
     }
 
     /// How many planes, from the first, hold all counts of both: no counter has a bit beyond these.
-    pub fn height(&self, other: &Counters) -> usize
-        ensures here { IsHeight self.now.planes result }
-        ensures there { IsHeight other.now.planes result }
+    pub fn height(&self, other: &CutCounters) -> usize
+        ensures here { IsPlaneHeight self.now.planes result }
+        ensures there { IsPlaneHeight other.now.planes result }
     {
         let mut height = PLANES;
         while height > 0 {
@@ -81,7 +81,7 @@ impl Counters {
     /// How often this bit was counted; the first `height` planes have all counts.
     pub fn count(&self, bit: u32, height: usize) -> u32
         requires bit { bit < 128 }
-        requires here { IsHeight self.now.planes height }
+        requires here { IsPlaneHeight self.now.planes height }
         ensures { result ≡ count_at self.now.planes bit }
     {
         let mut count = 0;
@@ -95,9 +95,9 @@ impl Counters {
 
     /// The bits that were counted more often here than in `other`; the first `height` planes have
     /// all counts.
-    pub fn more_than(&self, other: &Counters, height: usize) -> u128
-        requires here { IsHeight self.now.planes height }
-        requires there { IsHeight other.now.planes height }
+    pub fn more_than(&self, other: &CutCounters, height: usize) -> u128
+        requires here { IsPlaneHeight self.now.planes height }
+        requires there { IsPlaneHeight other.now.planes height }
         ensures { (bit : ℕ) → (bit_at result bit ≡ 1)
             ↔ (count_at other.now.planes bit < count_at self.now.planes bit) }
     {
@@ -117,10 +117,10 @@ impl Counters {
 
     /// The bits of a set that were counted least often. A bit of `which` has the count of `other`,
     /// any other bit the count of these counters.
-    pub fn least(&self, other: &Counters, which: u128, bits: u128, height: usize) -> u128
+    pub fn least(&self, other: &CutCounters, which: u128, bits: u128, height: usize) -> u128
         requires some { bits ≢ 0 }
-        requires here { IsHeight self.now.planes height }
-        requires there { IsHeight other.now.planes height }
+        requires here { IsPlaneHeight self.now.planes height }
+        requires there { IsPlaneHeight other.now.planes height }
         ensures least { (bit : ℕ) → (bit_at result bit ≡ 1)
             ↔ IsLeastOf bits (count_by self.now.planes other.now.planes which) bit }
         ensures some { result ≢ 0 }

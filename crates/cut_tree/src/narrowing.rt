@@ -2,9 +2,9 @@ ghost use Rattle.std.specs.Prelude.{◌≡◌, ◌<◌, All, IfOk, IsTrue};
 ghost use Rattle.ternary.specs.Word.{WordValue};
 ghost use Rattle.ternary.specs.WordBits.{IsWord};
 ghost use Rattle.ternary.specs.Meets.{covers_of, fix_of, meet_of};
-ghost use Rattle.cut_tree.specs.Cuts.{IsFreeBit, side_of};
+ghost use Rattle.cut_tree.specs.Cuts.{IsFreeBit, side_of_cut};
 ghost use Rattle.cut_tree.specs.Narrow.{narrow};
-ghost use Rattle.cut_tree.specs.Nodes.{LiesIn};
+ghost use Rattle.cut_tree.specs.Nodes.{LiesInRegion};
 
 use policy_rules::Rule;
 use std::alloc::{AllocError, Global};
@@ -15,7 +15,7 @@ use ternary::{Word, holds_laws};
 ///
 /// # Errors
 /// Only out of memory.
-#[tactic(auto, using(crate::proofs::NarrowLemmas::narrow_past))]
+#[tactic(auto, using(crate::proofs::CutNarrowing::narrow_past))]
 pub fn narrow(alloc: Global, rules: &[Rule], region: &Word) -> Result<Vec<Rule>, AllocError>
     ensures { IfOk result (λ kept. kept.items ≡ narrow rules.now region.now) }
 {
@@ -49,8 +49,8 @@ pub fn narrow_half(
     one: bool,
 ) -> Result<Vec<Rule>, AllocError>
     requires free { IsFreeBit region.now bit }
-    requires within { All (LiesIn region.now) rules.now }
-    ensures { IfOk result (λ kept. kept.items ≡ side_of rules.now region.now bit one) }
+    requires within { All (LiesInRegion region.now) rules.now }
+    ensures { IfOk result (λ kept. kept.items ≡ side_of_cut rules.now region.now bit one) }
 {
     // For the proof: reading the mask yields the invariant `IsWord`.
     let _ = region.mask();

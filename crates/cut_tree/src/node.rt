@@ -1,8 +1,8 @@
 ghost use Rattle.std.specs.Prelude.{◌≡◌, ◌<◌, ◌^◌, IfOk, Some, length};
 ghost use Rattle.ternary.specs.Meets.{fix_of};
-ghost use Rattle.cut_tree.specs.Cuts.{IsFreeBit, least_below, side_of};
+ghost use Rattle.cut_tree.specs.Cuts.{IsFreeBit, least_below, side_of_cut};
 ghost use Rattle.cut_tree.specs.Narrow.{narrow};
-ghost use Rattle.cut_tree.specs.Nodes.{AreNodeRules, AreWords};
+ghost use Rattle.cut_tree.specs.Nodes.{AreNodeRules, AreRuleWords};
 
 use crate::choice::{Cost, least_cut};
 use crate::narrowing::{narrow, narrow_half};
@@ -26,7 +26,7 @@ impl Node {
     /// Only out of memory.
     pub fn new(alloc: Global, rules: &[Rule], region: &Word) -> Result<Node, AllocError>
         requires few { length rules.now < 2 ^ 32 }
-        requires words { AreWords rules.now }
+        requires words { AreRuleWords rules.now }
         ensures rules { IfOk result (λ node. node.rules.items ≡ narrow rules.now region.now) }
         ensures region { IfOk result (λ node. node.region ≡ region.now) }
     {
@@ -58,7 +58,7 @@ impl Node {
     pub fn half(&self, alloc: Global, bit: u32, one: bool) -> Result<Node, AllocError>
         requires { IsFreeBit self.now.region bit }
         ensures rules { IfOk result (λ half.
-            half.rules.items ≡ side_of self.now.rules.items self.now.region bit one) }
+            half.rules.items ≡ side_of_cut self.now.rules.items self.now.region bit one) }
         ensures region { IfOk result (λ half. half.region ≡ fix_of self.now.region bit one) }
     {
         let rules = narrow_half(alloc, &self.rules, &self.region, bit, one)?;

@@ -1,6 +1,6 @@
 ghost use Rattle.std.specs.Prelude.{◌≡◌, ◌+◌, ◌<◌, ◌≤◌, ◌^◌, IfOk, IfErr, length};
 ghost use Rattle.cut_tree.specs.DefinedTree.{IsDefinedTree, IsTreeOf, tree_at, tree_of};
-ghost use Rattle.cut_tree.specs.Nodes.{AreWords};
+ghost use Rattle.cut_tree.specs.Nodes.{AreRuleWords};
 ghost use Rattle.cut_tree.specs.Shape.{End, leaf_count, shape_of};
 ghost use Rattle.base.specs.Refusals.{IfRefused};
 
@@ -44,7 +44,7 @@ pub struct TooManyLeaves;
 pub fn build(alloc: Global, rules: &[Rule], cap: u32) -> Result<Tree, Failure<TooManyLeaves>>
     requires cap { 0 < cap }
     requires few_rules { length rules.now < 2 ^ 32 }
-    requires words { AreWords rules.now }
+    requires words { AreRuleWords rules.now }
     ensures tree { IfOk result (λ tree. shape_of tree ≡ tree_of rules.now cap) }
     ensures defined { IfOk result (λ tree. IsDefinedTree rules.now cap (shape_of tree)) }
     ensures few { IfOk result (λ tree. leaf_count (shape_of tree) ≤ 512) }

@@ -3,20 +3,20 @@ use Rattle.std.proofs.Common.{[], ◌≡◌, ◌≢◌, ◌⊎◌, Bool, Err, Li
 use Rattle.base.proofs.Exports.{ForSome}
 use Rattle.update_machine.specs.Exports.{Item}
 use Rattle.meters.specs.Exports.{Seen}
-use Rattle.shelf.specs.Exports.{Files, IsAfterReads, Rose, ShelfState, SinkState}
+use Rattle.shelf.specs.Exports.{Files, IsAfterReads, FaultsRose, ShelfState, SinkState}
 use Rattle.command_line.specs.Exports.{AuditCommand, Command, PrintCommand}
 use Rattle.command_line.specs.Commands as asked
 use Rattle.command_line.specs.declared.report.Report.{Report}
 use Rattle.command_line.specs.declared.report.Report.TheVariants as report
-use Rattle.difane_cli.specs.Exports.{Accounts, AuditOutcome, ByReport, EndsWork, GivesBack, Inputs, IsAccepted, IsAfterWork, IsAnswer, IsPerformed, MayFollowFault, NamesOneOf, NeedsReadFault, Outcome, PlayOutcome, PrintOutcome, ProposalOutcome, RanOut, ReadsNothing, Task, known_task, most_reads, names_in, status_of}
-use Rattle.difane_cli.specs.Writes.{Unplayed}
+use Rattle.difane_cli.specs.Exports.{StatusAccounts, AuditOutcome, PlayedByReport, StatusEndsWork, CommandGivesBackMeters, Inputs, IsTaskAccepted, IsAfterWork, IsAnswer, IsPerformed, MayFollowFault, NamesOneOf, NeedsReadFault, Outcome, PlayOutcome, PrintOutcome, ProposalOutcome, CommandRanOut, CommandReadsNothing, Task, known_command_task, most_reads, names_in, status_of}
+use Rattle.difane_cli.specs.Writes.{CommandUnplayed}
 use Rattle.difane_cli.specs.declared.status.Refusal.{Refusal}
 use Rattle.difane_cli.specs.declared.status.Status.{Status}
 use Rattle.difane_cli.specs.declared.status.Status.TheVariants as status
 use Rattle.difane_cli.specs.declared.status.Stop.{Stop}
 use Rattle.difane_cli.specs.declared.status.Stop.TheVariants as stop
 
-untouched : (out : SinkState) → Unplayed [] out out
+untouched : (out : SinkState) → CommandUnplayed [] out out
 untouched out = record { nothing_played = refl; untouched = refl }
 
 -- no reads are at most any number of reads
@@ -35,8 +35,7 @@ no_words_fault (Some all) need = need
 -- what was done for this command, if the arguments' command is this
 pub performed_as : (asked command : Option Command) (takes_memory : Bool) (ended : Status)
     (journal : List Item) (taken given : List Seen) (old new : ShelfState) (before now : SinkState)
-    → asked ≡ command
-    → IsPerformed asked takes_memory ended journal taken given old new before now
+    → asked ≡ command → IsPerformed asked takes_memory ended journal taken given old new before now
     → IsPerformed command takes_memory ended journal taken given old new before now
 performed_as asked command takes_memory ended journal taken given old new before now own done =
     subst (λ (c : Option Command).
@@ -52,7 +51,7 @@ unread (asked.Print args) files takes_memory taken out = inl (untouched out)
 unread (asked.Audit args) files takes_memory taken out = inl (untouched out)
 unread (asked.Load n) files takes_memory taken out = inl (untouched out, inr refl)
 unread (asked.Replay args) files takes_memory taken out = by_report args.report where
-  by_report : (told : Report) → ByReport told
+  by_report : (told : Report) → PlayedByReport told
       (ProposalOutcome (IsAnswer (asked.Replay args) files) takes_memory status.NoMemory [] out out)
       (PlayOutcome (asked.Replay args) files takes_memory status.NoMemory [] taken taken out out)
   by_report report.Placement = inl (untouched out)
@@ -128,7 +127,7 @@ stopped_audit command files stop.ReadFault out = untouched out
 stopped_audit command files stop.NoMemory out = inl (untouched out)
 
 stopped_outcome : (command : Command) (files : Option Files) (takes_memory : Bool) (why : Stop)
-    (taken given : List Seen) (out : SinkState) → (¬ GivesBack (Some command) → given ≡ [])
+    (taken given : List Seen) (out : SinkState) → (¬ CommandGivesBackMeters (Some command) → given ≡ [])
     → Outcome (Some command) files takes_memory (status_of why) [] taken given out out
 stopped_outcome (asked.Print args) files takes_memory why taken given out none =
     stopped_print args files why out
@@ -139,7 +138,7 @@ stopped_outcome (asked.Load n) files takes_memory why taken given out none =
 stopped_outcome (asked.Replay args) files takes_memory why taken given out none =
     by_report args.report none
   where
-    by_report : (told : Report) → ((told ≡ report.Placement → ⊥) → given ≡ []) → ByReport told
+    by_report : (told : Report) → ((told ≡ report.Placement → ⊥) → given ≡ []) → PlayedByReport told
         (ProposalOutcome (IsAnswer (asked.Replay args) files) takes_memory (status_of why) [] out
         out)
         (PlayOutcome (asked.Replay args) files takes_memory (status_of why) [] taken given out out)
@@ -163,13 +162,13 @@ no_write_fault stop.NoMemory is = absurd (cc is)
 
 pub stopped : (command : Command) (takes_memory : Bool) (why : Stop) (taken given : List Seen)
     (old new : ShelfState) (out : SinkState)
-    → ForSome (known_task old.files (Some command)) (λ read. Accounts read (status_of why))
-    → (NeedsReadFault old.files (status_of why) → Rose old.faults new.faults)
+    → ForSome (known_command_task old.files (Some command)) (λ read. StatusAccounts read (status_of why))
+    → (NeedsReadFault old.files (status_of why) → FaultsRose old.faults new.faults)
     → IsAfterReads (most_reads old.files (Some command)) old new
     → (¬ MayFollowFault old.files (status_of why) → new.faults ≡ old.faults)
     → NamesOneOf (names_in (Some command)) (status_of why)
-    → (ReadsNothing (Some command) → new ≡ old)
-    → (¬ GivesBack (Some command) → given ≡ [])
+    → (CommandReadsNothing (Some command) → new ≡ old)
+    → (¬ CommandGivesBackMeters (Some command) → given ≡ [])
     → IsPerformed (Some command) takes_memory (status_of why) [] taken given old new out out
 stopped command takes_memory why taken given old new out accounts fault reads calm names nothing
     none = record {
@@ -203,11 +202,10 @@ work_reads (Some all) _ worked need = need
 pub worked : (command : Command) (takes_memory : Bool) (ended : Status) (journal : List Item)
     (taken given : List Seen) (old new : ShelfState) (before now : SinkState)
     → Outcome (Some command) old.files takes_memory ended journal taken given before now
-    → ForSome (known_task old.files (Some command)) (λ read. Accounts read ended)
-    → (ended ≡ status.NoMemory → RanOut (Some command) takes_memory journal before now)
-    → EndsWork ended before now
-    → IsAfterReads (most_reads old.files (Some command)) old new
-    → new.faults ≡ old.faults → (ReadsNothing (Some command) → new ≡ old)
+    → ForSome (known_command_task old.files (Some command)) (λ read. StatusAccounts read ended)
+    → (ended ≡ status.NoMemory → CommandRanOut (Some command) takes_memory journal before now)
+    → StatusEndsWork ended before now → IsAfterReads (most_reads old.files (Some command)) old new
+    → new.faults ≡ old.faults → (CommandReadsNothing (Some command) → new ≡ old)
     → IsPerformed (Some command) takes_memory ended journal taken given old new before now
 worked command takes_memory ended journal taken given old new before now outcome accounts out work
     reads calm nothing = record {
@@ -227,7 +225,7 @@ worked command takes_memory ended journal taken given old new before now outcome
 
 -- ---- what is accepted is done, unless a fault or memory stops it
 
-refused : (known : Option (Result Task Refusal)) (refusal : Refusal) → IsAccepted known
+refused : (known : Option (Result Task Refusal)) (refusal : Refusal) → IsTaskAccepted known
     → ForSome known (λ read. read ≡ Err refusal) → ⊥
 refused None refusal accepted is = accepted
 refused (Some (Err other)) refusal accepted is = accepted
@@ -240,8 +238,8 @@ read_faulted (Some all) = tt
 pub complete : (command : Option Command) (takes_memory : Bool) (ended : Status)
     (journal : List Item) (taken given : List Seen) (old new : ShelfState) (before now : SinkState)
     → IsPerformed command takes_memory ended journal taken given old new before now
-    → IsAccepted (known_task old.files command) → Rose old.faults new.faults
-    ⊎ Rose before.faults now.faults ⊎ (ended ≡ status.Ok)
+    → IsTaskAccepted (known_command_task old.files command) → FaultsRose old.faults new.faults
+    ⊎ FaultsRose before.faults now.faults ⊎ (ended ≡ status.Ok)
     ⊎ ((row : ℕ) × (ended ≡ status.Full row)) ⊎ ((line : ℕ) × (ended ≡ status.No line))
     ⊎ (ended ≡ status.NoMemory)
 complete command takes_memory status.Ok journal taken given old new before now done accepted =
@@ -257,8 +255,8 @@ complete command takes_memory status.WriteFault journal taken given old new befo
 complete command takes_memory status.ReadFault journal taken given old new before now done
     accepted = inl (done.read_fault (read_faulted old.files))
 complete command takes_memory status.Words journal taken given old new before now done accepted =
-    absurd (subst (λ (c : Option Command). IsAccepted (known_task old.files c))
+    absurd (subst (λ (c : Option Command). IsTaskAccepted (known_command_task old.files c))
     (done.words.0 refl) accepted)
 complete command takes_memory (status.Input file code row) journal taken given old new before now
-    done accepted = absurd (refused (known_task old.files command)
+    done accepted = absurd (refused (known_command_task old.files command)
     (record { file = file; code = code; row = row }) accepted done.accounts)

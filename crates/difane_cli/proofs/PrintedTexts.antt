@@ -6,13 +6,13 @@ use Rattle.shelf.specs.declared.output.SinkError.{SinkError}
 use Rattle.shelf.specs.declared.output.SinkError.TheVariants as sink
 use Rattle.command_line.specs.Exports.{PrintCommand}
 use Rattle.command_line.specs.Commands as asked
-use Rattle.difane_cli.specs.Exports.{IsPrintingOf, Print, PrintOutcome, known_task, printing_text, status_after}
+use Rattle.difane_cli.specs.Exports.{IsPrintingOf, Print, PrintOutcome, known_command_task, printing_text, status_after}
 use Rattle.difane_cli.specs.NotPlayed.{Printing}
 
 pub printed : (command : PrintCommand) (files : Option Files) (printing : Printing)
     (takes_memory : Bool) (before now : SinkState) (result : Result (⊤) SinkError)
     → IsPrintingOf command printing
-    → ForSome (known_task files (Some (asked.Print command))) (λ read. read ≡ Ok (Print printing))
+    → ForSome (known_command_task files (Some (asked.Print command))) (λ read. read ≡ Ok (Print printing))
     → IsAfterWrite (printing_text printing) takes_memory before now result
     → (printing_text printing ≡ [] → now ≡ before)
     → PrintOutcome command files (status_after result None) [] before now

@@ -4,16 +4,16 @@ use Rattle.base.proofs.Exports.{⊤}
 use Rattle.controller.specs.Exports.{PlanValue}
 use Rattle.update_machine.specs.Exports.{Item, Net, Row, Setting, current_mark, plan_at}
 use Rattle.partition.specs.Plan.{Hosted}
-use Rattle.rebalance.specs.Proposals.{ProposesFor}
+use Rattle.rebalance.specs.Proposals.{CommandProposesFor}
 use Rattle.replay.specs.InForce.{IsPlanInForce}
-use Rattle.shelf.specs.Exports.{Files, GainedPart, IsAfterWrite, SinkState}
+use Rattle.shelf.specs.Exports.{Files, SinkGainedPart, IsAfterWrite, SinkState}
 use Rattle.shelf.specs.declared.output.SinkError.{SinkError}
 use Rattle.shelf.specs.declared.output.SinkError.TheVariants as sink
 use Rattle.command_line.specs.Exports.{ReplayCommand}
 use Rattle.command_line.specs.Commands as asked
-use Rattle.difane_cli.specs.Exports.{EndsWork, Inputs, IsAfterProposal, IsAfterProposing, IsAnswer, ProposalOutcome, Proposes, Wrote, status_after}
+use Rattle.difane_cli.specs.Exports.{StatusEndsWork, Inputs, IsAfterProposal, IsAfterProposing, IsAnswer, ProposalOutcome, CommandProposes, OutputWrote, status_after}
 use Rattle.difane_cli.specs.declared.status.Status.TheVariants as status
-use Rattle.difane_cli.proofs.WorkStatus.{after_work, by_failed, by_memory, of_failed}
+use Rattle.difane_cli.proofs.ProgramStatus.{after_work, by_failed, by_memory, of_failed}
 
 -- ---- what is written
 
@@ -30,8 +30,8 @@ module _ (rows : List Row) (plan : List Hosted) (net : Net) (journal : List Item
   }
 
   proposes : (text : List ℕ) (IsWritten : List ℕ → Type 0)
-      → ProposesFor rows plan net journal (λ whole. text ≡ whole) → IsWritten text
-      → ProposesFor rows plan net journal IsWritten
+      → CommandProposesFor rows plan net journal (λ whole. text ≡ whole) → IsWritten text
+      → CommandProposesFor rows plan net journal IsWritten
   proposes text IsWritten is written = record {
     placement = is.placement;
     proposed = is.proposed;
@@ -39,11 +39,11 @@ module _ (rows : List Row) (plan : List Hosted) (net : Net) (journal : List Item
   }
 
   pub wrote_proposal : (text : List ℕ) (takes_memory : Bool) (before now : SinkState)
-      (result : Result (⊤) SinkError) → ProposesFor rows plan net journal (λ whole. text ≡ whole)
+      (result : Result (⊤) SinkError) → CommandProposesFor rows plan net journal (λ whole. text ≡ whole)
       → IsAfterWrite text takes_memory before now result → (text ≡ [] → now ≡ before)
       → IsAfterProposal rows plan net journal takes_memory before now result
   wrote_proposal text takes_memory before now (Ok done) is after untouched = record {
-    whole = proposes text (λ text. Wrote text before now) is
+    whole = proposes text (λ text. OutputWrote text before now) is
         (record { whole = after.whole; untouched = untouched });
     part = λ same. absurd (cc same);
     some = λ same. absurd (cc same);
@@ -52,8 +52,8 @@ module _ (rows : List Row) (plan : List Hosted) (net : Net) (journal : List Item
     faults = after.faults;
   }
   wrote_proposal text takes_memory before now (Err error) is after untouched =
-      let part : ProposesFor rows plan net journal
-      (λ text. GainedPart before.bytes text now.bytes) = proposes text _ is after.part in record {
+      let part : CommandProposesFor rows plan net journal
+      (λ text. SinkGainedPart before.bytes text now.bytes) = proposes text _ is after.part in record {
         whole = tt;
         part = λ same. part;
         some = λ same. inr (after.no_memory same, part);
@@ -80,7 +80,7 @@ module _ (rows : List Row) (plan : List Hosted) (net : Net) (journal : List Item
   pub proposing_ends : (full : Option ℕ) (takes_memory : Bool) (before now : SinkState)
       (result : Result (⊤) SinkError)
       → IsAfterProposing full rows plan net journal takes_memory before now result
-      → EndsWork (status_after result full) before now
+      → StatusEndsWork (status_after result full) before now
   proposing_ends None takes_memory before now result after = record {
     worked = after_work result None;
     failed = λ is. after.failed (by_failed result None is);
@@ -99,11 +99,11 @@ module _ (rows : List Row) (plan : List Hosted) (net : Net) (journal : List Item
 
 in_force : (setting : Setting) (journal : List Item) (plan : PlanValue)
     (IsWritten : List ℕ → Type 0) → IsPlanInForce setting journal plan
-    → ProposesFor plan.policy plan.hosted setting.net journal IsWritten
-    → Proposes setting journal IsWritten
-in_force setting journal plan IsWritten is proposes = subst (λ rows. ProposesFor rows
+    → CommandProposesFor plan.policy plan.hosted setting.net journal IsWritten
+    → CommandProposes setting journal IsWritten
+in_force setting journal plan IsWritten is proposes = subst (λ rows. CommandProposesFor rows
     (plan_at setting journal (current_mark journal)) setting.net journal IsWritten) is.policy
-    (subst (λ hosted. ProposesFor plan.policy hosted setting.net journal IsWritten) is.hosted
+    (subst (λ hosted. CommandProposesFor plan.policy hosted setting.net journal IsWritten) is.hosted
     proposes)
 
 pub whole_told : (command : ReplayCommand) (files : Option Files) (inputs : Inputs)
@@ -122,20 +122,20 @@ whole_told command files inputs journal None plan takes_memory before now (Ok do
     after = record {
       inputs = inputs;
       played = answer;
-      proposes = in_force inputs.setting journal plan (λ text. Wrote text before now) is after.whole;
+      proposes = in_force inputs.setting journal plan (λ text. OutputWrote text before now) is after.whole;
     }
 whole_told command files inputs journal None plan takes_memory before now (Err sink.Failed) answer
     is after = record {
       inputs = inputs;
       played = answer;
       proposes = in_force inputs.setting journal plan
-          (λ text. GainedPart before.bytes text now.bytes) is (after.part refl);
+          (λ text. SinkGainedPart before.bytes text now.bytes) is (after.part refl);
     }
 whole_told command files inputs journal None plan takes_memory before now (Err sink.NoMemory) answer
     is after = by_some (after.some refl)
   where
-    by_some : (now ≡ before) ⊎ (IsTrue takes_memory × ProposesFor plan.policy plan.hosted
-        inputs.setting.net journal (λ text. GainedPart before.bytes text now.bytes))
+    by_some : (now ≡ before) ⊎ (IsTrue takes_memory × CommandProposesFor plan.policy plan.hosted
+        inputs.setting.net journal (λ text. SinkGainedPart before.bytes text now.bytes))
         → ProposalOutcome (IsAnswer (asked.Replay command) files) takes_memory status.NoMemory
         journal before now
     by_some (inl same) = inr (inl (record { inputs = inputs; played = answer; untouched = same }))
@@ -145,6 +145,6 @@ whole_told command files inputs journal None plan takes_memory before now (Err s
         inputs = inputs;
         played = answer;
         proposes = in_force inputs.setting journal plan
-            (λ text. GainedPart before.bytes text now.bytes) is part;
+            (λ text. SinkGainedPart before.bytes text now.bytes) is part;
       },
     ))

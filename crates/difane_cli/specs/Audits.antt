@@ -4,8 +4,8 @@ use Rattle.base.specs.Exports.{ForSome}
 use Rattle.update_machine.specs.Exports.{Item, PolicyFile}
 use Rattle.policy_file.specs.Exports.{file_length}
 use Rattle.policy_rules.specs.Exports.{IsPolicyFile}
-use Rattle.shelf.specs.Exports.{Files, GainedPart, SinkState}
-use Rattle.trace_audit.specs.Exports.{AreGood, AreJustified, AreRun, IsFirstBad, TraceLine, lines_of}
+use Rattle.shelf.specs.Exports.{Files, SinkGainedPart, SinkState}
+use Rattle.trace_audit.specs.Exports.{AreGood, AreJustified, AreTraceRun, IsFirstBad, TraceLine, lines_of}
 use Rattle.trace_audit.specs.declared.trace.Verdict.{Verdict}
 use Rattle.trace_audit.specs.declared.trace.Verdict.TheVariants.{Yes, No}
 use Rattle.world.specs.Exports.{first_policy}
@@ -14,15 +14,15 @@ use Rattle.command_line.specs.Commands as asked
 use Rattle.command_line.specs.declared.report.Report.{Report}
 use Rattle.command_line.specs.declared.report.Report.TheVariants as report
 use Rattle.difane_cli.specs.Codes.{most_trace_bytes}
-use Rattle.difane_cli.specs.Inputs.{known_task}
+use Rattle.difane_cli.specs.Inputs.{known_command_task}
 use Rattle.difane_cli.specs.Tasks.{Audit, Auditing, Inputs}
-use Rattle.difane_cli.specs.Writes.{Unplayed, Wrote}
+use Rattle.difane_cli.specs.Writes.{CommandUnplayed, OutputWrote}
 use Rattle.difane_cli.specs.declared.status.Status.{Status}
 use Rattle.difane_cli.specs.declared.status.Status.TheVariants as status
 
 -- what is written for a trace whose lines are all good
-abbrev pub yes_line : List ℕ
-yes_line = codes "yes\n"
+abbrev pub audit_yes_line : List ℕ
+audit_yes_line = codes "yes\n"
 
 -- there is a file for each name, sound and with at most 2,000 rows; the first has a policy; and the
 -- trace isn't too long
@@ -37,46 +37,46 @@ pub record IsAuditingOf (command : AuditCommand) (auditing : Auditing) : Type 0 
 -- isn't. If it is Yes, the moves that they state are a run of the machine. And each packet that
 -- they print as dropped or as out by a port got one decision before: the first match of its header
 -- under one version that was not retired when it entered
-pub record IsJudged (files : List PolicyFile) (lines : List TraceLine) (verdict : Verdict) : Type 0 where
+pub record IsAuditJudged (files : List PolicyFile) (lines : List TraceLine) (verdict : Verdict) : Type 0 where
   pub good : verdict ≡ Yes → AreGood files lines
   pub bad : (number : ℕ) → verdict ≡ No number → IsFirstBad files lines number
-  pub run : verdict ≡ Yes → AreRun files lines
+  pub run : verdict ≡ Yes → AreTraceRun files lines
   pub justified : verdict ≡ Yes → AreJustified files lines
 
 -- there are a trace and files as the command names them, which are the known ones if these are
 -- known; this is their verdict; and the output has this relation to the line `yes`
-pub record Audited (command : AuditCommand) (files : Option Files) (verdict : Verdict)
+pub record AuditEnded (command : AuditCommand) (files : Option Files) (verdict : Verdict)
     (IsWritten : List ℕ → Type 0) (journal : List Item) : Type 0 where
   pub auditing : Auditing
-  pub accepted : ForSome (known_task files (Some (asked.Audit command)))
+  pub accepted : ForSome (known_command_task files (Some (asked.Audit command)))
       (λ read. read ≡ Ok (Audit auditing))
   pub asked : IsAuditingOf command auditing
-  pub judged : IsJudged auditing.files (lines_of auditing.trace) verdict
+  pub judged : IsAuditJudged auditing.files (lines_of auditing.trace) verdict
   pub nothing_played : journal ≡ []
-  pub written : IsWritten yes_line
+  pub written : IsWritten audit_yes_line
 
 -- the output that each status of an audit ensures: `No` leaves it unchanged
 abbrev pub AuditOutcome : AuditCommand → Option Files → Status → List Item
     → (before now : SinkState) → Type 0
 AuditOutcome command files status.Ok journal before now =
-    Audited command files Yes (λ text. Wrote text before now) journal
+    AuditEnded command files Yes (λ text. OutputWrote text before now) journal
 AuditOutcome command files (status.No line) journal before now =
-    Audited command files (No line) (λ text. now ≡ before) journal
+    AuditEnded command files (No line) (λ text. now ≡ before) journal
 AuditOutcome command files status.WriteFault journal before now =
-    Audited command files Yes (λ text. GainedPart before.bytes text now.bytes) journal
+    AuditEnded command files Yes (λ text. SinkGainedPart before.bytes text now.bytes) journal
 AuditOutcome command files status.NoMemory journal before now =
-    Unplayed journal before now
-    ⊎ Audited command files Yes (λ text. GainedPart before.bytes text now.bytes) journal
+    CommandUnplayed journal before now
+    ⊎ AuditEnded command files Yes (λ text. SinkGainedPart before.bytes text now.bytes) journal
 AuditOutcome command files (status.Full row) journal before now = ⊥
-AuditOutcome command files _ journal before now = Unplayed journal before now
+AuditOutcome command files _ journal before now = CommandUnplayed journal before now
 
 -- ---- what a replay prints
 
-abbrev pub TellsLines : Report → Type 0
-TellsLines (report.Lines quiet) = ⊤
-TellsLines _ = ⊥
+abbrev pub AuditTellsLines : Report → Type 0
+AuditTellsLines (report.Lines quiet) = ⊤
+AuditTellsLines _ = ⊥
 
 -- if the lines of a journal are printed, the text is a trace each line of which is good with the
 -- files of the play: so `audit` says yes, up to the longest trace that it accepts
 abbrev pub IsGoodTrace : Inputs → List ℕ → Type 0
-IsGoodTrace inputs text = TellsLines inputs.report → AreGood inputs.setting.files (lines_of text)
+IsGoodTrace inputs text = AuditTellsLines inputs.report → AreGood inputs.setting.files (lines_of text)

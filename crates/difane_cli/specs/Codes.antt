@@ -3,16 +3,16 @@
 use Rattle.std.specs.Prelude.{ℕ}
 
 -- a file has at most this many bytes
-abbrev pub most_bytes : ℕ
-most_bytes = 16_777_216
+abbrev pub most_file_bytes : ℕ
+most_file_bytes = 16_777_216
 
 -- a trace has at most this many bytes
 abbrev pub most_trace_bytes : ℕ
 most_trace_bytes = 268_435_456
 
 -- there is no such file
-abbrev pub missing_file : ℕ
-missing_file = 0
+abbrev pub missing_file_code : ℕ
+missing_file_code = 0
 
 -- the file has more bytes than it may have
 abbrev pub too_long : ℕ
@@ -23,8 +23,8 @@ abbrev pub no_port : ℕ
 no_port = 13
 
 -- the first file of a command is a change
-abbrev pub first_change : ℕ
-first_change = 23
+abbrev pub first_change_code : ℕ
+first_change_code = 23
 
 -- the network doesn't have the switch
 abbrev pub no_such_switch : ℕ

@@ -2,7 +2,7 @@
 use Rattle.std.specs.Prelude.{◌≡◌, ◌≤◌, length, ⊤}
 use Rattle.net_file.specs.Exports.{IsNet}
 use Rattle.steps.specs.Exports.{max_events}
-use Rattle.world.specs.Exports.{IsBegun, setting_at}
+use Rattle.world.specs.Exports.{IsWorldBegun, world_setting_at}
 use Rattle.difane_cli.specs.Run.{IsPlayOf, MayBePlayed}
 use Rattle.difane_cli.specs.Tasks.{Auditing, Inputs, Printing, Task, Audit, Play, Print}
 use Rattle.command_line.specs.Commands as grammar
@@ -15,9 +15,9 @@ use Rattle.difane_cli.specs.declared.task.Task as declared_task
 use Rattle.difane_cli.specs.declared.task.Task.TheVariants as asked
 
 -- the inputs that were read
-abbrev pub inputs_stated : PlayInputs → Inputs
-inputs_stated inputs = record {
-  setting = setting_at inputs.world;
+abbrev pub task_inputs_stated : PlayInputs → Inputs
+task_inputs_stated inputs = record {
+  setting = world_setting_at inputs.world;
   events = inputs.events.items;
   report = inputs.report;
 }
@@ -34,16 +34,16 @@ abbrev pub auditing_stated : AuditInputs → Auditing
 auditing_stated inputs = record { trace = inputs.trace.items; files = inputs.files.items }
 
 abbrev pub task_stated : declared_task.Task → Task
-task_stated (asked.Play inputs) = Play (inputs_stated inputs)
+task_stated (asked.Play inputs) = Play (task_inputs_stated inputs)
 task_stated (asked.Print inputs) = Print (printing_stated inputs)
 task_stated (asked.Audit inputs) = Audit (auditing_stated inputs)
 
 -- in the world of a play nothing happened yet, its network is the one that was read, and the
 -- events may happen on it
 pub record AreReadyToPlay (inputs : PlayInputs) : Type 0 where
-  pub begun : IsBegun (setting_at inputs.world) inputs.world
+  pub begun : IsWorldBegun (world_setting_at inputs.world) inputs.world
   pub net : inputs.world.net ≡ inputs.net
-  pub sound : MayBePlayed (inputs_stated inputs)
+  pub sound : MayBePlayed (task_inputs_stated inputs)
   pub few : length inputs.events.items ≤ max_events
 
 -- what is required of a task before its work; nothing of a trace

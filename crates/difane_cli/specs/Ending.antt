@@ -3,14 +3,14 @@ use Rattle.std.specs.Prelude.{[], ◌++◌, ◌∷◌, ◌≡◌, ◌≢◌, ◌
 use Rattle.base.specs.Exports.{ForSome}
 use Rattle.update_machine.specs.Exports.{Failure, InRow, Item}
 use Rattle.base.specs.declared.error.Failure.TheVariants as failure
-use Rattle.shelf.specs.Exports.{Files, IsAfterReads, Rose, ShelfState, SinkState}
+use Rattle.shelf.specs.Exports.{Files, IsAfterReads, FaultsRose, ShelfState, SinkState}
 use Rattle.shelf.specs.declared.output.SinkError.{SinkError}
 use Rattle.command_line.specs.Exports.{Command}
 use Rattle.command_line.specs.Commands as asked
 use Rattle.command_line.specs.declared.report.Report.TheVariants as report
-use Rattle.difane_cli.specs.Codes.{missing_file, too_long}
-use Rattle.difane_cli.specs.Inputs.{load_name, most_reads}
-use Rattle.difane_cli.specs.Run.{WantsMemory}
+use Rattle.difane_cli.specs.Codes.{missing_file_code, too_long}
+use Rattle.difane_cli.specs.Inputs.{load_input_name, most_reads}
+use Rattle.difane_cli.specs.Run.{PlayWantsMemory}
 use Rattle.difane_cli.specs.declared.status.Refusal.{Refusal}
 use Rattle.difane_cli.specs.declared.status.Status.{Status}
 use Rattle.difane_cli.specs.declared.status.Stop.{Stop}
@@ -43,9 +43,9 @@ IsAfterWork _ = ⊥
 
 -- the status is of a command that began its work, and reports a fault of the output exactly if
 -- there was one
-pub record EndsWork (ended : Status) (before now : SinkState) : Type 0 where
+pub record StatusEndsWork (ended : Status) (before now : SinkState) : Type 0 where
   pub worked : IsAfterWork ended
-  pub failed : ended ≡ status.WriteFault → Rose before.faults now.faults
+  pub failed : ended ≡ status.WriteFault → FaultsRose before.faults now.faults
   pub calm : ended ≢ status.WriteFault → now.faults ≡ before.faults
   pub faults : before.faults ≤ now.faults
 
@@ -63,37 +63,37 @@ status_number status.NoMemory = 7
 -- absent file or one too long
 abbrev pub NeedsReadFault : Option Files → Status → Type 0
 NeedsReadFault files status.ReadFault = ⊤
-NeedsReadFault None (status.Input file code row) = (code ≡ missing_file) ⊎ (code ≡ too_long)
+NeedsReadFault None (status.Input file code row) = (code ≡ missing_file_code) ⊎ (code ≡ too_long)
 NeedsReadFault _ _ = ⊥
 
 -- a status with which the shelf may have counted a fault: one that only a fault causes; and if the
 -- files are not known, out of memory, which may occur while an absent file is reported
 abbrev pub MayFollowFault : Option Files → Status → Type 0
 MayFollowFault files status.ReadFault = ⊤
-MayFollowFault None (status.Input file code row) = (code ≡ missing_file) ⊎ (code ≡ too_long)
+MayFollowFault None (status.Input file code row) = (code ≡ missing_file_code) ⊎ (code ≡ too_long)
 MayFollowFault None status.NoMemory = ⊤
 MayFollowFault _ _ = ⊥
 
 -- what a status says of what there is to read: a refusal is the one that the definitions give, and
 -- work was done only on what they accept
-abbrev pub Accounts : {X : Type 0} → Result X Refusal → Status → Type 0
-Accounts read (status.Input file code row) =
+abbrev pub StatusAccounts : {X : Type 0} → Result X Refusal → Status → Type 0
+StatusAccounts read (status.Input file code row) =
     read ≡ Err (record { file = file; code = code; row = row })
-Accounts read status.Words = ⊥
-Accounts read status.Ok = IsOk read
-Accounts read (status.No line) = IsOk read
-Accounts read status.WriteFault = IsOk read
-Accounts read (status.Full row) = IsOk read
-Accounts read _ = ⊤
+StatusAccounts read status.Words = ⊥
+StatusAccounts read status.Ok = IsOk read
+StatusAccounts read (status.No line) = IsOk read
+StatusAccounts read status.WriteFault = IsOk read
+StatusAccounts read (status.Full row) = IsOk read
+StatusAccounts read _ = ⊤
 
 -- how a reading ends: with the value that the known files give, as `seen` shows it; or with a stop
 -- for which the known files account, and with a fault of the shelf if it needs one
-abbrev pub EndsRead : {K X V : Type 0} → (known : Option K) → (read : K → Result X Refusal)
+abbrev pub CommandEndsRead : {K X V : Type 0} → (known : Option K) → (read : K → Result X Refusal)
     → (seen : V → X) → (old new : ShelfState) → Result V Stop → Type 0
-EndsRead known read seen old new (Ok value) = ForSome known (λ given. read given ≡ Ok (seen value))
-EndsRead known read seen old new (Err stop) =
-    ForSome known (λ given. Accounts (read given) (status_of stop))
-    × (NeedsReadFault old.files (status_of stop) → Rose old.faults new.faults)
+CommandEndsRead known read seen old new (Ok value) = ForSome known (λ given. read given ≡ Ok (seen value))
+CommandEndsRead known read seen old new (Err stop) =
+    ForSome known (λ given. StatusAccounts (read given) (status_of stop))
+    × (NeedsReadFault old.files (status_of stop) → FaultsRose old.faults new.faults)
 
 -- a reading counts no fault, unless it stops as one that met a fault may
 abbrev pub IsCalmRead : {V : Type 0} → (old new : ShelfState) → Result V Stop → Type 0
@@ -110,7 +110,7 @@ names_in None = []
 names_in (Some (asked.Replay args)) = option_to_list args.net ++ args.schedule ∷ args.policies
 names_in (Some (asked.Print args)) =
     option_to_list args.net ++ args.policy ∷ option_to_list args.switch
-names_in (Some (asked.Load n)) = load_name ∷ []
+names_in (Some (asked.Load n)) = load_input_name ∷ []
 names_in (Some (asked.Audit args)) = args.trace ∷ args.policies
 
 abbrev pub IsOneOf : List (List ℕ) → List ℕ → Type 0
@@ -120,7 +120,7 @@ IsOneOf (name ∷ names) file = (file ≡ name) ⊎ IsOneOf names file
 -- a refusal names one of these; and that of a file that is absent, or too long, names row 0
 abbrev pub NamesOneOf : List (List ℕ) → Status → Type 0
 NamesOneOf names (status.Input file code row) = IsOneOf names file
-    × ((code ≡ missing_file) ⊎ (code ≡ too_long) → row ≡ 0)
+    × ((code ≡ missing_file_code) ⊎ (code ≡ too_long) → row ≡ 0)
 NamesOneOf names _ = ⊤
 
 -- the same for a reading that stops
@@ -137,39 +137,39 @@ pub record ReadsFiles {V : Type 0} (names : List (List ℕ)) (most : ℕ) (old n
   pub stops : StopNamesOneOf names result
 
 -- the same for what a command names
-abbrev pub ReadsFor : {V : Type 0} → Command → (old new : ShelfState) → Result V Stop → Type 0
-ReadsFor command old new result =
+abbrev pub CommandReadsFor : {V : Type 0} → Command → (old new : ShelfState) → Result V Stop → Type 0
+CommandReadsFor command old new result =
     ReadsFiles (names_in (Some command)) (most_reads old.files (Some command)) old new result
 
 -- no file is read: a load case has none, and arguments that the grammar refuses name none to read
-abbrev pub ReadsNothing : Option Command → Type 0
-ReadsNothing None = ⊤
-ReadsNothing (Some (asked.Load n)) = ⊤
-ReadsNothing _ = ⊥
+abbrev pub CommandReadsNothing : Option Command → Type 0
+CommandReadsNothing None = ⊤
+CommandReadsNothing (Some (asked.Load n)) = ⊤
+CommandReadsNothing _ = ⊥
 
 -- ---- which commands need memory, and which give the meters back
 
 -- the command may need memory after its play; only to write the lines of a journal it needs none
 abbrev pub MayWantMemory : Option Command → Type 0
-MayWantMemory (Some (asked.Replay args)) = WantsMemory args.report None
+MayWantMemory (Some (asked.Replay args)) = PlayWantsMemory args.report None
 MayWantMemory (Some (asked.Load n)) = ⊤
 MayWantMemory _ = ⊥
 
 -- memory ran out in the output's own writes, if they allocate. Or the output wasn't touched, and
 -- either the journal is empty, or the command is one that may need memory after its play
-abbrev pub RanOut : Option Command → (takes_memory : Bool) → List Item → (before now : SinkState)
+abbrev pub CommandRanOut : Option Command → (takes_memory : Bool) → List Item → (before now : SinkState)
     → Type 0
-RanOut command takes_memory journal before now =
+CommandRanOut command takes_memory journal before now =
     IsTrue takes_memory ⊎ ((now ≡ before) × ((journal ≡ []) ⊎ MayWantMemory command))
 
 -- arguments that the grammar doesn't have, a command that plays nothing, and one that proposes a
 -- placement give the meters back unchanged
-abbrev pub GivesBack : Option Command → Type 0
-GivesBack None = ⊤
-GivesBack (Some (asked.Print args)) = ⊤
-GivesBack (Some (asked.Audit args)) = ⊤
-GivesBack (Some (asked.Replay args)) = args.report ≡ report.Placement
-GivesBack _ = ⊥
+abbrev pub CommandGivesBackMeters : Option Command → Type 0
+CommandGivesBackMeters None = ⊤
+CommandGivesBackMeters (Some (asked.Print args)) = ⊤
+CommandGivesBackMeters (Some (asked.Audit args)) = ⊤
+CommandGivesBackMeters (Some (asked.Replay args)) = args.report ≡ report.Placement
+CommandGivesBackMeters _ = ⊥
 
 -- ---- checks of what was read
 
@@ -180,11 +180,11 @@ RefusesInput given stop.NoMemory = ⊤
 RefusesInput given stop.ReadFault = ⊥
 
 -- a stop at a check of what was read: this accounts for it, and no fault causes it
-abbrev pub StopsCheck : {X : Type 0} → Result X Refusal → Stop → Type 0
-StopsCheck read stop = Accounts read (status_of stop) × (NeedsReadFault None (status_of stop) → ⊥)
+abbrev pub CommandStopsCheck : {X : Type 0} → Result X Refusal → Stop → Type 0
+CommandStopsCheck read stop = StatusAccounts read (status_of stop) × (NeedsReadFault None (status_of stop) → ⊥)
 
 -- a stop at a text that is refused in a row by a refusal of this code, or for which memory ran out
-abbrev pub StopsText : {R : Type 0} → (R → ℕ) → List ℕ → Failure (InRow R) → Stop → Type 0
-StopsText code name (failure.Refused why) stop =
+abbrev pub CommandStopsText : {R : Type 0} → (R → ℕ) → List ℕ → Failure (InRow R) → Stop → Type 0
+CommandStopsText code name (failure.Refused why) stop =
     RefusesInput (record { file = name; code = code why.refusal; row = why.row }) stop
-StopsText code name failure.NoMemory why = why ≡ stop.NoMemory
+CommandStopsText code name failure.NoMemory why = why ≡ stop.NoMemory

@@ -1,7 +1,7 @@
 -- What `flows` writes: the flow records of the meters that left, and then of those that stayed; and
 -- what these records count.
 use Rattle.std.specs.Prelude.{[], ◌++◌, All, List, None, Option, Some, flat_map, ℕ}
-use Rattle.flow_export.specs.Counted.{IsCounted, IsNewMeter}
+use Rattle.flow_export.specs.Counted.{IsFlowCounted, IsNewMeter}
 use Rattle.flow_export.specs.Lines.{flow_lines}
 use Rattle.update_machine.specs.Exports.{Item, Net}
 use Rattle.meters.specs.Exports.{Seen, flow_records_of, gone_records}
@@ -10,8 +10,8 @@ use Rattle.net_file.specs.Exports.{port_mask}
 use Rattle.replay.specs.Leavings.{left_in}
 
 -- the records of the meters that left when the packets of this journal left the network
-abbrev pub gone_by : Net → List Item → List Seen → List FlowRecord
-gone_by net journal meters = gone_records (port_mask net.switches) (left_in journal) meters
+abbrev pub gone_records_by : Net → List Item → List Seen → List FlowRecord
+gone_records_by net journal meters = gone_records (port_mask net.switches) (left_in journal) meters
 
 -- the lines of those records, and of the records of the meters that stayed
 abbrev pub flow_text : List FlowRecord → List Seen → List ℕ
@@ -26,9 +26,9 @@ flows_text (Some row) gone meters = []
 
 -- each record of a meter that stayed counts all packets that left by its port with its header; if
 -- no meter left, each record does (`flow_laws`)
-abbrev pub AreCounted : List Item → (given : List Seen) → Type 0
-AreCounted journal given = All (IsCounted (left_in journal)) (flat_map flow_records_of given)
+abbrev pub AreFlowsCounted : List Item → (given : List Seen) → Type 0
+AreFlowsCounted journal given = All (IsFlowCounted (left_in journal)) (flat_map flow_records_of given)
 
 -- this is true if the meters that the command got are empty flow meters
 abbrev pub CountFlows : List Item → (taken given : List Seen) → Type 0
-CountFlows journal taken given = (most : ℕ) → All (IsNewMeter most) taken → AreCounted journal given
+CountFlows journal taken given = (most : ℕ) → All (IsNewMeter most) taken → AreFlowsCounted journal given

@@ -1,10 +1,10 @@
 -- The outcome of a call that begins with a new meter at each port.
 use Rattle.std.specs.Prelude.{◌≡◌, Bool, List, None, Option, Some, true, ℕ}
 use Rattle.command_line.specs.Exports.{Command, command_of}
-use Rattle.difane_cli.specs.FlowLines.{AreCounted, flow_text, gone_by}
+use Rattle.difane_cli.specs.FlowLines.{AreFlowsCounted, flow_text, gone_records_by}
 use Rattle.difane_cli.specs.Run.{IsAnswer, Outcome}
 use Rattle.difane_cli.specs.Tasks.{Inputs}
-use Rattle.difane_cli.specs.Writes.{Wrote}
+use Rattle.difane_cli.specs.Writes.{OutputWrote}
 use Rattle.difane_cli.specs.declared.status.Status.{Status}
 use Rattle.update_machine.specs.Exports.{Item, Net}
 use Rattle.meters.specs.Exports.{Seen}
@@ -22,16 +22,16 @@ MeteredOutcome texts files takes_memory status journal before now =
 -- the output gained the lines of the flow records of the new meters that left while the packets of
 -- this journal left the network, and then of those that stayed. Each record of one that stayed
 -- counts all packets that left by its port with its header
-pub record WritesCounts (net : Net) (journal : List Item) (before now : SinkState) : Type 0 where
-  pub written : Wrote (flow_text (gone_by net journal (new_meters true))
+pub record WritesFlowCounts (net : Net) (journal : List Item) (before now : SinkState) : Type 0 where
+  pub written : OutputWrote (flow_text (gone_records_by net journal (new_meters true))
       (kept_by net journal (new_meters true))) before now
-  pub counted : AreCounted journal (kept_by net journal (new_meters true))
+  pub counted : AreFlowsCounted journal (kept_by net journal (new_meters true))
 
 -- the arguments are a command, the journal is that of its play, and the output gained its flows
-pub record TellsFlows (texts : List (List ℕ)) (files : Option Files) (journal : List Item)
+pub record CommandTellsFlows (texts : List (List ℕ)) (files : Option Files) (journal : List Item)
     (before now : SinkState) : Type 0 where
   pub command : Command
   pub asked : command_of texts ≡ Some command
   pub inputs : Inputs
   pub played : IsAnswer command files inputs journal None
-  pub flows : WritesCounts inputs.setting.net journal before now
+  pub flows : WritesFlowCounts inputs.setting.net journal before now

@@ -14,14 +14,14 @@ abbrev pub most_headers : ℕ
 most_headers = 4096
 
 -- an empty meter of this port: one that counts flows, or one that always stays, without records
-abbrev pub new_meter : (counts_flows : Bool) → ℕ → Seen
-new_meter true port = record {
+abbrev pub new_command_meter : (counts_flows : Bool) → ℕ → Seen
+new_command_meter true port = record {
   port = port;
   held = [];
   is_ended = λ held. nat_le most_headers (length (headers_of held));
   recorded = flows port;
 }
-new_meter false port = record {
+new_command_meter false port = record {
   port = port;
   held = [];
   is_ended = λ held. false;
@@ -30,4 +30,4 @@ new_meter false port = record {
 
 -- a new meter at each port that a network may have
 abbrev pub new_meters : (counts_flows : Bool) → List Seen
-new_meters counts_flows = map (new_meter counts_flows) (range_with_len 0 64)
+new_meters counts_flows = map (new_command_meter counts_flows) (range_with_len 0 64)

@@ -4,19 +4,19 @@ use Rattle.std.specs.Prelude.{[], ◌≡◌, ◌≢◌, ◌≤◌, ◌⊎◌, Al
 use Rattle.base.specs.Exports.{ForSome}
 use Rattle.net_file.specs.Exports.{port_mask, switch_number}
 use Rattle.update_machine.specs.Exports.{Header, Item, Net}
-use Rattle.partition.specs.Plan.{IsPlan, plan_of}
+use Rattle.partition.specs.Plan.{IsPartitionPlan, plan_of}
 use Rattle.policy_file.specs.Exports.{names_port_of}
 use Rattle.policy_rules.specs.Exports.{IsFirstMatch, IsPolicy, scan}
 use Rattle.show_text.specs.Text.{compile_text, table_text}
 use Rattle.switch_table.specs.Exports.{tables_of}
-use Rattle.shelf.specs.Exports.{Files, GainedPart, Rose, SinkState, with_gained}
+use Rattle.shelf.specs.Exports.{Files, SinkGainedPart, FaultsRose, SinkState, sink_with_gained}
 use Rattle.shelf.specs.declared.output.SinkError.{SinkError}
 use Rattle.shelf.specs.declared.output.SinkError.TheVariants.{Failed, NoMemory}
 use Rattle.controller.specs.Exports.{LeadEveryHeader}
-use Rattle.difane_cli.specs.Inputs.{known_task}
+use Rattle.difane_cli.specs.Inputs.{known_command_task}
 use Rattle.difane_cli.specs.Tasks.{Print, Printing, IsNetOf}
 use Rattle.difane_cli.specs.declared.status.Status.{Status}
-use Rattle.difane_cli.specs.Writes.{Wrote, Unplayed, WrotePart}
+use Rattle.difane_cli.specs.Writes.{OutputWrote, CommandUnplayed, OutputWrotePart}
 use Rattle.command_line.specs.Exports.{PrintCommand}
 use Rattle.command_line.specs.Commands as asked
 use Rattle.difane_cli.specs.declared.status.Status.TheVariants as status
@@ -39,26 +39,26 @@ pub record IsPrintingOf (command : PrintCommand) (printing : Printing) : Type 0 
       printing.policy
   pub switch : IsSwitchOf command.switch printing.net printing.switch
   pub plan : plan_of printing.policy printing.net ≡ Ok printing.hosted
-  pub parts : IsPlan printing.policy printing.net printing.hosted
+  pub parts : IsPartitionPlan printing.policy printing.net printing.hosted
   pub leads : LeadEveryHeader printing.policy printing.hosted
   -- what a scan finds, to which the tables lead, is the first match
   pub first_match : (header : Header)
       → IsFirstMatch printing.policy header (scan printing.policy header)
 
 -- the plan, or the tables that it gives the switch for version 1
-abbrev pub text_by : Option ℕ → Printing → List ℕ
-text_by None printing = compile_text printing.policy printing.hosted printing.net
-text_by (Some s) printing = table_text s (tables_of printing.hosted 1 s) printing.net
+abbrev pub printed_text_by : Option ℕ → Printing → List ℕ
+printed_text_by None printing = compile_text printing.policy printing.hosted printing.net
+printed_text_by (Some s) printing = table_text s (tables_of printing.hosted 1 s) printing.net
 
 abbrev pub printing_text : Printing → List ℕ
-printing_text printing = text_by printing.switch printing
+printing_text printing = printed_text_by printing.switch printing
 
 -- there is a plan as the command names it, which is the known one if the task is known; the output
 -- has this relation to its text
-pub record Printed (command : PrintCommand) (files : Option Files)
+pub record CommandPrinted (command : PrintCommand) (files : Option Files)
     (IsWritten : List ℕ → Type 0) (journal : List Item) : Type 0 where
   pub printing : Printing
-  pub accepted : ForSome (known_task files (Some (asked.Print command)))
+  pub accepted : ForSome (known_command_task files (Some (asked.Print command)))
       (λ read. read ≡ Ok (Print printing))
   pub planned : IsPrintingOf command printing
   pub nothing_played : journal ≡ []
@@ -68,27 +68,27 @@ pub record Printed (command : PrintCommand) (files : Option Files)
 abbrev pub PrintOutcome : PrintCommand → Option Files → Status → List Item
     → (before now : SinkState) → Type 0
 PrintOutcome command files status.Ok journal before now =
-    Printed command files (λ text. Wrote text before now) journal
+    CommandPrinted command files (λ text. OutputWrote text before now) journal
 PrintOutcome command files status.WriteFault journal before now =
-    Printed command files (λ text. GainedPart before.bytes text now.bytes) journal
+    CommandPrinted command files (λ text. SinkGainedPart before.bytes text now.bytes) journal
 PrintOutcome command files status.NoMemory journal before now =
-    Unplayed journal before now
-    ⊎ Printed command files (λ text. GainedPart before.bytes text now.bytes) journal
+    CommandUnplayed journal before now
+    ⊎ CommandPrinted command files (λ text. SinkGainedPart before.bytes text now.bytes) journal
 PrintOutcome command files (status.Full row) journal before now = ⊥
 PrintOutcome command files (status.No line) journal before now = ⊥
-PrintOutcome command files _ journal before now = Unplayed journal before now
+PrintOutcome command files _ journal before now = CommandUnplayed journal before now
 
 -- the output after writing a text: it gained all of the text if the write succeeded, otherwise a
 -- part of it, or it wasn't touched. No fault is counted unless it failed. Memory ran out only in
 -- the output's own writes, if they allocate; or before them, if the text is made in memory
 pub record IsAfterText (text : List ℕ) (in_memory takes_memory : Bool) (before now : SinkState)
     (result : Result (⊤) SinkError) : Type 0 where
-  pub whole : OnOk result (now.bytes ≡ with_gained before.bytes text)
-  pub part : IsErrOf result Failed → GainedPart before.bytes text now.bytes
-  pub some : OnErr result (WrotePart text before now)
+  pub whole : OnOk result (now.bytes ≡ sink_with_gained before.bytes text)
+  pub part : IsErrOf result Failed → SinkGainedPart before.bytes text now.bytes
+  pub some : OnErr result (OutputWrotePart text before now)
   pub untouched : text ≡ [] → now ≡ before
   pub calm : result ≢ Err Failed → now.faults ≡ before.faults
-  pub failed : IsErrOf result Failed → Rose before.faults now.faults
+  pub failed : IsErrOf result Failed → FaultsRose before.faults now.faults
   pub no_memory : IsErrOf result NoMemory
       → IsTrue takes_memory ⊎ (IsTrue in_memory × (now ≡ before))
   pub faults : before.faults ≤ now.faults

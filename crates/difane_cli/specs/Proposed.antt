@@ -2,21 +2,21 @@
 use Rattle.std.specs.Prelude.{◌≡◌, ◌≢◌, ◌≤◌, ◌⊎◌, Bool, Err, IsErrOf, IsOk, IsTrue, List, None, OnOk, Option, Result, Some, ℕ, ⊤}
 use Rattle.update_machine.specs.Exports.{Item, Net, Row, Setting, current_mark, plan_at, policy_at}
 use Rattle.partition.specs.Plan.{Hosted}
-use Rattle.rebalance.specs.Proposals.{ProposesFor}
-use Rattle.shelf.specs.Exports.{GainedPart, Rose, SinkState}
+use Rattle.rebalance.specs.Proposals.{CommandProposesFor}
+use Rattle.shelf.specs.Exports.{SinkGainedPart, FaultsRose, SinkState}
 use Rattle.shelf.specs.declared.output.SinkError.{SinkError}
 use Rattle.shelf.specs.declared.output.SinkError.TheVariants.{Failed, NoMemory}
 use Rattle.difane_cli.specs.Tasks.{Inputs}
-use Rattle.difane_cli.specs.Writes.{Unplayed, Wrote}
+use Rattle.difane_cli.specs.Writes.{CommandUnplayed, OutputWrote}
 use Rattle.difane_cli.specs.declared.status.Status.{Status}
 use Rattle.difane_cli.specs.declared.status.Status.TheVariants as status
 
 -- ---- what is written
 
 -- there is a proposal for the plan that is in force after the journal, and this is true of its text
-abbrev pub Proposes : Setting → List Item → (List ℕ → Type 0) → Type 0
-Proposes setting journal IsWritten =
-    ProposesFor (policy_at setting journal (current_mark journal))
+abbrev pub CommandProposes : Setting → List Item → (List ℕ → Type 0) → Type 0
+CommandProposes setting journal IsWritten =
+    CommandProposesFor (policy_at setting journal (current_mark journal))
     (plan_at setting journal (current_mark journal)) setting.net journal IsWritten
 
 -- the output after writing a proposal: it gained all of its text, or a part of it; or memory ran
@@ -24,14 +24,14 @@ Proposes setting journal IsWritten =
 pub record IsAfterProposal (rows : List Row) (plan : List Hosted) (net : Net)
     (journal : List Item) (takes_memory : Bool) (before now : SinkState)
     (result : Result (⊤) SinkError) : Type 0 where
-  pub whole : OnOk result (ProposesFor rows plan net journal (λ text. Wrote text before now))
+  pub whole : OnOk result (CommandProposesFor rows plan net journal (λ text. OutputWrote text before now))
   pub part : IsErrOf result Failed
-      → ProposesFor rows plan net journal (λ text. GainedPart before.bytes text now.bytes)
+      → CommandProposesFor rows plan net journal (λ text. SinkGainedPart before.bytes text now.bytes)
   pub some : IsErrOf result NoMemory → (now ≡ before)
       ⊎ (IsTrue takes_memory
-      × ProposesFor rows plan net journal (λ text. GainedPart before.bytes text now.bytes))
+      × CommandProposesFor rows plan net journal (λ text. SinkGainedPart before.bytes text now.bytes))
   pub calm : result ≢ Err Failed → now.faults ≡ before.faults
-  pub failed : IsErrOf result Failed → Rose before.faults now.faults
+  pub failed : IsErrOf result Failed → FaultsRose before.faults now.faults
   pub faults : before.faults ≤ now.faults
 
 -- the output after a play that may propose a placement: if it stopped full, nothing was written
@@ -49,10 +49,10 @@ pub record Rebalanced (IsAnswer : Inputs → List Item → Option ℕ → Type 0
     (IsWritten : List ℕ → Type 0) : Type 0 where
   pub inputs : Inputs
   pub played : IsAnswer inputs journal None
-  pub proposes : Proposes inputs.setting journal IsWritten
+  pub proposes : CommandProposes inputs.setting journal IsWritten
 
 -- a play of which nothing was written
-pub record PlayedAlone (IsAnswer : Inputs → List Item → Option ℕ → Type 0) (full : Option ℕ)
+pub record PlayedUnwritten (IsAnswer : Inputs → List Item → Option ℕ → Type 0) (full : Option ℕ)
     (journal : List Item) (before now : SinkState) : Type 0 where
   pub inputs : Inputs
   pub played : IsAnswer inputs journal full
@@ -63,14 +63,14 @@ pub record PlayedAlone (IsAnswer : Inputs → List Item → Option ℕ → Type 
 abbrev pub ProposalOutcome : (IsAnswer : Inputs → List Item → Option ℕ → Type 0)
     → (takes_memory : Bool) → Status → List Item → (before now : SinkState) → Type 0
 ProposalOutcome IsAnswer takes_memory status.Ok journal before now =
-    Rebalanced IsAnswer journal (λ text. Wrote text before now)
+    Rebalanced IsAnswer journal (λ text. OutputWrote text before now)
 ProposalOutcome IsAnswer takes_memory (status.Full row) journal before now =
-    PlayedAlone IsAnswer (Some row) journal before now
+    PlayedUnwritten IsAnswer (Some row) journal before now
 ProposalOutcome IsAnswer takes_memory status.WriteFault journal before now =
-    Rebalanced IsAnswer journal (λ text. GainedPart before.bytes text now.bytes)
+    Rebalanced IsAnswer journal (λ text. SinkGainedPart before.bytes text now.bytes)
 ProposalOutcome IsAnswer takes_memory status.NoMemory journal before now =
-    Unplayed journal before now ⊎ PlayedAlone IsAnswer None journal before now
+    CommandUnplayed journal before now ⊎ PlayedUnwritten IsAnswer None journal before now
     ⊎ (IsTrue takes_memory
-    × Rebalanced IsAnswer journal (λ text. GainedPart before.bytes text now.bytes))
+    × Rebalanced IsAnswer journal (λ text. SinkGainedPart before.bytes text now.bytes))
 ProposalOutcome IsAnswer takes_memory (status.No line) journal before now = ⊥
-ProposalOutcome IsAnswer takes_memory _ journal before now = Unplayed journal before now
+ProposalOutcome IsAnswer takes_memory _ journal before now = CommandUnplayed journal before now

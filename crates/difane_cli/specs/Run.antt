@@ -4,7 +4,7 @@ use Rattle.base.specs.Exports.{AllZip, ForSome}
 use Rattle.net_file.specs.Exports.{net_of}
 use Rattle.policy_file.specs.Exports.{policy_file_of}
 use Rattle.schedule.specs.Reading.{schedule_of}
-use Rattle.shelf.specs.Exports.{Files, GainedPart, SinkState, file_named}
+use Rattle.shelf.specs.Exports.{Files, SinkGainedPart, SinkState, file_named}
 use Rattle.update_machine.specs.Exports.{HasCause, HaveCauses, IsPlay, IsRun, IsSetting, Item}
 use Rattle.meters.specs.Exports.{Seen}
 use Rattle.steps.specs.Exports.{IsEvent}
@@ -12,16 +12,16 @@ use Rattle.packet_laws.specs.Exports.{AreEntered, HeldOnTheWay, StrongCause, row
 use Rattle.forwarding_laws.specs.Exports.{KeepsWorking}
 use Rattle.schedule.specs.Case.{load_case}
 use Rattle.difane_cli.specs.Limits.{AreWithinLimits}
-use Rattle.difane_cli.specs.FlowLines.{CountFlows, gone_by}
-use Rattle.difane_cli.specs.Inputs.{case_inputs, known_task}
+use Rattle.difane_cli.specs.FlowLines.{CountFlows, gone_records_by}
+use Rattle.difane_cli.specs.Inputs.{case_inputs, known_command_task}
 use Rattle.difane_cli.specs.Texts.{play_text}
-use Rattle.difane_cli.specs.Verdict.{IsVerdict, asks_quiet, is_asked}
+use Rattle.difane_cli.specs.Verdict.{IsQuietVerdict, asks_quiet, is_asked}
 use Rattle.command_line.specs.Exports.{Command, ReplayCommand}
 use Rattle.command_line.specs.Commands as asked
 use Rattle.command_line.specs.declared.report.Report.{Report}
 use Rattle.command_line.specs.declared.report.Report.TheVariants as report
 use Rattle.difane_cli.specs.declared.status.Status.{Status}
-use Rattle.difane_cli.specs.Writes.{Wrote, WrotePart, Unplayed}
+use Rattle.difane_cli.specs.Writes.{OutputWrote, OutputWrotePart, CommandUnplayed}
 use Rattle.difane_cli.specs.Audits.{AuditOutcome, IsGoodTrace}
 use Rattle.difane_cli.specs.Prints.{PrintOutcome}
 use Rattle.difane_cli.specs.Proposed.{ProposalOutcome}
@@ -46,21 +46,21 @@ IsPlayOf (asked.Load n) inputs = inputs ≡ case_inputs (load_case n)
 IsPlayOf _ inputs = ⊥
 
 -- the bytes of the file of this name are read as this value
-abbrev pub States : {V E : Type 0} → Files → (List ℕ → Result V E) → List ℕ → V → Type 0
-States files read name value =
+abbrev pub ShelfStates : {V E : Type 0} → Files → (List ℕ → Result V E) → List ℕ → V → Type 0
+ShelfStates files read name value =
     (bytes : List ℕ) × (file_named files name ≡ Some bytes) × (read bytes ≡ Ok value)
 
 -- the inputs are what the files state that a replay names: the network, if it names one; the
 -- events, on this network and with this many files; and the policies and changes, in their order
-pub record AreStated (files : Files) (command : ReplayCommand) (inputs : Inputs) : Type 0 where
-  pub net : ForSome command.net (λ name. States files net_of name inputs.setting.net)
-  pub events : States files (schedule_of inputs.setting.net (length command.policies))
+pub record AreInputsStated (files : Files) (command : ReplayCommand) (inputs : Inputs) : Type 0 where
+  pub net : ForSome command.net (λ name. ShelfStates files net_of name inputs.setting.net)
+  pub events : ShelfStates files (schedule_of inputs.setting.net (length command.policies))
       command.schedule inputs.events
-  pub policies : AllZip (States files policy_file_of) command.policies inputs.setting.files
+  pub policies : AllZip (ShelfStates files policy_file_of) command.policies inputs.setting.files
 
 -- the inputs of a replay are what its files state, if these are known
 abbrev pub AreStatedBy : Option Files → Command → Inputs → Type 0
-AreStatedBy files (asked.Replay args) inputs = ForSome files (λ all. AreStated all args inputs)
+AreStatedBy files (asked.Replay args) inputs = ForSome files (λ all. AreInputsStated all args inputs)
 AreStatedBy files _ inputs = ⊤
 
 -- the first file has a policy, with a plan on the network, all name only its ports, and the events
@@ -77,7 +77,7 @@ pub record IsAnswer (command : Command) (files : Option Files) (inputs : Inputs)
     (journal : List Item) (full : Option ℕ) : Type 0 where
   pub asked : IsPlayOf command inputs
   pub stated : AreStatedBy files command inputs
-  pub accepted : ForSome (known_task files (Some command)) (λ read. read ≡ Ok (Play inputs))
+  pub accepted : ForSome (known_command_task files (Some command)) (λ read. read ≡ Ok (Play inputs))
   pub sound : MayBePlayed inputs
   pub play : IsPlay inputs.setting inputs.events journal full
   pub run : IsRun inputs.setting journal
@@ -101,50 +101,50 @@ pub record Played (command : Command) (files : Option Files) (full : Option ℕ)
   pub kept : given ≡ kept_by inputs.setting.net journal taken
   pub counted : CountFlows journal taken given
   pub answer : Option Bool
-  pub verdict : IsVerdict (asks_quiet inputs.report) inputs.setting journal full answer
-  pub written : Wrote (play_text inputs.report inputs.setting.net journal full
-      (gone_by inputs.setting.net journal taken) given answer) before now
+  pub verdict : IsQuietVerdict (asks_quiet inputs.report) inputs.setting journal full answer
+  pub written : OutputWrote (play_text inputs.report inputs.setting.net journal full
+      (gone_records_by inputs.setting.net journal taken) given answer) before now
   pub good : IsGoodTrace inputs (play_text inputs.report inputs.setting.net journal full
-      (gone_by inputs.setting.net journal taken) given answer)
+      (gone_records_by inputs.setting.net journal taken) given answer)
 
 -- the same for a play to its end or stopped full, but a write failed after a part of the text
-pub record CutShort (command : Command) (files : Option Files) (journal : List Item)
+pub record PlayedCutShort (command : Command) (files : Option Files) (journal : List Item)
     (taken given : List Seen) (before now : SinkState) : Type 0 where
   pub inputs : Inputs
   pub full : Option ℕ
   pub played : IsAnswer command files inputs journal full
   pub kept : given ≡ kept_by inputs.setting.net journal taken
   pub answer : Option Bool
-  pub verdict : IsVerdict (asks_quiet inputs.report) inputs.setting journal full answer
-  pub written : GainedPart before.bytes (play_text inputs.report inputs.setting.net journal full
-      (gone_by inputs.setting.net journal taken) given answer) now.bytes
+  pub verdict : IsQuietVerdict (asks_quiet inputs.report) inputs.setting journal full answer
+  pub written : SinkGainedPart before.bytes (play_text inputs.report inputs.setting.net journal full
+      (gone_records_by inputs.setting.net journal taken) given answer) now.bytes
 
 -- the summary and the flows, which a play that stopped full doesn't have, are made in memory
 -- before they are written; the journal's lines aren't
-abbrev pub is_made : Report → Option ℕ → Bool
-is_made (report.Lines quiet) full = false
-is_made _ None = true
-is_made _ (Some row) = false
+abbrev pub is_output_made : Report → Option ℕ → Bool
+is_output_made (report.Lines quiet) full = false
+is_output_made _ None = true
+is_output_made _ (Some row) = false
 
 -- a play that didn't stop full needs memory after it: to see whether the network is quiet, with
 -- `--quiet`, and for what is made in memory
-abbrev pub WantsMemory : Report → Option ℕ → Type 0
-WantsMemory asked full = IsTrue (is_asked (asks_quiet asked) full) ⊎ IsTrue (is_made asked full)
+abbrev pub PlayWantsMemory : Report → Option ℕ → Type 0
+PlayWantsMemory asked full = IsTrue (is_asked (asks_quiet asked) full) ⊎ IsTrue (is_output_made asked full)
 
 -- the same for a play to its end or one that stopped full, but memory ran out after it, if it
 -- needs any or the output's writes allocate; a part of the text was written, or none of it
-pub record Unfinished (command : Command) (files : Option Files) (takes_memory : Bool)
+pub record PlayedUnfinished (command : Command) (files : Option Files) (takes_memory : Bool)
     (journal : List Item) (taken given : List Seen) (before now : SinkState) : Type 0 where
   pub inputs : Inputs
   pub full : Option ℕ
-  pub wanted : IsTrue takes_memory ⊎ WantsMemory inputs.report full
+  pub wanted : IsTrue takes_memory ⊎ PlayWantsMemory inputs.report full
   pub played : IsAnswer command files inputs journal full
   pub kept : given ≡ kept_by inputs.setting.net journal taken
   pub answer : Option Bool
   pub verdict : (answer ≡ None)
-      ⊎ IsVerdict (asks_quiet inputs.report) inputs.setting journal full answer
-  pub written : WrotePart (play_text inputs.report inputs.setting.net journal full
-      (gone_by inputs.setting.net journal taken) given answer) before now
+      ⊎ IsQuietVerdict (asks_quiet inputs.report) inputs.setting journal full answer
+  pub written : OutputWrotePart (play_text inputs.report inputs.setting.net journal full
+      (gone_records_by inputs.setting.net journal taken) given answer) before now
 
 -- the journal, the meters and the output that each status of a play ensures; if nothing was played,
 -- no meter remains or, if memory ran out before the command was read, all do
@@ -155,32 +155,32 @@ PlayOutcome command files takes_memory status.Ok journal taken given before now 
 PlayOutcome command files takes_memory (status.Full row) journal taken given before now =
     Played command files (Some row) journal taken given before now
 PlayOutcome command files takes_memory status.WriteFault journal taken given before now =
-    CutShort command files journal taken given before now
+    PlayedCutShort command files journal taken given before now
 PlayOutcome command files takes_memory status.NoMemory journal taken given before now =
-    (Unplayed journal before now × ((given ≡ []) ⊎ (given ≡ taken)))
-    ⊎ Unfinished command files takes_memory journal taken given before now
+    (CommandUnplayed journal before now × ((given ≡ []) ⊎ (given ≡ taken)))
+    ⊎ PlayedUnfinished command files takes_memory journal taken given before now
 PlayOutcome command files takes_memory (status.No line) journal taken given before now = ⊥
 PlayOutcome command files takes_memory _ journal taken given before now =
-    Unplayed journal before now × (given ≡ [])
+    CommandUnplayed journal before now × (given ≡ [])
 
 -- ---- all commands
 
 -- the outcome of a play by what it prints: a proposal, or anything else
-abbrev pub ByReport : Report → (proposes plays : Type 0) → Type 0
-ByReport report.Placement proposes plays = proposes
-ByReport _ proposes plays = plays
+abbrev pub PlayedByReport : Report → (proposes plays : Type 0) → Type 0
+PlayedByReport report.Placement proposes plays = proposes
+PlayedByReport _ proposes plays = plays
 
 -- the journal, the meters that were taken and given back, and the output that each status of a
 -- command ensures
 abbrev pub Outcome : Option Command → Option Files → (takes_memory : Bool) → Status → List Item
     → (taken given : List Seen) → (before now : SinkState) → Type 0
-Outcome None files takes_memory status journal taken given before now = Unplayed journal before now
+Outcome None files takes_memory status journal taken given before now = CommandUnplayed journal before now
 Outcome (Some (asked.Print args)) files takes_memory status journal taken given before now =
     PrintOutcome args files status journal before now
 Outcome (Some (asked.Audit args)) files takes_memory status journal taken given before now =
     AuditOutcome args files status journal before now
 Outcome (Some (asked.Replay args)) files takes_memory status journal taken given before now =
-    ByReport args.report
+    PlayedByReport args.report
     (ProposalOutcome (IsAnswer (asked.Replay args) files) takes_memory status journal before now)
     (PlayOutcome (asked.Replay args) files takes_memory status journal taken given before now)
 Outcome (Some command) files takes_memory status journal taken given before now =

@@ -3,7 +3,7 @@ use Rattle.std.specs.Prelude.{[], ◌++◌, ◌∷◌, Bool, List, None, Option,
 use Rattle.base.specs.Exports.{concat}
 use Rattle.update_machine.specs.Exports.{Item, Leaving, Net}
 use Rattle.journal_text.specs.Lines.{journal_text}
-use Rattle.journal_reports.specs.Exports.{counts_text}
+use Rattle.journal_reports.specs.Exports.{summary_counts_text}
 use Rattle.meters.specs.Exports.{Seen}
 use Rattle.meters.specs.declared.flows.FlowRecord.{FlowRecord}
 use Rattle.command_line.specs.declared.report.Report.{Report}
@@ -50,7 +50,7 @@ play_text (report.Lines quiet) net journal full gone meters answer =
     replay_text net journal full meters answer
 play_text report.Flows net journal full gone meters answer = flows_text full gone meters
 play_text report.Placement net journal full gone meters answer = []
-play_text report.Summary net journal full gone meters answer = counts_text journal full
+play_text report.Summary net journal full gone meters answer = summary_counts_text journal full
 
 -- the line of a refused file, with its line feed
 abbrev pub input_line : List ℕ → ℕ → ℕ → List ℕ

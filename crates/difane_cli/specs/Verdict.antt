@@ -22,13 +22,13 @@ IsWhetherQuiet setting journal None = ⊤
 IsWhetherQuiet setting journal (Some answer) = IsTrue answer ↔ IsQuiet setting journal
 
 -- what a verdict says of the network
-abbrev pub Says : Setting → List Item → Option Bool → Type 0
-Says setting journal None = ⊤
-Says setting journal (Some true) = HasComeToRest setting journal
-Says setting journal (Some false) = ¬ IsQuiet setting journal
+abbrev pub QuietVerdictSays : Setting → List Item → Option Bool → Type 0
+QuietVerdictSays setting journal None = ⊤
+QuietVerdictSays setting journal (Some true) = HasComeToRest setting journal
+QuietVerdictSays setting journal (Some false) = ¬ IsQuiet setting journal
 
 -- there is a verdict exactly if `--quiet` asks for it and the play didn't stop full, and it is true
-pub record IsVerdict (quiet : Bool) (setting : Setting) (journal : List Item) (full : Option ℕ)
+pub record IsQuietVerdict (quiet : Bool) (setting : Setting) (journal : List Item) (full : Option ℕ)
     (answer : Option Bool) : Type 0 where
   pub asked : is_some answer ≡ is_asked quiet full
-  pub holds : Says setting journal answer
+  pub holds : QuietVerdictSays setting journal answer

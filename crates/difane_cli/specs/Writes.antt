@@ -1,25 +1,25 @@
 -- First tier. A command's journal and its outputs at the end, whatever it did.
 use Rattle.std.specs.Prelude.{[], ◌≡◌, ◌≤◌, ◌⊎◌, Bool, IsTrue, List, ℕ}
-use Rattle.shelf.specs.Exports.{GainedPart, Rose, SinkState, with_gained}
+use Rattle.shelf.specs.Exports.{SinkGainedPart, FaultsRose, SinkState, sink_with_gained}
 use Rattle.update_machine.specs.Exports.{Item}
 
 -- the output gained this text; if the text is empty, the output's state is the same
-pub record Wrote (text : List ℕ) (before now : SinkState) : Type 0 where
-  pub whole : now.bytes ≡ with_gained before.bytes text
+pub record OutputWrote (text : List ℕ) (before now : SinkState) : Type 0 where
+  pub whole : now.bytes ≡ sink_with_gained before.bytes text
   pub untouched : text ≡ [] → now ≡ before
 
 -- the output wasn't touched, or gained a part of the text, and not all
-abbrev pub WrotePart : List ℕ → (before now : SinkState) → Type 0
-WrotePart text before now = (now ≡ before) ⊎ GainedPart before.bytes text now.bytes
+abbrev pub OutputWrotePart : List ℕ → (before now : SinkState) → Type 0
+OutputWrotePart text before now = (now ≡ before) ⊎ SinkGainedPart before.bytes text now.bytes
 
 -- nothing was played, and the output's state is the same
-pub record Unplayed (journal : List Item) (before now : SinkState) : Type 0 where
+pub record CommandUnplayed (journal : List Item) (before now : SinkState) : Type 0 where
   pub nothing_played : journal ≡ []
   pub untouched : now ≡ before
 
 -- a sink gained the line, and counted no fault; or it gained a proper part of it, if it failed or
 -- if its writes allocate
-pub record WritesLine (whole : List ℕ) (takes_memory : Bool) (old new : SinkState) : Type 0 where
+pub record OutputWritesLine (whole : List ℕ) (takes_memory : Bool) (old new : SinkState) : Type 0 where
   pub faults : old.faults ≤ new.faults
-  pub line : ((new.bytes ≡ with_gained old.bytes whole) × (new.faults ≡ old.faults))
-      ⊎ (GainedPart old.bytes whole new.bytes × (Rose old.faults new.faults ⊎ IsTrue takes_memory))
+  pub line : ((new.bytes ≡ sink_with_gained old.bytes whole) × (new.faults ≡ old.faults))
+      ⊎ (SinkGainedPart old.bytes whole new.bytes × (FaultsRose old.faults new.faults ⊎ IsTrue takes_memory))

@@ -2,13 +2,13 @@
 ghost use Rattle.std.specs.Prelude.{◌≡◌, ◌⊎◌, [], Ok, Option, Some, IfOk, IsTrue, length};
 ghost use Rattle.std.specs.Option.{ForSome};
 ghost use Rattle.shelf.specs.Shelf.{Files};
-ghost use Rattle.difane_cli.specs.Exports.{Audit, AuditOutcome, EndsRead, EndsWork, IsAuditingOf, ReadsFor, auditing_of, auditing_stated, known_task};
+ghost use Rattle.difane_cli.specs.Exports.{Audit, AuditOutcome, CommandEndsRead, StatusEndsWork, IsAuditingOf, CommandReadsFor, auditing_of, auditing_stated, known_command_task};
 ghost use Rattle.difane_cli.specs.declared.status.Status.TheVariants as status;
 ghost use Rattle.command_line.specs.Named.{MayBePolicies, audit_named};
 ghost use Rattle.command_line.specs.Commands as grammar;
 ghost use Rattle.command_line.specs.Commands.{AuditCommand};
 
-use crate::inputs::{read_files, read_within};
+use crate::inputs::{read_file_within, read_files};
 use crate::status::{Status, Stop};
 use command_line::AuditArgs;
 use policy_rules::PolicyFile;
@@ -37,15 +37,15 @@ pub fn read_auditing<F: Shelf>(
     args: &AuditArgs<'_>,
 ) -> Result<AuditInputs, Stop>
     requires { MayBePolicies (length args.now.policies.items) }
-    ensures read { EndsRead (F.state shelf.old).files
+    ensures read { CommandEndsRead (F.state shelf.old).files
         (λ files. auditing_of files (audit_named args.now)) auditing_stated
         (F.state shelf.old) (F.state shelf.new) result }
-    ensures shelf { ReadsFor (grammar.Audit (audit_named args.now))
+    ensures shelf { CommandReadsFor (grammar.Audit (audit_named args.now))
         (F.state shelf.old) (F.state shelf.new) result }
     ensures asked { IfOk result (λ inputs.
         IsAuditingOf (audit_named args.now) (auditing_stated inputs)) }
 {
-    let trace = read_within(alloc, shelf, args.trace, MAX_TRACE_BYTES)?;
+    let trace = read_file_within(alloc, shelf, args.trace, MAX_TRACE_BYTES)?;
     let names: &[&str] = &args.policies;
     let files = read_files(alloc, shelf, names, SOLO_PORTS)?;
     Ok(AuditInputs { trace, files })
@@ -57,12 +57,12 @@ pub fn read_auditing<F: Shelf>(
 pub fn check_trace<K: Sink>(alloc: Global, inputs: &AuditInputs, out: &mut K) -> Status
     ensures outcome { (command : AuditCommand) (files : Option Files)
         → IsAuditingOf command (auditing_stated inputs.now)
-        → ForSome (known_task files (Some (grammar.Audit command)))
+        → ForSome (known_command_task files (Some (grammar.Audit command)))
         (λ read. read ≡ Ok (Audit (auditing_stated inputs.now)))
         → AuditOutcome command files result [] (K.state out.old) (K.state out.new) }
     ensures no_memory { result ≡ status.NoMemory
         → IsTrue K.takes_memory ⊎ (K.state out.new ≡ K.state out.old) }
-    ensures ended { EndsWork result (K.state out.old) (K.state out.new) }
+    ensures ended { StatusEndsWork result (K.state out.old) (K.state out.new) }
 {
     match audit(alloc, &inputs.trace, &inputs.files) {
         Err(AllocError) => Status::NoMemory,

@@ -2,17 +2,17 @@
 ghost use Rattle.std.specs.Prelude.{◌≡◌, ◌<◌, ◌≤◌, All, IsSome, IsTrue, IfOk, IfErr, Ok, [], ◌∷◌, length, true};
 ghost use Rattle.net_file.specs.Net.{IsNet};
 ghost use Rattle.policy_file.specs.Ports.{names_port_of};
-ghost use Rattle.policy_rules.specs.Exports.{GivesOnly, IsPolicy, IsPolicyFile};
+ghost use Rattle.policy_rules.specs.Exports.{PolicyFileGivesOnly, IsPolicy, IsPolicyFile};
 ghost use Rattle.schedule.specs.Reading.{AreSoundEvents};
 ghost use Rattle.policy_file.specs.Changes.{file_length};
 ghost use Rattle.world.specs.Files.{first_policy, own_policy};
-ghost use Rattle.difane_cli.specs.Exports.{AreReadyToPlay, EndsRead, IsReplayOf, ReadsFiles, ReadsFor, RefusesInput, StopsCheck, content_of, content_within, file_reads, inputs_of, inputs_stated, read_file, read_files, read_policy, read_schedule, schedule_in};
-ghost use Rattle.command_line.specs.Named.{HasPolicies, names_seen, replay_named};
+ghost use Rattle.difane_cli.specs.Exports.{AreReadyToPlay, CommandEndsRead, IsReplayOf, ReadsFiles, CommandReadsFor, RefusesInput, CommandStopsCheck, content_of, shelf_content_within, command_file_reads, replay_inputs_of, task_inputs_stated, read_file, read_files, read_policy, read_schedule, schedule_in};
+ghost use Rattle.command_line.specs.Named.{HasPolicies, argument_names_seen, replay_named};
 ghost use Rattle.command_line.specs.Commands.{Replay};
 
 use crate::networks::take_network;
 use crate::policies::{begin_world, check_file, check_policy};
-use crate::status::{FileName, Refusal, Stop};
+use crate::status::{InputFileName, Refusal, Stop};
 use command_line::{ReplayArgs, Report};
 use net_file::Net;
 use policy_rules::{Policy, PolicyFile};
@@ -35,7 +35,7 @@ pub const TOO_LONG: u32 = 20;
 pub fn refused(alloc: Global, name: &str, code: u32, row: u32) -> Stop
     ensures { RefusesInput (record { file = name.now; code = code; row = row }) result }
 {
-    match FileName::new(alloc, name) {
+    match InputFileName::new(alloc, name) {
         Ok(file) => Stop::Refused(Refusal { file, code, row }),
         Err(_) => Stop::NoMemory,
     }
@@ -43,22 +43,22 @@ pub fn refused(alloc: Global, name: &str, code: u32, row: u32) -> Stop
 
 /// The content of the file of this name, of at most 16,777,216 bytes.
 pub fn read_bytes<F: Shelf>(alloc: Global, shelf: &mut F, name: &str) -> Result<Vec<u8>, Stop>
-    ensures read { EndsRead (F.state shelf.old).files (λ files. content_of files name.now)
+    ensures read { CommandEndsRead (F.state shelf.old).files (λ files. content_of files name.now)
         (λ bytes. bytes.items) (F.state shelf.old) (F.state shelf.new) result }
     ensures shelf { ReadsFiles (name.now ∷ []) 1 (F.state shelf.old) (F.state shelf.new) result }
 {
-    read_within(alloc, shelf, name, MAX_BYTES)
+    read_file_within(alloc, shelf, name, MAX_BYTES)
 }
 
 /// The content of the file of this name, of at most this many bytes.
-pub fn read_within<F: Shelf>(
+pub fn read_file_within<F: Shelf>(
     alloc: Global,
     shelf: &mut F,
     name: &str,
     most: u64,
 ) -> Result<Vec<u8>, Stop>
-    ensures read { EndsRead (F.state shelf.old).files
-        (λ files. content_within most files name.now)
+    ensures read { CommandEndsRead (F.state shelf.old).files
+        (λ files. shelf_content_within most files name.now)
         (λ bytes. bytes.items) (F.state shelf.old) (F.state shelf.new) result }
     ensures shelf { ReadsFiles (name.now ∷ []) 1 (F.state shelf.old) (F.state shelf.new) result }
     ensures within { IfOk result (λ bytes. length bytes.items ≤ most) }
@@ -84,7 +84,7 @@ fn check_schedule(
     ensures value { IfOk result (λ events.
         schedule_in net.now policies name.now bytes.now ≡ Ok events.items) }
     ensures stopped { IfErr result
-        (StopsCheck (schedule_in net.now policies name.now bytes.now)) }
+        (CommandStopsCheck (schedule_in net.now policies name.now bytes.now)) }
     ensures sound { IfOk result (λ events. AreSoundEvents net.now policies events.items) }
 {
     match schedule::read_schedule(alloc, bytes, net, policies) {
@@ -103,7 +103,7 @@ fn read_schedule<F: Shelf>(
     policies: u32,
 ) -> Result<Vec<Event>, Stop>
     requires { IsNet net.now }
-    ensures read { EndsRead (F.state shelf.old).files
+    ensures read { CommandEndsRead (F.state shelf.old).files
         (λ files. read_schedule net.now policies files name.now) (λ events. events.items)
         (F.state shelf.old) (F.state shelf.new) result }
     ensures shelf { ReadsFiles (name.now ∷ []) 1 (F.state shelf.old) (F.state shelf.new) result }
@@ -120,7 +120,7 @@ pub fn read_policy<F: Shelf>(
     name: &str,
     ports: u64,
 ) -> Result<Policy, Stop>
-    ensures read { EndsRead (F.state shelf.old).files (λ files. read_policy ports files name.now)
+    ensures read { CommandEndsRead (F.state shelf.old).files (λ files. read_policy ports files name.now)
         (λ policy. policy) (F.state shelf.old) (F.state shelf.new) result }
     ensures shelf { ReadsFiles (name.now ∷ []) 1 (F.state shelf.old) (F.state shelf.new) result }
     ensures own_ports { IfOk result (All (λ row. IsTrue (names_port_of ports row.action))) }
@@ -140,11 +140,11 @@ fn read_file<F: Shelf>(
     ports: u64,
     is_first: bool,
 ) -> Result<PolicyFile, Stop>
-    ensures read { EndsRead (F.state shelf.old).files
+    ensures read { CommandEndsRead (F.state shelf.old).files
         (λ files. read_file is_first ports files name.now) (λ file. file)
         (F.state shelf.old) (F.state shelf.new) result }
     ensures shelf { ReadsFiles (name.now ∷ []) 1 (F.state shelf.old) (F.state shelf.new) result }
-    ensures own_ports { IfOk result (GivesOnly (λ row. IsTrue (names_port_of ports row.action))) }
+    ensures own_ports { IfOk result (PolicyFileGivesOnly (λ row. IsTrue (names_port_of ports row.action))) }
     ensures sound { IfOk result IsPolicyFile }
     ensures few { IfOk result (λ file. file_length file ≤ 2000) }
     ensures whole { is_first ≡ true → IfOk result (λ file. IsSome (own_policy file)) }
@@ -162,16 +162,16 @@ pub fn read_files<F: Shelf>(
     ports: u64,
 ) -> Result<Vec<PolicyFile>, Stop>
     requires { 0 < length names.now }
-    ensures read { EndsRead (F.state shelf.old).files
-        (λ files. read_files true ports files (names_seen names.now)) (λ read. read.items)
+    ensures read { CommandEndsRead (F.state shelf.old).files
+        (λ files. read_files true ports files (argument_names_seen names.now)) (λ read. read.items)
         (F.state shelf.old) (F.state shelf.new) result }
-    ensures shelf { ReadsFiles (names_seen names.now)
-        (file_reads true ports (F.state shelf.old).files (names_seen names.now))
+    ensures shelf { ReadsFiles (argument_names_seen names.now)
+        (command_file_reads true ports (F.state shelf.old).files (argument_names_seen names.now))
         (F.state shelf.old) (F.state shelf.new) result }
     ensures many { IfOk result (λ read. length read.items ≡ length names.now) }
     ensures first { IfOk result (λ read. IsSome (first_policy read.items)) }
     ensures own_ports { IfOk result (λ read.
-        All (GivesOnly (λ row. IsTrue (names_port_of ports row.action))) read.items) }
+        All (PolicyFileGivesOnly (λ row. IsTrue (names_port_of ports row.action))) read.items) }
     ensures sound { IfOk result (λ read. All IsPolicyFile read.items) }
     ensures few { IfOk result (λ read. All (λ file. file_length file ≤ 2000) read.items) }
 {
@@ -201,14 +201,14 @@ pub fn read_inputs<F: Shelf>(
     args: &ReplayArgs<'_>,
 ) -> Result<PlayInputs, Stop>
     requires { HasPolicies args.now }
-    ensures read { EndsRead (F.state shelf.old).files
-        (λ files. inputs_of files (replay_named args.now)) inputs_stated
+    ensures read { CommandEndsRead (F.state shelf.old).files
+        (λ files. replay_inputs_of files (replay_named args.now)) task_inputs_stated
         (F.state shelf.old) (F.state shelf.new) result }
-    ensures shelf { ReadsFor (Replay (replay_named args.now))
+    ensures shelf { CommandReadsFor (Replay (replay_named args.now))
         (F.state shelf.old) (F.state shelf.new) result }
     ensures ready { IfOk result AreReadyToPlay }
     ensures asked { IfOk result (λ inputs.
-        IsReplayOf (replay_named args.now) (inputs_stated inputs)) }
+        IsReplayOf (replay_named args.now) (task_inputs_stated inputs)) }
 {
     let net = take_network(alloc, shelf, args.net)?;
     let names: &[&str] = &args.policies;

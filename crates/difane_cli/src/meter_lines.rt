@@ -3,7 +3,7 @@ ghost use Rattle.std.specs.Prelude.{◌≡◌, [], map};
 ghost use Rattle.shelf.specs.SinkWrites.{IsAfterWrite};
 ghost use Rattle.difane_cli.specs.Texts.{meter_line, meter_lines, notes_line};
 
-use crate::status::write_pieces;
+use crate::status::write_output_pieces;
 use itoa::Buffer;
 use meters::Meter;
 use shelf::{Sink, SinkError};
@@ -28,12 +28,12 @@ fn write_meter<M: Meter, K: Sink>(meter: &M, out: &mut K) -> Result<(), SinkErro
 {
     let notes = meter.notes();
     match notes > 0 {
-        true => write_notes(meter.port(), notes, out),
+        true => write_meter_notes(meter.port(), notes, out),
         false => Ok(()),
     }
 }
 
-fn write_notes<K: Sink>(port: u32, notes: u64, out: &mut K) -> Result<(), SinkError>
+fn write_meter_notes<K: Sink>(port: u32, notes: u64, out: &mut K) -> Result<(), SinkError>
     ensures { IsAfterWrite (notes_line port notes) K.takes_memory
         (K.state out.old) (K.state out.new) result }
 {
@@ -42,5 +42,5 @@ fn write_notes<K: Sink>(port: u32, notes: u64, out: &mut K) -> Result<(), SinkEr
     let port = port_digits.format(port).as_bytes();
     let notes = notes_digits.format(notes).as_bytes();
     let pieces: [&[u8]; 5] = [b"meter port ", port, b" notes ", notes, b"\n"];
-    write_pieces(&pieces, out)
+    write_output_pieces(&pieces, out)
 }

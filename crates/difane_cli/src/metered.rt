@@ -2,14 +2,14 @@
 ghost use Rattle.std.specs.Prelude.{◌≡◌, ◌≢◌, ◌≤◌, ◌⊎◌, ◌↔◌, ℕ, IfOk, IsTrue, None, Ok, OnErr};
 ghost use Rattle.std.specs.List.{AllZip, range_with_len};
 ghost use Rattle.std.specs.Option.{ForSome};
-ghost use Rattle.shelf.specs.Sink.{Rose};
+ghost use Rattle.shelf.specs.Sink.{FaultsRose};
 ghost use Rattle.shelf.specs.Shelf.{IsAfterReads};
 ghost use Rattle.command_line.specs.Grammar.{command_of};
 ghost use Rattle.command_line.specs.Commands.{argument_texts};
-ghost use Rattle.difane_cli.specs.Exports.{Accounts, IsAccepted, MayFollowFault, NamesOneOf, NeedsReadFault, RanOut, ReadsNothing, WritesLine, known_task, most_reads, names_in, status_line};
+ghost use Rattle.difane_cli.specs.Exports.{StatusAccounts, IsTaskAccepted, MayFollowFault, NamesOneOf, NeedsReadFault, CommandRanOut, CommandReadsNothing, OutputWritesLine, known_command_task, most_reads, names_in, status_line};
 ghost use Rattle.difane_cli.specs.declared.status.Status.TheVariants as status;
-ghost use Rattle.difane_cli.specs.Metered.{MeteredOutcome, TellsFlows};
-ghost use Rattle.difane_cli.specs.NewMeters.{asks_flows, new_meter};
+ghost use Rattle.difane_cli.specs.Metered.{MeteredOutcome, CommandTellsFlows};
+ghost use Rattle.difane_cli.specs.NewMeters.{asks_flows, new_command_meter};
 
 use crate::status::Status;
 use crate::top_call::run;
@@ -40,7 +40,7 @@ fn asks_flows(words: &Vec<String>) -> bool
 }
 
 /// What `make` returns for each port from 0 to 63, in order.
-fn at_each_port<M: Drop, F: Fn(u32) -> Result<M, AllocError>>(
+fn meter_at_each_port<M: Drop, F: Fn(u32) -> Result<M, AllocError>>(
     alloc: Global,
     make: F,
 ) -> Result<Vec<M>, AllocError>
@@ -71,7 +71,7 @@ pub fn run_metered<F: Shelf, K: Sink, E: Sink>(
     // counts of each meter that stayed are right (if no meter left, all are: `flow_laws`).
     ensures flows { IfOk result (λ ending. IsTrue (asks_flows (argument_texts words.now))
         → ending.status ≡ status.Ok
-        → TellsFlows (argument_texts words.now) (F.state shelf.old).files ending.journal
+        → CommandTellsFlows (argument_texts words.now) (F.state shelf.old).files ending.journal
         (K.state out.old) (K.state out.new)) }
 
     // Everything else is as `run` says for these meters.
@@ -81,46 +81,46 @@ pub fn run_metered<F: Shelf, K: Sink, E: Sink>(
     ensures words { IfOk result (λ ending. (ending.status ≡ status.Words)
         ↔ (command_of (argument_texts words.now) ≡ None)) }
     ensures accounts { IfOk result (λ ending. ForSome
-        (known_task (F.state shelf.old).files (command_of (argument_texts words.now)))
-        (λ read. Accounts read ending.status)) }
+        (known_command_task (F.state shelf.old).files (command_of (argument_texts words.now)))
+        (λ read. StatusAccounts read ending.status)) }
     ensures names { IfOk result (λ ending.
         NamesOneOf (names_in (command_of (argument_texts words.now))) ending.status) }
     ensures read_fault { IfOk result (λ ending.
         NeedsReadFault (F.state shelf.old).files ending.status
-        → Rose (F.state shelf.old).faults (F.state shelf.new).faults) }
+        → FaultsRose (F.state shelf.old).faults (F.state shelf.new).faults) }
     ensures write_fault { IfOk result (λ ending. ending.status ≡ status.WriteFault
-        → Rose (K.state out.old).faults (K.state out.new).faults) }
+        → FaultsRose (K.state out.old).faults (K.state out.new).faults) }
     ensures no_read_fault { IfOk result (λ ending.
         ¬ MayFollowFault (F.state shelf.old).files ending.status
         → (F.state shelf.new).faults ≡ (F.state shelf.old).faults) }
     ensures no_write_fault { IfOk result (λ ending. ending.status ≢ status.WriteFault
         → (K.state out.new).faults ≡ (K.state out.old).faults) }
     ensures no_memory { IfOk result (λ ending. ending.status ≡ status.NoMemory
-        → RanOut (command_of (argument_texts words.now)) K.takes_memory ending.journal
+        → CommandRanOut (command_of (argument_texts words.now)) K.takes_memory ending.journal
         (K.state out.old) (K.state out.new)) }
-    ensures complete { IfOk result (λ ending. IsAccepted
-        (known_task (F.state shelf.old).files (command_of (argument_texts words.now)))
-        → Rose (F.state shelf.old).faults (F.state shelf.new).faults
-        ⊎ Rose (K.state out.old).faults (K.state out.new).faults
+    ensures complete { IfOk result (λ ending. IsTaskAccepted
+        (known_command_task (F.state shelf.old).files (command_of (argument_texts words.now)))
+        → FaultsRose (F.state shelf.old).faults (F.state shelf.new).faults
+        ⊎ FaultsRose (K.state out.old).faults (K.state out.new).faults
         ⊎ (ending.status ≡ status.Ok) ⊎ ((row : ℕ) × (ending.status ≡ status.Full row))
         ⊎ ((line : ℕ) × (ending.status ≡ status.No line))
         ⊎ (ending.status ≡ status.NoMemory)) }
-    ensures line { IfOk result (λ ending. WritesLine (status_line ending.status) E.takes_memory
+    ensures line { IfOk result (λ ending. OutputWritesLine (status_line ending.status) E.takes_memory
         (E.state errs.old) (E.state errs.new)) }
     ensures silent { IfOk result (λ ending. ending.status ≡ status.Ok → errs.new ≡ errs.old) }
     ensures shelf { IfOk result (λ ending. IsAfterReads
         (most_reads (F.state shelf.old).files (command_of (argument_texts words.now)))
         (F.state shelf.old) (F.state shelf.new)) }
-    ensures unread { IfOk result (λ ending. ReadsNothing (command_of (argument_texts words.now))
+    ensures unread { IfOk result (λ ending. CommandReadsNothing (command_of (argument_texts words.now))
         → F.state shelf.new ≡ F.state shelf.old) }
     ensures untouched { OnErr result
         ((shelf.new ≡ shelf.old) × (out.new ≡ out.old) × (errs.new ≡ errs.old)) }
 {
     let counts_flows = asks_flows(words);
-    let meters: Vec<Box<dyn Meter>> = at_each_port(
+    let meters: Vec<Box<dyn Meter>> = meter_at_each_port(
         alloc,
         |port: u32| -> Result<Box<dyn Meter>, AllocError>
-            ensures { IfOk result (λ one. seen one ≡ new_meter counts_flows port) }
+            ensures { IfOk result (λ one. seen one ≡ new_command_meter counts_flows port) }
         {
             if counts_flows {
                 Ok(Box::new(alloc, FlowMeter::new(alloc, port, MAX_HEADERS))?)

@@ -4,17 +4,17 @@ ghost use Rattle.std.specs.Option.{ForSome};
 ghost use Rattle.net_file.specs.Net.{IsNet};
 ghost use Rattle.shelf.specs.Shelf.{Files};
 ghost use Rattle.shelf.specs.SinkWrites.{IsAfterWrite};
-ghost use Rattle.difane_cli.specs.Exports.{AnswerLaws, AreReadyToPlay, EndsWork, IsAfterText, IsPlayOf, Play, PlayOutcome, RanOut, flows_text, inputs_stated, is_made, known_task, last_lines, play_text, replay_text};
+ghost use Rattle.difane_cli.specs.Exports.{AnswerLaws, AreReadyToPlay, StatusEndsWork, IsAfterText, IsPlayOf, Play, PlayOutcome, CommandRanOut, flows_text, task_inputs_stated, is_output_made, known_command_task, last_lines, play_text, replay_text};
 ghost use Rattle.command_line.specs.Commands.{Command};
 ghost use Rattle.command_line.specs.declared.report.Report.TheVariants.{Flows, Placement, Summary};
-ghost use Rattle.journal_reports.specs.Summary.{counts_text};
+ghost use Rattle.journal_reports.specs.Summary.{summary_counts_text};
 ghost use Rattle.difane_cli.specs.declared.status.Status.TheVariants as status;
 
 use crate::flow_lines::flow_text;
 use crate::inputs::PlayInputs;
 use crate::meter_lines::write_meters;
 use crate::status::{Ended, Status};
-use crate::verdict::{asks_quiet, judge, write_answer};
+use crate::verdict::{asks_quiet, judge, write_quiet_verdict};
 use command_line::Report;
 use flow_export::flow_laws;
 use forwarding_laws::{plays_keep_working, quiet_networks_have_come_to_rest};
@@ -42,17 +42,17 @@ pub fn play<M: Meter, K: Sink>(
     requires ready { AreReadyToPlay inputs }
     requires tells { inputs.report ≢ Placement }
     ensures outcome { (command : Command) (files : Option Files)
-        → IsPlayOf command (inputs_stated inputs)
-        → ForSome (known_task files (Some command))
-        (λ read. read ≡ Ok (Play (inputs_stated inputs)))
+        → IsPlayOf command (task_inputs_stated inputs)
+        → ForSome (known_command_task files (Some command))
+        (λ read. read ≡ Ok (Play (task_inputs_stated inputs)))
         → PlayOutcome command files K.takes_memory result.status result.journal
         (map M.seen meters.items) (map M.seen result.meters.items)
         (K.state out.old) (K.state out.new) }
-    ensures no_memory { (command : Command) → IsPlayOf command (inputs_stated inputs)
+    ensures no_memory { (command : Command) → IsPlayOf command (task_inputs_stated inputs)
         → result.status ≡ status.NoMemory
-        → RanOut (Some command) K.takes_memory result.journal
+        → CommandRanOut (Some command) K.takes_memory result.journal
         (K.state out.old) (K.state out.new) }
-    ensures ended { EndsWork result.status (K.state out.old) (K.state out.new) }
+    ensures ended { StatusEndsWork result.status (K.state out.old) (K.state out.new) }
 {
     let PlayInputs {
         events,
@@ -107,7 +107,7 @@ fn write_report<M: Meter, K: Sink>(
     requires tells { report ≢ Placement }
     ensures { IsAfterText (play_text report net.now played.now.journal played.now.full
         played.now.gone (map M.seen played.now.meters.items) answer)
-        (is_made report played.now.full) K.takes_memory
+        (is_output_made report played.now.full) K.takes_memory
         (K.state out.old) (K.state out.new) result }
 {
     match report {
@@ -125,7 +125,7 @@ fn write_flows<M: Meter, K: Sink>(
     out: &mut K,
 ) -> Result<(), SinkError>
     ensures { IsAfterText (flows_text played.now.full played.now.gone
-        (map M.seen played.now.meters.items)) (is_made Flows played.now.full) K.takes_memory
+        (map M.seen played.now.meters.items)) (is_output_made Flows played.now.full) K.takes_memory
         (K.state out.old) (K.state out.new) result }
 {
     match played.full {
@@ -143,8 +143,8 @@ fn write_summary<M: Meter, K: Sink>(
     played: &Played<M>,
     out: &mut K,
 ) -> Result<(), SinkError>
-    ensures { IsAfterText (counts_text played.now.journal played.now.full)
-        (is_made Summary played.now.full) K.takes_memory
+    ensures { IsAfterText (summary_counts_text played.now.journal played.now.full)
+        (is_output_made Summary played.now.full) K.takes_memory
         (K.state out.old) (K.state out.new) result }
 {
     match played.full {
@@ -173,13 +173,13 @@ fn write_played<M: Meter, K: Sink>(
 {
     write_text(&played.journal, net, out)?;
     match played.full {
-        None => write_last(&played.meters, answer, out),
+        None => write_last_lines(&played.meters, answer, out),
         Some(_) => Ok(()),
     }
 }
 
 /// Writes the lines of the meters, and then the line of the verdict.
-fn write_last<M: Meter, K: Sink>(
+fn write_last_lines<M: Meter, K: Sink>(
     meters: &[M],
     answer: Option<bool>,
     out: &mut K,
@@ -189,5 +189,5 @@ fn write_last<M: Meter, K: Sink>(
     ensures no_lines { last_lines (map M.seen meters.now) answer ≡ [] → out.new ≡ out.old }
 {
     write_meters(meters, out)?;
-    write_answer(answer, out)
+    write_quiet_verdict(answer, out)
 }

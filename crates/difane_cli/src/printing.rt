@@ -2,15 +2,15 @@
 ghost use Rattle.std.specs.Prelude.{◌≡◌, ◌≢◌, ◌≤◌, [], Ok, Option, None, Some, IfOk, IsErrOf, IsTrue, ◌⊎◌};
 ghost use Rattle.std.specs.Option.{ForSome};
 ghost use Rattle.net_file.specs.Net.{IsNet};
-ghost use Rattle.shelf.specs.Sink.{Rose};
+ghost use Rattle.shelf.specs.Sink.{FaultsRose};
 ghost use Rattle.shelf.specs.Shelf.{Files};
-ghost use Rattle.difane_cli.specs.Exports.{EndsRead, IsPrintingOf, Print, PrintOutcome, ReadsFor, known_task, printing_of, printing_stated, printing_text, status_after};
+ghost use Rattle.difane_cli.specs.Exports.{CommandEndsRead, IsPrintingOf, Print, PrintOutcome, CommandReadsFor, known_command_task, printing_task_of, printing_stated, printing_text, status_after};
 ghost use Rattle.command_line.specs.Named.{print_named};
 ghost use Rattle.command_line.specs.Commands as grammar;
 ghost use Rattle.command_line.specs.Commands.{PrintCommand};
 
 use crate::inputs::read_policy;
-use crate::networks::{find_switch, take_network};
+use crate::networks::{find_printed_switch, take_network};
 use crate::policies::plan_policy;
 use crate::status::Stop;
 use command_line::PrintArgs;
@@ -35,10 +35,10 @@ pub fn read_printing<F: Shelf>(
     shelf: &mut F,
     args: &PrintArgs<'_>,
 ) -> Result<PrintInputs, Stop>
-    ensures read { EndsRead (F.state shelf.old).files
-        (λ files. printing_of files (print_named args.now)) printing_stated
+    ensures read { CommandEndsRead (F.state shelf.old).files
+        (λ files. printing_task_of files (print_named args.now)) printing_stated
         (F.state shelf.old) (F.state shelf.new) result }
-    ensures shelf { ReadsFor (grammar.Print (print_named args.now))
+    ensures shelf { CommandReadsFor (grammar.Print (print_named args.now))
         (F.state shelf.old) (F.state shelf.new) result }
     ensures sound { IfOk result (λ inputs. IsNet inputs.net) }
     ensures planned { IfOk result (λ inputs.
@@ -46,7 +46,7 @@ pub fn read_printing<F: Shelf>(
 {
     policy_laws();
     let net = take_network(alloc, shelf, args.net)?;
-    let switch = find_switch(alloc, &net, args.switch)?;
+    let switch = find_printed_switch(alloc, &net, args.switch)?;
     let policy = read_policy(alloc, shelf, args.policy, net.port_mask())?;
     let plan = plan_policy(alloc, args.policy, &policy, &net)?;
     Ok(PrintInputs { plan, net, switch })
@@ -68,14 +68,14 @@ pub fn print<K: Sink>(alloc: Global, inputs: &PrintInputs, out: &mut K) -> Resul
     requires { IsNet inputs.now.net }
     ensures outcome { (command : PrintCommand) (files : Option Files)
         → IsPrintingOf command (printing_stated inputs.now)
-        → ForSome (known_task files (Some (grammar.Print command)))
+        → ForSome (known_command_task files (Some (grammar.Print command)))
         (λ read. read ≡ Ok (Print (printing_stated inputs.now)))
         → PrintOutcome command files (status_after result None) []
         (K.state out.old) (K.state out.new) }
     ensures no_memory { IsErrOf result SinkError.NoMemory
         → IsTrue K.takes_memory ⊎ (K.state out.new ≡ K.state out.old) }
     ensures failed { IsErrOf result SinkError.Failed
-        → Rose (K.state out.old).faults (K.state out.new).faults }
+        → FaultsRose (K.state out.old).faults (K.state out.new).faults }
     ensures calm { result ≢ Err SinkError.Failed
         → (K.state out.new).faults ≡ (K.state out.old).faults }
     ensures faults { (K.state out.old).faults ≤ (K.state out.new).faults }

@@ -2,11 +2,11 @@
 ghost use Rattle.std.specs.Prelude.{◌≡◌, ◌⊎◌, IsTrue, Ok, Option, Some};
 ghost use Rattle.std.specs.Option.{ForSome};
 ghost use Rattle.net_file.specs.Net.{IsNet};
-ghost use Rattle.partition.specs.Plan.{IsPlan};
+ghost use Rattle.partition.specs.Plan.{IsPartitionPlan};
 ghost use Rattle.shelf.specs.Shelf.{Files};
 ghost use Rattle.command_line.specs.Commands as grammar;
 ghost use Rattle.command_line.specs.Commands.{ReplayCommand};
-ghost use Rattle.difane_cli.specs.Exports.{AreReadyToPlay, EndsWork, IsAfterProposing, IsAnswer, IsPlayOf, Play, ProposalOutcome, inputs_stated, known_task};
+ghost use Rattle.difane_cli.specs.Exports.{AreReadyToPlay, StatusEndsWork, IsAfterProposing, IsAnswer, IsPlayOf, Play, ProposalOutcome, task_inputs_stated, known_command_task};
 ghost use Rattle.difane_cli.specs.declared.status.Status.TheVariants as status;
 
 use crate::inputs::PlayInputs;
@@ -31,15 +31,15 @@ pub fn propose<M: Meter, K: Sink>(
 ) -> Ended<M>
     requires { AreReadyToPlay inputs }
     ensures outcome { (command : ReplayCommand) (files : Option Files)
-        → IsPlayOf (grammar.Replay command) (inputs_stated inputs)
-        → ForSome (known_task files (Some (grammar.Replay command)))
-        (λ read. read ≡ Ok (Play (inputs_stated inputs)))
+        → IsPlayOf (grammar.Replay command) (task_inputs_stated inputs)
+        → ForSome (known_command_task files (Some (grammar.Replay command)))
+        (λ read. read ≡ Ok (Play (task_inputs_stated inputs)))
         → ProposalOutcome (IsAnswer (grammar.Replay command) files) K.takes_memory result.status
         result.journal (K.state out.old) (K.state out.new) }
     ensures meters { result.meters ≡ meters }
     ensures no_memory { result.status ≡ status.NoMemory
         → IsTrue K.takes_memory ⊎ (K.state out.new ≡ K.state out.old) }
-    ensures ended { EndsWork result.status (K.state out.old) (K.state out.new) }
+    ensures ended { StatusEndsWork result.status (K.state out.old) (K.state out.new) }
 {
     answer_laws();
     let none: Vec<M> = Vec::new(alloc);
@@ -69,7 +69,7 @@ fn write_proposal<M: Meter, K: Sink>(
     out: &mut K,
 ) -> Result<(), SinkError>
     requires net { IsNet net.now }
-    requires plan { IsPlan played.now.plan.policy net.now played.now.plan.hosted }
+    requires plan { IsPartitionPlan played.now.plan.policy net.now played.now.plan.hosted }
     ensures { IsAfterProposing played.now.full played.now.plan.policy played.now.plan.hosted
         net.now played.now.journal K.takes_memory (K.state out.old) (K.state out.new) result }
 {

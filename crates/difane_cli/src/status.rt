@@ -4,7 +4,7 @@ ghost use Rattle.std.specs.List.{flat_map};
 ghost use Rattle.shelf.specs.SinkWrites.{IsAfterWrite};
 ghost use Rattle.difane_cli.specs.declared.status.Status.TheVariants.{Ok as DoneStatus};
 ghost use Rattle.difane_cli.specs.declared.status.Stop.TheVariants.{NoMemory};
-ghost use Rattle.difane_cli.specs.Exports.{WritesLine, input_line, numbered_line, status_after, status_line, status_number, status_of};
+ghost use Rattle.difane_cli.specs.Exports.{OutputWritesLine, input_line, numbered_line, status_after, status_line, status_number, status_of};
 
 use itoa::Buffer;
 use journal::Journal;
@@ -15,11 +15,11 @@ use std::marker::Model;
 
 /// The name of a file, as it was on the command line. Contracts see its bytes.
 #[derive(Drop)]
-pub struct FileName {
+pub struct InputFileName {
     name: String,
 }
 
-impl Model for FileName {
+impl Model for InputFileName {
     ghost use Rattle.std.specs.Prelude.{List, ℕ, string_bytes};
 
     ghost Value = { List ℕ };
@@ -27,12 +27,12 @@ impl Model for FileName {
     ghost view = { λ n. string_bytes n.name };
 }
 
-impl FileName {
+impl InputFileName {
     /// A copy of this name; fails only out of memory.
-    pub fn new(alloc: Global, name: &str) -> Result<FileName, AllocError>
+    pub fn new(alloc: Global, name: &str) -> Result<InputFileName, AllocError>
         ensures { IfOk result (λ file. file ≡ name.now) }
     {
-        Ok(FileName {
+        Ok(InputFileName {
             name: String::from_str(alloc, name)?,
         })
     }
@@ -48,7 +48,7 @@ impl FileName {
 /// Which file is refused, by which code, in which row, counted from 1; 0 means the whole file.
 #[derive(Drop)]
 pub struct Refusal {
-    pub file: FileName,
+    pub file: InputFileName,
     pub code: u32,
     pub row: u32,
 }
@@ -86,18 +86,26 @@ pub enum Status {
     /// It did its work.
     Ok,
     /// The trace isn't good: this line, from 1, is the first bad one.
-    No { line: u32 },
+    No {
+        line: u32,
+    },
     /// The grammar doesn't have the words of the command line.
     Words,
     /// This file is refused, by this code in this row; 0 means the whole file.
-    Input { file: FileName, code: u32, row: u32 },
+    Input {
+        file: InputFileName,
+        code: u32,
+        row: u32,
+    },
     /// A file could not be read.
     ReadFault,
     /// The output could not be written.
     WriteFault,
     /// The play stopped at this row of the schedule: so many messages had been sent that its next
     /// step may not begin.
-    Full { row: u32 },
+    Full {
+        row: u32,
+    },
     /// Memory ran out.
     NoMemory,
 }
@@ -164,42 +172,42 @@ impl Status {
 ///
 /// A fault of the sink changes nothing but the sink, which then has a part of the line.
 pub fn write_status<E: Sink>(status: &Status, errs: &mut E)
-    ensures line { WritesLine (status_line status.now) E.takes_memory
+    ensures line { OutputWritesLine (status_line status.now) E.takes_memory
         (E.state errs.old) (E.state errs.new) }
     ensures silent { status.now ≡ DoneStatus → errs.new ≡ errs.old }
 {
-    let _ = write_line(status, errs);
+    let _ = write_status_line(status, errs);
 }
 
-fn write_line<E: Sink>(status: &Status, errs: &mut E) -> Result<(), SinkError>
+fn write_status_line<E: Sink>(status: &Status, errs: &mut E) -> Result<(), SinkError>
     ensures after { IsAfterWrite (status_line status.now) E.takes_memory
         (E.state errs.old) (E.state errs.new) result }
     ensures silent { status.now ≡ DoneStatus → errs.new ≡ errs.old }
 {
     match status {
         Status::Ok => write_whole(errs, b""),
-        Status::No { line } => write_numbered(b"difane: no line ", *line, errs),
+        Status::No { line } => write_numbered_status(b"difane: no line ", *line, errs),
         Status::Words => write_whole(errs, b"difane: words\n"),
         Status::Input { file, code, row } => write_input_line(file, *code, *row, errs),
         Status::ReadFault => write_whole(errs, b"difane: read fault\n"),
         Status::WriteFault => write_whole(errs, b"difane: write fault\n"),
-        Status::Full { row } => write_numbered(b"difane: full row ", *row, errs),
+        Status::Full { row } => write_numbered_status(b"difane: full row ", *row, errs),
         Status::NoMemory => write_whole(errs, b"difane: no memory\n"),
     }
 }
 
-fn write_numbered<E: Sink>(text: &[u8], number: u32, errs: &mut E) -> Result<(), SinkError>
+fn write_numbered_status<E: Sink>(text: &[u8], number: u32, errs: &mut E) -> Result<(), SinkError>
     ensures { IsAfterWrite (numbered_line text.now number) E.takes_memory
         (E.state errs.old) (E.state errs.new) result }
 {
     let mut digits = Buffer::new();
     let number = digits.format(number).as_bytes();
     let pieces: [&[u8]; 3] = [text, number, b"\n"];
-    write_pieces(&pieces, errs)
+    write_output_pieces(&pieces, errs)
 }
 
 fn write_input_line<E: Sink>(
-    file: &FileName,
+    file: &InputFileName,
     code: u32,
     row: u32,
     errs: &mut E,
@@ -221,11 +229,11 @@ fn write_input_line<E: Sink>(
         row,
         b"\n",
     ];
-    write_pieces(&pieces, errs)
+    write_output_pieces(&pieces, errs)
 }
 
 /// Writes the pieces one after another, until one fails.
-pub fn write_pieces<E: Sink>(pieces: &[&[u8]], errs: &mut E) -> Result<(), SinkError>
+pub fn write_output_pieces<E: Sink>(pieces: &[&[u8]], errs: &mut E) -> Result<(), SinkError>
     ensures { IsAfterWrite (flat_map (λ piece. piece.now) pieces.now) E.takes_memory
         (E.state errs.old) (E.state errs.new) result }
 {

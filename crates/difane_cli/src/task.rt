@@ -2,7 +2,7 @@
 ghost use Rattle.std.specs.Prelude.{◌≡◌, Ok, Option, Some, IfOk, Result, [], map};
 ghost use Rattle.std.specs.Option.{ForSome};
 ghost use Rattle.shelf.specs.Shelf.{Files};
-ghost use Rattle.difane_cli.specs.Exports.{Accounts, EndsRead, EndsWork, IsPerformed, IsReadyTask, IsTaskOf, Outcome, GivesBack, RanOut, ReadsFor, ReadsNothing, Task as Stated, known_task, task_stated};
+ghost use Rattle.difane_cli.specs.Exports.{StatusAccounts, CommandEndsRead, StatusEndsWork, IsPerformed, IsReadyTask, IsTaskOf, Outcome, CommandGivesBackMeters, CommandRanOut, CommandReadsFor, CommandReadsNothing, Task as Stated, known_command_task, task_stated};
 ghost use Rattle.difane_cli.specs.declared.status.Refusal.{Refusal};
 ghost use Rattle.command_line.specs.Named.{NamesPolicies, command_named};
 ghost use Rattle.command_line.specs.Commands as grammar;
@@ -42,13 +42,13 @@ pub fn obey<F: Shelf, K: Sink, M: Meter>(
     ensures performed { IsPerformed (Some (command_named command.now)) K.takes_memory
         result.status result.journal (map M.seen meters.items) (map M.seen result.meters.items)
         (F.state shelf.old) (F.state shelf.new) (K.state out.old) (K.state out.new) }
-    ensures meters { GivesBack (Some (command_named command.now)) → result.meters ≡ meters }
+    ensures meters { CommandGivesBackMeters (Some (command_named command.now)) → result.meters ≡ meters }
 {
     match read_task(alloc, shelf, command) {
         Err(stop) => Ended {
             status: Status::from(stop),
             journal: Journal::new(alloc),
-            meters: unplayed(alloc, command, meters),
+            meters: unplayed_meters(alloc, command, meters),
         },
         Ok(task) => work(alloc, task, meters, out),
     }
@@ -57,12 +57,12 @@ pub fn obey<F: Shelf, K: Sink, M: Meter>(
 /// Reads the task of a command: reads and checks one file after another, or makes its load case.
 fn read_task<F: Shelf>(alloc: Global, shelf: &mut F, command: &Command<'_>) -> Result<Task, Stop>
     requires { NamesPolicies command.now }
-    ensures read { EndsRead
-        (known_task (F.state shelf.old).files (Some (command_named command.now))) (λ read. read)
+    ensures read { CommandEndsRead
+        (known_command_task (F.state shelf.old).files (Some (command_named command.now))) (λ read. read)
         task_stated (F.state shelf.old) (F.state shelf.new) result }
-    ensures shelf { ReadsFor (command_named command.now)
+    ensures shelf { CommandReadsFor (command_named command.now)
         (F.state shelf.old) (F.state shelf.new) result }
-    ensures unread { ReadsNothing (Some (command_named command.now))
+    ensures unread { CommandReadsNothing (Some (command_named command.now))
         → F.state shelf.new ≡ F.state shelf.old }
     ensures ready { IfOk result IsReadyTask }
     ensures asked { IfOk result (λ task.
@@ -93,19 +93,19 @@ fn work<M: Meter, K: Sink>(alloc: Global, task: Task, meters: Vec<M>, out: &mut 
     requires { IsReadyTask task }
     ensures outcome { (command : grammar.Command) (files : Option Files)
         → IsTaskOf command (task_stated task)
-        → ForSome (known_task files (Some command)) (λ read. read ≡ Ok (task_stated task))
+        → ForSome (known_command_task files (Some command)) (λ read. read ≡ Ok (task_stated task))
         → Outcome (Some command) files K.takes_memory result.status result.journal
         (map M.seen meters.items) (map M.seen result.meters.items)
         (K.state out.old) (K.state out.new) }
     ensures meters { (command : grammar.Command) → IsTaskOf command (task_stated task)
-        → GivesBack (Some command) → result.meters ≡ meters }
+        → CommandGivesBackMeters (Some command) → result.meters ≡ meters }
     ensures accounts { (read : Result Stated Refusal) → read ≡ Ok (task_stated task)
-        → Accounts read result.status }
+        → StatusAccounts read result.status }
     ensures no_memory { (command : grammar.Command) → IsTaskOf command (task_stated task)
         → result.status ≡ status.NoMemory
-        → RanOut (Some command) K.takes_memory result.journal
+        → CommandRanOut (Some command) K.takes_memory result.journal
         (K.state out.old) (K.state out.new) }
-    ensures ended { EndsWork result.status (K.state out.old) (K.state out.new) }
+    ensures ended { StatusEndsWork result.status (K.state out.old) (K.state out.new) }
 {
     match task {
         Task::Play(inputs) => match inputs.report {
@@ -127,9 +127,9 @@ fn work<M: Meter, K: Sink>(alloc: Global, task: Task, meters: Vec<M>, out: &mut 
 
 /// The meters that remain if nothing was played: all of them if the command gives them back,
 /// otherwise none.
-fn unplayed<M: Meter>(alloc: Global, command: &Command<'_>, meters: Vec<M>) -> Vec<M>
-    ensures none { ¬ GivesBack (Some (command_named command.now)) → result.items ≡ [] }
-    ensures all { GivesBack (Some (command_named command.now)) → result ≡ meters }
+fn unplayed_meters<M: Meter>(alloc: Global, command: &Command<'_>, meters: Vec<M>) -> Vec<M>
+    ensures none { ¬ CommandGivesBackMeters (Some (command_named command.now)) → result.items ≡ [] }
+    ensures all { CommandGivesBackMeters (Some (command_named command.now)) → result ≡ meters }
 {
     match command {
         Command::Replay(args) => match args.report {

@@ -1,9 +1,9 @@
 //! The top call of the program.
 ghost use Rattle.std.specs.Prelude.{◌≡◌, ◌≢◌, ◌≤◌, ◌⊎◌, ◌↔◌, ℕ, None, map};
 ghost use Rattle.std.specs.Option.{ForSome};
-ghost use Rattle.shelf.specs.Sink.{Rose};
+ghost use Rattle.shelf.specs.Sink.{FaultsRose};
 ghost use Rattle.shelf.specs.Shelf.{IsAfterReads};
-ghost use Rattle.difane_cli.specs.Exports.{Accounts, GivesBack, IsAccepted, IsPerformed, MayFollowFault, NamesOneOf, NeedsReadFault, Outcome, RanOut, ReadsNothing, WritesLine, known_task, most_reads, names_in, status_line};
+ghost use Rattle.difane_cli.specs.Exports.{StatusAccounts, CommandGivesBackMeters, IsTaskAccepted, IsPerformed, MayFollowFault, NamesOneOf, NeedsReadFault, Outcome, CommandRanOut, CommandReadsNothing, OutputWritesLine, known_command_task, most_reads, names_in, status_line};
 ghost use Rattle.command_line.specs.Grammar.{command_of};
 ghost use Rattle.command_line.specs.Commands.{argument_texts};
 ghost use Rattle.difane_cli.specs.declared.status.Status.TheVariants as status;
@@ -54,18 +54,18 @@ pub fn run<F: Shelf, K: Sink, E: Sink>(
         (K.state out.old) (K.state out.new) }
 
     // A command that plays nothing, or proposes a placement, gives the meters back unchanged.
-    ensures meters { GivesBack (command_of (argument_texts words.now)) → result.meters ≡ meters }
+    ensures meters { CommandGivesBackMeters (command_of (argument_texts words.now)) → result.meters ≡ meters }
 
     // Each status has its cause.
     ensures words { (result.status ≡ status.Words)
         ↔ (command_of (argument_texts words.now) ≡ None) }
     ensures accounts { ForSome
-        (known_task (F.state shelf.old).files (command_of (argument_texts words.now)))
-        (λ read. Accounts read result.status) }
+        (known_command_task (F.state shelf.old).files (command_of (argument_texts words.now)))
+        (λ read. StatusAccounts read result.status) }
     ensures read_fault { NeedsReadFault (F.state shelf.old).files result.status
-        → Rose (F.state shelf.old).faults (F.state shelf.new).faults }
+        → FaultsRose (F.state shelf.old).faults (F.state shelf.new).faults }
     ensures write_fault { result.status ≡ status.WriteFault
-        → Rose (K.state out.old).faults (K.state out.new).faults }
+        → FaultsRose (K.state out.old).faults (K.state out.new).faults }
 
     // Whether or not files are known, a refusal names what the arguments name.
     ensures names { NamesOneOf (names_in (command_of (argument_texts words.now))) result.status }
@@ -80,22 +80,22 @@ pub fn run<F: Shelf, K: Sink, E: Sink>(
     // If memory runs out, nothing was written, unless the output's own writes allocate. And the
     // journal is empty, unless the command prints more than the lines of a play.
     ensures no_memory { result.status ≡ status.NoMemory
-        → RanOut (command_of (argument_texts words.now)) K.takes_memory result.journal
+        → CommandRanOut (command_of (argument_texts words.now)) K.takes_memory result.journal
         (K.state out.old) (K.state out.new) }
 
     // If the inputs are accepted and nothing fails, the work is done, to its end or as far as
     // there was room, or memory ran out.
-    ensures complete { IsAccepted
-        (known_task (F.state shelf.old).files (command_of (argument_texts words.now)))
-        → Rose (F.state shelf.old).faults (F.state shelf.new).faults
-        ⊎ Rose (K.state out.old).faults (K.state out.new).faults
+    ensures complete { IsTaskAccepted
+        (known_command_task (F.state shelf.old).files (command_of (argument_texts words.now)))
+        → FaultsRose (F.state shelf.old).faults (F.state shelf.new).faults
+        ⊎ FaultsRose (K.state out.old).faults (K.state out.new).faults
         ⊎ (result.status ≡ status.Ok) ⊎ ((row : ℕ) × (result.status ≡ status.Full row))
         ⊎ ((line : ℕ) × (result.status ≡ status.No line))
         ⊎ (result.status ≡ status.NoMemory) }
 
     // The line of the status is written, whole unless the sink of errors fails or its writes
     // allocate; for work that was done nothing is.
-    ensures line { WritesLine (status_line result.status) E.takes_memory
+    ensures line { OutputWritesLine (status_line result.status) E.takes_memory
         (E.state errs.old) (E.state errs.new) }
     ensures silent { result.status ≡ status.Ok → errs.new ≡ errs.old }
 
@@ -104,7 +104,7 @@ pub fn run<F: Shelf, K: Sink, E: Sink>(
         (most_reads (F.state shelf.old).files (command_of (argument_texts words.now)))
         (F.state shelf.old) (F.state shelf.new) }
     // If no file is read, as for a load case, the shelf is unchanged, whatever the status.
-    ensures unread { ReadsNothing (command_of (argument_texts words.now))
+    ensures unread { CommandReadsNothing (command_of (argument_texts words.now))
         → F.state shelf.new ≡ F.state shelf.old }
     ensures faults { (K.state out.old).faults ≤ (K.state out.new).faults }
 {
@@ -124,7 +124,7 @@ fn perform<F: Shelf, K: Sink, M: Meter>(
     ensures performed { IsPerformed (command_of (argument_texts words.now)) K.takes_memory
         result.status result.journal (map M.seen meters.items) (map M.seen result.meters.items)
         (F.state shelf.old) (F.state shelf.new) (K.state out.old) (K.state out.new) }
-    ensures meters { GivesBack (command_of (argument_texts words.now)) → result.meters ≡ meters }
+    ensures meters { CommandGivesBackMeters (command_of (argument_texts words.now)) → result.meters ≡ meters }
 {
     match read_command(alloc, words) {
         Err(AllocError) => Ended {

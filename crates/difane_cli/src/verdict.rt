@@ -46,7 +46,7 @@ pub fn judge<M: Meter>(
 }
 
 /// Writes the line of a verdict, if there is one. Allocates nothing itself.
-pub fn write_answer<K: Sink>(answer: Option<bool>, out: &mut K) -> Result<(), SinkError>
+pub fn write_quiet_verdict<K: Sink>(answer: Option<bool>, out: &mut K) -> Result<(), SinkError>
     ensures after { IsAfterWrite (quiet_line answer) K.takes_memory
         (K.state out.old) (K.state out.new) result }
     ensures no_line { quiet_line answer ≡ [] → out.new ≡ out.old }

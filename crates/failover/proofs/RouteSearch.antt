@@ -3,14 +3,14 @@ use Rattle.std.proofs.Common.{[], ◌&&◌, ◌+◌, ◌-◌, ◌<◌, ◌==◌,
 use Rattle.base.proofs.Exports.{All-cons, All-nil, cases_lt, length-le_from_distinct_below, list_any, nat_tests}
 use Rattle.failover.specs.declared.advert.Advert.{Advert}
 use Rattle.base.specs.Exports.{has, switches}
-use Rattle.failover.specs.Exports.{IsAtMost, IsAway, IsLeastPath, IsOutOfReach, IsPath, IsReachable, IsRoute, IsRouteList, LinksLead, ball, first_route, grown_ball, known_links, links_away, path_after, route_of, route_to}
-use Rattle.failover.proofs.LinkBalls.{false_of, apart_tests, or_cases}
-use Rattle.failover.proofs.LeastPaths.{length-onward, onward_leads, onward_distinct, onward_least, reaches}
+use Rattle.failover.specs.Exports.{IsAtMost, IsLinksAway, IsLeastPath, IsOutOfReach, IsPath, IsReachable, IsRoute, IsRouteList, LinksLeadTo, ball, first_route, grown_ball, known_links, ball_links_away, route_path_after, route_of, route_to}
+use Rattle.failover.proofs.RouteLinkBalls.{false_of, apart_tests, or_cases}
+use Rattle.failover.proofs.RouteLeastPaths.{length-onward, onward_leads, onward_distinct, onward_least, reaches}
 
 -- ---- paths
 
 switch_below : (links : List ℕ) (target at : ℕ) (rest : List ℕ) → at < 64 →
-    LinksLead links target at rest → (q : ℕ) → list_any (nat_eq q) (at ∷ rest) ≡ true → q < 64
+    LinksLeadTo links target at rest → (q : ℕ) → list_any (nat_eq q) (at ∷ rest) ≡ true → q < 64
 switch_below links target at [] fits leads q h = search (rules, eqb-true)
 switch_below links target at (next ∷ rest) fits leads q h =
     elim (or_cases (nat_eq q at) (list_any (nat_eq q) (next ∷ rest)) h) [
@@ -19,7 +19,7 @@ switch_below links target at (next ∷ rest) fits leads q h =
     ]
 
 all_below : (links : List ℕ) (target at : ℕ) (rest : List ℕ) → at < 64 →
-    LinksLead links target at rest → All (λ x. x < 64) (at ∷ rest)
+    LinksLeadTo links target at rest → All (λ x. x < 64) (at ∷ rest)
 all_below links target at [] fits leads = All-cons (λ x. x < 64) at [] fits (All-nil (λ x. x < 64))
 all_below links target at (next ∷ rest) fits leads =
     All-cons (λ x. x < 64) at (next ∷ rest) fits (all_below links target next rest leads.0 leads.2)
@@ -37,7 +37,7 @@ path_is_route_list links from target (first ∷ rest) path = record {
 }
 
 pub target_below : (links : List ℕ) (target at : ℕ) (rest : List ℕ) → at < 64 →
-    LinksLead links target at rest → target < 64
+    LinksLeadTo links target at rest → target < 64
 target_below links target at [] fits leads = subst (λ (x : ℕ). x < 64) leads fits
 target_below links target at (next ∷ rest) fits leads =
     target_below links target next rest leads.0 leads.2
@@ -45,7 +45,7 @@ target_below links target at (next ∷ rest) fits leads =
 -- ---- what was found is the least path
 
 no_fewer : (links : List ℕ) (target k at : ℕ) (rest : List ℕ) → length links ≡ 64 → at < 64 →
-    IsAway links target k at → LinksLead links target at rest → k ≤ length rest
+    IsLinksAway links target k at → LinksLeadTo links target at rest → k ≤ length rest
 no_fewer links target k at rest rows fits away leads = elim (cases_lt (length rest) k) [
   | inl short ↦ apart_tests _ (reaches links target at rest (length rest) rows fits leads
       (omega arith)) (away.later (length rest) short)
@@ -53,23 +53,23 @@ no_fewer links target k at rest rows fits away leads = elim (cases_lt (length re
 ]
 
 fewest_of : (links : List ℕ) (target k from : ℕ) → length links ≡ 64 → from < 64 →
-    IsAway links target k from → (other : List ℕ) → IsPath links from target other →
+    IsLinksAway links target k from → (other : List ℕ) → IsPath links from target other →
     k < length other
 unfolding IsPath
 fewest_of links target k from rows fits away [] path = absurd path
 fewest_of links target k from rows fits away (first ∷ rest) path =
-    let leads = subst (λ (x : ℕ). LinksLead links target x rest) path.0 path.2 in
+    let leads = subst (λ (x : ℕ). LinksLeadTo links target x rest) path.0 path.2 in
     omega (arith, no_fewer links target k from rest rows fits away leads)
 
 least_of_all : (links : List ℕ) (target k from : ℕ) → length links ≡ 64 → target < 64 → from < 64 →
-    IsAway links target k from → (other : List ℕ) → IsPath links from target other →
-    length other ≡ suc k → IsAtMost (from ∷ path_after links target k from) other
+    IsLinksAway links target k from → (other : List ℕ) → IsPath links from target other →
+    length other ≡ suc k → IsAtMost (from ∷ route_path_after links target k from) other
 unfolding IsPath
 least_of_all links target k from rows target_fits fits away other path long =
     search (rules, onward_least)
 
 found_path : (links : List ℕ) (target k from : ℕ) → length links ≡ 64 → target < 64 → from < 64 →
-    IsAway links target k from → IsPath links from target (from ∷ path_after links target k from)
+    IsLinksAway links target k from → IsPath links from target (from ∷ route_path_after links target k from)
 unfolding IsPath
 found_path links target k from rows target_fits fits away = (
   refl,
@@ -79,8 +79,8 @@ found_path links target k from rows target_fits fits away = (
 )
 
 pub found_is_least : (links : List ℕ) (target k from : ℕ) → length links ≡ 64 → target < 64 →
-    from < 64 → IsAway links target k from →
-    IsLeastPath links from target (from ∷ path_after links target k from)
+    from < 64 → IsLinksAway links target k from →
+    IsLeastPath links from target (from ∷ route_path_after links target k from)
 found_is_least links target k from rows target_fits fits away =
     search (rules, length-onward, found_path, fewest_of, least_of_all)
 
@@ -93,7 +93,7 @@ no_path links target from rows fits out [] path = path
 no_path links target from rows fits out (first ∷ rest) path =
     let few = (path_is_route_list links from target (first ∷ rest) path).few in
     apart_tests _ (reaches links target from rest 63 rows fits
-    (subst (λ (x : ℕ). LinksLead links target x rest) path.0 path.2) (omega arith))
+    (subst (λ (x : ℕ). LinksLeadTo links target x rest) path.0 path.2) (omega arith))
     (out 63 (omega arith))
 
 pub out_of_reach : (links : List ℕ) (target from : ℕ) → length links ≡ 64 → from < 64 →
@@ -124,7 +124,7 @@ still_out links target j from same before = λ k fits. elim (cases_lt k (suc j))
 ]
 
 -- the balls grow until they have the switch
-grows : (links : List ℕ) (target j k from : ℕ) → IsAway links target (j + suc k) from →
+grows : (links : List ℕ) (target j k from : ℕ) → IsLinksAway links target (j + suc k) from →
     (grown_ball links (ball links target j) == ball links target j) ≡ false
 unfolding ball
 grows links target j k from away = search (rules, false_of, eqb-true, stands_still)
@@ -134,11 +134,11 @@ abbrev turn : Bool → Bool → Option ℕ → Option ℕ
 turn here still rest = elim here
     [ true ↦ Some 0 | false ↦ elim still [ true ↦ None | false ↦ option_map suc rest ] ]
 
-links_away-turn : (most : ℕ) (links : List ℕ) (from within : ℕ)
-    → links_away (suc most) links from within ≡ turn (has within from)
-    (grown_ball links within == within) (links_away most links from (grown_ball links within))
-unfolding links_away
-links_away-turn most links from within = refl
+ball_links_away-turn : (most : ℕ) (links : List ℕ) (from within : ℕ)
+    → ball_links_away (suc most) links from within ≡ turn (has within from)
+    (grown_ball links within == within) (ball_links_away most links from (grown_ball links within))
+unfolding ball_links_away
+ball_links_away-turn most links from within = refl
 
 turn_here : (here still : Bool) (rest : Option ℕ) → here ≡ true → turn here still rest ≡ Some 0
 turn_here true still rest e = refl
@@ -153,24 +153,24 @@ turn_none : (here still : Bool) (rest : Option ℕ) → here ≡ false → rest 
 turn_none here still rest e none = search rules
 
 away_found : (most : ℕ) (links : List ℕ) (target j k from : ℕ) → k < most →
-    IsAway links target (j + k) from → links_away most links from (ball links target j) ≡ Some k
+    IsLinksAway links target (j + k) from → ball_links_away most links from (ball links target j) ≡ Some k
 unfolding ball
 away_found zero links target j k from fits away = absurd (omega arith)
 away_found (suc most) links target j zero from fits away =
-    links_away-turn most links from (ball links target j)
+    ball_links_away-turn most links from (ball links target j)
     ∙ turn_here _ _ _ (ap (λ n. has (ball links target n) from) (omega arith) ∙ away.here)
 away_found (suc most) links target j (suc k) from fits away =
-    links_away-turn most links from (ball links target j)
+    ball_links_away-turn most links from (ball links target j)
     ∙ turn_on _ _ _ (away.later j (omega arith)) (grows links target j k from away)
     ∙ ap (option_map suc) (away_found most links target (suc j) k from (omega arith)
-    (subst (λ (n : ℕ). IsAway links target n from) (omega arith) away))
+    (subst (λ (n : ℕ). IsLinksAway links target n from) (omega arith) away))
 
 none_found : (most : ℕ) (links : List ℕ) (target j from : ℕ) → j + most ≤ 64 →
-    IsOutOfReach links target from → links_away most links from (ball links target j) ≡ None
-unfolding links_away IsOutOfReach ball
+    IsOutOfReach links target from → ball_links_away most links from (ball links target j) ≡ None
+unfolding ball_links_away IsOutOfReach ball
 none_found zero links target j from fits out = refl
 none_found (suc most) links target j from fits out =
-    links_away-turn most links from (ball links target j) ∙ turn_none _ _ _ (out j (omega arith))
+    ball_links_away-turn most links from (ball links target j) ∙ turn_none _ _ _ (out j (omega arith))
     (none_found most links target (suc j) from (omega arith) out)
 
 -- ---- the route to one target
@@ -183,7 +183,7 @@ guarded test route = elim test [ true ↦ route | false ↦ None ]
 
 route_to-guarded : (links : List ℕ) (from target : ℕ) → route_to links from target
     ≡ guarded (nat_lt from 64 && nat_lt target 64) (option_map (λ k. from
-    ∷ path_after links target k from) (links_away 64 links from (ball links target 0)))
+    ∷ route_path_after links target k from) (ball_links_away 64 links from (ball links target 0)))
 unfolding route_to guarded ball
 route_to-guarded links from target = refl
 
@@ -199,13 +199,13 @@ guarded_false true route h = absurd (h refl)
 guarded_false false route h = refl
 
 pub route_to-away : (links : List ℕ) (from target k : ℕ) → from < 64 → target < 64 → k < 64 →
-    IsAway links target k from → route_to links from target ≡
-    Some (from ∷ path_after links target k from)
+    IsLinksAway links target k from → route_to links from target ≡
+    Some (from ∷ route_path_after links target k from)
 route_to-away links from target k from_fits target_fits fits away =
     route_to-guarded links from target
     ∙ guarded_true _ _ (both_below from target from_fits target_fits)
-    ∙ ap (option_map (λ k. from ∷ path_after links target k from)) (away_found 64 links target 0 k
-    from fits (subst (λ (n : ℕ). IsAway links target n from) (omega arith) away))
+    ∙ ap (option_map (λ k. from ∷ route_path_after links target k from)) (away_found 64 links target 0 k
+    from fits (subst (λ (n : ℕ). IsLinksAway links target n from) (omega arith) away))
 
 pub route_to-out : (links : List ℕ) (from target : ℕ) → from < 64 → target < 64 →
     IsOutOfReach links target from → route_to links from target ≡ None
@@ -225,11 +225,11 @@ route_to-above links from target h =
 later_or_away : (links : List ℕ) (target from k : ℕ) →
     ((j : ℕ) → j < k → has (ball links target j) from ≡ false) → (b : Bool) →
     has (ball links target k) from ≡ b →
-    IsAway links target k from ⊎ ((j : ℕ) → j < suc k → has (ball links target j) from ≡ false)
+    IsLinksAway links target k from ⊎ ((j : ℕ) → j < suc k → has (ball links target j) from ≡ false)
 later_or_away links target from k before b e = search rules
 
 search_up_to : (links : List ℕ) (target from k : ℕ) →
-    ((i : ℕ) × (i < k) × IsAway links target i from)
+    ((i : ℕ) × (i < k) × IsLinksAway links target i from)
     ⊎ ((j : ℕ) → j < k → has (ball links target j) from ≡ false)
 search_up_to links target from zero = inr (λ j less. absurd (omega arith))
 search_up_to links target from (suc k) = elim (search_up_to links target from k) [
@@ -239,19 +239,19 @@ search_up_to links target from (suc k) = elim (search_up_to links target from k)
 ]
 
 pub away_or_out : (links : List ℕ) (target from : ℕ) →
-    ((k : ℕ) × (k < 64) × IsAway links target k from) ⊎ IsOutOfReach links target from
+    ((k : ℕ) × (k < 64) × IsLinksAway links target k from) ⊎ IsOutOfReach links target from
 unfolding IsOutOfReach
 away_or_out links target from = search_up_to links target from 64
 
 -- ---- a way that meets a switch again
 
 pub straight_path : (links : List ℕ) (from target : ℕ) (rest : List ℕ) → length links ≡ 64 →
-    from < 64 → LinksLead links target from rest → IsReachable links from target
+    from < 64 → LinksLeadTo links target from rest → IsReachable links from target
 unfolding IsReachable
 straight_path links from target rest rows fits leads =
     elim (search_up_to links target from (suc (length rest))) [
       | inl found ↦ (
-        from ∷ path_after links target found.0 from,
+        from ∷ route_path_after links target found.0 from,
         found_path links target found.0 from
             rows (target_below links target from rest fits leads) fits found.2,
       )

@@ -19,13 +19,13 @@ is_news adverts advert = nat_lt advert.origin 64 && option_map_or (is_newer adve
     (held_advert adverts advert.origin) true
 
 -- the adverts after this one was heard
-unfoldable pub after_hearing : List (Option Advert) → Advert → List (Option Advert)
-after_hearing adverts advert =
+unfoldable pub adverts_after_hearing : List (Option Advert) → Advert → List (Option Advert)
+adverts_after_hearing adverts advert =
     if is_news adverts advert then slice_set adverts advert.origin (Some advert) else adverts
 
 -- the adverts after these were heard, one after another
 abbrev pub after_hearing_all : List (Option Advert) → List Advert → List (Option Advert)
-after_hearing_all adverts heard = fold after_hearing adverts heard
+after_hearing_all adverts heard = fold adverts_after_hearing adverts heard
 
 abbrev pub no_adverts : List (Option Advert)
 no_adverts = replicate 64 None

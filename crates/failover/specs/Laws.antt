@@ -3,13 +3,13 @@
 use Rattle.std.specs.Prelude.{◌&&◌, ◌++◌, ◌<◌, ◌||◌, ◌↔◌, ◌≡◌, ◌≢◌, IsTrue, List, Option, Some, false, length, not, option_to_list, slice_index, ℕ}
 use Rattle.failover.specs.declared.advert.Advert.{Advert}
 use Rattle.base.specs.Exports.{has}
-use Rattle.failover.specs.Adverts.{held_advert, is_news, after_hearing, after_hearing_all, no_adverts, first_of, first_adverts}
+use Rattle.failover.specs.Adverts.{held_advert, is_news, adverts_after_hearing, after_hearing_all, no_adverts, first_of, first_adverts}
 use Rattle.failover.specs.DownSet.{is_link_of, IsLinkSet}
-use Rattle.failover.specs.Links.{named_links, is_link, known_links, has_link, no_links, with_link, LinksLead, IsPath, IsReachable}
+use Rattle.failover.specs.Links.{named_links, is_link, known_links, has_link, no_links, with_link, LinksLeadTo, IsPath, IsReachable}
 use Rattle.failover.specs.Paths.{IsIsolated, IsRoute}
 use Rattle.failover.specs.RouteList.{IsRouteList}
 use Rattle.failover.specs.Routes.{route_of}
-use Rattle.failover.specs.Newest.{AreByOrigin, IsNewest}
+use Rattle.failover.specs.Newest.{AreByOrigin, IsNewestAdvert}
 use Rattle.failover.specs.Isolated.{names_neighbour, is_isolated}
 
 pub record AdvertLaws : Type 0 where
@@ -19,19 +19,19 @@ pub record AdvertLaws : Type 0 where
   pub begun : (near : List ℕ) (count origin : ℕ) → origin < 64 →
       held_advert (first_adverts near count) origin ≡ first_of near count origin
   pub kept : (adverts : List (Option Advert)) (advert : Advert) → AreByOrigin adverts →
-      AreByOrigin (after_hearing adverts advert)
+      AreByOrigin (adverts_after_hearing adverts advert)
   -- an advert that is news is kept, and those of other origins stay
   pub heard : (adverts : List (Option Advert)) (advert : Advert) → AreByOrigin adverts →
       IsTrue (is_news adverts advert) →
-      held_advert (after_hearing adverts advert) advert.origin ≡ Some advert
+      held_advert (adverts_after_hearing adverts advert) advert.origin ≡ Some advert
   pub others : (adverts : List (Option Advert)) (advert : Advert) (origin : ℕ) →
-      origin ≢ advert.origin → held_advert (after_hearing adverts advert) origin
+      origin ≢ advert.origin → held_advert (adverts_after_hearing adverts advert) origin
       ≡ held_advert adverts origin
   -- after any adverts the database has the newest of each origin, and the one that it had at first
   -- counts before them
   pub newest : (adverts : List (Option Advert)) (heard : List Advert) (origin : ℕ) →
       AreByOrigin adverts → origin < 64 →
-      IsNewest origin (option_to_list (held_advert adverts origin) ++ heard)
+      IsNewestAdvert origin (option_to_list (held_advert adverts origin) ++ heard)
       (held_advert (after_hearing_all adverts heard) origin)
 
 pub record LinkSetLaws : Type 0 where
@@ -85,4 +85,4 @@ pub record RouteLaws : Type 0 where
       IsRouteList path
   -- if a walk leads to the target, a path does too
   pub straightened : (links : List ℕ) (from target : ℕ) (rest : List ℕ) → length links ≡ 64 →
-      from < 64 → LinksLead links target from rest → IsReachable links from target
+      from < 64 → LinksLeadTo links target from rest → IsReachable links from target

@@ -40,20 +40,20 @@ known_links adverts at near down = let neighbours =
     named_links adverts at near in map (links_at neighbours down) switches
 
 -- mask `one` of the links has the other switch
-abbrev pub AreJoined : List ℕ → ℕ → ℕ → Type 0
-AreJoined links one other = IsTrue (has (slice_index links one) other)
+abbrev pub AreJoinedByLinks : List ℕ → ℕ → ℕ → Type 0
+AreJoinedByLinks links one other = IsTrue (has (slice_index links one) other)
 
 -- a walk from a switch over these, each joined to the one before it, to the target
-abbrev pub LinksLead : List ℕ → ℕ → ℕ → List ℕ → Type 0
-LinksLead links target at [] = at ≡ target
-LinksLead links target at (next ∷ rest) =
-    (next < 64) × AreJoined links at next × LinksLead links target next rest
+abbrev pub LinksLeadTo : List ℕ → ℕ → ℕ → List ℕ → Type 0
+LinksLeadTo links target at [] = at ≡ target
+LinksLeadTo links target at (next ∷ rest) =
+    (next < 64) × AreJoinedByLinks links at next × LinksLeadTo links target next rest
 
 -- a path: a walk of distinct switches from one to the other
 unfoldable pub IsPath : List ℕ → ℕ → ℕ → List ℕ → Type 0
 IsPath links from target [] = ⊥
 IsPath links from target (first ∷ rest) =
-    (first ≡ from) × (first < 64) × LinksLead links target first rest × IsDistinct nat_eq (first ∷ rest)
+    (first ≡ from) × (first < 64) × LinksLeadTo links target first rest × IsDistinct nat_eq (first ∷ rest)
 
 -- some path leads to the target
 unfoldable pub IsReachable : List ℕ → ℕ → ℕ → Type 0

@@ -11,9 +11,9 @@ pub record AreByOrigin (adverts : List (Option Advert)) : Type 0 where
 
 -- the newest of these adverts of an origin, and of equally new ones the first; `None` if there are
 -- none of that origin
-abbrev pub IsNewest : ℕ → List Advert → Option Advert → Type 0
-IsNewest origin adverts None = All (λ advert. advert.origin ≢ origin) adverts
-IsNewest origin adverts (Some best) =
+abbrev pub IsNewestAdvert : ℕ → List Advert → Option Advert → Type 0
+IsNewestAdvert origin adverts None = All (λ advert. advert.origin ≢ origin) adverts
+IsNewestAdvert origin adverts (Some best) =
     (before : List Advert) × (after : List Advert) × (adverts ≡ before ++ best ∷ after)
     × (best.origin ≡ origin)
     × All (λ advert. advert.origin ≡ origin → IsTrue (is_newer best advert)) before

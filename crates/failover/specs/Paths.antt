@@ -1,12 +1,12 @@
 -- Routes by paths: the first target that a path reaches, by the fewest links, and of those the
 -- least list.
 use Rattle.std.specs.Prelude.{[], ◌<◌, ◌∷◌, ◌≡◌, ◌≢◌, ◌≤◌, ◌⊎◌, IsSomeAnd, List, None, Option, length, ℕ, ⊤}
-use Rattle.failover.specs.Links.{AreJoined, IsPath, IsReachable}
+use Rattle.failover.specs.Links.{AreJoinedByLinks, IsPath, IsReachable}
 
 -- the target is another switch, at which no link ends
 pub record IsIsolated (links : List ℕ) (at target : ℕ) : Type 0 where
   pub other : target ≢ at
-  pub linkless : (one : ℕ) → AreJoined links one target → ⊥
+  pub linkless : (one : ℕ) → AreJoinedByLinks links one target → ⊥
 
 -- the first list is the same or less, compared from the front
 abbrev pub IsAtMost : List ℕ → List ℕ → Type 0

@@ -11,21 +11,21 @@ pub record IsRouteList (route : List ℕ) : Type 0 where
   pub distinct : IsDistinct nat_eq route
 
 -- the list: the places before its length
-abbrev pub first_switches : Inside → List ℕ
-first_switches r = take r.len r.switches
+abbrev pub first_route_switches : Inside → List ℕ
+first_route_switches r = take r.len r.switches
 
 -- of the 64 places, those beyond the list are 0
 pub record IsFilledRoute (r : Inside) : Type 0 where
   pub places : length r.switches ≡ 64
   pub few : r.len ≤ 64
   pub rest : drop r.len r.switches ≡ replicate (64 - r.len) 0
-  pub list : IsRouteList (first_switches r)
+  pub list : IsRouteList (first_route_switches r)
 
 -- this list, in 64 places
 abbrev pub filled_route : List ℕ → Inside
 filled_route xs = record { switches = filled_places 64 xs; len = length xs }
 
 -- the list of 64 places, put in 64 places, gives the same places
-pub filled-first_switches : (r : Inside) → IsFilledRoute r → filled_route (first_switches r) ≡ r
-filled-first_switches r h =
+pub filled-first_route_switches : (r : Inside) → IsFilledRoute r → filled_route (first_route_switches r) ≡ r
+filled-first_route_switches r h =
     let held = filled-take 64 r.len r.switches h.places h.few h.rest in rw (held.1, held.0)

@@ -19,24 +19,24 @@ unfoldable pub least_neighbour_in : List ℕ → ℕ → ℕ → ℕ
 least_neighbour_in links within at = least_in (bit_and (slice_index links at) within)
 
 -- the switches after one that is k links away from the target
-unfoldable pub path_after : List ℕ → ℕ → ℕ → ℕ → List ℕ
-path_after links target zero at = []
-path_after links target (suc k) at = let next =
-    least_neighbour_in links (ball links target k) at in next ∷ path_after links target k next
+unfoldable pub route_path_after : List ℕ → ℕ → ℕ → ℕ → List ℕ
+route_path_after links target zero at = []
+route_path_after links target (suc k) at = let next =
+    least_neighbour_in links (ball links target k) at in next ∷ route_path_after links target k next
 
 -- by how many links this ball must grow to have the switch; `None` if it stops growing before
-unfoldable pub links_away : ℕ → List ℕ → ℕ → ℕ → Option ℕ
-links_away zero links from within = None
-links_away (suc most) links from within = elim (has within from) [
+unfoldable pub ball_links_away : ℕ → List ℕ → ℕ → ℕ → Option ℕ
+ball_links_away zero links from within = None
+ball_links_away (suc most) links from within = elim (has within from) [
   | true ↦ Some 0
   | false ↦ let wide = grown_ball links within in elim
-      (wide == within) [ true ↦ None | false ↦ option_map suc (links_away most links from wide) ]
+      (wide == within) [ true ↦ None | false ↦ option_map suc (ball_links_away most links from wide) ]
 ]
 
 unfoldable pub route_to : List ℕ → ℕ → ℕ → Option (List ℕ)
 route_to links from target = elim (nat_lt from 64 && nat_lt target 64) [
-  | true ↦ option_map (λ k. from ∷ path_after links target k from)
-      (links_away 64 links from (2 ^ target))
+  | true ↦ option_map (λ k. from ∷ route_path_after links target k from)
+      (ball_links_away 64 links from (2 ^ target))
   | false ↦ None
 ]
 

@@ -4,7 +4,7 @@ use Rattle.base.specs.Exports.{has}
 use Rattle.failover.specs.Routes.{ball, least_neighbour_in}
 
 -- the switch is k links away from the target, and no fewer
-pub record IsAway (links : List ℕ) (target k at : ℕ) : Type 0 where
+pub record IsLinksAway (links : List ℕ) (target k at : ℕ) : Type 0 where
   pub here : has (ball links target k) at ≡ true
   pub later : (j : ℕ) → j < k → has (ball links target j) at ≡ false
 
@@ -23,7 +23,7 @@ path_by_balls links balls (suc k) at = let next =
     least_neighbour_in links (slice_index balls k) at in next ∷ path_by_balls links balls k next
 
 -- a part of the ball, and the links of all others in it stay within the ball
-pub record IsEdge (links : List ℕ) (ball edge : ℕ) : Type 0 where
+pub record IsBallEdge (links : List ℕ) (ball edge : ℕ) : Type 0 where
   pub inside : (one : ℕ) → one < 64 → has edge one ≡ true → has ball one ≡ true
   pub inner : (one other : ℕ) → one < 64 → other < 64 → has ball one ≡ true →
       has edge one ≡ false → has (slice_index links one) other ≡ true → has ball other ≡ true

@@ -1,5 +1,5 @@
 ghost use Rattle.std.specs.Prelude.{◌≡◌, ◌<◌, ◌∷◌, IfSome, IfNone};
-ghost use Rattle.failover.specs.Exports.{AreBalls, IsAway, IsEdge, IsOutOfReach, IsRouteList, path_by_balls, first_route, links_of_each, route_to, grown_ball};
+ghost use Rattle.failover.specs.Exports.{AreBalls, IsLinksAway, IsBallEdge, IsOutOfReach, IsRouteList, path_by_balls, first_route, links_of_each, route_to, grown_ball};
 
 use crate::down_set::DownSet;
 use crate::links::links_within;
@@ -49,7 +49,7 @@ fn distance(
 ) -> Option<usize>
     requires from { from < 64 }
     requires target { target < 64 }
-    ensures away { IfSome result (λ k. IsAway (links_of_each neighbours.now down.now) target k from) }
+    ensures away { IfSome result (λ k. IsLinksAway (links_of_each neighbours.now down.now) target k from) }
     ensures balls { IfSome result (AreBalls (links_of_each neighbours.now down.now) target balls.new) }
     ensures none { IfNone result (IsOutOfReach (links_of_each neighbours.now down.now) target from) }
 {
@@ -78,7 +78,7 @@ fn distance(
 // The ball, and the switches to which a switch of it has a link. Only the edge is searched, because
 // the links of all others stay within the ball.
 fn wider(neighbours: &[u64; 64], down: &DownSet, ball: u64, edge: u64) -> u64
-    requires { IsEdge (links_of_each neighbours.now down.now) ball edge }
+    requires { IsBallEdge (links_of_each neighbours.now down.now) ball edge }
     ensures { result ≡ grown_ball (links_of_each neighbours.now down.now) ball }
 {
     let mut wide = ball;

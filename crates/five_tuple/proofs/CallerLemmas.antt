@@ -1,7 +1,7 @@
 -- What proofs above cite: of covers, of the parts of a line, and of numbers that pack five fields,
 -- under masks that pack five masks.
-pub use Rattle.five_tuple.proofs.CoverOf.{is_cover_of}
-pub use Rattle.five_tuple.proofs.SplitParts.{parts_at, parts_none}
+pub use Rattle.five_tuple.proofs.PortCoverBlocks.{is_cover_of}
+pub use Rattle.five_tuple.proofs.HeaderSplitParts.{parts_at, parts_none}
 use Rattle.std.proofs.Common.{◌&&◌, ◌*◌, ◌+◌, ◌<◌, ◌^◌, ◌≡◌, arith, bit_and, eqb, ℕ, rules}
 use Rattle.std.proofs.lemmas.Bool.Decides.{Decides-eqb, Decides-like, Decides-and, same_from_decides}
 use Rattle.std.proofs.lemmas.Nat.{and_le_l, and_block}

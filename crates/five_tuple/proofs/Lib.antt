@@ -1,10 +1,10 @@
-mod BitFields
-mod SplitParts
-mod WrittenNumbers
-mod PartReadings
-mod RoundTrip
+mod HeaderBitFields
+mod HeaderSplitParts
+mod HeaderWrittenNumbers
+mod HeaderPartReadings
+mod HeaderTextRoundTrip
 mod PortCovers
-mod DottedParts
-mod CoverOf
-mod PlainTexts
+mod HeaderDottedParts
+mod PortCoverBlocks
+mod HeaderTextsPlain
 pub mod CallerLemmas

@@ -3,5 +3,5 @@ use Rattle.std.specs.Prelude.{List}
 use Rattle.five_tuple.specs.declared.port_blocks.Blocks.{Blocks}
 use Rattle.five_tuple.specs.Cover.{Block, cover_of}
 
-abbrev pub blocks_left : Blocks → List Block
-blocks_left blocks = cover_of (record { low = blocks.next; high = blocks.high })
+abbrev pub port_blocks_left : Blocks → List Block
+port_blocks_left blocks = cover_of (record { low = blocks.next; high = blocks.high })

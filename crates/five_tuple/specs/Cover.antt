@@ -31,15 +31,15 @@ block_at first exponent = (first, 2 ^ 16 - 2 ^ exponent)
 -- ---- the cover of a range
 
 -- the 2 ^ exponent ports from `first` on are aligned and end at or below `high`
-abbrev pub fits_at : ℕ → ℕ → ℕ → Bool
-fits_at first high exponent =
+abbrev pub port_block_fits_at : ℕ → ℕ → ℕ → Bool
+port_block_fits_at first high exponent =
     (first % 2 ^ exponent == 0) && nat_le (first + 2 ^ exponent) (high + 1)
 
 -- the largest such exponent, of those up to this one
 abbrev pub largest_up_to : ℕ → ℕ → ℕ → ℕ
 largest_up_to zero first high = 0
 largest_up_to (suc exponent) first high =
-    if fits_at first high (suc exponent) then suc exponent else largest_up_to exponent first high
+    if port_block_fits_at first high (suc exponent) then suc exponent else largest_up_to exponent first high
 
 -- at most this many blocks from `low` on, each the largest that begins where the one before it
 -- ends, until no port is left
@@ -56,18 +56,18 @@ cover_of range = blocks_from (range.high + 1 - range.low) range.low range.high
 -- ---- the same, as a relation
 
 -- the block of 2 ^ exponent ports from `first` on is aligned and ends at or below `high`
-pub record IsBlock (first high exponent : ℕ) : Type 0 where
+pub record IsAlignedPortBlock (first high exponent : ℕ) : Type 0 where
   pub aligned : first % 2 ^ exponent ≡ 0
   pub fits : first + 2 ^ exponent ≤ high + 1
 
 -- no larger one begins there
 pub record IsLargestBlock (first high exponent : ℕ) : Type 0 where
-  pub block : IsBlock first high exponent
-  pub largest : (other : ℕ) → IsBlock first high other → other ≤ exponent
+  pub block : IsAlignedPortBlock first high exponent
+  pub largest : (other : ℕ) → IsAlignedPortBlock first high other → other ≤ exponent
 
 -- from `low` on, each is the largest block, and nothing is left after the last one
-abbrev pub IsCover : ℕ → ℕ → List Block → Type 0
-IsCover low high [] = high < low
-IsCover low high (block ∷ more) =
+abbrev pub IsPortCover : ℕ → ℕ → List Block → Type 0
+IsPortCover low high [] = high < low
+IsPortCover low high (block ∷ more) =
     (exponent : ℕ) × IsLargestBlock low high exponent × (block ≡ block_at low exponent)
-    × IsCover (low + 2 ^ exponent) high more
+    × IsPortCover (low + 2 ^ exponent) high more

@@ -4,7 +4,7 @@ use Rattle.std.specs.Prelude.{◌<◌, ◌^◌, ◌↔◌, ◌≡◌, ◌≤◌,
 use Rattle.std.specs.List.{AllPass, list_any}
 use Rattle.five_tuple.specs.declared.header.Header.{Header}
 use Rattle.five_tuple.specs.declared.matching.Proto.{Proto}
-use Rattle.five_tuple.specs.Cover.{Block, IsPortBlock, block_holds, AreBlocksApart, cover_of, IsCover}
+use Rattle.five_tuple.specs.Cover.{Block, IsPortBlock, block_holds, AreBlocksApart, cover_of, IsPortCover}
 use Rattle.five_tuple.specs.Header.{IsHeader, number_of, AddressBlock, PortRangeValue, range_matches}
 use Rattle.five_tuple.specs.SoundFields.{IsAddressBlock, IsPortRange, IsProtocol}
 use Rattle.five_tuple.specs.Printing.{address_text, proto_number_text}
@@ -36,9 +36,9 @@ pub record CoverLaws : Type 0 where
   -- each is the largest block that begins at the first port not yet covered, and no other list has
   -- this property
   pub greedy : (range : PortRangeValue) → IsPortRange range
-      → IsCover range.low range.high (cover_of range)
+      → IsPortCover range.low range.high (cover_of range)
   pub only : (range : PortRangeValue) (blocks : List Block) → IsPortRange range
-      → IsCover range.low range.high blocks → blocks ≡ cover_of range
+      → IsPortCover range.low range.high blocks → blocks ≡ cover_of range
 
 -- each printed form has only plain characters
 pub record PlainTextLaws : Type 0 where

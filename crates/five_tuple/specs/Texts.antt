@@ -26,8 +26,8 @@ number_up_to most text =
     else None
 
 -- the parts of a text between occurrences of a byte
-abbrev pub parts_round : ℕ → List ℕ → List (List ℕ)
-parts_round byte text = slice_split (λ b. b == byte) text
+abbrev pub text_parts_round_byte : ℕ → List ℕ → List (List ℕ)
+text_parts_round_byte byte text = slice_split (λ b. b == byte) text
 
 -- the address of four bytes, the highest first
 abbrev pub address_from : Option ℕ → Option ℕ → Option ℕ → Option ℕ → Option ℕ
@@ -37,13 +37,13 @@ address_from _ _ _ _ = None
 -- the text begins with this number from 0 to 255 and a dot, and `rest` follows the dot
 pub record IsByteBefore (text : List ℕ) (byte : ℕ) (rest : List ℕ) : Type 0 where
   pub part : List ℕ
-  pub parts : parts_round 46 text ≡ part ∷ parts_round 46 rest
+  pub parts : text_parts_round_byte 46 text ≡ part ∷ text_parts_round_byte 46 rest
   pub number : number_up_to 255 part ≡ Some byte
 
 -- the text has no dot, or no number from 0 to 255 before the first one
-abbrev pub LacksByte : List ℕ → Type 0
-LacksByte text = (part next : List ℕ) (others : List (List ℕ))
-    → parts_round 46 text ≡ part ∷ next ∷ others → number_up_to 255 part ≡ None
+abbrev pub LacksAddressByte : List ℕ → Type 0
+LacksAddressByte text = (part next : List ℕ) (others : List (List ℕ))
+    → text_parts_round_byte 46 text ≡ part ∷ next ∷ others → number_up_to 255 part ≡ None
 
 -- four parts, each a byte
 abbrev pub address_of_parts : List (List ℕ) → Option ℕ
@@ -53,15 +53,15 @@ address_of_parts _ = None
 
 -- four numbers from 0 to 255 joined by dots, the highest byte first
 unfoldable pub address_of : List ℕ → Option ℕ
-address_of text = address_of_parts (parts_round 46 text)
+address_of text = address_of_parts (text_parts_round_byte 46 text)
 
 -- the block of this length that the address lies in: the bits beyond the length are cleared
-abbrev pub block_round : ℕ → ℕ → AddressBlock
-block_round address len = record { address = address / 2 ^ (32 - len) * 2 ^ (32 - len); len = len }
+abbrev pub address_block_round : ℕ → ℕ → AddressBlock
+address_block_round address len = record { address = address / 2 ^ (32 - len) * 2 ^ (32 - len); len = len }
 
 -- a block, if both its address and its length can be read
 abbrev pub block_from : Option ℕ → Option ℕ → Option AddressBlock
-block_from (Some address) (Some len) = Some (block_round address len)
+block_from (Some address) (Some len) = Some (address_block_round address len)
 block_from _ _ = None
 
 -- an address without a length has length 32
@@ -73,8 +73,8 @@ block_of_parts _ = None
 -- `any`; an address, which is a block by itself; an address, a slash and the block's length
 unfoldable pub prefix_of : List ℕ → Option AddressBlock
 prefix_of text =
-    if bytes_eq text (codes "any") then Some (block_round 0 0) else
-    block_of_parts (parts_round 47 text)
+    if bytes_eq text (codes "any") then Some (address_block_round 0 0) else
+    block_of_parts (text_parts_round_byte 47 text)
 
 -- a range, if both ends can be read and are in order
 abbrev pub range_from : Option ℕ → Option ℕ → Option PortRangeValue
@@ -92,7 +92,7 @@ range_of_parts _ = None
 unfoldable pub range_of : List ℕ → Option PortRangeValue
 range_of text =
     if bytes_eq text (codes "any") then Some (record { low = 0; high = 65535 }) else
-    range_of_parts (parts_round 45 text)
+    range_of_parts (text_parts_round_byte 45 text)
 
 -- a protocol by its name or its assigned number (RFC 791, section 3.1): ICMP is 1, TCP 6 and UDP 17
 unfoldable pub proto_number_of : List ℕ → Option ℕ
@@ -102,15 +102,15 @@ proto_number_of text =
     (if bytes_eq text (codes "udp") then Some 17 else number_up_to 255 text))
 
 -- the fields of a packet, if each can be read
-abbrev pub fields_from : Option ℕ → Option ℕ → Option ℕ → Option ℕ → Option ℕ → Option Fields
-fields_from (Some src) (Some dst) (Some sport) (Some dport) (Some proto) =
+abbrev pub header_fields_from : Option ℕ → Option ℕ → Option ℕ → Option ℕ → Option ℕ → Option Fields
+header_fields_from (Some src) (Some dst) (Some sport) (Some dport) (Some proto) =
     Some (record { src = src; dst = dst; sport = sport; dport = dport; proto = proto })
-fields_from _ _ _ _ _ = None
+header_fields_from _ _ _ _ _ = None
 
 -- two addresses, two ports and a protocol's number
 abbrev pub packet_fields_of : List ℕ → List ℕ → List ℕ → List ℕ → List ℕ → Option Fields
 packet_fields_of src dst sport dport proto =
-    fields_from (address_of src) (address_of dst)
+    header_fields_from (address_of src) (address_of dst)
     (number_up_to 65535 sport) (number_up_to 65535 dport) (proto_number_of proto)
 
 -- `any`, or a protocol

@@ -1,5 +1,5 @@
 ghost use Rattle.std.specs.Prelude.{◌≡◌, ◌≤◌};
-ghost use Rattle.five_tuple.specs.Exports.{IsAddressBlock, block_round, prefix_matches, proto_matches, range_matches};
+ghost use Rattle.five_tuple.specs.Exports.{IsAddressBlock, address_block_round, prefix_matches, proto_matches, range_matches};
 
 use std::marker::Model;
 
@@ -29,7 +29,7 @@ impl Prefix {
     /// The block of this length that has the address: the bits beyond the first `len` are cleared.
     pub fn new(address: u32, len: u32) -> Prefix
         requires { len ≤ 32 }
-        ensures block { result ≡ block_round address len }
+        ensures block { result ≡ address_block_round address len }
         ensures sound { IsAddressBlock result }
     {
         if len == 0 {

@@ -10,7 +10,7 @@ pub type PortBlock = (u16, u16);
 
 /// The exponent of the largest power of two whose aligned block begins at `first` and ends at or
 /// below `high`.
-fn largest_block(first: u32, high: u32) -> u32
+fn largest_port_block(first: u32, high: u32) -> u32
     requires ordered { first ≤ high }
     requires high { high < 2 ^ 16 }
     ensures largest { IsLargestBlock first high result }
@@ -32,19 +32,19 @@ pub struct Blocks {
 
 impl Iterator for Blocks {
     ghost use Rattle.std.specs.Iterator.{YieldsFirst, item_count};
-    ghost use Rattle.five_tuple.specs.Blocks.{blocks_left};
+    ghost use Rattle.five_tuple.specs.Blocks.{port_blocks_left};
 
     type Item = PortBlock;
 
-    ghost next_gives = { YieldsFirst blocks_left };
+    ghost next_gives = { YieldsFirst port_blocks_left };
 
-    ghost remaining = { item_count blocks_left };
+    ghost remaining = { item_count port_blocks_left };
 
     fn next(&mut self) -> Option<PortBlock> {
         if self.next > self.high {
             return None;
         }
-        let size: u32 = 1 << largest_block(self.next, self.high);
+        let size: u32 = 1 << largest_port_block(self.next, self.high);
         let block = (self.next as u16, (65_536 - size) as u16);
         self.next += size;
         Some(block)
@@ -52,11 +52,11 @@ impl Iterator for Blocks {
 }
 
 impl PortRange {
-    ghost use Rattle.five_tuple.specs.Blocks.{blocks_left};
+    ghost use Rattle.five_tuple.specs.Blocks.{port_blocks_left};
 
     /// The blocks of this range, one after another, as `cover` lists them.
     pub fn blocks(&self) -> Blocks
-        ensures blocks { blocks_left result ≡ cover_of self.now }
+        ensures blocks { port_blocks_left result ≡ cover_of self.now }
         ensures sound { IsPortRange self.now }
     {
         Blocks {
@@ -77,10 +77,10 @@ pub fn cover(alloc: Global, range: &PortRange) -> Result<Vec<PortBlock>, AllocEr
     ensures cover { IfOk result (λ v. v.items ≡ cover_of range.now) }
     ensures blocks { IfOk result (λ v. IsCoverOf range.now v.items) }
 {
-    collect_blocks(alloc, range)
+    collect_port_blocks(alloc, range)
 }
 
-fn collect_blocks(alloc: Global, range: &PortRange) -> Result<Vec<PortBlock>, AllocError>
+fn collect_port_blocks(alloc: Global, range: &PortRange) -> Result<Vec<PortBlock>, AllocError>
     ensures blocks { IfOk result (λ v. v.items ≡ cover_of range.now) }
     ensures sound { IsPortRange range.now }
 {
@@ -88,7 +88,7 @@ fn collect_blocks(alloc: Global, range: &PortRange) -> Result<Vec<PortBlock>, Al
 }
 
 /// The number of blocks that `cover` lists, without making a list.
-pub fn count_blocks(range: &PortRange) -> u32
+pub fn count_port_blocks(range: &PortRange) -> u32
     ensures count { result ≡ length (cover_of range.now) }
     ensures few { result ≤ 30 }
 {

@@ -1,5 +1,5 @@
 ghost use Rattle.std.specs.Prelude.{◌≡◌, ◌≤◌, ◌<◌, ◌^◌, ◌∷◌, [], ◌==◌, ◌&&◌, nat_lt, not, length, IfSome, MatchOption, position};
-ghost use Rattle.five_tuple.specs.Exports.{IsAddressBlock, IsByteBefore, IsPortRange, IsProtocol, LacksByte, address_of, fields_from, has_leading_zero, number_up_to, packet_fields_of, parts_round, prefix_of, proto_number_of, proto_of, range_from, range_of};
+ghost use Rattle.five_tuple.specs.Exports.{IsAddressBlock, IsByteBefore, IsPortRange, IsProtocol, LacksAddressByte, address_of, header_fields_from, has_leading_zero, number_up_to, packet_fields_of, text_parts_round_byte, prefix_of, proto_number_of, proto_of, range_from, range_of};
 
 use crate::header::Fields;
 use crate::matching::{PortRange, Prefix, Proto};
@@ -49,8 +49,8 @@ fn place_of(text: &[u8], byte: u8) -> Option<usize>
 /// The text before and after the first `byte`; `None` if there is none.
 fn cut(text: &[u8], byte: u8) -> Option<(&[u8], &[u8])>
     ensures { MatchOption result
-        (parts_round byte text.now ≡ text.now ∷ [])
-        (λ r. parts_round byte text.now ≡ r.0.now ∷ parts_round byte r.1.now) }
+        (text_parts_round_byte byte text.now ≡ text.now ∷ [])
+        (λ r. text_parts_round_byte byte text.now ≡ r.0.now ∷ text_parts_round_byte byte r.1.now) }
 {
     let at = place_of(text, byte)?;
     Some((&text[..at], &text[at + 1..]))
@@ -73,7 +73,7 @@ pub fn read_port(text: &[u8]) -> Option<u16>
 }
 
 /// Whether there are digits, without a leading zero.
-fn are_plain(digits: &[u8]) -> bool
+fn are_plain_digits(digits: &[u8]) -> bool
     ensures { result ≡ (nat_lt 0 (length digits.now) && not (has_leading_zero digits.now)) }
 {
     !digits.is_empty() && !has_leading_zero(digits)
@@ -81,8 +81,8 @@ fn are_plain(digits: &[u8]) -> bool
 
 /// The number from 0 to 255 before the first dot, and what follows the dot; `None` if there is no
 /// dot, or no such number before it.
-fn byte_before_dot(text: &[u8]) -> Option<(u8, &[u8])>
-    ensures { MatchOption result (LacksByte text.now) (λ r. IsByteBefore text.now r.0 r.1.now) }
+fn address_byte_before_dot(text: &[u8]) -> Option<(u8, &[u8])>
+    ensures { MatchOption result (LacksAddressByte text.now) (λ r. IsByteBefore text.now r.0 r.1.now) }
 {
     let mut number: u32 = 0;
     for (place, byte) in text.iter().enumerate() {
@@ -90,7 +90,7 @@ fn byte_before_dot(text: &[u8]) -> Option<(u8, &[u8])>
             if *byte != b'.' {
                 return None;
             }
-            if !are_plain(&text[..place]) {
+            if !are_plain_digits(&text[..place]) {
                 return None;
             }
             return Some((number as u8, &text[place + 1..]));
@@ -107,9 +107,9 @@ fn byte_before_dot(text: &[u8]) -> Option<(u8, &[u8])>
 pub fn read_address(text: &[u8]) -> Option<u32>
     ensures { result ≡ address_of text.now }
 {
-    let (first, rest) = byte_before_dot(text)?;
-    let (second, rest) = byte_before_dot(rest)?;
-    let (third, rest) = byte_before_dot(rest)?;
+    let (first, rest) = address_byte_before_dot(text)?;
+    let (second, rest) = address_byte_before_dot(rest)?;
+    let (third, rest) = address_byte_before_dot(rest)?;
     let fourth = read_byte(rest)?;
     Some(u32::from_be_bytes([first, second, third, fourth]))
 }
@@ -118,7 +118,7 @@ pub fn read_address(text: &[u8]) -> Option<u32>
 ///
 /// `any` is every address, an address without a length is only itself, and after a slash comes the
 /// block's length, at most 32 (RFC 4632, section 3.1). Its bits beyond the length are cleared.
-#[tactic(auto, using(crate::proofs::PartReadings::block_reads), unfolding(crate::specs::Texts::prefix_of))]
+#[tactic(auto, using(crate::proofs::HeaderPartReadings::block_reads), unfolding(crate::specs::Texts::prefix_of))]
 pub fn read_prefix(text: &[u8]) -> Option<Prefix>
     ensures value { result ≡ prefix_of text.now }
     ensures valid { IfSome result IsAddressBlock }
@@ -218,7 +218,7 @@ pub fn read_fields(
 ) -> Option<Fields>
     ensures { result ≡ packet_fields_of src.now dst.now sport.now dport.now proto.now }
 {
-    fields_from(
+    header_fields_from(
         read_address(src),
         read_address(dst),
         read_port(sport),
@@ -227,14 +227,14 @@ pub fn read_fields(
     )
 }
 
-fn fields_from(
+fn header_fields_from(
     src: Option<u32>,
     dst: Option<u32>,
     sport: Option<u16>,
     dport: Option<u16>,
     proto: Option<u8>,
 ) -> Option<Fields>
-    ensures { result ≡ fields_from src dst sport dport proto }
+    ensures { result ≡ header_fields_from src dst sport dport proto }
 {
     Some(Fields {
         src: src?,

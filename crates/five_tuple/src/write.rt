@@ -1,4 +1,4 @@
-#![tactic(auto, using(crate::proofs::RoundTrip::number_back, crate::proofs::RoundTrip::address_back, crate::proofs::RoundTrip::prefix_back, crate::proofs::RoundTrip::range_back, crate::proofs::RoundTrip::proto_number_back, crate::proofs::RoundTrip::proto_back))]
+#![tactic(auto, using(crate::proofs::HeaderTextRoundTrip::number_back, crate::proofs::HeaderTextRoundTrip::address_back, crate::proofs::HeaderTextRoundTrip::prefix_back, crate::proofs::HeaderTextRoundTrip::range_back, crate::proofs::HeaderTextRoundTrip::proto_number_back, crate::proofs::HeaderTextRoundTrip::proto_back))]
 
 ghost use Rattle.std.specs.Prelude.{ℕ, ◌≡◌, ◌≤◌, ◌<◌, ◌^◌, Some, decimal, IfOk};
 ghost use Rattle.five_tuple.specs.declared.matching.Proto.{Proto};
@@ -136,7 +136,7 @@ pub fn write_range(alloc: Global, range: &PortRange) -> Result<Vec<u8>, AllocErr
 }
 
 /// `any`, the name of ICMP, TCP or UDP, or another protocol's number.
-#[tactic(auto, using(crate::proofs::RoundTrip::proto_back), unfolding(crate::specs::RowPrinting::proto_text))]
+#[tactic(auto, using(crate::proofs::HeaderTextRoundTrip::proto_back), unfolding(crate::specs::RowPrinting::proto_text))]
 pub fn write_proto(alloc: Global, proto: &Proto) -> Result<Vec<u8>, AllocError>
     ensures text { IfOk result (λ t. t.items ≡ proto_text proto.now) }
     ensures read_back { IfOk result (λ t. proto_of t.items ≡ Some proto.now) }
@@ -148,7 +148,7 @@ pub fn write_proto(alloc: Global, proto: &Proto) -> Result<Vec<u8>, AllocError>
 }
 
 /// Each printed form is read back to what it prints: a law about the texts only.
-pub fn printed_forms_are_read_back()
+pub fn printed_fields_are_read_back()
     ensures number { (most n : ℕ) → n ≤ most → n < 2 ^ 64 → number_up_to most (decimal n) ≡ Some n }
     ensures address { (a : ℕ) → a < 2 ^ 32 → address_of (address_text a) ≡ Some a }
     ensures prefix { (p : AddressBlock) → IsAddressBlock p → prefix_of (prefix_text p) ≡ Some p }
@@ -159,6 +159,6 @@ pub fn printed_forms_are_read_back()
 
 /// Each printed form has only digits, lower-case letters, dots, slashes and dashes: a field of a
 /// CSV file that needs no quotes.
-pub fn printed_forms_are_plain()
+pub fn printed_fields_are_plain()
     ensures { PlainTextLaws }
 {}

@@ -8,7 +8,7 @@ use Rattle.indexmap.specs.IndexMap.{insert_entry}
 use Rattle.meters.specs.declared.flows.FlowRecord.{FlowRecord}
 use Rattle.policy_rules.specs.declared.packet.Leaving.{Leaving}
 use Rattle.flow_export.specs.Counts.{count_of_header, packet_counts}
-use Rattle.flow_export.specs.Flows.{flows, headers_of, packets_of}
+use Rattle.flow_export.specs.Flows.{flows, headers_of, flow_packets_of}
 
 -- ---- equal headers
 
@@ -198,24 +198,24 @@ looked_up h count (g ∷ rest) = first_found h g count (lookup (header_eq h) (co
 -- ---- packets
 
 packets_on : (held : List Leaving) (one : Leaving) (h : Header)
-    → packets_of (held ++ one ∷ []) h ≡ packets_of held h + cond (header_eq one.header h) 1 0
+    → flow_packets_of (held ++ one ∷ []) h ≡ flow_packets_of held h + cond (header_eq one.header h) 1 0
 packets_on held one h = sum_by_push (λ (two : Leaving). cond (header_eq two.header h) 1 0) held one
 
 no_packets : (held : List Leaving) (h : Header) → is_among h (headers_of held) ≡ false
-    → packets_of held h ≡ 0
+    → flow_packets_of held h ≡ 0
 no_packets [] h none = refl
 no_packets (one ∷ held) h none =
     let parts = or_parts (header_eq h one.header) _ none in
     let rest = no_packets held h
     (sym (has_others h one.header (headers_of held) parts.0) ∙ parts.1) in
     sum_by-cons (λ (two : Leaving). cond (header_eq two.header h) 1 0) one held
-    ∙ ap (λ b. cond b 1 0 + packets_of held h) (apart h one.header parts.0) ∙ omega (arith, rest)
+    ∙ ap (λ b. cond b 1 0 + flow_packets_of held h) (apart h one.header parts.0) ∙ omega (arith, rest)
 
-pub count_is : (h : Header) (held : List Leaving) → count_of_header h (packet_counts held) ≡ packets_of held h
+pub count_is : (h : Header) (held : List Leaving) → count_of_header h (packet_counts held) ≡ flow_packets_of held h
 count_is h held =
-    looked_up h (packets_of held) (headers_of held) ∙ found (is_among h (headers_of held)) refl
+    looked_up h (flow_packets_of held) (headers_of held) ∙ found (is_among h (headers_of held)) refl
   where
-    found : (b : Bool) → is_among h (headers_of held) ≡ b → cond b (packets_of held h) 0 ≡ packets_of held h
+    found : (b : Bool) → is_among h (headers_of held) ≡ b → cond b (flow_packets_of held h) 0 ≡ flow_packets_of held h
     found true there = refl
     found false none = sym (no_packets held h none)
 
@@ -229,14 +229,14 @@ pub counts_on : (held : List Leaving) (one : Leaving)
 counts_on held one =
     let h = one.header in
     let stays : (g : Header) → header_eq h g ≡ false
-    → packets_of (held ++ one ∷ []) g ≡ packets_of held g =
-    λ g is. packets_on held one g ∙ ap (λ b. packets_of held g + cond b 1 0) is ∙ omega arith in
-    ap (λ n. insert_entry header_eq (counted (packets_of held) (headers_of held)) h (n + 1))
+    → flow_packets_of (held ++ one ∷ []) g ≡ flow_packets_of held g =
+    λ g is. packets_on held one g ∙ ap (λ b. flow_packets_of held g + cond b 1 0) is ∙ omega arith in
+    ap (λ n. insert_entry header_eq (counted (flow_packets_of held) (headers_of held)) h (n + 1))
     (count_is h held)
-    ∙ counted_on h (packets_of held) (packets_of (held ++ one ∷ [])) (packets_on held one h
-    ∙ ap (λ b. packets_of held h + cond b 1 0) (itself h)) stays (headers_of held)
+    ∙ counted_on h (flow_packets_of held) (flow_packets_of (held ++ one ∷ [])) (packets_on held one h
+    ∙ ap (λ b. flow_packets_of held h + cond b 1 0) (itself h)) stays (headers_of held)
     (headers_differ held)
-    ∙ ap (counted (packets_of (held ++ one ∷ []))) (sym (headers_on held one))
+    ∙ ap (counted (flow_packets_of (held ++ one ∷ []))) (sym (headers_on held one))
 
 -- the records that the counts are
 abbrev pub record_at : ℕ → Header × ℕ → FlowRecord
@@ -250,7 +250,7 @@ recorded port count (h ∷ rest) = cc (recorded port count rest)
 
 pub records_are : (port : ℕ) (held : List Leaving)
     → map (record_at port) (packet_counts held) ≡ flows port held
-records_are port held = recorded port (packets_of held) (headers_of held)
+records_are port held = recorded port (flow_packets_of held) (headers_of held)
 
 pub counts_after : (old new : List (Header × ℕ)) (held more : List Leaving) (one : Leaving)
     → old ≡ packet_counts held

@@ -1,2 +1,2 @@
 mod FlowCounts
-mod CountedLaws
+mod FlowCountLaws

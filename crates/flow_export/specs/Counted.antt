@@ -12,23 +12,23 @@ pub record IsNewMeter (most : ℕ) (meter : Seen) : Type 0 where
   pub empty : meter.held ≡ []
 
 -- how many packets left by the port with the header
-abbrev pub left_with : PortLeavings → ℕ → Header → ℕ
-left_with left port header = count_by (λ one. (one.0 == port) && header_eq one.1.header header) left
+abbrev pub flow_left_with : PortLeavings → ℕ → Header → ℕ
+flow_left_with left port header = count_by (λ one. (one.0 == port) && header_eq one.1.header header) left
 
 -- the record counts all packets that left by its port with its header
-abbrev pub IsCounted : PortLeavings → FlowRecord → Type 0
-IsCounted left flow = flow.packets ≡ left_with left flow.port flow.header
+abbrev pub IsFlowCounted : PortLeavings → FlowRecord → Type 0
+IsFlowCounted left flow = flow.packets ≡ flow_left_with left flow.port flow.header
 
 -- none of the meters in a network with these ports leaves
-abbrev pub NoneLeaves : ℕ → PortLeavings → List Seen → Type 0
-NoneLeaves ports left meters =
+abbrev pub NoFlowMeterLeaves : ℕ → PortLeavings → List Seen → Type 0
+NoFlowMeterLeaves ports left meters =
     length (kept_meters ports left meters) ≡ length (kept_meters ports [] meters)
 
 -- each record of a meter that stays counts all these packets; if none leaves, each record does
 pub record FlowLaws : Type 0 where
   pub stayed : (most ports : ℕ) (left : PortLeavings) (meters : List Seen)
       → All (IsNewMeter most) meters
-      → All (IsCounted left) (flat_map flow_records_of (kept_meters ports left meters))
+      → All (IsFlowCounted left) (flat_map flow_records_of (kept_meters ports left meters))
   pub counted : (most ports : ℕ) (left : PortLeavings) (meters : List Seen)
-      → All (IsNewMeter most) meters → NoneLeaves ports left meters → All (IsCounted left)
+      → All (IsNewMeter most) meters → NoFlowMeterLeaves ports left meters → All (IsFlowCounted left)
       (gone_records ports left meters ++ flat_map flow_records_of (kept_meters ports left meters))

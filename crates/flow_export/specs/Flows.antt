@@ -13,13 +13,13 @@ headers_of (one ∷ more) =
     one.header ∷ filter (λ header. not (header_eq one.header header)) (headers_of more)
 
 -- how many packets had the header
-abbrev pub packets_of : List Leaving → Header → ℕ
-packets_of held header = count_by (λ one. header_eq one.header header) held
+abbrev pub flow_packets_of : List Leaving → Header → ℕ
+flow_packets_of held header = count_by (λ one. header_eq one.header header) held
 
 -- a record for each different header
 abbrev pub flows : ℕ → List Leaving → List FlowRecord
 flows port held =
-    map (λ header. record { port = port; header = header; packets = packets_of held header })
+    map (λ header. record { port = port; header = header; packets = flow_packets_of held header })
     (headers_of held)
 
 -- what a flow meter has recorded at its port, and with how many headers it is complete

@@ -3,18 +3,18 @@
 use Rattle.std.proofs.Common.{[], ◌++◌, ◌+◌, ◌-◌, ◌<◌, ◌==◌, ◌∙◌, ◌∷◌, ◌≡◌, ◌≤◌, ◌⊎◌, Contains, IsTrue, List, None, Option, Some, ap, append_assoc, arith, eq-eqb, false, find, inl, inr, length, option_map, refl, subst, sym, take, true, ℕ}
 use Rattle.base.proofs.Exports.{All-contains, find_none, get_or-range_with_len, length-range_with_len, range_with_len}
 use Rattle.five_tuple.specs.Exports.{IsHeader}
-use Rattle.update_machine.specs.Exports.{AreAll, Decision, HaveCauses, Header, Hop, IsQuiet, IsSetting, Item, Packet, Row, Setting, Step, StepOfRow, after_steps, count_of, decision_of, gives_header, header_in, is_packet, is_up, items_then, lookup_items, next_hop, next_packet, next_travelling, packet_items, packets_in, piece, policy_at, serves, switches_of, travels, version_count}
+use Rattle.update_machine.specs.Exports.{AreAllEventSteps, Decision, HaveCauses, Header, Hop, IsQuiet, IsSetting, Item, Packet, Row, Setting, Step, StepOfRow, journal_after_steps, count_of, decision_of, gives_header, header_in, is_packet, is_up, journal_items_then, lookup_items, next_hop, next_packet, next_travelling, packet_items, packets_in, piece, policy_at, serves, switches_of, travels, version_count}
 use Rattle.policy_rules.specs.Exports.{IsFirstMatch, scan}
 use Rattle.policy_rules.proofs.CallerLemmas.{first_match-scan}
 use Rattle.steps.specs.Exports.{HasSwitch}
 use Rattle.update_machine.proofs.Exports.{count_of_append, last_given_append, switch_keeps}
 use Rattle.convergence_laws.proofs.Exports.{Behind, Both, HoldsAtEnds, NamesOwn, fact_on, have_both, have_rest, moves, stays_itself, stays_on}
-use Rattle.convergence_laws.specs.Exports.{GetStuckApart, HasConverged, IsUpdated}
-use Rattle.packet_laws.specs.Exports.{AllKept, HoldsBetween, IsUnknown, StrongCause, hit_in, steps_played, what_is_known}
+use Rattle.convergence_laws.specs.Exports.{GetStuckApart, HasConverged, IsQuietUpdated}
+use Rattle.packet_laws.specs.Exports.{AllKept, HoldsBetween, IsUnknownPacket, StrongCause, hit_in, packet_steps_played, what_is_known}
 use Rattle.packet_laws.proofs.Exports.{IsSettled, IsWayItem, Past, all_kept, all_right, between, decision_out, found_in, kept_before, numbered, packet_more, piece_settled, standing_more, strongly_caused, travels_more, ways_of_all}
 use Rattle.forwarding_laws.specs.Exports.{FindsNoTarget, HasComeToRest, IsForwarded, QuietForwards}
-use Rattle.forwarding_laws.proofs.FollowedPacket.{Fate, Follows, IsEnded, IsFollowed, follows_on, mark_more, step_more, undecided_by}
-use Rattle.forwarding_laws.proofs.SecondRounds.{MarksStay, Passes, hop_passes, marks_stay, packet_passes}
+use Rattle.forwarding_laws.proofs.ForwardingFollowed.{Fate, Follows, IsEnded, IsFollowed, follows_on, mark_more, step_more, undecided_by}
+use Rattle.forwarding_laws.proofs.RecoverySecondRounds.{MarksStay, Passes, hop_passes, marks_stay, packet_passes}
 use Rattle.net_file.specs.Exports.{IsNet}
 
 -- ---- items of a settled journal
@@ -65,7 +65,7 @@ unfolding next_packet
 number_more before i s header =
     rw (count_of_append is_packet before (Item.Entered i s header ∷ [])) (omega arith)
 
-serves_there : (setting : Setting) (journal : List Item) (s : ℕ) → IsUpdated setting journal
+serves_there : (setting : Setting) (journal : List Item) (s : ℕ) → IsQuietUpdated setting journal
     → HasSwitch setting.net s → IsTrue (is_up journal s) → IsTrue (serves journal s)
 serves_there setting journal s updated there up =
     All-contains (λ k. IsTrue (is_up journal k) → IsTrue (serves journal k)) (switches_of setting) s
@@ -106,7 +106,7 @@ module _ (setting : Setting) (journal : List Item) (row s : ℕ) (header : Heade
 
   started : IsSetting setting → IsSettled setting journal → Follows setting journal s i header begun
   started is settled =
-      let new : IsUnknown (what_is_known journal i) =
+      let new : IsUnknownPacket (what_is_known journal i) =
       (all_kept setting journal is settled.causes).unknown i (omega arith) in record {
         stays = stays_on setting journal is.net i here entering tt (stays_on setting journal is.net
             i journal coming tt (stays_itself setting journal i (found_in journal i ∙ new.found)));
@@ -138,7 +138,7 @@ module _ (setting : Setting) (journal : List Item) (row s : ℕ) (header : Heade
       (switch_keeps setting s journal (coming ∷ []) (refl, tt)).serving ∙ serving in
       ap (λ b. coming ∷ (elim b [
         | false ↦ Item.Closed i s ∷ []
-        | true ↦ items_then (entering ∷ []) (lookup_items setting i s) here
+        | true ↦ journal_items_then (entering ∷ []) (lookup_items setting i s) here
       ])) still
 
   joined : begun ++ lookups ≡ journal ++ (coming ∷ entering ∷ lookups)
@@ -146,7 +146,7 @@ module _ (setting : Setting) (journal : List Item) (row s : ℕ) (header : Heade
       ∙ append_assoc journal (coming ∷ []) (entering ∷ lookups)
 
   -- behind its step
-  followed_in : IsSetting setting → HasConverged setting journal → IsUpdated setting journal
+  followed_in : IsSetting setting → HasConverged setting journal → IsQuietUpdated setting journal
       → IsSettled setting journal → HasSwitch setting.net s → IsHeader header
       → IsTrue (is_up journal s)
       → Follows setting journal s i header (journal ++ piece setting journal row (Packet s header))
@@ -179,10 +179,10 @@ record IsDrained (setting : Setting) (journal : List Item) (s i : ℕ) (header :
 
 drained : (setting : Setting) (journal : List Item) (s i : ℕ) (header : Header) (later : ℕ)
     (before : List Item) (hops : List StepOfRow) → IsSetting setting
-    → HasConverged setting journal → IsUpdated setting journal
-    → AreAll setting next_hop later before hops → IsSettled setting before
+    → HasConverged setting journal → IsQuietUpdated setting journal
+    → AreAllEventSteps setting next_hop later before hops → IsSettled setting before
     → Follows setting journal s i header before
-    → IsDrained setting journal s i header (after_steps setting before hops)
+    → IsDrained setting journal s i header (journal_after_steps setting before hops)
 drained setting journal s i header later before [] is converged updated none settled follows =
     record { follows = follows; settled = settled; none = none }
 drained setting journal s i header later before (first ∷ hops) is converged updated all settled
@@ -234,11 +234,11 @@ ended_so setting journal s i header after is drained = by drained.follows.fate w
   by (inr ended) = elim ended.how [ inl decided ↦ inl (forwarded decided) | inr finds ↦ inr finds ]
 
 pub forwards : (setting : Setting) (journal : List Item) → IsSetting setting
-    → IsSettled setting journal → HasConverged setting journal → IsUpdated setting journal
+    → IsSettled setting journal → HasConverged setting journal → IsQuietUpdated setting journal
     → QuietForwards setting journal
 forwards setting journal is settled converged updated row later s header hops there sound up all =
     let entered : List Item = journal ++ piece setting journal row (Packet s header) in
-    ended_so setting journal s (next_packet journal) header (after_steps setting entered hops) is
+    ended_so setting journal s (next_packet journal) header (journal_after_steps setting entered hops) is
     (drained setting journal s (next_packet journal) header later entered hops is converged updated
     all (piece_settled setting journal row (Packet s header) is (there, sound) settled)
     (followed_in setting journal row s header is converged updated settled there sound up))
@@ -252,7 +252,7 @@ ends_between Holds law = record {
   answered = λ setting events journal own answers. law.answered setting events journal answers;
   so_far = λ setting events journal own answers. law.so_far setting events journal answers;
   played = λ setting events journal full own play n.
-      law.stepped setting (take n (steps_played setting events journal full play));
+      law.stepped setting (take n (packet_steps_played setting events journal full play));
 }
 
 -- and so does what follows from two of them
@@ -277,11 +277,11 @@ both_between One Other Holds follow one other = record {
 
 abbrev ForwardsBy : Setting → List Item → Type 0
 ForwardsBy setting journal = IsSetting setting → HasConverged setting journal
-    → IsUpdated setting journal → QuietForwards setting journal
+    → IsQuietUpdated setting journal → QuietForwards setting journal
 
 pub converged_forward : HoldsBetween ForwardsBy
 converged_forward = between (λ setting journal. HasConverged setting journal
-    → IsUpdated setting journal → QuietForwards setting journal) (λ setting journal is settled
+    → IsQuietUpdated setting journal → QuietForwards setting journal) (λ setting journal is settled
     converged updated. forwards setting journal is settled converged updated)
 
 -- ---- quiet journals
@@ -291,7 +291,7 @@ Converges setting journal =
     IsNet setting.net → IsQuiet setting journal → HasConverged setting journal
 
 abbrev Updates : Setting → List Item → Type 0
-Updates setting journal = IsQuiet setting journal → IsUpdated setting journal
+Updates setting journal = IsQuiet setting journal → IsQuietUpdated setting journal
 
 abbrev Parts : Setting → List Item → Type 0
 Parts setting journal = IsNet setting.net → IsQuiet setting journal → GetStuckApart setting journal

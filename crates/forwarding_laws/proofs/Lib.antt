@@ -1,13 +1,13 @@
-pub mod SecondRounds
-mod FollowedPacket
+pub mod RecoverySecondRounds
+mod ForwardingFollowed
 mod ForwardedPacket
-pub mod CalmItems
-pub mod AnsweredDeliveries
+pub mod RecoveryCalmItems
+pub mod RecoveryDeliveries
 pub mod RecoveryRows
 pub mod RecoveredAdverts
 pub mod RecoveredControl
 pub mod RecoveredNetworks
-pub mod DrainedAccounts
-pub mod UnfailingItems
-pub mod DroppedNothing
-mod NoPremiseIdle
+pub mod RolloutDrains
+pub mod RolloutUnfailingItems
+pub mod RolloutDropsNothing
+mod ForwardingPremises

@@ -2,10 +2,10 @@
 -- it learnt then, and all of that was delivered.
 use Rattle.std.proofs.Common.{[], ◌++◌, ◌+◌, ◌-◌, ◌<◌, ◌==◌, ◌∙◌, ◌∷◌, ◌≡◌, ◌≢◌, ◌≤◌, Bool, IsFalse, IsTrue, List, None, Some, ap, append-nil, append_assoc, arith, false, filter, flat_map, if◌then◌else◌, inl, inr, length, map, nat_lt, not, refl, subst, sym, true, ℕ}
 use Rattle.base.proofs.Exports.{nat_tests}
-use Rattle.update_machine.specs.Exports.{Advert, Advertise, HaveCauses, Item, Message, Resend, Setting, StepOfRow, acked_stamp, advert_to, after_steps, boot_of, collect_for, current_mark, has_acked, heard, held_adverts, hello_of, install_for, is_member, is_over, is_up, near, next_message, open_for, open_version, other_advert, own_advert, piece, resend_items, resent_by_controller, resent_by_switch, resent_to_member, retired_mark, sends_or_nothing, stamp_for, switches_in, switches_of, unacked_installs, version_count, versions_from_current}
+use Rattle.update_machine.specs.Exports.{Advert, Advertise, HaveCauses, Item, Message, Resend, Setting, StepOfRow, acked_stamp, advert_to, journal_after_steps, boot_of, collect_for, current_mark, has_acked, heard, held_adverts, hello_of, install_for, is_member, is_over, is_up, near, next_message, open_for, open_version, other_advert, own_advert, piece, resend_items, resent_by_controller, resent_by_switch, resent_to_member, retired_mark, sends_or_nothing, stamp_for, switches_in, switches_of, unacked_installs, version_count, versions_from_current}
 use Rattle.control_laws.proofs.Exports.{behind_piece, ends_serve, later_versions, resends_any, same_seq}
 use Rattle.convergence_laws.proofs.Exports.{AreSpread, HasNews, IsGivenNew, IsHad, IsIn, IsStill, IsToldTo, Leaves, Spread, TellsOwn, as_new_itself, ends_there, had_back, heard_in_boot, held_in, in_filter, in_filter_map, in_flat_map, in_left, in_map, in_range, in_right, newest_held, next_grows, own_held, sends_tell, spread_agree, stills_leave, told_stills}
-use Rattle.forwarding_laws.proofs.AnsweredDeliveries.{IsFlushed, IsSince, sends_since, since_delivered}
+use Rattle.forwarding_laws.proofs.RecoveryDeliveries.{IsFlushed, IsSince, sends_since, since_delivered}
 use Rattle.base.specs.Exports.{has}
 use Rattle.net_file.specs.Exports.{IsNet}
 use Rattle.steps.specs.Exports.{HasSwitch}
@@ -199,11 +199,11 @@ still_piece setting at row s =
     (still_rest setting at row s)
 
 still_steps : (setting : Setting) (before : List Item) (steps : List StepOfRow)
-    → AreEach Resend steps → Stilly before (after_steps setting before steps)
+    → AreEach Resend steps → Stilly before (journal_after_steps setting before steps)
 still_steps setting before [] are = record { items = []; is = sym (append-nil before); have = tt }
 still_steps setting before (next ∷ steps) are =
     let behind : List Item = before ++ piece setting before next.row next.step in
-    still_through before behind (after_steps setting behind steps)
+    still_through before behind (journal_after_steps setting behind steps)
     (rw are.0.1 (still_piece setting before next.row are.0.0))
     (still_steps setting behind steps are.1)
 
@@ -216,7 +216,7 @@ record AskedStill (setting : Setting) (before after : List Item) (s : ℕ) : Typ
 
 asked_still : (setting : Setting) (s : ℕ) (before : List Item) (steps : List StepOfRow)
     → AreEach Resend steps → IsAmong (Resend s) steps
-    → AskedStill setting before (after_steps setting before steps) s
+    → AskedStill setting before (journal_after_steps setting before steps) s
 asked_still setting s before [] are is = absurd is
 asked_still setting s before (next ∷ steps) are is = elim is [
   | inl here ↦ record {
@@ -224,7 +224,7 @@ asked_still setting s before (next ∷ steps) are is = elim is [
     row = next.row;
     late = omega arith;
     rest = subst (λ step. Stilly (before ++ piece setting before next.row step)
-        (after_steps setting before (next ∷ steps))) here
+        (journal_after_steps setting before (next ∷ steps))) here
         (still_steps setting (before ++ piece setting before next.row next.step) steps are.1);
   }
   | inr later ↦ let behind : List Item = before ++ piece setting before next.row next.step in
@@ -260,13 +260,13 @@ record IsHeldAsNew (setting : Setting) (here : List Item) (s : ℕ) (than : Adve
 pub resends_spread : (setting : Setting) (before : List Item) (steps : List StepOfRow)
     → IsNet setting.net → AreEach Resend steps
     → ((s : ℕ) → HasSwitch setting.net s → IsAmong (Resend s) steps)
-    → TellsOwn setting (after_steps setting before steps)
-    → Spread setting (next_message before) (after_steps setting before steps)
+    → TellsOwn setting (journal_after_steps setting before steps)
+    → Spread setting (next_message before) (journal_after_steps setting before steps)
 resends_spread setting before steps net are each tells =
     record { each = λ s neighbour a linked had other. inr (news s neighbour a linked had) }
   where
     after : List Item
-    after = after_steps setting before steps
+    after = journal_after_steps setting before steps
 
     news : (s neighbour : ℕ) (a : Advert) → IsTrue (has (near setting after s) neighbour)
         → IsHad setting after s a → HasNews setting (next_message before) after neighbour a

@@ -5,12 +5,12 @@ use Rattle.ctrl_msg.specs.Exports.{body_boot, to_controller}
 use Rattle.update_machine.specs.Exports.{Body, HaveCauses, Hello, Install, Installed, Item, Message, OpenAt, Setting, Stamp, Stamped, Tables, acked_stamp, boot_of, controller_heard, current_mark, has_acked, is_for_boot, is_member, is_over, is_up, known_boot, message_of, next_message, open_version, opened_at, resent_by_controller, resent_by_switch, sendings, serves, switches_of, tables_at, to_switch, touched_by, version_count, was_delivered}
 use Rattle.ternary.specs.Exports.{WordValue}
 use Rattle.update_machine.proofs.Exports.{start_laws}
-use Rattle.control_laws.specs.Exports.{HasItemCause, stamp_to}
+use Rattle.control_laws.specs.Exports.{HasItemCause, stamp_message_to}
 use Rattle.control_laws.proofs.Exports.{AreKept, OpeningsStand, acked_stamp_opened, acknowledged, bounded, by_number, fact_on, member_of, opened_in, opened_is, opened_on, openings_at_first, openings_on}
 use Rattle.convergence_laws.proofs.Exports.{AreReady, IsCaughtUp, IsIn, IsInOrder, IsTraced, TablesSent, caused_recorded, caused_traced, each_in, first_acked, hello_known, in_left, in_right, installed_acked, items_caused, opened_stamps, some_opening, stamped_acked}
-use Rattle.forwarding_laws.proofs.CalmItems.{Calmly, Stays, acked_grows, calm_causes, stamp_grows, stays}
+use Rattle.forwarding_laws.proofs.RecoveryCalmItems.{Calmly, Stays, acked_grows, calm_causes, stamp_grows, stays}
 use Rattle.forwarding_laws.proofs.RecoveryRows.{IsConfirmed, all_confirmed_on}
-use Rattle.forwarding_laws.proofs.AnsweredDeliveries.{IsAnsweredSince, IsDeliveredIn, IsEarlier, IsFlushed, IsSince, delivered_answered, since_delivered, since_or_earlier, since_told}
+use Rattle.forwarding_laws.proofs.RecoveryDeliveries.{IsAnsweredSince, IsDeliveredIn, IsEarlier, IsFlushed, IsSince, delivered_answered, since_delivered, since_or_earlier, since_told}
 use Rattle.forwarding_laws.proofs.RecoveredAdverts.{hello_resent, opening_resent, resent, stamp_resent, table_resent}
 
 -- ---- the moment at which a switch is asked to send again
@@ -41,13 +41,13 @@ record Moment (setting : Setting) (before journal : List Item) (s : ℕ) : Type 
 -- a stamp was sent only to a switch that had been opened in that boot
 record StampsFollow (journal : List Item) : Type 0 where
   each : (n s boot version : ℕ) (touched : List WordValue)
-      → message_of journal n ≡ Some (stamp_to s boot version touched)
+      → message_of journal n ≡ Some (stamp_message_to s boot version touched)
       → (opened : ℕ) × (opened_in journal s boot ≡ Some opened)
 
 stamps_follow_on : (setting : Setting) → AreKept (HasItemCause setting) StampsFollow
 stamps_follow_on setting now next cause follow = record {
   each = λ n s boot version touched is.
-      elim (by_number now next n (stamp_to s boot version touched) is) [
+      elim (by_number now next n (stamp_message_to s boot version touched) is) [
         | inl new ↦ let right = subst (HasItemCause setting now) new cause in
             let opening = some_opening now s right.member in (
               opening.0,
@@ -64,7 +64,7 @@ stamps_follow : (setting : Setting) (journal : List Item)
 stamps_follow setting journal causes = fact_on (HasItemCause setting) StampsFollow
     (stamps_follow_on setting) [] journal causes (record {
       each = λ n s boot version touched is.
-          let none : None ≡ Some (stamp_to s boot version touched) =
+          let none : None ≡ Some (stamp_message_to s boot version touched) =
           rw (start_laws.message n).message at is in absurd cc;
     })
 
@@ -253,7 +253,7 @@ module _ (setting : Setting) (before journal : List Item)
 
   stamp_known : (s version : ℕ) (touched : List WordValue) → s < length setting.net.switches
       → IsTrue (is_up journal s)
-      → IsSince since journal (stamp_to s (known_boot journal s) version touched)
+      → IsSince since journal (stamp_message_to s (known_boot journal s) version touched)
       → version ≤ acked_stamp journal s
   stamp_known s version touched there up sent = stamped_acked journal s version
       (told (Stamped s (known_boot journal s) version) (answered s
@@ -261,7 +261,7 @@ module _ (setting : Setting) (before journal : List Item)
 
   stamp_again : (s n : ℕ) (touched : List WordValue) → s < length setting.net.switches
       → IsTrue (is_up journal s)
-      → message_of before n ≡ Some (stamp_to s (known_boot journal s) (current_mark journal) touched)
+      → message_of before n ≡ Some (stamp_message_to s (known_boot journal s) (current_mark journal) touched)
       → current_mark journal ≤ acked_stamp journal s
   stamp_again s n touched there up early =
       by_stamp (cases_lt (acked_stamp here s) (current_mark here))
@@ -303,7 +303,7 @@ module _ (setting : Setting) (before journal : List Item)
           (stamp_resent setting here s at.not_over then.1 behind)) in
           let known = stamp_known s (current_mark here) (touched_by setting here (current_mark here))
           there up
-          (subst (λ b. IsSince since journal (stamp_to s b (current_mark here)
+          (subst (λ b. IsSince since journal (stamp_message_to s b (current_mark here)
           (touched_by setting here (current_mark here)))) (sym at.known) sent) in
           omega (arith, known, mark)
       by_stamp (inr above) =

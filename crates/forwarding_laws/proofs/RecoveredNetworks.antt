@@ -1,25 +1,25 @@
 -- Recovery, of each journal that answers a schedule that ends in it.
 use Rattle.std.proofs.Common.{[], ◌++◌, ◌∙◌, ◌∷◌, ◌≡◌, ◌≤◌, ◌⊎◌, Bool, IsTrue, List, None, Option, Some, arith, false, inl, inr, option_map, refl, subst, suc, sym, true, zero, ℕ}
-use Rattle.update_machine.specs.Exports.{Answers, AreAll, Deliver, Event, Flush, HaveCauses, IsSetting, Item, Message, Resend, Setting, Step, StepOfRow, TakesNext, after_steps, is_forgotten, message_of, next_delivery, next_message, next_waiting, piece, was_delivered}
+use Rattle.update_machine.specs.Exports.{Answers, AreAllEventSteps, Deliver, Event, Flush, HaveCauses, IsSetting, Item, Message, Resend, Setting, Step, StepOfRow, TakesNextNumber, journal_after_steps, is_forgotten, message_of, next_delivery, next_message, next_waiting, piece, was_delivered}
 use Rattle.net_file.specs.Exports.{IsNet}
 use Rattle.steps.specs.Exports.{HasSwitch}
 use Rattle.update_machine.proofs.Exports.{AreOf, after_append, start_laws}
-use Rattle.control_laws.specs.Exports.{AreEvents, HoldsAtEnds}
+use Rattle.control_laws.specs.Exports.{AreNetworkEvents, HoldsAtEnds}
 use Rattle.control_laws.proofs.Exports.{AreKept, by_number, fact_on, steps_have}
-use Rattle.convergence_laws.specs.Exports.{GetStuckApart, HasConverged, IsUpdated, NeighboursAgree}
+use Rattle.convergence_laws.specs.Exports.{GetStuckApart, HasConverged, IsQuietUpdated, NeighboursAgree}
 use Rattle.convergence_laws.proofs.Exports.{AreReady, AreTraced, IsInOrder, all_end, caught_updated, caused_traced, ends_spread, ends_tell, flush_ends, next_first, next_grows, none_waits, pieces_in_order, sent_delivered, steps_ready, steps_spread}
 use Rattle.packet_laws.specs.Exports.{HoldsBetween}
-use Rattle.forwarding_laws.specs.Exports.{AllDelivered, EndsInRecovery, HasRecovered, QuietForwards}
+use Rattle.forwarding_laws.specs.Exports.{RecoveryDeliversAll, EndsInRecovery, HasRecovered, QuietForwards}
 use Rattle.forwarding_laws.proofs.RecoveredAdverts.{piece_resends, recovered_agree, resends_spread}
-use Rattle.forwarding_laws.proofs.CalmItems.{Calmly, IsCalmStep, calm_rest, calm_row, calm_steps, calm_through, stays}
+use Rattle.forwarding_laws.proofs.RecoveryCalmItems.{Calmly, IsCalmStep, calm_rest, calm_row, calm_steps, calm_through, stays}
 use Rattle.forwarding_laws.proofs.RecoveredControl.{IsAsked, IsRecovered, recovered_caught}
-use Rattle.forwarding_laws.proofs.AnsweredDeliveries.{IsDeliveredIn, IsFlushed, find_delivery, since_calm}
+use Rattle.forwarding_laws.proofs.RecoveryDeliveries.{IsDeliveredIn, IsFlushed, find_delivery, since_calm}
 use Rattle.forwarding_laws.proofs.RecoveryRows.{EndsCalmly, IsTakenIn, among_taken, each_calm, ends_calmly}
 
 -- ---- deliveries are calm
 
 all_calm : (setting : Setting) (row : ℕ) (before : List Item) (steps : List StepOfRow)
-    → AreAll setting next_delivery row before steps → AreOf IsCalmStep steps
+    → AreAllEventSteps setting next_delivery row before steps → AreOf IsCalmStep steps
 all_calm setting row before [] all = tt
 all_calm setting row before (first ∷ steps) all = (
   by_next (next_waiting before) first.step all.1,
@@ -39,10 +39,10 @@ both_calm (next ∷ one) other first later = (first.0, both_calm one other first
 module _ (setting : Setting) (journal : List Item) (ends : EndsCalmly setting journal) where
   -- behind the confirmations, and behind the resends
   abbrev confirmed : List Item
-  confirmed = after_steps setting [] ends.first
+  confirmed = journal_after_steps setting [] ends.first
 
   abbrev resent : List Item
-  resent = after_steps setting confirmed ends.resends
+  resent = journal_after_steps setting confirmed ends.resends
 
   resends_calm : AreOf IsCalmStep ends.resends
   resends_calm = each_calm Resend (λ s. tt) ends.resends ends.asked
@@ -57,10 +57,10 @@ module _ (setting : Setting) (journal : List Item) (ends : EndsCalmly setting jo
   last_calm : AreOf IsCalmStep last
   last_calm = both_calm ends.resends ends.flush resends_calm flush_calm
 
-  by_last : journal ≡ after_steps setting confirmed last
+  by_last : journal ≡ journal_after_steps setting confirmed last
   by_last = ends.written ∙ sym (after_append setting confirmed ends.resends ends.flush)
 
-  by_all : journal ≡ after_steps setting [] (ends.first ++ last)
+  by_all : journal ≡ journal_after_steps setting [] (ends.first ++ last)
   by_all = by_last ∙ sym (after_append setting [] ends.first last)
 
   pub ends_calm : Calmly setting confirmed journal
@@ -149,7 +149,7 @@ module _ (setting : Setting) (journal : List Item) (ends : EndsCalmly setting jo
     delivers = delivers;
   }
 
-  pub ends_updated : IsUpdated setting journal
+  pub ends_updated : IsQuietUpdated setting journal
   ends_updated = caught_updated setting journal ends_recovered.ready
       (recovered_caught setting confirmed journal ends_recovered ends.switches)
 
@@ -162,7 +162,7 @@ recovered_neighbours setting events journal net ends answers =
     ends_agree setting journal (ends_calmly setting events journal ends answers) net
 
 pub recovered_updated : (setting : Setting) (events : List Event) (journal : List Item)
-    → EndsInRecovery setting.net events → Answers setting events journal → IsUpdated setting journal
+    → EndsInRecovery setting.net events → Answers setting events journal → IsQuietUpdated setting journal
 recovered_updated setting events journal ends answers =
     ends_updated setting journal (ends_calmly setting events journal ends answers)
 
@@ -174,7 +174,7 @@ Agrees Holds setting journal =
 
 abbrev pub ForwardsBy : Setting → List Item → Type 0
 ForwardsBy setting journal = IsSetting setting → HasConverged setting journal
-    → IsUpdated setting journal → QuietForwards setting journal
+    → IsQuietUpdated setting journal → QuietForwards setting journal
 
 pub recovered_converged : HoldsAtEnds (Agrees HasConverged)
     → ((setting : Setting) (events : List Event) (journal : List Item) → IsNet setting.net
@@ -189,7 +189,7 @@ recovered_converged converge agree setting events journal net ends answers =
 
 pub calm_recovers : HoldsAtEnds (Agrees HasConverged) → HoldsAtEnds (Agrees GetStuckApart)
     → HoldsBetween ForwardsBy → (setting : Setting) (events : List Event) (journal : List Item)
-    → IsSetting setting → AreEvents setting events → Answers setting events journal
+    → IsSetting setting → AreNetworkEvents setting events → Answers setting events journal
     → EndsCalmly setting journal → HasRecovered setting journal
 calm_recovers converge part forward setting events journal is own answers ends = record {
   converged = converged;
@@ -206,7 +206,7 @@ calm_recovers converge part forward setting events journal is own answers ends =
 
 pub recovers : HoldsAtEnds (Agrees HasConverged) → HoldsAtEnds (Agrees GetStuckApart)
     → HoldsBetween ForwardsBy → (setting : Setting) (events : List Event) (journal : List Item)
-    → IsSetting setting → AreEvents setting events → EndsInRecovery setting.net events
+    → IsSetting setting → AreNetworkEvents setting events → EndsInRecovery setting.net events
     → Answers setting events journal → HasRecovered setting journal
 recovers converge part forward setting events journal is own ends answers =
     calm_recovers converge part forward setting events journal is own answers
@@ -226,7 +226,7 @@ first_numbers setting journal causes zero message sent =
     next_none now next both none = elim (cases_none (message_of (now ++ next ∷ []) 0) refl) [
       | inl is ↦ is
       | inr found ↦ elim (by_number now next 0 found.0 found.1) [
-        | inl new ↦ absurd (omega (arith, subst (TakesNext now) new both.second.first, next_first))
+        | inl new ↦ absurd (omega (arith, subst (TakesNextNumber now) new both.second.first, next_first))
         | inr old ↦ let clash : None ≡ Some found.0 = sym none ∙ old in absurd cc
       ]
     ] where
@@ -249,7 +249,7 @@ one_of journal n message traced waiting first sent = by_forgotten (is_forgotten 
         (traced.sent n message sent))
 
 pub flushed_all : (setting : Setting) (events : List Event) (journal : List Item)
-    → Answers setting (events ++ Flush ∷ []) journal → AllDelivered journal
+    → Answers setting (events ++ Flush ∷ []) journal → RecoveryDeliversAll journal
 flushed_all setting events journal answers n message sent =
     one_of journal n message (caused_traced setting journal causes) waiting
     (first_numbers setting journal causes n message sent) sent

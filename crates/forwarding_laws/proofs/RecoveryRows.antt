@@ -3,13 +3,13 @@
 -- that waits.
 use Rattle.std.proofs.Common.{[], ◌++◌, ◌+◌, ◌||◌, ◌∙◌, ◌∷◌, ◌≡◌, ◌⊎◌, All, Bool, Contains, IsFalse, IsTrue, List, ap, append-nil, append_assoc, arith, eq-eqb, false, inl, inr, length, not, refl, subst, sym, true, ℕ}
 use Rattle.base.proofs.Exports.{All-from_recursion, AllByRecursion, recursion_from_All}
-use Rattle.update_machine.specs.Exports.{Answers, AreAll, AreSteps, Confirm, Event, Flush, Item, One, Resend, Setting, Step, StepOfRow, after_steps, confirm_items, gives_waited_for, is_up, is_waited_for, items_then, next_delivery, nothing, piece, settling, switches_of}
+use Rattle.update_machine.specs.Exports.{Answers, AreAllEventSteps, AreSteps, Confirm, Event, Flush, Item, One, Resend, Setting, Step, StepOfRow, journal_after_steps, confirm_items, gives_waited_for, is_up, is_waited_for, journal_items_then, next_delivery, nothing, piece, settling, switches_of}
 use Rattle.steps.specs.Exports.{HasSwitch}
 use Rattle.update_machine.proofs.Exports.{AreOf, after_append}
 use Rattle.control_laws.proofs.Exports.{IsControl, behind_piece, each_range, each_weaker, fact_on, have_weaker, last_more, settling_control, up_more}
 use Rattle.convergence_laws.proofs.Exports.{IsIn, in_at}
-use Rattle.forwarding_laws.specs.Exports.{AskEach, EndsInRecovery}
-use Rattle.forwarding_laws.proofs.CalmItems.{Calmly, IsCalm, IsCalmStep, Stays, calm_piece, calm_steps, calm_through, control_is_calm, next_confirmed, stays}
+use Rattle.forwarding_laws.specs.Exports.{RecoveryAsksEach, EndsInRecovery}
+use Rattle.forwarding_laws.proofs.RecoveryCalmItems.{Calmly, IsCalm, IsCalmStep, Stays, calm_piece, calm_steps, calm_through, control_is_calm, next_confirmed, stays}
 
 -- ---- the steps of rows, and of those behind them
 
@@ -20,7 +20,7 @@ record AreParted (setting : Setting) (row : ℕ) (one other : List Event) (befor
   later : ℕ
   is : steps ≡ mine ++ rest
   first : AreSteps setting row one before mine
-  second : AreSteps setting later other (after_steps setting before mine) rest
+  second : AreSteps setting later other (journal_after_steps setting before mine) rest
 
 steps_part : (setting : Setting) (row : ℕ) (one other : List Event) (before : List Item)
     (steps : List StepOfRow) → AreSteps setting row (one ++ other) before steps
@@ -34,7 +34,7 @@ steps_part setting row [] other before steps are = record {
   second = are;
 }
 steps_part setting row (event ∷ one) other before steps are =
-    let parts = steps_part setting (row + 1) one other (after_steps setting before are.0) are.1 are.4
+    let parts = steps_part setting (row + 1) one other (journal_after_steps setting before are.0) are.1 are.4
     in
     record {
       mine = are.0 ++ parts.mine;
@@ -67,7 +67,7 @@ singles_each setting step row [] before steps only are = subst (AreEach step) (s
 singles_each setting step row (One first ∷ rows) before steps only are =
     subst (AreEach step) (sym (are.2.split ∙ ap (λ mine. mine ++ are.1) are.3)) (
       (only.0.0, one_same first (step only.0.0) only.0.1),
-      singles_each setting step (row + 1) rows (after_steps setting before are.0) are.1 only.1 are.4,
+      singles_each setting step (row + 1) rows (journal_after_steps setting before are.0) are.1 only.1 are.4,
     )
   where
     one_same : (a b : Step) → One a ≡ One b → a ≡ b
@@ -83,7 +83,7 @@ singles_among setting step row (One first ∷ rows) before steps is are = subst 
     (sym (are.2.split ∙ ap (λ mine. mine ++ are.1) are.3)) (elim is [
       | inl here ↦ inl (one_same first step here)
       | inr later ↦ inr (singles_among setting step (row + 1) rows
-          (after_steps setting before are.0) are.1 later are.4)
+          (journal_after_steps setting before are.0) are.1 later are.4)
     ])
   where
     one_same : (a b : Step) → One a ≡ One b → a ≡ b
@@ -91,7 +91,7 @@ singles_among setting step row (One first ∷ rows) before steps is are = subst 
 singles_among setting step row (event ∷ rows) before steps is are = elim is [
   | inl here ↦ absurd cc
   | inr later ↦ rw are.2.split (among_behind step are.0 are.1 (singles_among setting step
-      (row + 1) rows (after_steps setting before are.0) are.1 later are.4))
+      (row + 1) rows (journal_after_steps setting before are.0) are.1 later are.4))
 ] where
   among_behind : (step : Step) (mine rest : List StepOfRow) → IsAmong step rest
       → IsAmong step (mine ++ rest)
@@ -115,7 +115,7 @@ pub record IsTakenIn (setting : Setting) (step : Step) (before : List Item)
   pub at : List Item
   pub row : ℕ
   pub first : Calmly setting before at
-  pub rest : Calmly setting (at ++ piece setting at row step) (after_steps setting before steps)
+  pub rest : Calmly setting (at ++ piece setting at row step) (journal_after_steps setting before steps)
 
 pub among_taken : (setting : Setting) (step : Step) (before : List Item) (steps : List StepOfRow)
     → AreOf IsCalmStep steps → IsAmong step steps → IsTakenIn setting step before steps
@@ -126,7 +126,7 @@ among_taken setting step before (next ∷ steps) calm is = elim is [
     row = next.row;
     first = record { items = []; is = sym (append-nil before); have = tt };
     rest = subst (λ of. Calmly setting (before ++ piece setting before next.row of)
-        (after_steps setting before (next ∷ steps))) here
+        (journal_after_steps setting before (next ∷ steps))) here
         (calm_steps setting (before ++ piece setting before next.row next.step) steps calm.1);
   }
   | inr later ↦ let found = among_taken setting step
@@ -178,7 +178,7 @@ confirm_ends setting at row s =
 
     by_up : (b : Bool) → is_up here s ≡ b → IsConfirmed (here ++ elim b [
       | true ↦ nothing
-      | false ↦ items_then (next ∷ []) (settling setting) here
+      | false ↦ journal_items_then (next ∷ []) (settling setting) here
     ]) s
     by_up true e = by_parts _ _ (inl (up_more here Item.Nothing s ∙ e))
     by_up false e = subst (λ j. IsConfirmed j s) (append_assoc here (next ∷ []) (settling setting now))
@@ -201,13 +201,13 @@ pub record EndsCalmly (setting : Setting) (journal : List Item) : Type 0 where
   pub resends : List StepOfRow
   pub flush : List StepOfRow
   pub row : ℕ
-  pub written : journal ≡ after_steps setting (after_steps setting (after_steps setting [] first)
+  pub written : journal ≡ journal_after_steps setting (journal_after_steps setting (journal_after_steps setting [] first)
       resends) flush
-  pub switches : All (IsConfirmed (after_steps setting [] first)) (switches_of setting)
+  pub switches : All (IsConfirmed (journal_after_steps setting [] first)) (switches_of setting)
   pub asked : AreEach Resend resends
   pub each : (s : ℕ) → HasSwitch setting.net s → IsAmong (Resend s) resends
-  pub all : AreAll setting next_delivery row
-      (after_steps setting (after_steps setting [] first) resends) flush
+  pub all : AreAllEventSteps setting next_delivery row
+      (journal_after_steps setting (journal_after_steps setting [] first) resends) flush
 
 pub all_confirmed_on : (setting : Setting) (before after : List Item) → Calmly setting before after
     → All (IsConfirmed before) (switches_of setting) → All (IsConfirmed after) (switches_of setting)
@@ -218,29 +218,29 @@ all_confirmed_on setting before after calm all = All-from_recursion (IsConfirmed
 
 all_confirmed : (setting : Setting) (before : List Item) (steps : List StepOfRow)
     → AreEach Confirm steps → ((s : ℕ) → HasSwitch setting.net s → IsAmong (Confirm s) steps)
-    → All (IsConfirmed (after_steps setting before steps)) (switches_of setting)
+    → All (IsConfirmed (journal_after_steps setting before steps)) (switches_of setting)
 all_confirmed setting before steps are each =
-    All-from_recursion (IsConfirmed (after_steps setting before steps)) (switches_of setting)
-    (each_range (IsConfirmed (after_steps setting before steps)) 0 (length setting.net.switches)
+    All-from_recursion (IsConfirmed (journal_after_steps setting before steps)) (switches_of setting)
+    (each_range (IsConfirmed (journal_after_steps setting before steps)) 0 (length setting.net.switches)
     (λ s above below. let taken = among_taken setting (Confirm s) before steps
     (each_calm Confirm (λ t. tt) steps are) (each s (omega (arith, below))) in
     confirmed_on (taken.at ++ piece setting taken.at taken.row (Confirm s))
-    (after_steps setting before steps) s
+    (journal_after_steps setting before steps) s
     (stays setting (taken.at ++ piece setting taken.at taken.row (Confirm s))
-    (after_steps setting before steps) taken.rest)
+    (journal_after_steps setting before steps) taken.rest)
     (confirm_ends setting taken.at taken.row s)))
 
 -- the steps of a flush alone
 flush_alone : (setting : Setting) (row : ℕ) (before : List Item) (steps : List StepOfRow)
-    → AreSteps setting row (Flush ∷ []) before steps → AreAll setting next_delivery row before steps
-flush_alone setting row before steps are = subst (AreAll setting next_delivery row before)
+    → AreSteps setting row (Flush ∷ []) before steps → AreAllEventSteps setting next_delivery row before steps
+flush_alone setting row before steps are = subst (AreAllEventSteps setting next_delivery row before)
     (sym (are.2.split ∙ ap (λ rest. are.0 ++ rest) are.4 ∙ append-nil are.0)) are.3
 
 -- the journal of rows that leave each switch up, or not waited for, resends of each, and a flush
 pub ends_by : (setting : Setting) (rows resends : List Event) (journal : List Item)
-    → AskEach setting.net Resend resends → Answers setting (rows ++ resends ++ Flush ∷ []) journal
+    → RecoveryAsksEach setting.net Resend resends → Answers setting (rows ++ resends ++ Flush ∷ []) journal
     → ((steps : List StepOfRow) → AreSteps setting 1 rows [] steps
-    → All (IsConfirmed (after_steps setting [] steps)) (switches_of setting))
+    → All (IsConfirmed (journal_after_steps setting [] steps)) (switches_of setting))
     → (ends : EndsCalmly setting journal) × AreSteps setting 1 rows [] ends.first
 ends_by setting rows resends journal asks answers confirms = (
   record {
@@ -255,7 +255,7 @@ ends_by setting rows resends journal asks answers confirms = (
         (recursion_from_All _ resends asks.only) resending.second;
     each = λ s there. singles_among setting (Resend s) resending.later resends _ resending.rest
         (in_contained (One (Resend s)) resends (asks.each s there)) resending.second;
-    all = rw asked at (flush_alone setting flushing.later (after_steps setting [] flushing.mine)
+    all = rw asked at (flush_alone setting flushing.later (journal_after_steps setting [] flushing.mine)
         flushing.rest flushing.second);
   },
   resending.first,
@@ -266,17 +266,17 @@ ends_by setting rows resends journal asks answers confirms = (
   resending : AreParted setting 1 rows resends [] flushing.mine
   resending = steps_part setting 1 rows resends [] flushing.mine flushing.first
 
-  asked : after_steps setting [] flushing.mine
-      ≡ after_steps setting (after_steps setting [] resending.mine) resending.rest
+  asked : journal_after_steps setting [] flushing.mine
+      ≡ journal_after_steps setting (journal_after_steps setting [] resending.mine) resending.rest
   asked = cc (resending.is, after_append setting [] resending.mine resending.rest)
 
 -- rows that confirm each switch leave it so
 confirms_leave : (setting : Setting) (front confirms : List Event) (steps : List StepOfRow)
-    → AskEach setting.net Confirm confirms → AreSteps setting 1 (front ++ confirms) [] steps
-    → All (IsConfirmed (after_steps setting [] steps)) (switches_of setting)
+    → RecoveryAsksEach setting.net Confirm confirms → AreSteps setting 1 (front ++ confirms) [] steps
+    → All (IsConfirmed (journal_after_steps setting [] steps)) (switches_of setting)
 confirms_leave setting front confirms steps asks are =
-    rw (ap (after_steps setting []) parts.is ∙ after_append setting [] parts.mine parts.rest)
-    (all_confirmed setting (after_steps setting [] parts.mine) parts.rest (singles_each setting
+    rw (ap (journal_after_steps setting []) parts.is ∙ after_append setting [] parts.mine parts.rest)
+    (all_confirmed setting (journal_after_steps setting [] parts.mine) parts.rest (singles_each setting
     Confirm parts.later confirms _ parts.rest (recursion_from_All _ confirms asks.only)
     parts.second) (λ s there. singles_among setting (Confirm s) parts.later confirms _ parts.rest
     (in_contained (One (Confirm s)) confirms (asks.each s there)) parts.second))

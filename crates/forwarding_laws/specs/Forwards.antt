@@ -4,7 +4,7 @@
 -- 2010; that they end like this is our own notion.
 use Rattle.std.specs.Prelude.{◌++◌, ◌≡◌, ◌⊎◌, All, Contains, IsTrue, List, None, Option, Some, find, option_map, ℕ}
 use Rattle.five_tuple.specs.Exports.{IsHeader}
-use Rattle.update_machine.specs.Exports.{Action, AreAll, Cause, Exit, Header, Item, Leaving, Leg, Packet, Seek, Setting, StepOfRow, after_steps, decision_of, is_up, next_hop, next_packet, piece, plan_at, policy_at, targets_of, version_count}
+use Rattle.update_machine.specs.Exports.{Action, AreAllEventSteps, Cause, Exit, Header, Item, Leaving, Leg, Packet, Seek, Setting, StepOfRow, journal_after_steps, decision_of, is_up, next_hop, next_packet, piece, plan_at, policy_at, targets_of, version_count}
 use Rattle.net_file.specs.Exports.{owner_of}
 use Rattle.policy_rules.specs.Exports.{IsFirstMatch, is_in}
 use Rattle.policy_rules.specs.declared.policy.Action.TheVariants as action
@@ -32,7 +32,7 @@ pub record IsStuckApart (setting : Setting) (before after : List Item) (packet i
       (targets_of setting before leg)
 
 -- the packet leaves by the port, and usable links led from where it entered to the port's switch
-pub record LeavesThere (setting : Setting) (before after : List Item) (packet ingress port : ℕ)
+pub record ForwardedLeavesThere (setting : Setting) (before after : List Item) (packet ingress port : ℕ)
     : Type 0 where
   pub leaving : Leaving
   pub left : Contains after (item.Left packet port leaving)
@@ -41,17 +41,17 @@ pub record LeavesThere (setting : Setting) (before after : List Item) (packet in
   pub reached : Reaches setting before ingress home
 
 -- a packet with this action is dropped; or it leaves by its port, or is stuck on its way there
-abbrev pub EndsBy : Setting → List Item → List Item → ℕ → ℕ → Action → Type 0
-EndsBy setting before after packet ingress action.Drop = Contains after (item.Dropped packet)
-EndsBy setting before after packet ingress (action.Out port) =
-    LeavesThere setting before after packet ingress port
+abbrev pub ForwardedEndsBy : Setting → List Item → List Item → ℕ → ℕ → Action → Type 0
+ForwardedEndsBy setting before after packet ingress action.Drop = Contains after (item.Dropped packet)
+ForwardedEndsBy setting before after packet ingress (action.Out port) =
+    ForwardedLeavesThere setting before after packet ingress port
     ⊎ IsStuckApart setting before after packet ingress (Exit port)
 
 pub record IsForwarded (setting : Setting) (before after : List Item) (packet ingress : ℕ)
     (header : Header) : Type 0 where
   pub act : Action
   pub decided : IsDecidedByNewest setting before after packet header act
-  pub ends : EndsBy setting before after packet ingress act
+  pub ends : ForwardedEndsBy setting before after packet ingress act
 
 -- undecided, the packet is stuck on its way to the partition of the newest version's plan whose
 -- region holds its header
@@ -71,7 +71,7 @@ abbrev pub QuietForwards : Setting → List Item → Type 0
 QuietForwards setting before = (row later ingress : ℕ) (header : Header) (hops : List StepOfRow)
     → HasSwitch setting.net ingress → IsHeader header → IsTrue (is_up before ingress)
     → (let entered = before ++ piece setting before row (Packet ingress header) in
-    AreAll setting next_hop later entered hops
-    → (let after = after_steps setting entered hops in
+    AreAllEventSteps setting next_hop later entered hops
+    → (let after = journal_after_steps setting entered hops in
     IsForwarded setting before after (next_packet before) ingress header
     ⊎ FindsNoTarget setting before after (next_packet before) ingress header))

@@ -7,7 +7,7 @@ use Rattle.std.specs.Prelude.{[], ◌++◌, ◌==◌, ◌∷◌, ◌≡◌, All,
 use Rattle.update_machine.specs.Exports.{Event, Flush, Item, Net, Resend, Setting, cache_of, holds_version, is_up, version_count}
 use Rattle.steps.specs.Exports.{HasSwitch}
 use Rattle.forwarding_laws.specs.Recovered.{HasRecovered}
-use Rattle.forwarding_laws.specs.Recovery.{AskEach, EndsInRecovery}
+use Rattle.forwarding_laws.specs.Recovery.{RecoveryAsksEach, EndsInRecovery}
 
 -- the events end in recovery, then a resend to each switch, then a flush
 pub record EndsInTwoRounds (net : Net) (events : List Event) : Type 0 where
@@ -15,7 +15,7 @@ pub record EndsInTwoRounds (net : Net) (events : List Event) : Type 0 where
   pub resends : List Event
   pub ends : events ≡ first ++ resends ++ Flush ∷ []
   pub recovered : EndsInRecovery net first
-  pub resent : AskEach net Resend resends
+  pub resent : RecoveryAsksEach net Resend resends
 
 -- each switch of the network that is up has the tables of the newest version, and of no other
 abbrev pub HoldNewestAlone : Setting → List Item → Type 0

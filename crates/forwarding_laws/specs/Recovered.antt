@@ -1,12 +1,12 @@
 -- The result of recovery.
 use Rattle.std.specs.Prelude.{◌≡◌, ◌⊎◌, IsTrue, List, Some, ℕ}
 use Rattle.update_machine.specs.Exports.{Item, Message, Setting, is_forgotten, message_of, was_delivered}
-use Rattle.convergence_laws.specs.Exports.{GetStuckApart, HasConverged, IsUpdated}
+use Rattle.convergence_laws.specs.Exports.{GetStuckApart, HasConverged, IsQuietUpdated}
 use Rattle.forwarding_laws.specs.Forwards.{QuietForwards}
 
 -- each message that was sent was delivered, or was forgotten
-abbrev pub AllDelivered : List Item → Type 0
-AllDelivered journal = (n : ℕ) (message : Message) → message_of journal n ≡ Some message
+abbrev pub RecoveryDeliversAll : List Item → Type 0
+RecoveryDeliversAll journal = (n : ℕ) (message : Message) → message_of journal n ≡ Some message
     → IsTrue (was_delivered journal n) ⊎ IsTrue (is_forgotten journal n)
 
 -- the switches know the usable links, and a packet that had found no link down gets stuck in the
@@ -16,5 +16,5 @@ AllDelivered journal = (n : ℕ) (message : Message) → message_of journal n �
 pub record HasRecovered (setting : Setting) (journal : List Item) : Type 0 where
   pub converged : HasConverged setting journal
   pub apart : GetStuckApart setting journal
-  pub updated : IsUpdated setting journal
+  pub updated : IsQuietUpdated setting journal
   pub forwards : QuietForwards setting journal

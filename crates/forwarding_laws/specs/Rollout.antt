@@ -19,8 +19,8 @@ FailsNothing (One step) = IsFalse (fails step)
 FailsNothing _ = ⊤
 
 -- no row of the schedule crashes a switch or fails a link
-abbrev pub NothingFails : List Event → Type 0
-NothingFails events = All FailsNothing events
+abbrev pub NothingFailsInRollout : List Event → Type 0
+NothingFailsInRollout events = All FailsNothing events
 
 -- the links of the network lead from the switch to none of the targets
 abbrev pub AreCutOff : Net → ℕ → List ℕ → Type 0
@@ -50,8 +50,8 @@ DropsNothing setting before _ = ⊤
 -- ---- connected networks
 
 -- the links of the network lead from each switch to each other switch
-abbrev pub IsConnected : Net → Type 0
-IsConnected net = (one other : ℕ) → HasSwitch net one → HasSwitch net other
+abbrev pub IsConnectedNetwork : Net → Type 0
+IsConnectedNetwork net = (one other : ℕ) → HasSwitch net one → HasSwitch net other
     → (path : List ℕ) × Leads (are_linked net.links) one path other
 
 -- no packet is stuck
@@ -69,22 +69,22 @@ pub record IsDroppedRightly (before : List Item) (packet : ℕ) : Type 0 where
 
 -- how a packet ends that isn't cut off: by its decision it is dropped, or leaves by its decision's
 -- port; or it is lost by its own row
-abbrev pub EndsRightly : Setting → ℕ → List Item → Item → Type 0
-EndsRightly setting packet before (item.Dropped i) = (i ≡ packet) × IsDroppedRightly before packet
-EndsRightly setting packet before (item.Left i port leaving) =
+abbrev pub RolloutEndsRightly : Setting → ℕ → List Item → Item → Type 0
+RolloutEndsRightly setting packet before (item.Dropped i) = (i ≡ packet) × IsDroppedRightly before packet
+RolloutEndsRightly setting packet before (item.Left i port leaving) =
     (i ≡ packet) × LeavesRightly setting before packet port leaving
-EndsRightly setting packet before (item.Lost i) =
+RolloutEndsRightly setting packet before (item.Lost i) =
     (i ≡ packet) × (present_step before ≡ Some (Lose packet))
-EndsRightly setting packet before _ = ⊥
+RolloutEndsRightly setting packet before _ = ⊥
 
 -- or it is stuck, cut off from its targets
 abbrev pub EndsOrIsCutOff : Setting → ℕ → List Item → Item → Type 0
 EndsOrIsCutOff setting packet before (item.Stuck i switch cause leg down) =
     (i ≡ packet) × IsStuckCutOff setting before packet switch leg
-EndsOrIsCutOff setting packet before end = EndsRightly setting packet before end
+EndsOrIsCutOff setting packet before end = RolloutEndsRightly setting packet before end
 
 -- the journal has an item for which `is` is true after the items before it
-pub record HasItem (is : List Item → Item → Type 0) (journal : List Item) : Type 0 where
+pub record RolloutHasItem (is : List Item → Item → Type 0) (journal : List Item) : Type 0 where
   pub before : List Item
   pub found : Item
   pub rest : List Item
@@ -92,13 +92,13 @@ pub record HasItem (is : List Item → Item → Type 0) (journal : List Item) : 
   pub own : is before found
 
 -- each packet that entered ended rightly
-abbrev pub AllAccounted : Setting → List Item → Type 0
-AllAccounted setting journal = (packet switch : ℕ) (header : Header)
+abbrev pub RolloutAccountsForAll : Setting → List Item → Type 0
+RolloutAccountsForAll setting journal = (packet switch : ℕ) (header : Header)
     → Contains journal (item.Entered packet switch header)
-    → HasItem (EndsRightly setting packet) journal
+    → RolloutHasItem (RolloutEndsRightly setting packet) journal
 
 -- each packet that entered ended rightly, or is stuck, cut off from its targets
 abbrev pub AllAccountedOrCutOff : Setting → List Item → Type 0
 AllAccountedOrCutOff setting journal = (packet switch : ℕ) (header : Header)
     → Contains journal (item.Entered packet switch header)
-    → HasItem (EndsOrIsCutOff setting packet) journal
+    → RolloutHasItem (EndsOrIsCutOff setting packet) journal

@@ -3,11 +3,11 @@
 -- stopped full only the last is true, because it didn't reach its end.
 use Rattle.std.specs.Prelude.{[], ◌++◌, ◌∷◌, ◌≡◌, List, None, Option, ℕ}
 use Rattle.update_machine.specs.Exports.{Drain, Event, HaveCauses, IsPlay, IsSetting, Item, Setting}
-use Rattle.control_laws.specs.Exports.{AreEvents}
+use Rattle.control_laws.specs.Exports.{AreNetworkEvents}
 use Rattle.forwarding_laws.specs.NothingOld.{EndsInTwoRounds, LeavesNothingOld}
 use Rattle.forwarding_laws.specs.Recovered.{HasRecovered}
 use Rattle.forwarding_laws.specs.Recovery.{EndsInRecovery}
-use Rattle.forwarding_laws.specs.Rollout.{AllAccounted, AllAccountedOrCutOff, DropsNothing, IsConnected, NoneIsStuck, NothingFails}
+use Rattle.forwarding_laws.specs.Rollout.{RolloutAccountsForAll, AllAccountedOrCutOff, DropsNothing, IsConnectedNetwork, NoneIsStuck, NothingFailsInRollout}
 
 -- the last row drains the network
 abbrev pub EndsInDrain : List Event → Type 0
@@ -17,15 +17,15 @@ pub record KeepsWorking (setting : Setting) (events : List Event) (journal : Lis
     (full : Option ℕ) : Type 0 where
   pub recovers : full ≡ None → EndsInRecovery setting.net events → HasRecovered setting journal
   pub renews : full ≡ None → EndsInTwoRounds setting.net events → LeavesNothingOld setting journal
-  pub drops_nothing : NothingFails events → HaveCauses (DropsNothing setting) [] journal
-  pub leaves_none_stuck : NothingFails events → IsConnected setting.net → NoneIsStuck journal
-  pub accounts_or_cut_off : full ≡ None → EndsInDrain events → NothingFails events
+  pub drops_nothing : NothingFailsInRollout events → HaveCauses (DropsNothing setting) [] journal
+  pub leaves_none_stuck : NothingFailsInRollout events → IsConnectedNetwork setting.net → NoneIsStuck journal
+  pub accounts_or_cut_off : full ≡ None → EndsInDrain events → NothingFailsInRollout events
       → AllAccountedOrCutOff setting journal
-  pub accounts_for_all : full ≡ None → EndsInDrain events → NothingFails events
-      → IsConnected setting.net → AllAccounted setting journal
+  pub accounts_for_all : full ≡ None → EndsInDrain events → NothingFailsInRollout events
+      → IsConnectedNetwork setting.net → RolloutAccountsForAll setting journal
 
 -- this is true of each play of a setting, whose events name its own switches and ports
 abbrev pub PlaysKeepWorking : Type 0
 PlaysKeepWorking = (setting : Setting) (events : List Event) (journal : List Item)
-    (full : Option ℕ) → IsSetting setting → AreEvents setting events
+    (full : Option ℕ) → IsSetting setting → AreNetworkEvents setting events
     → IsPlay setting events journal full → KeepsWorking setting events journal full

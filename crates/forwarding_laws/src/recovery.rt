@@ -3,10 +3,10 @@ ghost use Rattle.std.specs.Prelude.{◌∷◌, ◌++◌, [], List};
 ghost use Rattle.net_file.specs.Net.{IsNet};
 ghost use Rattle.update_machine.specs.Exports.{Answers, Event, IsSetting, Item, Setting};
 ghost use Rattle.steps.specs.declared.step.Event.TheVariants.{Flush};
-ghost use Rattle.control_laws.specs.Always.{AreEvents};
-ghost use Rattle.convergence_laws.specs.Exports.{HasConverged, IsUpdated, NeighboursAgree};
+ghost use Rattle.control_laws.specs.Always.{AreNetworkEvents};
+ghost use Rattle.convergence_laws.specs.Exports.{HasConverged, IsQuietUpdated, NeighboursAgree};
 ghost use Rattle.forwarding_laws.specs.NothingOld.{CacheNewestAlone, EndsInTwoRounds, LeavesNothingOld};
-ghost use Rattle.forwarding_laws.specs.Recovered.{AllDelivered, HasRecovered};
+ghost use Rattle.forwarding_laws.specs.Recovered.{RecoveryDeliversAll, HasRecovered};
 ghost use Rattle.forwarding_laws.specs.Recovery.{EndsInRecovery};
 
 use crate::laws::converged_networks_forward;
@@ -16,7 +16,7 @@ use packet_laws::cache_rules_are_right;
 /// After a flush each message that was sent was delivered or forgotten.
 pub fn flushes_deliver_all()
     ensures { (setting : Setting) (events : List Event) (journal : List Item)
-        → Answers setting (events ++ Flush ∷ []) journal → AllDelivered journal }
+        → Answers setting (events ++ Flush ∷ []) journal → RecoveryDeliversAll journal }
 {}
 
 /// After recovery neighbours agree: over each usable link, each end has adverts at least as new as
@@ -42,7 +42,7 @@ pub fn recovered_networks_have_converged()
 pub fn recovered_networks_are_updated()
     ensures { (setting : Setting) (events : List Event) (journal : List Item)
         → EndsInRecovery setting.net events → Answers setting events journal
-        → IsUpdated setting journal }
+        → IsQuietUpdated setting journal }
 {}
 
 /// Suppose a schedule ends with the confirmation of each switch, a resend to each switch and a
@@ -50,7 +50,7 @@ pub fn recovered_networks_are_updated()
 /// converged on the usable links and on the newest version, and forwards.
 pub fn networks_recover()
     ensures { (setting : Setting) (events : List Event) (journal : List Item)
-        → IsSetting setting → AreEvents setting events → EndsInRecovery setting.net events
+        → IsSetting setting → AreNetworkEvents setting events → EndsInRecovery setting.net events
         → Answers setting events journal → HasRecovered setting journal }
 {
     agreeing_networks_have_converged();
@@ -61,7 +61,7 @@ pub fn networks_recover()
 /// After recovery the switches that are up cache only rules of the newest version.
 pub fn recovered_caches_are_new()
     ensures { (setting : Setting) (events : List Event) (journal : List Item)
-        → IsSetting setting → AreEvents setting events → EndsInRecovery setting.net events
+        → IsSetting setting → AreNetworkEvents setting events → EndsInRecovery setting.net events
         → Answers setting events journal → CacheNewestAlone setting journal }
 {
     cache_rules_are_right();
@@ -71,7 +71,7 @@ pub fn recovered_caches_are_new()
 /// that are up have the tables of the newest version and of no other, and cache only its rules.
 pub fn nothing_old_is_left()
     ensures { (setting : Setting) (events : List Event) (journal : List Item)
-        → IsSetting setting → AreEvents setting events → EndsInTwoRounds setting.net events
+        → IsSetting setting → AreNetworkEvents setting events → EndsInTwoRounds setting.net events
         → Answers setting events journal → LeavesNothingOld setting journal }
 {
     agreeing_networks_have_converged();

@@ -2,8 +2,8 @@
 ghost use Rattle.std.specs.Prelude.{◌∷◌, ◌++◌, [], List};
 ghost use Rattle.steps.specs.declared.step.Event.TheVariants.{Drain};
 ghost use Rattle.update_machine.specs.Exports.{Answers, BeginsAnswer, Event, HaveCauses, IsSetting, Item, Setting};
-ghost use Rattle.control_laws.specs.Always.{AreEvents};
-ghost use Rattle.forwarding_laws.specs.Rollout.{AllAccounted, AllAccountedOrCutOff, DropsNothing, IsConnected, NoneIsStuck, NothingFails};
+ghost use Rattle.control_laws.specs.Always.{AreNetworkEvents};
+ghost use Rattle.forwarding_laws.specs.Rollout.{RolloutAccountsForAll, AllAccountedOrCutOff, DropsNothing, IsConnectedNetwork, NoneIsStuck, NothingFailsInRollout};
 
 use packet_laws::{ends_have_causes, packet_items_have_causes};
 use update_machine::answers_are_numbered;
@@ -14,7 +14,7 @@ use update_machine::answers_are_numbered;
 /// down, and isn't closed.
 pub fn rollouts_drop_nothing()
     ensures { (setting : Setting) (events : List Event) (journal : List Item)
-        → IsSetting setting → AreEvents setting events → NothingFails events
+        → IsSetting setting → AreNetworkEvents setting events → NothingFailsInRollout events
         → BeginsAnswer setting events journal → HaveCauses (DropsNothing setting) [] journal }
 {
     ends_have_causes();
@@ -23,8 +23,8 @@ pub fn rollouts_drop_nothing()
 /// So in a connected network no packet is ever stuck.
 pub fn connected_rollouts_leave_none_stuck()
     ensures { (setting : Setting) (events : List Event) (journal : List Item)
-        → IsSetting setting → AreEvents setting events → NothingFails events
-        → IsConnected setting.net → BeginsAnswer setting events journal → NoneIsStuck journal }
+        → IsSetting setting → AreNetworkEvents setting events → NothingFailsInRollout events
+        → IsConnectedNetwork setting.net → BeginsAnswer setting events journal → NoneIsStuck journal }
 {
     rollouts_drop_nothing();
 }
@@ -34,8 +34,8 @@ pub fn connected_rollouts_leave_none_stuck()
 /// the network's links lead from where it is to no target of its leg.
 pub fn drained_rollouts_account_or_cut_off()
     ensures { (setting : Setting) (events : List Event) (journal : List Item)
-        → IsSetting setting → AreEvents setting (events ++ Drain ∷ [])
-        → NothingFails (events ++ Drain ∷ []) → Answers setting (events ++ Drain ∷ []) journal
+        → IsSetting setting → AreNetworkEvents setting (events ++ Drain ∷ [])
+        → NothingFailsInRollout (events ++ Drain ∷ []) → Answers setting (events ++ Drain ∷ []) journal
         → AllAccountedOrCutOff setting journal }
 {
     answers_are_numbered();
@@ -48,9 +48,9 @@ pub fn drained_rollouts_account_or_cut_off()
 /// lost by its own row.
 pub fn drained_rollouts_account_for_all()
     ensures { (setting : Setting) (events : List Event) (journal : List Item)
-        → IsSetting setting → AreEvents setting (events ++ Drain ∷ [])
-        → NothingFails (events ++ Drain ∷ []) → IsConnected setting.net
-        → Answers setting (events ++ Drain ∷ []) journal → AllAccounted setting journal }
+        → IsSetting setting → AreNetworkEvents setting (events ++ Drain ∷ [])
+        → NothingFailsInRollout (events ++ Drain ∷ []) → IsConnectedNetwork setting.net
+        → Answers setting (events ++ Drain ∷ []) journal → RolloutAccountsForAll setting journal }
 {
     connected_rollouts_leave_none_stuck();
     drained_rollouts_account_or_cut_off();

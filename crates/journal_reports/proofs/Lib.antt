@@ -1,6 +1,6 @@
-pub mod SummaryCounts
-mod SayingAsMuch
-mod SwitchStatus
-mod MessageBuckets
-mod ReadItems
-mod QuietJudge
+pub mod JournalSummaryCounts
+mod QuietSayingAsMuch
+mod QuietSwitchStatus
+mod QuietMessageBuckets
+mod QuietReadItems
+mod QuietReportJudge

@@ -20,19 +20,19 @@ bucket_of body = if nat_lt (subject body) 64 then subject body else 0
 abbrev pub bucket_messages : Bucket → List Message
 bucket_messages bucket = bucket.messages.items
 
-abbrev pub messages_at : List Bucket → ℕ → List Message
-messages_at buckets c = option_map_or bucket_messages (slice_get buckets c) []
+abbrev pub bucket_messages_at : List Bucket → ℕ → List Message
+bucket_messages_at buckets c = option_map_or bucket_messages (slice_get buckets c) []
 
 -- one of the messages says as much as this one
-abbrev pub HasSaying : List Message → Message → Type 0
-HasSaying [] message = ⊥
-HasSaying (kept ∷ messages) message = SaysAsMuch kept message ⊎ HasSaying messages message
+abbrev pub BucketHasSaying : List Message → Message → Type 0
+BucketHasSaying [] message = ⊥
+BucketHasSaying (kept ∷ messages) message = SaysAsMuch kept message ⊎ BucketHasSaying messages message
 
 -- a message in its bucket says as much as this one
 abbrev pub IsKeptInBucket : List Bucket → Message → Type 0
-IsKeptInBucket buckets message = HasSaying (messages_at buckets (bucket_of message.body)) message
+IsKeptInBucket buckets message = BucketHasSaying (bucket_messages_at buckets (bucket_of message.body)) message
 
 -- there are 64 buckets, and they are empty
-pub record AreEmpty (buckets : List Bucket) : Type 0 where
+pub record AreEmptyBuckets (buckets : List Bucket) : Type 0 where
   pub count : length buckets ≡ 64
   pub each : (c : ℕ) (d : Bucket) → c < 64 → (get_or buckets c d).messages.items ≡ []

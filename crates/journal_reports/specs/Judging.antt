@@ -3,7 +3,7 @@
 use Rattle.std.specs.Prelude.{[], ◌&&◌, ◌==◌, ◌||◌, ◌∷◌, ◌≡◌, ◌⊎◌, Bool, IsTrue, List, None, Option, Some, false, nat_eq, nat_lt, not, option_map, slice_index_or, true, unwrap_or, ℕ, ⊤}
 use Rattle.std.specs.Option.{option_eq, option_map_or}
 use Rattle.ctrl_msg.specs.Exports.{body_boot, body_version}
-use Rattle.update_machine.specs.Exports.{Advert, Advertise, Body, Collect, Hello, Install, Installed, Item, Message, OpenAt, Place, Stamp, Stamped, are_old_tables, boot_of, carries_boot, current_mark, gives_boot, gives_current, gives_up, gives_waited_for, is_advert, is_of_boot, is_old_answer, is_up, is_waited_for, speaker}
+use Rattle.update_machine.specs.Exports.{Advert, Advertise, Body, Collect, Hello, Install, Installed, Item, Message, OpenAt, Place, Stamp, Stamped, are_old_tables, boot_of, carries_boot, current_mark, gives_boot, gives_current, gives_up, gives_waited_for, is_advert, is_of_boot, is_old_answer, is_up, is_waited_for, speaking_in_body}
 use Rattle.ctrl_msg.specs.declared.message.Place.TheVariants as receiver
 use Rattle.failover.specs.Exports.{is_newer}
 use Rattle.journal.specs.declared.item.Item.TheVariants as item
@@ -18,8 +18,8 @@ MarksOneMore number before after = (n : ℕ)
 
 -- ---- the status of a switch
 
-abbrev pub status_with : Item → SwitchStatus → SwitchStatus
-status_with item status = record {
+abbrev pub switch_status_with : Item → SwitchStatus → SwitchStatus
+switch_status_with item status = record {
   switch = status.switch;
   is_up = unwrap_or (gives_up status.switch item) status.is_up;
   boot = unwrap_or (gives_boot status.switch item) status.boot;
@@ -36,8 +36,8 @@ status_item (item.Current version) = item.Current version ∷ []
 status_item item = []
 
 -- what the journal says about the switch
-abbrev pub status_in : List Item → ℕ → SwitchStatus
-status_in journal s = record {
+abbrev pub switch_status_in : List Item → ℕ → SwitchStatus
+switch_status_in journal s = record {
   switch = s;
   is_up = is_up journal s;
   boot = boot_of journal s;
@@ -49,11 +49,11 @@ status_in journal s = record {
 
 -- the message, to the switch or from it, matters in this status; one to it only if no boot of the
 -- switch began since it was sent. None matters if the switch is down
-abbrev pub matters_to : SwitchStatus → Bool → Message → Bool
-matters_to status in_boot message = elim message.to [
+abbrev pub matters_in_status : SwitchStatus → Bool → Message → Bool
+matters_in_status status in_boot message = elim message.to [
   | receiver.Controller ↦
       status.is_up
-      && option_map_or (is_of_boot status.switch status.boot) (speaker message.body) false
+      && option_map_or (is_of_boot status.switch status.boot) (speaking_in_body message.body) false
       && not (is_old_answer status.current message.body)
   | receiver.Switch to ↦
       status.is_up && to == status.switch && in_boot
@@ -65,7 +65,7 @@ matters_to status in_boot message = elim message.to [
 
 -- the switch that says this to the controller
 abbrev pub speaking_switch : Body → Option ℕ
-speaking_switch body = option_map (λ (of : ℕ × ℕ). of.0) (speaker body)
+speaking_switch body = option_map (λ (of : ℕ × ℕ). of.0) (speaking_in_body body)
 
 abbrev pub is_same : Advert → Advert → Bool
 is_same one other = one.origin == other.origin && one.boot == other.boot && one.seq == other.seq
@@ -90,13 +90,13 @@ holds_for_earlier_versions (Stamped s boot version) = true
 holds_for_earlier_versions _ = false
 
 -- if there are two versions, the first is the second one, or greater if that is enough
-abbrev pub is_enough : Bool → Option ℕ → Option ℕ → Bool
-is_enough rises (Some version) (Some old) = version == old || (rises && nat_lt old version)
-is_enough rises _ _ = true
+abbrev pub is_version_at_least : Bool → Option ℕ → Option ℕ → Bool
+is_version_at_least rises (Some version) (Some old) = version == old || (rises && nat_lt old version)
+is_version_at_least rises _ _ = true
 
 abbrev pub is_version_enough : Body → Body → Bool
 is_version_enough later earlier =
-    is_enough (holds_for_earlier_versions later) (body_version later) (body_version earlier)
+    is_version_at_least (holds_for_earlier_versions later) (body_version later) (body_version earlier)
 
 -- the later body says what the earlier one does, of the same or a greater version, or of the same
 -- or a newer advert; of tables it compares only the version, and of touched words nothing

@@ -7,25 +7,25 @@ use Rattle.journal_reports.specs.declared.summary.Summary.{Summary}
 
 -- ---- which items are counted
 
-abbrev pub is_entered : Item → Bool
-is_entered (item.Entered packet switch header) = true
-is_entered _ = false
+abbrev pub counts_entered : Item → Bool
+counts_entered (item.Entered packet switch header) = true
+counts_entered _ = false
 
-abbrev pub is_closed : Item → Bool
-is_closed (item.Closed packet switch) = true
-is_closed _ = false
+abbrev pub counts_closed : Item → Bool
+counts_closed (item.Closed packet switch) = true
+counts_closed _ = false
 
 abbrev pub is_left : Item → Bool
 is_left (item.Left packet port leaving) = true
 is_left _ = false
 
-abbrev pub is_dropped : Item → Bool
-is_dropped (item.Dropped packet) = true
-is_dropped _ = false
+abbrev pub counts_dropped : Item → Bool
+counts_dropped (item.Dropped packet) = true
+counts_dropped _ = false
 
-abbrev pub is_lost : Item → Bool
-is_lost (item.Lost packet) = true
-is_lost _ = false
+abbrev pub counts_lost : Item → Bool
+counts_lost (item.Lost packet) = true
+counts_lost _ = false
 
 abbrev pub is_stuck : Item → Bool
 is_stuck (item.Stuck packet switch cause leg down) = true
@@ -36,9 +36,9 @@ is_by_cache (how.Cached message) = true
 is_by_cache _ = false
 
 -- a decision by a cached rule
-abbrev pub is_cached : Item → Bool
-is_cached (item.Decided packet version rule action how) = is_by_cache how
-is_cached _ = false
+abbrev pub counts_cached : Item → Bool
+counts_cached (item.Decided packet version rule action how) = is_by_cache how
+counts_cached _ = false
 
 abbrev pub is_sent : Item → Bool
 is_sent (item.Sent number message) = true
@@ -50,13 +50,13 @@ is_sent _ = false
 abbrev pub item_counts : List Item → Summary
 item_counts journal = record {
   packets = count_of is_packet journal;
-  closed = count_of is_closed journal;
+  closed = count_of counts_closed journal;
   delivered = count_of is_left journal;
-  dropped = count_of is_dropped journal;
-  lost = count_of is_lost journal;
+  dropped = count_of counts_dropped journal;
+  lost = count_of counts_lost journal;
   stuck = count_of is_stuck journal;
-  travelling = count_of is_entered journal;
-  cached = count_of is_cached journal;
+  travelling = count_of counts_entered journal;
+  cached = count_of counts_cached journal;
   messages = count_of is_sent journal;
   current = current_mark journal;
   retired = retired_mark journal;
@@ -74,16 +74,16 @@ summary_of journal = with_travelling (item_counts journal)
 abbrev pub one_more : Bool → ℕ → ℕ
 one_more counts n = if counts then n + 1 else n
 
-abbrev pub counted_with : Summary → Item → Summary
-counted_with s item = record {
+abbrev pub counts_after_item : Summary → Item → Summary
+counts_after_item s item = record {
   packets = one_more (is_packet item) s.packets;
-  closed = one_more (is_closed item) s.closed;
+  closed = one_more (counts_closed item) s.closed;
   delivered = one_more (is_left item) s.delivered;
-  dropped = one_more (is_dropped item) s.dropped;
-  lost = one_more (is_lost item) s.lost;
+  dropped = one_more (counts_dropped item) s.dropped;
+  lost = one_more (counts_lost item) s.lost;
   stuck = one_more (is_stuck item) s.stuck;
-  travelling = one_more (is_entered item) s.travelling;
-  cached = one_more (is_cached item) s.cached;
+  travelling = one_more (counts_entered item) s.travelling;
+  cached = one_more (counts_cached item) s.cached;
   messages = one_more (is_sent item) s.messages;
   current = unwrap_or (gives_current item) s.current;
   retired = unwrap_or (gives_retired item) s.retired;
@@ -104,24 +104,24 @@ pub record CountsHaveRoom (s : Summary) : Type 0 where
 -- ---- its text
 
 -- a title, a blank, a number and a line feed
-abbrev pub count_line : List ℕ → ℕ → List ℕ
-count_line title count = title ++ 32 ∷ decimal count ++ 10 ∷ []
+abbrev pub summary_count_line : List ℕ → ℕ → List ℕ
+summary_count_line title count = title ++ 32 ∷ decimal count ++ 10 ∷ []
 
 abbrev pub summary_text : Summary → List ℕ
 summary_text s =
-    count_line (codes "packets") s.packets
-    ++ count_line (codes "closed") s.closed
-    ++ count_line (codes "delivered") s.delivered
-    ++ count_line (codes "dropped") s.dropped
-    ++ count_line (codes "lost") s.lost
-    ++ count_line (codes "stuck") s.stuck
-    ++ count_line (codes "travelling") s.travelling
-    ++ count_line (codes "cached") s.cached
-    ++ count_line (codes "messages") s.messages
-    ++ count_line (codes "current") s.current
-    ++ count_line (codes "retired") s.retired
+    summary_count_line (codes "packets") s.packets
+    ++ summary_count_line (codes "closed") s.closed
+    ++ summary_count_line (codes "delivered") s.delivered
+    ++ summary_count_line (codes "dropped") s.dropped
+    ++ summary_count_line (codes "lost") s.lost
+    ++ summary_count_line (codes "stuck") s.stuck
+    ++ summary_count_line (codes "travelling") s.travelling
+    ++ summary_count_line (codes "cached") s.cached
+    ++ summary_count_line (codes "messages") s.messages
+    ++ summary_count_line (codes "current") s.current
+    ++ summary_count_line (codes "retired") s.retired
 
 -- the eleven counts of the journal; a play that stopped full has none
-abbrev pub counts_text : List Item → Option ℕ → List ℕ
-counts_text journal None = summary_text (summary_of journal)
-counts_text journal (Some row) = []
+abbrev pub summary_counts_text : List Item → Option ℕ → List ℕ
+summary_counts_text journal None = summary_text (summary_of journal)
+summary_counts_text journal (Some row) = []

@@ -2,7 +2,7 @@
 //! the same bucket.
 ghost use Rattle.std.specs.Prelude.{◌≡◌, ◌↔◌, ◌⊎◌, length, IfOk, IsTrue, OnOk};
 ghost use Rattle.ctrl_msg.specs.declared.message.Message.{Message};
-ghost use Rattle.journal_reports.specs.Buckets.{AreEmpty, HasSaying, IsKeptInBucket, bucket_of, subject};
+ghost use Rattle.journal_reports.specs.Buckets.{AreEmptyBuckets, BucketHasSaying, IsKeptInBucket, bucket_of, subject};
 ghost use Rattle.journal_reports.specs.Judging.{SaysAsMuch};
 
 use crate::replacing::says_as_much;
@@ -21,7 +21,7 @@ pub struct Bucket {
 /// # Errors
 /// Only out of memory.
 pub fn empty_buckets(alloc: Global) -> Result<Vec<Bucket>, AllocError>
-    ensures { IfOk result (λ buckets. AreEmpty buckets.items) }
+    ensures { IfOk result (λ buckets. AreEmptyBuckets buckets.items) }
 {
     let mut buckets = Vec::new(alloc);
     for bucket in 0..64_u32 {
@@ -33,16 +33,16 @@ pub fn empty_buckets(alloc: Global) -> Result<Vec<Bucket>, AllocError>
 }
 
 /// Whether one of the messages in the buckets says as much as this one.
-pub fn is_kept(buckets: &[Bucket], message: &Message) -> bool
+pub fn is_kept_in_buckets(buckets: &[Bucket], message: &Message) -> bool
     ensures { IsTrue result ↔ IsKeptInBucket buckets.now message.now }
 {
     let bucket = bucket_of(&message.body) as usize;
-    bucket < buckets.len() && is_said(&buckets[bucket].messages, message)
+    bucket < buckets.len() && is_said_in_bucket(&buckets[bucket].messages, message)
 }
 
 // Whether one of the messages says as much as this one.
-fn is_said(messages: &[SharedMessage], message: &Message) -> bool
-    ensures { IsTrue result ↔ HasSaying messages.now message.now }
+fn is_said_in_bucket(messages: &[SharedMessage], message: &Message) -> bool
+    ensures { IsTrue result ↔ BucketHasSaying messages.now message.now }
 {
     for kept in messages {
         if says_as_much(kept.get(), message) {

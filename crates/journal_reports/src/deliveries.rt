@@ -10,7 +10,7 @@ use std::alloc::AllocError;
 ///
 /// # Errors
 /// Only out of memory.
-pub fn mark_item(marks: &mut Vec<bool>, item: &Item) -> Result<(), AllocError>
+pub fn mark_delivered_item(marks: &mut Vec<bool>, item: &Item) -> Result<(), AllocError>
     ensures { OnOk result ((n : ℕ) → slice_index_or marks.new.items n false
         ≡ (is_delivery n item.now || slice_index_or marks.old.items n false)) }
 {

@@ -3,8 +3,8 @@ ghost use Rattle.std.specs.Prelude.{◌≡◌, ◌↔◌, IfOk, IsTrue};
 ghost use Rattle.net_file.specs.Net.{IsNet};
 ghost use Rattle.update_machine.specs.Exports.{IsQuiet, Setting};
 
-use crate::deliveries::mark_item;
-use crate::traffic::{at_end, none_missed, take_item};
+use crate::deliveries::mark_delivered_item;
+use crate::traffic::{at_end, no_switch_missed, take_item};
 use journal::Journal;
 use net_file::Net;
 use std::alloc::{AllocError, Global};
@@ -26,7 +26,7 @@ pub fn quiet(alloc: Global, journal: &Journal, net: &Net) -> Result<bool, AllocE
     let items = journal.items();
     let count = net.switches.items().len() as u32;
     let mut rows = at_end(alloc, items, count)?;
-    if !none_missed(&rows) {
+    if !no_switch_missed(&rows) {
         return Ok(false);
     }
     let mut delivered = Vec::new(alloc);
@@ -34,7 +34,7 @@ pub fn quiet(alloc: Global, journal: &Journal, net: &Net) -> Result<bool, AllocE
     while place > 0 {
         place -= 1;
         let item = &items[place];
-        mark_item(&mut delivered, item)?;
+        mark_delivered_item(&mut delivered, item)?;
         if !take_item(&mut rows, item, &delivered)? {
             return Ok(false);
         }

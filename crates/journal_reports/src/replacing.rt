@@ -1,8 +1,8 @@
 //! Which messages replace others, and which matter.
 ghost use Rattle.std.specs.Prelude.{◌≡◌, ◌↔◌, ◌||◌, false, IsTrue};
 ghost use Rattle.std.specs.Option.{option_map_or};
-ghost use Rattle.update_machine.specs.Quiet.{are_old_tables, carries_boot, is_advert, is_of_boot, is_old_answer, speaker};
-ghost use Rattle.journal_reports.specs.Judging.{HaveSameLists, SaysAsMuch, holds_for_earlier_versions, is_same_kind, is_version_enough, matters_to, replaces_body, replaces_message, speaking_switch};
+ghost use Rattle.update_machine.specs.Quiet.{are_old_tables, carries_boot, is_advert, is_of_boot, is_old_answer, speaking_in_body};
+ghost use Rattle.journal_reports.specs.Judging.{HaveSameLists, SaysAsMuch, holds_for_earlier_versions, is_same_kind, is_version_enough, matters_in_status, replaces_body, replaces_message, speaking_switch};
 
 use crate::status::SwitchStatus;
 use ctrl_msg::{are_same_tables, are_same_words};
@@ -11,7 +11,7 @@ use journal::{Body, Message, Place};
 /// Whether the message, to the switch or from it, matters; one to it matters only if the switch's
 /// boot at the end didn't begin after the message.
 pub fn matters(message: &Message, status: &SwitchStatus, is_in_boot: bool) -> bool
-    ensures { result ≡ matters_to status.now is_in_boot message.now }
+    ensures { result ≡ matters_in_status status.now is_in_boot message.now }
 {
     if !status.is_up {
         return false;
@@ -20,7 +20,7 @@ pub fn matters(message: &Message, status: &SwitchStatus, is_in_boot: bool) -> bo
         Place::Switch(to) => {
             to == status.switch
                 && is_in_boot
-                && is_for(&message.body, status.boot)
+                && is_for_boot_of(&message.body, status.boot)
                 && !are_old_tables(&message.body, status.current)
         }
         Place::Controller => {
@@ -30,7 +30,7 @@ pub fn matters(message: &Message, status: &SwitchStatus, is_in_boot: bool) -> bo
 }
 
 // Whether the body is an advert, or carries this boot.
-fn is_for(body: &Body, boot: u32) -> bool
+fn is_for_boot_of(body: &Body, boot: u32) -> bool
     ensures { result ≡ (is_advert body.now || carries_boot boot body.now) }
 {
     match body {
@@ -42,7 +42,7 @@ fn is_for(body: &Body, boot: u32) -> bool
 // Whether the switch says this, in its boot.
 fn is_of_boot(body: &Body, status: &SwitchStatus) -> bool
     ensures { result
-        ≡ option_map_or (is_of_boot status.now.switch status.now.boot) (speaker body.now) false }
+        ≡ option_map_or (is_of_boot status.now.switch status.now.boot) (speaking_in_body body.now) false }
 {
     match body {
         Body::Hello { switch, boot }
@@ -76,12 +76,12 @@ fn is_old_answer(body: &Body, current: u32) -> bool
 pub fn says_as_much(later: &Message, earlier: &Message) -> bool
     ensures { IsTrue result ↔ SaysAsMuch later.now earlier.now }
 {
-    replaces_message(later, earlier) && have_same_lists(&later.body, &earlier.body)
+    replaces_message(later, earlier) && have_same_message_lists(&later.body, &earlier.body)
 }
 
 // Whether two installs have the same tables; and of two stamps, whether the later one is of a
 // greater version, or both have the same touched words.
-fn have_same_lists(later: &Body, earlier: &Body) -> bool
+fn have_same_message_lists(later: &Body, earlier: &Body) -> bool
     ensures { IsTrue result ↔ HaveSameLists later.now earlier.now }
 {
     match (later, earlier) {

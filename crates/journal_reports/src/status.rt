@@ -1,6 +1,6 @@
 //! What a journal says about a switch, at its end.
 ghost use Rattle.std.specs.Prelude.{ℕ, ◌≡◌, ◌++◌, IfOk, OnOk};
-ghost use Rattle.journal_reports.specs.Judging.{is_missed, status_with, status_in, status_item};
+ghost use Rattle.journal_reports.specs.Judging.{is_missed, switch_status_with, switch_status_in, status_item};
 
 use journal::Item;
 use std::alloc::{AllocError, Global};
@@ -19,7 +19,7 @@ pub struct SwitchStatus {
 impl SwitchStatus {
     /// The status of the switch, and the current version, at the end of the journal.
     pub fn of(items: &[Item], switch: u32) -> SwitchStatus
-        ensures { result ≡ status_in items.now switch }
+        ensures { result ≡ switch_status_in items.now switch }
     {
         let mut status = SwitchStatus {
             switch,
@@ -43,7 +43,7 @@ impl SwitchStatus {
 
     // Updates the status by one more item.
     fn go_on(&mut self, item: &Item)
-        ensures { self.new ≡ status_with item.now self.old }
+        ensures { self.new ≡ switch_status_with item.now self.old }
     {
         match item {
             Item::Down { switch } => {
@@ -75,7 +75,7 @@ impl SwitchStatus {
 /// # Errors
 /// Only out of memory.
 pub fn status_items(alloc: Global, items: &[Item]) -> Result<Vec<Item>, AllocError>
-    ensures { IfOk result (λ told. (s : ℕ) → status_in told.items s ≡ status_in items.now s) }
+    ensures { IfOk result (λ told. (s : ℕ) → switch_status_in told.items s ≡ switch_status_in items.now s) }
 {
     let mut told = Vec::new(alloc);
     for item in items {

@@ -1,5 +1,5 @@
 ghost use Rattle.std.specs.Prelude.{◌≡◌};
-ghost use Rattle.journal_reports.specs.Summary.{CountsHaveRoom, counted_with, item_counts, with_travelling, summary_of};
+ghost use Rattle.journal_reports.specs.Summary.{CountsHaveRoom, counts_after_item, item_counts, with_travelling, summary_of};
 
 use journal::{How, Item, Journal};
 
@@ -61,7 +61,7 @@ impl Summary {
     // Counts one more item.
     fn note(&mut self, item: &Item)
         requires { CountsHaveRoom self.old }
-        ensures { self.new ≡ counted_with self.old item.now }
+        ensures { self.new ≡ counts_after_item self.old item.now }
     {
         match item {
             Item::Entered { .. } => {

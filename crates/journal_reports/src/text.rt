@@ -1,6 +1,6 @@
 ghost use Rattle.std.specs.Prelude.{◌≡◌, ◌++◌, IfOk, OnOk};
 ghost use Rattle.std.specs.String.{string_bytes};
-ghost use Rattle.journal_reports.specs.Summary.{count_line, summary_text};
+ghost use Rattle.journal_reports.specs.Summary.{summary_count_line, summary_text};
 
 use crate::summary::Summary;
 use std::alloc::{AllocError, Global};
@@ -31,7 +31,7 @@ pub fn summary_text(alloc: Global, summary: &Summary) -> Result<Vec<u8>, AllocEr
 // Appends a line with a title and a count.
 fn push_line(text: &mut String, title: &str, count: usize) -> Result<(), AllocError>
     ensures { OnOk result (string_bytes text.new
-        ≡ string_bytes text.old ++ count_line title.now count) }
+        ≡ string_bytes text.old ++ summary_count_line title.now count) }
 {
     writeln!(text, "{title} {count}")?;
     Ok(())

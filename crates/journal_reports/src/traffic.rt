@@ -4,10 +4,10 @@ ghost use Rattle.std.specs.List.{list_all};
 ghost use Rattle.ctrl_msg.specs.declared.message.Message.{Message};
 ghost use Rattle.journal_reports.specs.declared.traffic.Traffic.{Traffic};
 ghost use Rattle.journal_reports.specs.Buckets.{IsKeptInBucket};
-ghost use Rattle.journal_reports.specs.Judging.{concerned_switch, is_missed, is_named, matters_to, switch_of_message};
-ghost use Rattle.journal_reports.specs.Traffic.{AreTraffic, ConcernsOne, IsAdded, IsAfter};
+ghost use Rattle.journal_reports.specs.Judging.{concerned_switch, is_missed, is_named, matters_in_status, switch_of_message};
+ghost use Rattle.journal_reports.specs.Traffic.{AreTraffic, TrafficConcernsOne, IsAdded, IsTrafficAfter};
 
-use crate::bucket::{Bucket, empty_buckets, is_kept, keep};
+use crate::bucket::{Bucket, empty_buckets, is_kept_in_buckets, keep};
 use crate::deliveries::is_marked;
 use crate::replacing::{matters, speaks};
 use crate::status::{SwitchStatus, status_items};
@@ -28,7 +28,7 @@ impl Traffic {
     // Takes the item before those that were read, which concerns the switch. Returns false if the
     // item sends a message that matters, which wasn't delivered and which none replaces.
     fn take_item(&mut self, item: &Item, delivered: &[bool]) -> Result<bool, AllocError>
-        ensures { IfOk result (λ answer. IsAfter delivered.now item.now self.old self.new answer) }
+        ensures { IfOk result (λ answer. IsTrafficAfter delivered.now item.now self.old self.new answer) }
     {
         match item {
             Item::Booted { switch, .. } => {
@@ -60,13 +60,13 @@ impl Traffic {
             ↔ (IsKeptInBucket self.old.buckets.items other
             ⊎ IsAdded self.old is_delivered message.now other)) }
         ensures received { IfOk result (λ answer. IsTrue answer
-            ↔ (IsTrue (matters_to self.old.status self.old.is_in_boot message.now)
+            ↔ (IsTrue (matters_in_status self.old.status self.old.is_in_boot message.now)
             → IsTrue is_delivered ⊎ IsKeptInBucket self.old.buckets.items message.now)) }
     {
         if !matters(message.get(), &self.status, self.is_in_boot) {
             return Ok(true);
         }
-        if is_kept(&self.buckets, message.get()) {
+        if is_kept_in_buckets(&self.buckets, message.get()) {
             return Ok(true);
         }
         if is_delivered {
@@ -77,7 +77,7 @@ impl Traffic {
 }
 
 /// Whether no switch is down while the controller waits for it.
-pub fn none_missed(rows: &[Traffic]) -> bool
+pub fn no_switch_missed(rows: &[Traffic]) -> bool
     ensures { result ≡ list_all (λ row. not (is_missed row.status)) rows.now }
 {
     rows.iter().all(|row| !row.status.is_missed())
@@ -117,12 +117,12 @@ pub fn take_item(
     ensures count { OnOk result (length rows.new.items ≡ length rows.old.items) }
     ensures concerned { IfOk result (λ answer. (s : ℕ) (d : Traffic) → s < length rows.old.items
         → is_named s (concerned_switch item.now) ≡ true
-        → IsAfter delivered.now item.now (get_or rows.old.items s d) (get_or rows.new.items s d)
+        → IsTrafficAfter delivered.now item.now (get_or rows.old.items s d) (get_or rows.new.items s d)
         answer) }
     ensures others { OnOk result ((s : ℕ) (d : Traffic) → is_named s (concerned_switch item.now)
         ≡ false
         → get_or rows.new.items s d ≡ get_or rows.old.items s d) }
-    ensures some { IfOk result (λ answer. IsFalse answer → ConcernsOne rows.old.items item.now) }
+    ensures some { IfOk result (λ answer. IsFalse answer → TrafficConcernsOne rows.old.items item.now) }
 {
     match concerned(item) {
         Some(s) if (s as usize) < rows.len() => rows[s as usize].take_item(item, delivered),
@@ -136,13 +136,13 @@ fn concerned(item: &Item) -> Option<u32>
 {
     match item {
         Item::Booted { switch, .. } => Some(*switch),
-        Item::Sent { message, .. } => party(message.get()),
+        Item::Sent { message, .. } => message_party(message.get()),
         _ => None,
     }
 }
 
 // The switch that a message is to, or from.
-fn party(message: &Message) -> Option<u32>
+fn message_party(message: &Message) -> Option<u32>
     ensures { result ≡ switch_of_message message.now }
 {
     match message.to {

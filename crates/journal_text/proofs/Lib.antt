@@ -1,4 +1,4 @@
-pub mod LineGains
-pub mod MaskLemmas
-mod HeldTexts
-pub mod LineLengths
+pub mod JournalLineGains
+pub mod JournalLineMasks
+mod JournalLineTexts
+pub mod JournalLineLengths

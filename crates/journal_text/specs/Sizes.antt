@@ -10,7 +10,7 @@ use Rattle.policy_rules.specs.declared.packet.How.TheVariants.{Cached, Authority
 use Rattle.journal.specs.declared.item.Item.{Item}
 use Rattle.journal.specs.declared.item.Item.TheVariants as item
 use Rattle.journal_text.specs.Lines.{item_line}
-use Rattle.lines.specs.Sizes.{IsAction, IsNumber, IsRule}
+use Rattle.lines.specs.Sizes.{IsPrintedAction, IsNumber, IsPrintedRule}
 use Rattle.steps.specs.declared.step.Step.{Step}
 use Rattle.steps.specs.declared.step.Step.TheVariants.{Packet, Hop, Lose, Deliver, Forget, Expire, Update}
 
@@ -39,7 +39,7 @@ IsBodyOfType (Install boot tables) = IsNumber boot × IsNumber tables.version
 IsBodyOfType (OpenAt boot version) = IsNumber boot × IsNumber version
 IsBodyOfType (Stamp boot version touched) = IsNumber boot × IsNumber version
 IsBodyOfType (Collect boot version) = IsNumber boot × IsNumber version
-IsBodyOfType (CacheRule version word rule action) = IsNumber version × IsRule rule × IsAction action
+IsBodyOfType (CacheRule version word rule action) = IsNumber version × IsPrintedRule rule × IsPrintedAction action
 IsBodyOfType (Advertise advert) = IsNumber advert.boot × IsNumber advert.seq
 IsBodyOfType (Hello switch boot) = IsNumber boot
 IsBodyOfType (Installed switch boot version) = IsNumber boot × IsNumber version
@@ -56,7 +56,7 @@ IsItemOfType (item.Hopped packet switch) = IsNumber packet
 IsItemOfType (item.FoundDown packet one two) = IsNumber packet
 IsItemOfType (item.Rerouted packet route) = IsNumber packet × IsShortRoute route
 IsItemOfType (item.Decided packet version rule action how) =
-    IsNumber packet × IsNumber version × IsRule rule × IsAction action × IsHow how
+    IsNumber packet × IsNumber version × IsPrintedRule rule × IsPrintedAction action × IsHow how
 IsItemOfType (item.Left packet port leaving) = IsNumber packet × IsNumber port
 IsItemOfType (item.Dropped packet) = IsNumber packet
 IsItemOfType (item.Lost packet) = IsNumber packet

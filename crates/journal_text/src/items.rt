@@ -1,17 +1,19 @@
 ghost use Rattle.std.specs.Prelude.{◌≡◌, ◌≤◌, ◌++◌, ◌∷◌, [], IfOk, codes, length};
 ghost use Rattle.net_file.specs.Net.{IsNet};
 ghost use Rattle.journal.specs.declared.item.Item.TheVariants as item;
-ghost use Rattle.journal_text.specs.Lines.{cause_text, how_text, item_line, journal_text, with_number, packet_at, two_text, via_text};
+ghost use Rattle.journal_text.specs.Lines.{cause_text, how_text, item_line, journal_text, text_with_number, packet_at_text, two_numbers_text, via_text};
 ghost use Rattle.journal_text.specs.Sizes.{IsBodyOfType, IsItemOfType, IsShortRoute};
 ghost use Rattle.journal_text.specs.AdvertTexts.{AreAdvertTexts};
 ghost use Rattle.lines.specs.Pushes.{line_with};
 
 use crate::advert_texts::AdvertTexts;
-use crate::messages::{push_body, push_receiver, push_ruled};
-use crate::rows::{push_named, push_named_number, push_numbered, push_pair, push_step};
+use crate::messages::{push_cached_rule, push_message_body, push_message_receiver};
+use crate::rows::{
+    push_named_number, push_named_switch, push_numbered_text, push_step_row, push_switch_pair,
+};
 use journal::{Action, Cause, How, Item, Journal, SharedMessage, SharedRoute};
 use lines::{Line, push_name, push_names};
-use net_file::{Net, name_laws};
+use net_file::{Net, switch_name_laws};
 use std::alloc::{AllocError, Global};
 use steps::Step;
 
@@ -44,7 +46,7 @@ pub(crate) fn push_line(line: &mut Line, net: &Net, texts: &mut AdvertTexts, ite
     ensures text { line.new ≡ line.old ++ (item_line net.now item.now ++ 10 ∷ []) }
     ensures texts { AreAdvertTexts net.now texts.new }
 {
-    name_laws();
+    switch_name_laws();
     push_item(line, net, texts, item);
     line.push("\n");
 }
@@ -54,24 +56,24 @@ fn push_row(line: &mut Line, net: &Net, row: u32, step: &Step)
     ensures text { line.new ≡ line_with line.old (item_line net.now (item.Row row step.now)) }
     ensures of_type { IsItemOfType (item.Row row step.now) }
 {
-    push_numbered(line, "row", row);
+    push_numbered_text(line, "row", row);
     line.push(": ");
-    push_step(line, net, step);
+    push_step_row(line, net, step);
 }
 
 // Adds a packet and a switch after a text.
 #[tactic(auto, using(lines::proofs::CallerLemmas::pushed_append))]
-fn push_at(line: &mut Line, net: &Net, text: &str, packet: u32, s: u32)
-    ensures { line.new ≡ line_with line.old (packet_at net.now text.now packet s) }
+fn push_packet_at(line: &mut Line, net: &Net, text: &str, packet: u32, s: u32)
+    ensures { line.new ≡ line_with line.old (packet_at_text net.now text.now packet s) }
 {
-    push_numbered(line, text, packet);
+    push_numbered_text(line, text, packet);
     line.push(" ");
     push_name(line, net, s);
 }
 
 // Adds the switches of a route.
 #[tactic(auto, using(lines::proofs::CallerLemmas::pushed_append), unfolding(crate::specs::Lines::via_text))]
-fn push_via(line: &mut Line, net: &Net, route: &SharedRoute)
+fn push_via_route(line: &mut Line, net: &Net, route: &SharedRoute)
     ensures text { line.new ≡ line_with line.old (via_text net.now route.now) }
     ensures of_type { IsShortRoute route.now }
 {
@@ -79,7 +81,7 @@ fn push_via(line: &mut Line, net: &Net, route: &SharedRoute)
     push_names(line, net, route.get().items());
 }
 
-fn push_seeking(
+fn push_seeking_item(
     line: &mut Line,
     net: &Net,
     packet: u32,
@@ -91,37 +93,37 @@ fn push_seeking(
         (item_line net.now (item.Seeking packet version partition route.now)) }
     ensures of_type { IsItemOfType (item.Seeking packet version partition route.now) }
 {
-    push_two(line, "  tunnelled", packet, " v", version);
-    push_numbered(line, " part", partition);
-    push_via(line, net, route);
+    push_two_numbers(line, "  tunnelled", packet, " v", version);
+    push_numbered_text(line, " part", partition);
+    push_via_route(line, net, route);
 }
 
 // Adds a packet and its route after a text.
 #[tactic(auto, using(lines::proofs::CallerLemmas::pushed_append))]
-fn push_route(line: &mut Line, net: &Net, text: &str, packet: u32, route: &SharedRoute)
+fn push_route_item(line: &mut Line, net: &Net, text: &str, packet: u32, route: &SharedRoute)
     ensures text { line.new ≡ line_with line.old
-        (with_number text.now packet ++ via_text net.now route.now) }
+        (text_with_number text.now packet ++ via_text net.now route.now) }
     ensures of_type { IsShortRoute route.now }
 {
-    push_numbered(line, text, packet);
-    push_via(line, net, route);
+    push_numbered_text(line, text, packet);
+    push_via_route(line, net, route);
 }
 
 #[tactic(auto, using(lines::proofs::CallerLemmas::pushed_append))]
-fn push_found(line: &mut Line, net: &Net, packet: u32, one: u32, two: u32)
+fn push_found_item(line: &mut Line, net: &Net, packet: u32, one: u32, two: u32)
     ensures { line.new ≡ line_with line.old (item_line net.now (item.FoundDown packet one two)) }
 {
-    push_at(line, net, "  found", packet, one);
+    push_packet_at(line, net, "  found", packet, one);
     line.push(" ");
     push_name(line, net, two);
 }
 
 #[tactic(auto, using(lines::proofs::CallerLemmas::pushed_append))]
-fn push_how(line: &mut Line, net: &Net, how: How)
+fn push_decided_how(line: &mut Line, net: &Net, how: How)
     ensures { line.new ≡ line_with line.old (how_text net.now how) }
 {
     match how {
-        How::Cached { message } => push_numbered(line, "cache", message),
+        How::Cached { message } => push_numbered_text(line, "cache", message),
         How::Authority { switch, partition } => {
             push_named_number(line, net, "authority", switch, " part ", partition)
         }
@@ -129,7 +131,7 @@ fn push_how(line: &mut Line, net: &Net, how: How)
 }
 
 #[tactic(auto, using(lines::proofs::CallerLemmas::pushed_append))]
-fn push_decided(
+fn push_decided_item(
     line: &mut Line,
     net: &Net,
     packet: u32,
@@ -142,18 +144,18 @@ fn push_decided(
         (item_line net.now (item.Decided packet version rule action how)) }
     ensures of_type { IsItemOfType (item.Decided packet version rule action how) }
 {
-    push_two(line, "  decided", packet, " v", version);
-    push_ruled(line, rule, action);
+    push_two_numbers(line, "  decided", packet, " v", version);
+    push_cached_rule(line, rule, action);
     line.push(" ");
-    push_how(line, net, how);
+    push_decided_how(line, net, how);
 }
 
 // Adds two numbers, each after a text.
-#[tactic(auto, using(lines::proofs::CallerLemmas::pushed_append), unfolding(crate::specs::Lines::two_text))]
-fn push_two(line: &mut Line, text: &str, n: u32, next: &str, m: u32)
-    ensures { line.new ≡ line_with line.old (two_text text.now n next.now m) }
+#[tactic(auto, using(lines::proofs::CallerLemmas::pushed_append), unfolding(crate::specs::Lines::two_numbers_text))]
+fn push_two_numbers(line: &mut Line, text: &str, n: u32, next: &str, m: u32)
+    ensures { line.new ≡ line_with line.old (two_numbers_text text.now n next.now m) }
 {
-    push_numbered(line, text, n);
+    push_numbered_text(line, text, n);
     line.push(next);
     line.push_number(u64::from(m));
 }
@@ -168,17 +170,17 @@ fn cause_text(cause: Cause) -> &'static str
 }
 
 #[tactic(auto, using(lines::proofs::CallerLemmas::pushed_append))]
-fn push_stuck(line: &mut Line, net: &Net, packet: u32, switch: u32, cause: Cause)
+fn push_stuck_item(line: &mut Line, net: &Net, packet: u32, switch: u32, cause: Cause)
     ensures { line.new ≡ line_with line.old
-        (packet_at net.now (codes "  stuck") packet switch ++ codes " " ++ cause_text cause) }
+        (packet_at_text net.now (codes "  stuck") packet switch ++ codes " " ++ cause_text cause) }
 {
-    push_at(line, net, "  stuck", packet, switch);
+    push_packet_at(line, net, "  stuck", packet, switch);
     line.push(" ");
     line.push(cause_text(cause));
 }
 
 #[tactic(auto, using(lines::proofs::CallerLemmas::pushed_append))]
-fn push_sent(
+fn push_sent_item(
     line: &mut Line,
     net: &Net,
     texts: &mut AdvertTexts,
@@ -195,13 +197,13 @@ fn push_sent(
     line.push("  sent ");
     line.push_number(u64::from(number));
     line.push(" ");
-    push_receiver(line, net, message.to);
+    push_message_receiver(line, net, message.to);
     line.push(" ");
-    push_body(line, net, texts, &message.body);
+    push_message_body(line, net, texts, &message.body);
 }
 
 #[tactic(auto, using(lines::proofs::CallerLemmas::pushed_append))]
-fn push_expired(line: &mut Line, net: &Net, switch: u32, place: u32, message: u32)
+fn push_expired_item(line: &mut Line, net: &Net, switch: u32, place: u32, message: u32)
     ensures { line.new
         ≡ line_with line.old (item_line net.now (item.Expired switch place message)) }
 {
@@ -211,10 +213,10 @@ fn push_expired(line: &mut Line, net: &Net, switch: u32, place: u32, message: u3
 }
 
 #[tactic(auto, using(lines::proofs::CallerLemmas::pushed_append))]
-fn push_link(line: &mut Line, net: &Net, one: u32, two: u32, up: bool)
+fn push_link_item(line: &mut Line, net: &Net, one: u32, two: u32, up: bool)
     ensures { line.new ≡ line_with line.old (item_line net.now (item.LinkIs one two up)) }
 {
-    push_pair(line, net, "  link", one, two);
+    push_switch_pair(line, net, "  link", one, two);
     line.push(" ");
     if up {
         line.push("up");
@@ -233,58 +235,72 @@ fn push_item(line: &mut Line, net: &Net, texts: &mut AdvertTexts, item: &Item)
     match item {
         Item::Row { row, step } => push_row(line, net, *row, step),
         Item::Entered { packet, switch, .. } => {
-            push_at(line, net, "  entered", *packet, *switch)
+            push_packet_at(line, net, "  entered", *packet, *switch)
         }
-        Item::Closed { packet, switch } => push_at(line, net, "  closed", *packet, *switch),
-        Item::Hopped { packet, switch } => push_at(line, net, "  hopped", *packet, *switch),
+        Item::Closed { packet, switch } => push_packet_at(line, net, "  closed", *packet, *switch),
+        Item::Hopped { packet, switch } => push_packet_at(line, net, "  hopped", *packet, *switch),
         Item::Seeking {
             packet,
             version,
             partition,
             route,
-        } => push_seeking(line, net, *packet, *version, *partition, route),
-        Item::Exiting { packet, route } => push_route(line, net, "  exit", *packet, route),
-        Item::Rerouted { packet, route } => push_route(line, net, "  rerouted", *packet, route),
-        Item::FoundDown { packet, one, two } => push_found(line, net, *packet, *one, *two),
+        } => push_seeking_item(line, net, *packet, *version, *partition, route),
+        Item::Exiting { packet, route } => push_route_item(line, net, "  exit", *packet, route),
+        Item::Rerouted { packet, route } => push_route_item(
+            line,
+            net,
+            "  rerouted",
+            *packet,
+            route,
+        ),
+        Item::FoundDown { packet, one, two } => push_found_item(line, net, *packet, *one, *two),
         Item::Decided {
             packet,
             version,
             rule,
             action,
             how,
-        } => push_decided(line, net, *packet, *version, *rule, *action, *how),
-        Item::Left { packet, port, .. } => push_two(line, "  out", *packet, " port ", *port),
-        Item::Dropped { packet } => push_numbered(line, "  dropped", *packet),
-        Item::Lost { packet } => push_numbered(line, "  lost", *packet),
+        } => push_decided_item(line, net, *packet, *version, *rule, *action, *how),
+        Item::Left { packet, port, .. } => push_two_numbers(
+            line, "  out", *packet, " port ", *port,
+        ),
+        Item::Dropped { packet } => push_numbered_text(line, "  dropped", *packet),
+        Item::Lost { packet } => push_numbered_text(line, "  lost", *packet),
         Item::Stuck {
             packet,
             switch,
             cause,
             ..
-        } => push_stuck(line, net, *packet, *switch, *cause),
-        Item::Sent { number, message } => push_sent(line, net, texts, *number, message),
-        Item::Delivered { number } => push_numbered(line, "  delivered", *number),
-        Item::Forgotten { number } => push_numbered(line, "  forgotten", *number),
+        } => push_stuck_item(line, net, *packet, *switch, *cause),
+        Item::Sent { number, message } => push_sent_item(line, net, texts, *number, message),
+        Item::Delivered { number } => push_numbered_text(line, "  delivered", *number),
+        Item::Forgotten { number } => push_numbered_text(line, "  forgotten", *number),
         Item::Expired {
             switch,
             place,
             message,
-        } => push_expired(line, net, *switch, *place, *message),
+        } => push_expired_item(line, net, *switch, *place, *message),
         Item::Submitted { file, version } => {
-            push_two(line, "  submitted file", *file, " version ", *version)
+            push_two_numbers(line, "  submitted file", *file, " version ", *version)
         }
-        Item::Refused { file, code } => push_two(line, "  refused file", *file, " code ", *code),
-        Item::Current { version } => push_numbered(line, "  current", *version),
-        Item::Retired { version } => push_numbered(line, "  retired", *version),
+        Item::Refused { file, code } => push_two_numbers(
+            line,
+            "  refused file",
+            *file,
+            " code ",
+            *code,
+        ),
+        Item::Current { version } => push_numbered_text(line, "  current", *version),
+        Item::Retired { version } => push_numbered_text(line, "  retired", *version),
         Item::Booted { switch, boot } => {
             push_named_number(line, net, "  booted", *switch, " ", *boot)
         }
         Item::Opened { switch, version } => {
             push_named_number(line, net, "  opened", *switch, " version ", *version)
         }
-        Item::Down { switch } => push_named(line, net, "  down", *switch),
-        Item::OverNow { switch } => push_named(line, net, "  over", *switch),
-        Item::LinkIs { one, two, up } => push_link(line, net, *one, *two, *up),
+        Item::Down { switch } => push_named_switch(line, net, "  down", *switch),
+        Item::OverNow { switch } => push_named_switch(line, net, "  over", *switch),
+        Item::LinkIs { one, two, up } => push_link_item(line, net, *one, *two, *up),
         Item::Nothing => line.push("  nothing"),
     }
 }

@@ -1,14 +1,14 @@
 ghost use Rattle.std.specs.Prelude.{◌≡◌};
 ghost use Rattle.ctrl_msg.specs.declared.message.Body.TheVariants.{CacheRule};
-ghost use Rattle.journal_text.specs.Lines.{advert_text, body_text, boot_text, cache_text, with_name, receiver_text, ruled_text, version_text};
+ghost use Rattle.journal_text.specs.Lines.{advert_text, body_text, boot_text, cache_text, text_with_name, receiver_text, cached_rule_text, version_text};
 ghost use Rattle.journal_text.specs.Sizes.{IsBodyOfType};
 ghost use Rattle.journal_text.specs.AdvertTexts.{AreAdvertTexts};
-ghost use Rattle.lines.specs.Sizes.{IsAction, IsNumber, IsRule};
+ghost use Rattle.lines.specs.Sizes.{IsPrintedAction, IsNumber, IsPrintedRule};
 ghost use Rattle.lines.specs.Pushes.{line_with};
 
 use crate::advert_texts::AdvertTexts;
-use crate::names::push_mask;
-use crate::rows::{push_named_number, push_numbered};
+use crate::names::push_mask_names;
+use crate::rows::{push_named_number, push_numbered_text};
 use ctrl_msg::{Body, Place};
 use failover::Advert;
 use lines::{Line, push_action, push_name, push_rule, push_word};
@@ -17,7 +17,7 @@ use policy_rules::Action;
 use ternary::Word;
 
 /// Adds the receiver of a message.
-pub(crate) fn push_receiver(line: &mut Line, net: &Net, to: Place)
+pub(crate) fn push_message_receiver(line: &mut Line, net: &Net, to: Place)
     ensures { line.new ≡ line_with line.old (receiver_text net.now to) }
 {
     match to {
@@ -28,7 +28,7 @@ pub(crate) fn push_receiver(line: &mut Line, net: &Net, to: Place)
 
 // Adds a boot after a text.
 #[tactic(auto, using(lines::proofs::CallerLemmas::pushed_append))]
-fn push_boot(line: &mut Line, text: &str, boot: u32)
+fn push_boot_number(line: &mut Line, text: &str, boot: u32)
     ensures { line.new ≡ line_with line.old (boot_text text.now boot) }
 {
     line.push(text);
@@ -37,36 +37,36 @@ fn push_boot(line: &mut Line, text: &str, boot: u32)
 }
 
 #[tactic(auto, using(lines::proofs::CallerLemmas::pushed_append))]
-fn push_version(line: &mut Line, text: &str, boot: u32, version: u32)
+fn push_version_number(line: &mut Line, text: &str, boot: u32, version: u32)
     ensures { line.new ≡ line_with line.old (version_text text.now boot version) }
 {
-    push_boot(line, text, boot);
+    push_boot_number(line, text, boot);
     line.push(" version ");
     line.push_number(u64::from(version));
 }
 
 #[tactic(auto, using(lines::proofs::CallerLemmas::pushed_append))]
-fn push_booted(line: &mut Line, net: &Net, text: &str, switch: u32, boot: u32)
-    ensures { line.new ≡ line_with line.old (boot_text (with_name net.now text.now switch) boot) }
+fn push_booted_body(line: &mut Line, net: &Net, text: &str, switch: u32, boot: u32)
+    ensures { line.new ≡ line_with line.old (boot_text (text_with_name net.now text.now switch) boot) }
 {
     push_named_number(line, net, text, switch, " boot ", boot);
 }
 
 #[tactic(auto, using(lines::proofs::CallerLemmas::pushed_append))]
-fn push_answer(line: &mut Line, net: &Net, text: &str, switch: u32, boot: u32, version: u32)
+fn push_answer_body(line: &mut Line, net: &Net, text: &str, switch: u32, boot: u32, version: u32)
     ensures { line.new
-        ≡ line_with line.old (version_text (with_name net.now text.now switch) boot version) }
+        ≡ line_with line.old (version_text (text_with_name net.now text.now switch) boot version) }
 {
-    push_booted(line, net, text, switch, boot);
+    push_booted_body(line, net, text, switch, boot);
     line.push(" version ");
     line.push_number(u64::from(version));
 }
 
 /// Adds a rule and its action.
-#[tactic(auto, using(lines::proofs::CallerLemmas::pushed_append), unfolding(crate::specs::Lines::ruled_text))]
-pub(crate) fn push_ruled(line: &mut Line, rule: Option<u32>, action: Action)
-    ensures text { line.new ≡ line_with line.old (ruled_text rule action) }
-    ensures of_type { IsRule rule × IsAction action }
+#[tactic(auto, using(lines::proofs::CallerLemmas::pushed_append), unfolding(crate::specs::Lines::cached_rule_text))]
+pub(crate) fn push_cached_rule(line: &mut Line, rule: Option<u32>, action: Action)
+    ensures text { line.new ≡ line_with line.old (cached_rule_text rule action) }
+    ensures of_type { IsPrintedRule rule × IsPrintedAction action }
 {
     line.push(" rule ");
     push_rule(line, rule);
@@ -74,19 +74,25 @@ pub(crate) fn push_ruled(line: &mut Line, rule: Option<u32>, action: Action)
     push_action(line, action);
 }
 
-fn push_cache(line: &mut Line, version: u32, word: &Word, rule: Option<u32>, action: Action)
+fn push_cache_rule_body(
+    line: &mut Line,
+    version: u32,
+    word: &Word,
+    rule: Option<u32>,
+    action: Action,
+)
     ensures text { line.new ≡ line_with line.old (cache_text version word.now rule action) }
     ensures of_type { IsBodyOfType (CacheRule version word.now rule action) }
 {
-    push_numbered(line, "cache version", version);
+    push_numbered_text(line, "cache version", version);
     line.push(" word ");
     push_word(line, word);
-    push_ruled(line, rule, action);
+    push_cached_rule(line, rule, action);
 }
 
 /// Adds an advert: its origin, boot and number, and the neighbours that it names.
 #[tactic(auto, using(lines::proofs::CallerLemmas::pushed_append))]
-pub(crate) fn push_advert(line: &mut Line, net: &Net, advert: &Advert)
+pub(crate) fn push_advert_body(line: &mut Line, net: &Net, advert: &Advert)
     ensures text { line.new ≡ line_with line.old (advert_text net.now advert.now) }
     ensures of_type { IsNumber advert.now.boot × IsNumber advert.now.seq }
 {
@@ -96,15 +102,15 @@ pub(crate) fn push_advert(line: &mut Line, net: &Net, advert: &Advert)
         seq,
         up,
     } = *advert;
-    push_booted(line, net, "advert", origin, boot);
+    push_booted_body(line, net, "advert", origin, boot);
     line.push(" seq ");
     line.push_number(u64::from(seq));
     line.push(" up");
-    push_mask(line, net, up);
+    push_mask_names(line, net, up);
 }
 
 /// Adds a message's body.
-pub(crate) fn push_body(line: &mut Line, net: &Net, texts: &mut AdvertTexts, body: &Body)
+pub(crate) fn push_message_body(line: &mut Line, net: &Net, texts: &mut AdvertTexts, body: &Body)
     requires { AreAdvertTexts net.now texts.old }
     ensures text { line.new ≡ line_with line.old (body_text net.now body.now) }
     ensures of_type { IsBodyOfType body.now }
@@ -112,28 +118,28 @@ pub(crate) fn push_body(line: &mut Line, net: &Net, texts: &mut AdvertTexts, bod
 {
     match body {
         Body::Install { boot, tables } => {
-            push_version(line, "install", *boot, tables.tables().version)
+            push_version_number(line, "install", *boot, tables.tables().version)
         }
-        Body::OpenAt { boot, version } => push_version(line, "open", *boot, *version),
-        Body::Stamp { boot, version, .. } => push_version(line, "stamp", *boot, *version),
-        Body::Collect { boot, version } => push_version(line, "collect", *boot, *version),
+        Body::OpenAt { boot, version } => push_version_number(line, "open", *boot, *version),
+        Body::Stamp { boot, version, .. } => push_version_number(line, "stamp", *boot, *version),
+        Body::Collect { boot, version } => push_version_number(line, "collect", *boot, *version),
         Body::CacheRule {
             version,
             word,
             rule,
             action,
-        } => push_cache(line, *version, word, *rule, *action),
+        } => push_cache_rule_body(line, *version, word, *rule, *action),
         Body::Advertise { advert } => texts.push(line, net, advert),
-        Body::Hello { switch, boot } => push_booted(line, net, "hello", *switch, *boot),
+        Body::Hello { switch, boot } => push_booted_body(line, net, "hello", *switch, *boot),
         Body::Installed {
             switch,
             boot,
             version,
-        } => push_answer(line, net, "installed", *switch, *boot, *version),
+        } => push_answer_body(line, net, "installed", *switch, *boot, *version),
         Body::Stamped {
             switch,
             boot,
             version,
-        } => push_answer(line, net, "stamped", *switch, *boot, *version),
+        } => push_answer_body(line, net, "stamped", *switch, *boot, *version),
     }
 }

@@ -1,5 +1,5 @@
 ghost use Rattle.std.specs.Prelude.{◌≡◌, ◌++◌, decimal};
-ghost use Rattle.journal_text.specs.Lines.{with_name, with_number, pair_text, step_text};
+ghost use Rattle.journal_text.specs.Lines.{text_with_name, text_with_number, pair_text, step_text};
 ghost use Rattle.journal_text.specs.Sizes.{IsStepOfType};
 ghost use Rattle.steps.specs.declared.step.Step.TheVariants.{Packet};
 ghost use Rattle.lines.specs.Pushes.{line_with};
@@ -11,8 +11,8 @@ use steps::Step;
 
 /// Adds a number after a text.
 #[tactic(auto, using(lines::proofs::CallerLemmas::pushed_append))]
-pub(crate) fn push_numbered(line: &mut Line, text: &str, n: u32)
-    ensures { line.new ≡ line_with line.old (with_number text.now n) }
+pub(crate) fn push_numbered_text(line: &mut Line, text: &str, n: u32)
+    ensures { line.new ≡ line_with line.old (text_with_number text.now n) }
 {
     line.push(text);
     line.push(" ");
@@ -21,8 +21,8 @@ pub(crate) fn push_numbered(line: &mut Line, text: &str, n: u32)
 
 /// Adds a switch's name after a text.
 #[tactic(auto, using(lines::proofs::CallerLemmas::pushed_append))]
-pub(crate) fn push_named(line: &mut Line, net: &Net, text: &str, s: u32)
-    ensures { line.new ≡ line_with line.old (with_name net.now text.now s) }
+pub(crate) fn push_named_switch(line: &mut Line, net: &Net, text: &str, s: u32)
+    ensures { line.new ≡ line_with line.old (text_with_name net.now text.now s) }
 {
     line.push(text);
     line.push(" ");
@@ -32,59 +32,59 @@ pub(crate) fn push_named(line: &mut Line, net: &Net, text: &str, s: u32)
 /// Adds a switch's name and a number, each after a text.
 #[tactic(auto, using(lines::proofs::CallerLemmas::pushed_append))]
 pub(crate) fn push_named_number(line: &mut Line, net: &Net, text: &str, s: u32, next: &str, n: u32)
-    ensures { line.new ≡ line_with line.old (with_name net.now text.now s ++ next.now
+    ensures { line.new ≡ line_with line.old (text_with_name net.now text.now s ++ next.now
         ++ decimal n) }
 {
-    push_named(line, net, text, s);
+    push_named_switch(line, net, text, s);
     line.push(next);
     line.push_number(u64::from(n));
 }
 
 /// Adds the names of two switches after a text.
 #[tactic(auto, using(lines::proofs::CallerLemmas::pushed_append))]
-pub(crate) fn push_pair(line: &mut Line, net: &Net, text: &str, one: u32, two: u32)
+pub(crate) fn push_switch_pair(line: &mut Line, net: &Net, text: &str, one: u32, two: u32)
     ensures { line.new ≡ line_with line.old (pair_text net.now text.now one two) }
 {
-    push_named(line, net, text, one);
+    push_named_switch(line, net, text, one);
     line.push(" ");
     push_name(line, net, two);
 }
 
 #[tactic(auto, using(lines::proofs::CallerLemmas::pushed_append))]
-fn push_packet(line: &mut Line, net: &Net, switch: u32, header: &Header)
+fn push_packet_row(line: &mut Line, net: &Net, switch: u32, header: &Header)
     ensures text { line.new ≡ line_with line.old (step_text net.now (Packet switch header.now)) }
     ensures of_type { IsStepOfType (Packet switch header.now) }
 {
     let _number = header.number();
-    push_named(line, net, "packet", switch);
+    push_named_switch(line, net, "packet", switch);
     line.push(" ");
     push_fields(line, &header.fields());
 }
 
 /// Adds the fields of a step's row, separated by blanks.
-pub(crate) fn push_step(line: &mut Line, net: &Net, step: &Step)
+pub(crate) fn push_step_row(line: &mut Line, net: &Net, step: &Step)
     ensures text { line.new ≡ line_with line.old (step_text net.now step.now) }
     ensures of_type { IsStepOfType step.now }
 {
     match step {
-        Step::Packet { switch, header } => push_packet(line, net, *switch, header),
-        Step::Hop { packet } => push_numbered(line, "hop", *packet),
-        Step::Lose { packet } => push_numbered(line, "lose", *packet),
-        Step::Deliver { message } => push_numbered(line, "deliver", *message),
-        Step::Forget { message } => push_numbered(line, "forget", *message),
+        Step::Packet { switch, header } => push_packet_row(line, net, *switch, header),
+        Step::Hop { packet } => push_numbered_text(line, "hop", *packet),
+        Step::Lose { packet } => push_numbered_text(line, "lose", *packet),
+        Step::Deliver { message } => push_numbered_text(line, "deliver", *message),
+        Step::Forget { message } => push_numbered_text(line, "forget", *message),
         Step::Expire { switch, place } => {
             push_named_number(line, net, "expire", *switch, " ", *place)
         }
-        Step::Update { file } => push_numbered(line, "update", *file),
+        Step::Update { file } => push_numbered_text(line, "update", *file),
         Step::LinkDown { one, two } => {
-            push_pair(line, net, "linkdown", (*one).min(*two), (*one).max(*two))
+            push_switch_pair(line, net, "linkdown", (*one).min(*two), (*one).max(*two))
         }
         Step::LinkUp { one, two } => {
-            push_pair(line, net, "linkup", (*one).min(*two), (*one).max(*two))
+            push_switch_pair(line, net, "linkup", (*one).min(*two), (*one).max(*two))
         }
-        Step::Crash { switch } => push_named(line, net, "crash", *switch),
-        Step::Restart { switch } => push_named(line, net, "restart", *switch),
-        Step::Confirm { switch } => push_named(line, net, "confirm", *switch),
-        Step::Resend { switch } => push_named(line, net, "resend", *switch),
+        Step::Crash { switch } => push_named_switch(line, net, "crash", *switch),
+        Step::Restart { switch } => push_named_switch(line, net, "restart", *switch),
+        Step::Confirm { switch } => push_named_switch(line, net, "confirm", *switch),
+        Step::Resend { switch } => push_named_switch(line, net, "resend", *switch),
     }
 }

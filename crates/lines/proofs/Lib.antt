@@ -1,5 +1,5 @@
 pub mod CallerLemmas
-mod PieceLemmas
-mod ShortNumbers
-mod HexPairs
-pub mod PrintedLengths
+mod LinePieceLemmas
+mod LineShortNumbers
+mod LineHexPairs
+pub mod LinePrintedLengths

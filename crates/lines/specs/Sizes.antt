@@ -6,10 +6,10 @@ use Rattle.policy_rules.specs.declared.policy.Action.TheVariants.{Drop, Out}
 abbrev pub IsNumber : ℕ → Type 0
 IsNumber n = n < 2 ^ 32
 
-abbrev pub IsRule : Option ℕ → Type 0
-IsRule (Some priority) = IsNumber priority
-IsRule None = ⊤
+abbrev pub IsPrintedRule : Option ℕ → Type 0
+IsPrintedRule (Some priority) = IsNumber priority
+IsPrintedRule None = ⊤
 
-abbrev pub IsAction : Action → Type 0
-IsAction (Out port) = IsNumber port
-IsAction Drop = ⊤
+abbrev pub IsPrintedAction : Action → Type 0
+IsPrintedAction (Out port) = IsNumber port
+IsPrintedAction Drop = ⊤

@@ -9,7 +9,7 @@ static PAIRS: [u8; 200] = *b"\
 75767778798081828384858687888990919293949596979899";
 
 #[inline]
-fn put_pair(bytes: &mut [u8; 2048], len: usize, pair: u64)
+fn put_digit_pair(bytes: &mut [u8; 2048], len: usize, pair: u64)
     requires pair { pair < 100 }
     requires room { len + 2 ≤ 2048 }
     ensures { take (len + 2) bytes.new
@@ -44,14 +44,14 @@ fn put_first(bytes: &mut [u8; 2048], len: usize, n: u64) -> usize
     if n < 10 {
         put_digit(bytes, len, n)
     } else {
-        put_pair(bytes, len, n);
+        put_digit_pair(bytes, len, n);
         len + 2
     }
 }
 
 /// Writes a number of at most six digits, and returns the new length.
 #[inline]
-pub(crate) fn put_short(bytes: &mut [u8; 2048], len: usize, n: u64) -> usize
+pub(crate) fn put_short_number(bytes: &mut [u8; 2048], len: usize, n: u64) -> usize
     requires short { n < 1000000 }
     requires room { len + 6 ≤ 2048 }
     ensures within { result ≤ 2048 }
@@ -61,12 +61,12 @@ pub(crate) fn put_short(bytes: &mut [u8; 2048], len: usize, n: u64) -> usize
         put_first(bytes, len, n)
     } else if n < 10_000 {
         let end = put_first(bytes, len, n / 100);
-        put_pair(bytes, end, n % 100);
+        put_digit_pair(bytes, end, n % 100);
         end + 2
     } else {
         let end = put_first(bytes, len, n / 10_000);
-        put_pair(bytes, end, n / 100 % 100);
-        put_pair(bytes, end + 2, n % 100);
+        put_digit_pair(bytes, end, n / 100 % 100);
+        put_digit_pair(bytes, end + 2, n % 100);
         end + 4
     }
 }

@@ -7,7 +7,7 @@ use crate::line::Line;
 use five_tuple::Fields;
 
 // Adds four numbers joined by dots.
-fn push_dotted(line: &mut Line, a: u8, b: u8, c: u8, d: u8)
+fn push_dotted_bytes(line: &mut Line, a: u8, b: u8, c: u8, d: u8)
     ensures { line.new ≡ line_with line.old
         (join_with_byte 46 (decimal a ∷ decimal b ∷ decimal c ∷ decimal d ∷ [])) }
 {
@@ -26,7 +26,7 @@ pub fn push_address(line: &mut Line, address: u32)
     ensures { line.new ≡ line_with line.old (address_text address) }
 {
     let [a, b, c, d] = address.to_be_bytes();
-    push_dotted(line, a, b, c, d);
+    push_dotted_bytes(line, a, b, c, d);
 }
 
 // Adds a protocol: `icmp`, `tcp` or `udp`, any other as its number.

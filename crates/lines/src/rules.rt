@@ -1,7 +1,7 @@
 ghost use Rattle.std.specs.Prelude.{◌≡◌};
 ghost use Rattle.policy_rules.specs.Policy.{action_text, rule_text};
 ghost use Rattle.ternary.specs.Word.{hex_digits, word_text};
-ghost use Rattle.lines.specs.Sizes.{IsAction, IsRule};
+ghost use Rattle.lines.specs.Sizes.{IsPrintedAction, IsPrintedRule};
 ghost use Rattle.lines.specs.Pushes.{line_with};
 
 use crate::line::Line;
@@ -20,7 +20,7 @@ c0c1c2c3c4c5c6c7c8c9cacbcccdcecfd0d1d2d3d4d5d6d7d8d9dadbdcdddedf\
 e0e1e2e3e4e5e6e7e8e9eaebecedeeeff0f1f2f3f4f5f6f7f8f9fafbfcfdfeff";
 
 // The number in 26 hexadecimal digits.
-fn hex_of(number: u128) -> [u8; 26]
+fn hex_digits_of(number: u128) -> [u8; 26]
     ensures { result ≡ hex_digits 26 number }
 {
     let mut digits = [0; 26];
@@ -41,15 +41,15 @@ fn hex_of(number: u128) -> [u8; 26]
 pub fn push_word(line: &mut Line, word: &Word)
     ensures { line.new ≡ line_with line.old (word_text word.now) }
 {
-    line.push_bytes(&hex_of(word.value()));
+    line.push_bytes(&hex_digits_of(word.value()));
     line.push("/");
-    line.push_bytes(&hex_of(word.mask()));
+    line.push_bytes(&hex_digits_of(word.mask()));
 }
 
 /// Adds a rule's name: the priority of its row, or `default`.
 pub fn push_rule(line: &mut Line, rule: Option<u32>)
     ensures text { line.new ≡ line_with line.old (rule_text rule) }
-    ensures of_type { IsRule rule }
+    ensures of_type { IsPrintedRule rule }
 {
     match rule {
         Some(priority) => line.push_number(u64::from(priority)),
@@ -61,7 +61,7 @@ pub fn push_rule(line: &mut Line, rule: Option<u32>)
 #[tactic(auto, using(crate::proofs::CallerLemmas::pushed_append))]
 pub fn push_action(line: &mut Line, action: Action)
     ensures text { line.new ≡ line_with line.old (action_text action) }
-    ensures of_type { IsAction action }
+    ensures of_type { IsPrintedAction action }
 {
     match action {
         Action::Drop => line.push("drop"),

@@ -1,19 +1,19 @@
-pub mod SpellingLengths
-pub mod FrameSizes
-mod HeldFrames
-pub mod FrameArrivals
-pub mod InOrder
-pub mod InstallationSpelling
-pub mod TablesRestamped
-mod FramesOfReceivers
-mod FirstFrameSpans
-mod InstallationFrames
-mod PostedMessages
-mod RepeatedMessages
-mod CopiedMessages
-mod ComingOut
-pub mod FramedMessages
-pub mod NumberedPosts
-mod TakenMessages
-pub mod WaitingStatuses
-pub mod FramesByStatus
+pub mod BagSpellingLengths
+pub mod BagFrameSizes
+mod BagHeldFrames
+pub mod BagFrameArrivals
+pub mod BagFramesInOrder
+pub mod BagInstallationSpelling
+pub mod BagTablesRestamped
+mod BagFramesOfReceivers
+mod BagFirstFrameSpans
+mod BagInstallationFrames
+mod BagPostedMessages
+mod BagRepeatedMessages
+mod BagCopiedMessages
+mod BagMessagesOut
+pub mod BagFramedMessages
+pub mod BagNumberedPosts
+mod BagTakenMessages
+pub mod BagWaitingStatuses
+pub mod BagFramesByStatus

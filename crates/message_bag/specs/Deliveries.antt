@@ -37,7 +37,7 @@ next_waiting statuses from =
 
 -- the numbers fit 32 bits, and those up to a number were passed: none of them waits and the next
 -- one does, if there is one
-pub record ArePassed (passed : ℕ) (statuses : List MessageState) : Type 0 where
+pub record ArePassedMessages (passed : ℕ) (statuses : List MessageState) : Type 0 where
   pub few : length statuses < 2 ^ 32
   pub within : passed ≤ length statuses
   pub here : passed < length statuses → is_waiting statuses (passed + 1) ≡ true

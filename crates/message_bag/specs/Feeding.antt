@@ -1,7 +1,7 @@
 -- Frames of a message with which an assembler is fed, one after another.
 use Rattle.std.specs.Prelude.{[], ◌<◌, ◌^◌, ◌∷◌, ◌≡◌, All, Contains, List, length, true, ℕ}
 use Rattle.ctrl_msg.specs.declared.message.Message.{Message}
-use Rattle.wire.specs.Exports.{HasSpelling, frames, message, with_frame}
+use Rattle.wire.specs.Exports.{HasSpelling, frames, message, frames_with_frame}
 
 -- a message that is sent in frames: it has an encoding, of fewer than 2^40 bytes
 pub record HasFrames (m : Message) : Type 0 where
@@ -22,6 +22,6 @@ abbrev pub AreAllAmong : Message → List (List ℕ) → Type 0
 AreAllAmong m fed = All (Contains fed) (frames m)
 
 -- the frames of an assembler that was fed with these, the newest first, and refused none
-abbrev pub held_after : List (List ℕ) → List (List ℕ)
-held_after [] = []
-held_after (f ∷ fed) = with_frame (held_after fed) f
+abbrev pub frames_held_after : List (List ℕ) → List (List ℕ)
+frames_held_after [] = []
+frames_held_after (f ∷ fed) = frames_with_frame (frames_held_after fed) f

@@ -25,6 +25,6 @@ abbrev pub install_frames : Place → ℕ → Tables → List (List ℕ)
 install_frames to boot t = frame 0 (frame_count t) (spelled_front to boot) ∷ table_frames t
 
 -- after the first one these frames encode the tables
-pub record AreBehind (t : Tables) (fs : List (List ℕ)) : Type 0 where
+pub record AreFramesBehindFirst (t : Tables) (fs : List (List ℕ)) : Type 0 where
   pub fits : form.tables.fits t ≡ true
   pub are : drop 1 fs ≡ table_frames t

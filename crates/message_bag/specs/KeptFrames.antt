@@ -4,7 +4,7 @@ use Rattle.ctrl_msg.specs.declared.message.Body.{Body}
 use Rattle.ctrl_msg.specs.declared.message.Body.TheVariants.{Install}
 use Rattle.ctrl_msg.specs.declared.message.Message.{Message}
 use Rattle.message_bag.specs.Feeding.{HasFrames, HasShortSpelling}
-use Rattle.message_bag.specs.Installing.{AreBehind, frame_count}
+use Rattle.message_bag.specs.Installing.{AreFramesBehindFirst, frame_count}
 use Rattle.switch_table.specs.declared.tables.Tables.{Tables}
 use Rattle.wire.specs.Exports.{frames, message, n4}
 use Rattle.message_bag.specs.declared.firsts.Span.{Span}
@@ -15,7 +15,7 @@ tables_version (Install boot tables) = Some tables.version
 tables_version _ = None
 
 -- the message of this number is this one, and it has an encoding
-pub record IsPosted (bag : List (List (List ℕ))) (number : ℕ) (m : Message) : Type 0 where
+pub record IsPostedInBag (bag : List (List (List ℕ))) (number : ℕ) (m : Message) : Type 0 where
   pub fits : message.fits m ≡ true
   pub posted : slice_get bag (number - 1) ≡ Some (frames m)
 
@@ -37,9 +37,9 @@ abbrev pub IsWithin : List ℕ → Span → Type 0
 IsWithin bytes span = span.start + span.len ≤ length bytes
 
 -- all frames of a message: its own first one, and the kept ones after their first
-abbrev pub frames_in : List (List (List ℕ)) → First → List (List ℕ)
-frames_in kept (first, None) = first ∷ []
-frames_in kept (first, Some number) = first ∷ drop 1 (get_or kept number [])
+abbrev pub bag_frames_in : List (List (List ℕ)) → First → List (List ℕ)
+bag_frames_in kept (first, None) = first ∷ []
+bag_frames_in kept (first, Some number) = first ∷ drop 1 (get_or kept number [])
 
 abbrev pub IsThere : List (List (List ℕ)) → Option ℕ → Type 0
 IsThere kept None = Unit {0}
@@ -51,7 +51,7 @@ AreOfMessage fs = (m : Message) × HasFrames m × (fs ≡ frames m)
 
 pub record AreKeptFrames (kept : List (List (List ℕ))) (first : First) : Type 0 where
   pub there : IsThere kept first.1
-  pub are : AreOfMessage (frames_in kept first)
+  pub are : AreOfMessage (bag_frames_in kept first)
 
 -- they are the frames of an installation
 pub record AreOfInstall (fs : List (List ℕ)) : Type 0 where
@@ -64,15 +64,15 @@ pub record AreOfInstall (fs : List (List ℕ)) : Type 0 where
 
 -- these are the frames of an installation of these tables, whatever its receiver and its boot
 pub record CarryTables (t : Tables) (fs : List (List ℕ)) : Type 0 where
-  pub behind : AreBehind t fs
+  pub behind : AreFramesBehindFirst t fs
   pub count : length fs ≡ frame_count t
   pub header : take 8 (get_or fs 0 []) ≡ n4.spell 0 ++ n4.spell (frame_count t)
 
 -- these are the frames of an installation of these tables under some version
-pub record CarryRows (t : Tables) (fs : List (List ℕ)) : Type 0 where
+pub record FramesCarryRows (t : Tables) (fs : List (List ℕ)) : Type 0 where
   pub version : ℕ
   pub carry : CarryTables (record t { version = version }) fs
 
 -- what was kept is still kept, under its number
-abbrev pub IsGrown : List (List (List ℕ)) → List (List (List ℕ)) → Type 0
-IsGrown before after = take (length before) after ≡ before
+abbrev pub IsBagGrown : List (List (List ℕ)) → List (List (List ℕ)) → Type 0
+IsBagGrown before after = take (length before) after ≡ before

@@ -13,8 +13,8 @@ unfoldable pub posted_frames : Message → List (List ℕ)
 posted_frames message = if form.fits message then frames message else []
 
 -- the frames of this number are those of the same message, perhaps to another receiver
-abbrev pub IsLike : List (List (List ℕ)) → ℕ → Message → Type 0
-IsLike bag number m =
+abbrev pub IsPostLike : List (List (List ℕ)) → ℕ → Message → Type 0
+IsPostLike bag number m =
     (to : Place) × (item_numbered bag number ≡ Some (posted_frames (record m { to = to })))
 
 abbrev pub Post : Type 0
@@ -30,8 +30,8 @@ returned_number (Ok both) = Ok both.0
 returned_number (Err error) = Err error
 
 -- the statuses of the messages
-abbrev pub statuses_of : List Post → List MessageState
-statuses_of posts = map (λ (post : Post). post.1) posts
+abbrev pub post_statuses_of : List Post → List MessageState
+post_statuses_of posts = map (λ (post : Post). post.1) posts
 
 -- the frames of a post that isn't forgotten
 abbrev pub remembered_frames : Post → Option (List (List ℕ))
@@ -52,16 +52,16 @@ pub record IsMessageOf (posts : List Post) (number : ℕ) (message : Message) : 
 
 -- the least number at or above `from` of a message that was never delivered and isn't forgotten
 abbrev pub next_waiting_post : List Post → ℕ → Option ℕ
-next_waiting_post posts from = statuses.next_waiting (statuses_of posts) from
+next_waiting_post posts from = statuses.next_waiting (post_statuses_of posts) from
 
 -- the post with its status changed
-abbrev pub with_status : (MessageState → MessageState) → Post → Post
-with_status change post = (post.0, change post.1)
+abbrev pub post_with_status : (MessageState → MessageState) → Post → Post
+post_with_status change post = (post.0, change post.1)
 
 -- the posts after the message of the number was delivered, perhaps again
-abbrev pub with_delivered : List Post → ℕ → List Post
-with_delivered posts number = with_changed (with_status statuses.delivered_status) posts number
+abbrev pub posts_with_delivered : List Post → ℕ → List Post
+posts_with_delivered posts number = with_changed (post_with_status statuses.delivered_status) posts number
 
 -- the posts after the message of the number was forgotten: it is never delivered again
-abbrev pub with_forgotten : List Post → ℕ → List Post
-with_forgotten posts number = with_changed (with_status statuses.forgotten_status) posts number
+abbrev pub posts_with_forgotten : List Post → ℕ → List Post
+posts_with_forgotten posts number = with_changed (post_with_status statuses.forgotten_status) posts number

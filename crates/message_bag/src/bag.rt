@@ -1,10 +1,10 @@
 ghost use Rattle.std.specs.Prelude.{◌≡◌, ◌<◌, ◌-◌, ◌^◌, ◌↔◌, ◌⊎◌, [], None, true, length, IfOk, IfSome, IsNone, IsSome, OnOk};
 ghost use Rattle.ctrl_msg.specs.declared.message.Body.TheVariants.{Install};
 ghost use Rattle.wire.specs.Messages.{message as form};
-ghost use Rattle.message_bag.specs.KeptFrames.{IsPosted, tables_version};
+ghost use Rattle.message_bag.specs.KeptFrames.{IsPostedInBag, tables_version};
 ghost use Rattle.message_bag.specs.Feeding.{HasShortSpelling};
 ghost use Rattle.message_bag.specs.Numbered.{HasPosted, item_numbered};
-ghost use Rattle.message_bag.specs.Posts.{IsLike, posted_frames};
+ghost use Rattle.message_bag.specs.Posts.{IsPostLike, posted_frames};
 
 use crate::firsts::Firsts;
 use crate::reading::{message_of_frame, tables_of};
@@ -25,11 +25,11 @@ pub struct Bag {
 
 impl Model for Bag {
     ghost use Rattle.std.specs.Prelude.{List, ℕ, All, map};
-    ghost use Rattle.message_bag.specs.KeptFrames.{AreKeptFrames, frames_in};
+    ghost use Rattle.message_bag.specs.KeptFrames.{AreKeptFrames, bag_frames_in};
 
     ghost Value = { List (List (List ℕ)) };
 
-    ghost view = { λ b. map (frames_in b.tables.items) b.firsts };
+    ghost view = { λ b. map (bag_frames_in b.tables.items) b.firsts };
 
     ghost invariant = { λ b. All (AreKeptFrames b.tables.items) b.firsts };
 }
@@ -87,7 +87,7 @@ impl Bag {
     /// then nothing changes.
     pub fn post_like(&mut self, message: &Message, number: u32) -> Result<u32, AllocError>
         requires spelling { HasShortSpelling message.now }
-        requires like { IsLike self.old number message.now }
+        requires like { IsPostLike self.old number message.now }
         requires few { length self.old < 2 ^ 32 - 1 }
         ensures fits { OnOk result (form.fits message.now ≡ true) }
         ensures posted { HasPosted result (posted_frames message.now) self.old self.new }
@@ -149,7 +149,7 @@ impl Bag {
         ensures none { IfOk result (λ answer.
             IsNone answer ↔ ((number ≡ 0) ⊎ (length self.now < number))) }
         ensures message { IfOk result (λ answer.
-            IfSome answer (λ message. IsPosted self.now number message)) }
+            IfSome answer (λ message. IsPostedInBag self.now number message)) }
     {
         let alloc = *self.tables.allocator();
         if number == 0 {

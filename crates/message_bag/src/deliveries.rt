@@ -1,4 +1,4 @@
-#![tactic(auto, using(crate::proofs::WaitingStatuses::changed_from))]
+#![tactic(auto, using(crate::proofs::BagWaitingStatuses::changed_from))]
 
 ghost use Rattle.std.specs.Prelude.{◌≡◌, ◌<◌, ◌+◌, ◌-◌, ◌^◌, [], ◌∷◌, ◌++◌, List, length, IsTrue, OnOk, OnErr};
 ghost use Rattle.message_bag.specs.Deliveries.{delivered_status, forgotten_status, is_deliverable, may_be_delivered, next_waiting, waiting_status, waits, IsFirstWaiting};
@@ -48,14 +48,14 @@ pub struct Deliveries {
 
 impl Model for Deliveries {
     ghost use Rattle.std.specs.Prelude.{List};
-    ghost use Rattle.message_bag.specs.Deliveries.{ArePassed};
+    ghost use Rattle.message_bag.specs.Deliveries.{ArePassedMessages};
     ghost use Rattle.message_bag.specs.declared.deliveries.MessageState.{MessageState};
 
     ghost Value = { List MessageState };
 
     ghost view = { λ d. d.statuses.items };
 
-    ghost invariant = { λ d. ArePassed d.passed d.statuses.items };
+    ghost invariant = { λ d. ArePassedMessages d.passed d.statuses.items };
 }
 
 impl Deliveries {
@@ -117,7 +117,7 @@ impl Deliveries {
         ensures { self.new ≡ with_changed delivered_status self.old number }
     {
         self.statuses[number as usize - 1].delivered = true;
-        self.passed = first_waiting(&self.statuses, self.passed);
+        self.passed = first_waiting_message(&self.statuses, self.passed);
     }
 
     /// Forgets the message of this number: it is never delivered again.
@@ -126,7 +126,7 @@ impl Deliveries {
         ensures { self.new ≡ with_changed forgotten_status self.old number }
     {
         self.statuses[number as usize - 1].forgotten = true;
-        self.passed = first_waiting(&self.statuses, self.passed);
+        self.passed = first_waiting_message(&self.statuses, self.passed);
     }
 
     /// The least number at or above `from` of a message that was never delivered and isn't
@@ -135,7 +135,7 @@ impl Deliveries {
         ensures { result ≡ next_waiting self.now from }
     {
         let start = from.saturating_sub(1).max(self.passed);
-        let place = first_waiting(&self.statuses, start);
+        let place = first_waiting_message(&self.statuses, start);
         if place < self.count() {
             Some(place + 1)
         } else {
@@ -146,7 +146,7 @@ impl Deliveries {
 
 // The least place at or above this one of a message that waits; if there is none, the number of
 // messages, or this place if it is greater.
-fn first_waiting(statuses: &[MessageState], from: u32) -> u32
+fn first_waiting_message(statuses: &[MessageState], from: u32) -> u32
     requires { length statuses.now < 2 ^ 32 }
     ensures { IsFirstWaiting statuses.now from result }
 {

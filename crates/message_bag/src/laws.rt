@@ -6,7 +6,7 @@ ghost use Rattle.ctrl_msg.specs.declared.message.Place.{Place};
 ghost use Rattle.switch_table.specs.declared.tables.Tables.{Tables};
 ghost use Rattle.wire.specs.Assembly.{AreAllHeld, IsRefusedFrame};
 ghost use Rattle.wire.specs.Frames.{AreFrames, count_in_frame, frames, frames_of_receiver, frames_of_version};
-ghost use Rattle.message_bag.specs.Feeding.{AreAllAmong, AreOf, HasFrames, held_after};
+ghost use Rattle.message_bag.specs.Feeding.{AreAllAmong, AreOf, HasFrames, frames_held_after};
 ghost use Rattle.message_bag.specs.Installing.{install_frames};
 
 /// The frames of a message may come in any order and any number of times: an assembler refuses none
@@ -17,12 +17,12 @@ ghost use Rattle.message_bag.specs.Installing.{install_frames};
 /// message then and at each repeat.
 pub fn frames_come_in_any_order()
     ensures taken { (m : Message) (f : List ℕ) (fed : List (List ℕ)) → HasFrames m
-        → AreOf m (f ∷ fed) → IsRefusedFrame (held_after fed) f → ⊥ }
+        → AreOf m (f ∷ fed) → IsRefusedFrame (frames_held_after fed) f → ⊥ }
     ensures all_held { (m : Message) (f : List ℕ) (fed : List (List ℕ)) → HasFrames m
         → AreOf m (f ∷ fed)
-        → (AreAllHeld (held_after (f ∷ fed)) (count_in_frame f) ↔ AreAllAmong m (f ∷ fed)) }
+        → (AreAllHeld (frames_held_after (f ∷ fed)) (count_in_frame f) ↔ AreAllAmong m (f ∷ fed)) }
     ensures whole { (m : Message) (fed : List (List ℕ)) → HasFrames m → AreOf m fed
-        → AreAllAmong m fed → held_after fed ≡ frames m }
+        → AreAllAmong m fed → frames_held_after fed ≡ frames m }
 {}
 
 /// Frames belong to at most one message.

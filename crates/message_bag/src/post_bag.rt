@@ -1,6 +1,6 @@
 ghost use Rattle.std.specs.Prelude.{◌≡◌, ◌<◌, ◌-◌, ◌^◌, [], length, is_some, IsTrue, IfOk, IfSome};
 ghost use Rattle.message_bag.specs.Numbered.{HasPosted};
-ghost use Rattle.message_bag.specs.Posts.{IsMessageOf, is_post_deliverable, next_waiting_post, new_post, returned_number, with_delivered, with_forgotten};
+ghost use Rattle.message_bag.specs.Posts.{IsMessageOf, is_post_deliverable, next_waiting_post, new_post, returned_number, posts_with_delivered, posts_with_forgotten};
 ghost use Rattle.message_bag.specs.Feeding.{HasShortSpelling};
 
 use crate::deliveries::Deliveries;
@@ -48,7 +48,7 @@ impl PostBag {
     /// # Errors
     /// Only out of memory, or if the first frames of earlier messages have 2^32 bytes or more;
     /// then nothing changes.
-    #[tactic(auto, using(crate::proofs::FramesByStatus::length_of_zip))]
+    #[tactic(auto, using(crate::proofs::BagFramesByStatus::length_of_zip))]
     pub fn post_shared(
         &mut self,
         alloc: Global,
@@ -70,7 +70,7 @@ impl PostBag {
     }
 
     /// How many messages were posted.
-    #[tactic(auto, using(crate::proofs::FramesByStatus::length_of_zip))]
+    #[tactic(auto, using(crate::proofs::BagFramesByStatus::length_of_zip))]
     pub fn sent(&self) -> u32
         ensures { result ≡ length self.now }
     {
@@ -94,7 +94,7 @@ impl PostBag {
     }
 
     /// Whether a message of this number was posted and isn't forgotten.
-    #[tactic(auto, using(crate::proofs::FramesByStatus::deliverable_same))]
+    #[tactic(auto, using(crate::proofs::BagFramesByStatus::deliverable_same))]
     pub fn may_be_delivered(&self, number: u32) -> bool
         ensures { result ≡ is_post_deliverable self.now number }
     {
@@ -102,19 +102,19 @@ impl PostBag {
     }
 
     /// Notes that the message of this number was delivered, perhaps again.
-    #[tactic(auto, using(crate::proofs::FramesByStatus::deliverable_same))]
+    #[tactic(auto, using(crate::proofs::BagFramesByStatus::deliverable_same))]
     pub fn deliver(&mut self, number: u32)
         requires { IsTrue (is_post_deliverable self.old number) }
-        ensures { self.new ≡ with_delivered self.old number }
+        ensures { self.new ≡ posts_with_delivered self.old number }
     {
         self.deliveries.deliver(number);
     }
 
     /// Forgets the message of this number: it is never delivered again.
-    #[tactic(auto, using(crate::proofs::FramesByStatus::deliverable_same))]
+    #[tactic(auto, using(crate::proofs::BagFramesByStatus::deliverable_same))]
     pub fn forget(&mut self, number: u32)
         requires { IsTrue (is_post_deliverable self.old number) }
-        ensures { self.new ≡ with_forgotten self.old number }
+        ensures { self.new ≡ posts_with_forgotten self.old number }
     {
         self.deliveries.forget(number);
     }

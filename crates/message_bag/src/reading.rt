@@ -2,7 +2,7 @@
 ghost use Rattle.std.specs.Prelude.{◌≡◌, ◌∷◌, ◌↔◌, ℕ, [], None, drop, IfOk, IfSome, IsNone, IsSome, OnOk};
 ghost use Rattle.ctrl_msg.specs.declared.message.Body.TheVariants.{Install};
 ghost use Rattle.ctrl_msg.specs.declared.message.Place.{Place};
-ghost use Rattle.wire.specs.Assembly.{AreAllHeld, IsRefusedFrame, with_frame};
+ghost use Rattle.wire.specs.Assembly.{AreAllHeld, IsRefusedFrame, frames_with_frame};
 ghost use Rattle.wire.specs.Frames.{AreFrames, count_in_frame};
 ghost use Rattle.wire.specs.Messages.{IsFront};
 ghost use Rattle.message_bag.specs.KeptFrames.{AreOfInstall, AreOfMessage, CarryTables, tables_version};
@@ -29,7 +29,7 @@ pub fn message_of_frame(alloc: Global, frame: &[u8]) -> Result<Message, AllocErr
 // Feeds the assembler with a frame that it doesn't refuse.
 fn feed(assembler: &mut Assembler, frame: &[u8]) -> Result<Option<Message>, AllocError>
     requires { IsRefusedFrame assembler.old frame.now → ⊥ }
-    ensures held { OnOk result (assembler.new ≡ with_frame assembler.old frame.now) }
+    ensures held { OnOk result (assembler.new ≡ frames_with_frame assembler.old frame.now) }
     ensures some { IfOk result (λ answer.
         IsSome answer ↔ AreAllHeld assembler.new (count_in_frame frame.now)) }
     ensures message { IfOk result (λ answer. IfSome answer (λ m. AreFrames m assembler.new)) }

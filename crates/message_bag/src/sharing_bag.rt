@@ -65,7 +65,7 @@ impl SharingBag {
     /// Only out of memory, or if the first frames of earlier messages have 2^32 bytes or more;
     /// then nothing changes.
     #[inline(always)]
-    #[tactic(auto, using(crate::proofs::RepeatedMessages::same_advert))]
+    #[tactic(auto, using(crate::proofs::BagRepeatedMessages::same_advert))]
     pub fn post_shared(
         &mut self,
         alloc: Global,
@@ -104,9 +104,9 @@ impl SharingBag {
         ensures { HasPosted result (posted_frames message.now) self.old self.new }
     {
         let shared = message.clone()?;
-        make_place(&mut self.last, place)?;
+        make_advert_place(&mut self.last, place)?;
         let origin = place % MAX_SWITCHES as usize;
-        let number = post_first(&mut self.bag, &mut self.last, origin, message)?;
+        let number = post_new_advert(&mut self.bag, &mut self.last, origin, message)?;
         self.last[place] = Some(PostedAdvert {
             message: shared,
             number,
@@ -117,7 +117,7 @@ impl SharingBag {
 
 // Posts an advert that isn't its switch's last one to its receiver. It is encoded only if it isn't
 // its switch's last one that was encoded.
-fn post_first(
+fn post_new_advert(
     bag: &mut Bag,
     adverts: &mut Vec<Option<PostedAdvert>>,
     origin: usize,
@@ -171,8 +171,11 @@ fn place_of(message: &Message) -> Option<usize>
 }
 
 // Makes sure that there is this place, by pushing empty ones.
-#[tactic(auto, using(crate::proofs::RepeatedMessages::padded_same))]
-fn make_place(adverts: &mut Vec<Option<PostedAdvert>>, place: usize) -> Result<(), AllocError>
+#[tactic(auto, using(crate::proofs::BagRepeatedMessages::padded_same))]
+fn make_advert_place(
+    adverts: &mut Vec<Option<PostedAdvert>>,
+    place: usize,
+) -> Result<(), AllocError>
     requires { place < 4160 }
     ensures there { OnOk result (place < length adverts.new.items) }
     ensures same { (k : ℕ) → get_or adverts.new.items k None ≡ get_or adverts.old.items k None }

@@ -4,16 +4,16 @@ ghost use Rattle.ctrl_msg.specs.declared.message.Body.TheVariants.{Install};
 ghost use Rattle.switch_table.specs.declared.tables.Tables.{Tables};
 ghost use Rattle.wire.specs.Frames.{AreFrames, frame, frames};
 ghost use Rattle.message_bag.specs.Feeding.{HasShortSpelling};
-ghost use Rattle.wire.specs.Messages.{IsPlace, message_front, message as form, spelled_front};
-ghost use Rattle.message_bag.specs.KeptFrames.{AreOfMessage, IsGrown, IsInstallOf, CarryRows, CarryTables, frames_in};
+ghost use Rattle.wire.specs.Messages.{IsWirePlace, message_front, message as form, spelled_front};
+ghost use Rattle.message_bag.specs.KeptFrames.{AreOfMessage, IsBagGrown, IsInstallOf, FramesCarryRows, CarryTables, bag_frames_in};
 
-use crate::digest::digest_of;
+use crate::digest::tables_digest_of;
 use crate::reading::{front_of, tables_in};
 use ctrl_msg::{Body, Message, Place, SharedTables, are_same_tables, have_same_rows};
 use std::alloc::{AllocError, Global};
 use std::marker::Model;
 use switch_table::{PartRow, Tables};
-use wire::{Frames, HEADER_LEN, append_front, split};
+use wire::{Frames, HEADER_LEN, append_install_front, split};
 
 /// How many bits the number of a packet's header has.
 const HEADER_BITS: u32 = 104;
@@ -53,7 +53,7 @@ impl TableFrames {
             said,
             frames,
             version: tables.version,
-            digest: digest_of(tables),
+            digest: tables_digest_of(tables),
         })
     }
 
@@ -83,7 +83,7 @@ impl TableFrames {
 
     // Whether they encode these tables, which have this digest, under some version.
     fn carry_rows(&self, tables: &Tables, digest: usize) -> bool
-        ensures { IsTrue result → CarryRows tables.now self.now }
+        ensures { IsTrue result → FramesCarryRows tables.now self.now }
     {
         self.digest == digest && have_same_rows(self.said.tables(), tables)
     }
@@ -91,7 +91,7 @@ impl TableFrames {
     // Appends the first frame of an installation of these tables: only the receiver and
     // the boot are its own.
     fn put_first(&self, out: &mut Vec<u8>, to: Place, boot: u32) -> Result<(), AllocError>
-        requires { IsPlace to }
+        requires { IsWirePlace to }
         ensures fits { OnOk result (message_front.fits (to, (1, boot)) ≡ true) }
         ensures put { OnOk result (out.new.items
             ≡ out.old.items ++ frame 0 (length self.now) (spelled_front to boot)) }
@@ -100,7 +100,7 @@ impl TableFrames {
             Some(own) => out.extend_from_slice(own.split_at(HEADER_LEN).0)?,
             None => unreachable!(),
         }
-        append_front(out, to, boot)
+        append_install_front(out, to, boot)
     }
 
     /// The message of this first frame and those after it. All such messages share the tables.
@@ -126,7 +126,7 @@ impl TableFrames {
 fn with_trees(alloc: Global, tables: SharedTables) -> Result<SharedTables, AllocError>
     ensures { IfOk result (λ grown. grown ≡ tables) }
 {
-    if are_whole(tables.tables().parts.items()) {
+    if are_regions_whole(tables.tables().parts.items()) {
         tables.with_trees(alloc)
     } else {
         Ok(tables)
@@ -134,7 +134,7 @@ fn with_trees(alloc: Global, tables: SharedTables) -> Result<SharedTables, Alloc
 }
 
 // Whether the regions together have as many headers as there are.
-fn are_whole(rows: &[PartRow]) -> bool {
+fn are_regions_whole(rows: &[PartRow]) -> bool {
     let mut headers: u128 = 0;
     for row in rows {
         let free = HEADER_BITS.saturating_sub(row.region.mask().count_ones());
@@ -148,16 +148,16 @@ fn find(kept: &[TableFrames], tables: &Tables) -> Option<usize>
     ensures there { IfSome result (λ number. number < length kept.now) }
     ensures carry { IfSome result (λ number. CarryTables tables.now (get_or kept.now number [])) }
 {
-    let digest = digest_of(tables);
+    let digest = tables_digest_of(tables);
     kept.iter().rposition(|frames| frames.carry(tables, digest))
 }
 
 // The number of the frames that encode these tables under any version; `None` if there are none.
-fn find_rows(kept: &[TableFrames], tables: &Tables) -> Option<usize>
+fn find_kept_rows(kept: &[TableFrames], tables: &Tables) -> Option<usize>
     ensures there { IfSome result (λ number. number < length kept.now) }
-    ensures carry { IfSome result (λ number. CarryRows tables.now (get_or kept.now number [])) }
+    ensures carry { IfSome result (λ number. FramesCarryRows tables.now (get_or kept.now number [])) }
 {
-    let digest = digest_of(tables);
+    let digest = tables_digest_of(tables);
     kept.iter()
         .rposition(|frames| frames.carry_rows(tables, digest))
 }
@@ -173,7 +173,7 @@ fn made(
     requires { IsInstallOf message.now tables.now }
     ensures { IfOk result (CarryTables tables.now) }
 {
-    match find_rows(kept, tables) {
+    match find_kept_rows(kept, tables) {
         Some(number) => Ok(kept[number].with_version(alloc, tables.version)?),
         None => Ok(TableFrames::new(alloc, message, tables)?),
     }
@@ -191,7 +191,7 @@ fn keep(
     ensures there { IfOk result (λ number. number < length kept.new.items) }
     ensures carry { IfOk result (λ number.
         CarryTables tables.now (get_or kept.new.items number [])) }
-    ensures grown { IsGrown kept.old.items kept.new.items }
+    ensures grown { IsBagGrown kept.old.items kept.new.items }
 {
     match find(kept, tables) {
         Some(number) => Ok(number),
@@ -223,8 +223,8 @@ pub fn spell(
     ensures there { IfOk result (λ number. number < length kept.new.items) }
     ensures fits { OnOk result (form.fits message.now ≡ true) }
     ensures own { IfOk result (λ number.
-        frames_in kept.new.items (first.new.items, Some number) ≡ frames message.now) }
-    ensures grown { IsGrown kept.old.items kept.new.items }
+        bag_frames_in kept.new.items (first.new.items, Some number) ≡ frames message.now) }
+    ensures grown { IsBagGrown kept.old.items kept.new.items }
 {
     let number = keep(kept, alloc, message, tables.tables())?;
     first.clear();

@@ -2,7 +2,7 @@
 use Rattle.std.proofs.Common.{[], ◌++◌, ◌+◌, ◌<◌, ◌∙◌, ◌∷◌, ◌≡◌, ◌≤◌, List, ap, append-nil, append_assoc, drop, drop_of_length-le, flat_map, get_or, length, map, remove, set, sym, ℕ}
 use Rattle.base.proofs.Exports.{drop_at_item, drop_removed, drop_set}
 use Rattle.policy_rules.specs.declared.packet.Leaving.{Leaving}
-use Rattle.meters.specs.Exports.{BoardValue, PortLeavings, Seen, board_after, gone_after, gone_records, kept_meters, leaving_records, meters_after}
+use Rattle.meters.specs.Exports.{BoardValue, PortLeavings, Seen, board_after, meters_gone_after, gone_records, kept_meters, leaving_records, meters_after}
 use Rattle.meters.specs.declared.flows.FlowRecord.{FlowRecord}
 use Rattle.meters.proofs.MetersKept.{kept-nothing, kept_on}
 
@@ -45,25 +45,25 @@ module _ {M : Type 0} (seen : M → Seen) (one : ℕ × Leaving) where
 -- ---- more leavings
 
 -- the records of the earlier leavings come first
-pub gone_on : (left more : PortLeavings) (meters : List Seen) → gone_after (left ++ more) meters
-    ≡ gone_after left meters ++ gone_after more (meters_after left meters)
-gone_on [] more meters = ap (gone_after more) (sym (kept-nothing meters))
+pub gone_on : (left more : PortLeavings) (meters : List Seen) → meters_gone_after (left ++ more) meters
+    ≡ meters_gone_after left meters ++ meters_gone_after more (meters_after left meters)
+gone_on [] more meters = ap (meters_gone_after more) (sym (kept-nothing meters))
 gone_on (one ∷ left) more meters =
     let now = meters_after (one ∷ []) meters in
     let first = flat_map (leaving_records one) meters in
     ap (λ rest. first ++ rest) (gone_on left more now
-    ∙ ap (λ last. gone_after left now ++ gone_after more last) (sym (kept_on (one ∷ []) left meters)))
-    ∙ sym (append_assoc first (gone_after left now) (gone_after more (meters_after (one ∷ left) meters)))
+    ∙ ap (λ last. meters_gone_after left now ++ meters_gone_after more last) (sym (kept_on (one ∷ []) left meters)))
+    ∙ sym (append_assoc first (meters_gone_after left now) (meters_gone_after more (meters_after (one ∷ left) meters)))
 
 pub board_on : (ports : ℕ) (left more : PortLeavings) (meters : List Seen)
     → (old new : BoardValue Seen) → old ≡ board_after ports left meters
     → new.meters ≡ meters_after more old.meters
-    → new.gone ≡ old.gone ++ gone_after more old.meters → new ≡ board_after ports (left ++ more) meters
+    → new.gone ≡ old.gone ++ meters_gone_after more old.meters → new ≡ board_after ports (left ++ more) meters
 board_on ports left more meters old new until_now noted told =
     let kept : new.meters ≡ kept_meters ports (left ++ more) meters =
     noted ∙ ap (λ (board : BoardValue Seen). meters_after more board.meters) until_now
     ∙ sym (kept_on left more _) in
     let gone : new.gone ≡ gone_records ports (left ++ more) meters =
-    told ∙ ap (λ (board : BoardValue Seen). board.gone ++ gone_after more board.meters) until_now
+    told ∙ ap (λ (board : BoardValue Seen). board.gone ++ meters_gone_after more board.meters) until_now
     ∙ sym (gone_on left more _) in
     λ i. record { meters = kept i; gone = gone i }

@@ -2,7 +2,7 @@
 use Rattle.std.proofs.Common.{[], ◌++◌, ◌+◌, ◌<◌, ◌==◌, ◌||◌, ◌∙◌, ◌∷◌, ◌≡◌, ◌≢◌, ◌≤◌, Bool, List, add-one, ap, append-nil, append_assoc, arith, cond, drop, drop_of_length-le, false, filter, get_or, length, length-take-le, map, ne_eqb, not, refl, remove, set, suc, sym, take, take_all, true, zero, ℕ}
 use Rattle.base.proofs.Exports.{drop_at_item, drop_set, filter-append, list_any, map-append, nat_tests, or_assoc, range_with_len, remove-set, seam_at, take_more_set}
 use Rattle.policy_rules.specs.declared.packet.Leaving.{Leaving}
-use Rattle.meters.specs.Exports.{IsNoted, PortLeavings, Seen, has_ended, is_ended_within, leavings_of, meter_with, meters_after}
+use Rattle.meters.specs.Exports.{IsMeterNoted, PortLeavings, Seen, has_ended, is_ended_within, leavings_of, meter_with, meters_after}
 use Rattle.meters.specs.declared.meter.Stay.TheVariants as stay
 
 -- ---- the moments of one meter
@@ -111,7 +111,7 @@ over_after_one leaving old new over is_new is_over_now =
     ap (λ now. now || false) (ap has_ended (sym is_new) ∙ is_over_now)
 
 pub kept-stay : (port : ℕ) (leaving : Leaving) (old new : Seen) → old.port ≡ port
-    → IsNoted leaving old new stay.Stay → meters_after ((port, leaving) ∷ []) (old ∷ []) ≡ new ∷ []
+    → IsMeterNoted leaving old new stay.Stay → meters_after ((port, leaving) ∷ []) (old ∷ []) ≡ new ∷ []
 kept-stay port leaving old new here noted = rw (
   kept-one ((port, leaving) ∷ []) old,
   leavings_here port leaving old here,
@@ -119,7 +119,7 @@ kept-stay port leaving old new here noted = rw (
 ) (ap (λ m. m ∷ []) (sym noted.0))
 
 pub kept-leave : (port : ℕ) (leaving : Leaving) (old new : Seen) → old.port ≡ port
-    → IsNoted leaving old new stay.Leave → meters_after ((port, leaving) ∷ []) (old ∷ []) ≡ []
+    → IsMeterNoted leaving old new stay.Leave → meters_after ((port, leaving) ∷ []) (old ∷ []) ≡ []
 kept-leave port leaving old new here noted = rw (
   kept-one ((port, leaving) ∷ []) old,
   leavings_here port leaving old here,

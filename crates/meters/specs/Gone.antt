@@ -7,23 +7,23 @@ use Rattle.meters.specs.Seen.{Seen}
 use Rattle.meters.specs.declared.flows.FlowRecord.{FlowRecord}
 
 -- the meter leaves with this leaving, which is by the meter's port and completes its list
-abbrev pub leaves_with : ℕ × Leaving → Seen → Bool
-leaves_with one meter = (one.0 == meter.port) && has_ended (meter_with (one.1 ∷ []) meter)
+abbrev pub meter_leaves_with : ℕ × Leaving → Seen → Bool
+meter_leaves_with one meter = (one.0 == meter.port) && has_ended (meter_with (one.1 ∷ []) meter)
 
 -- the records of a meter that leaves with this leaving, for the list that it then has
 abbrev pub leaving_records : ℕ × Leaving → Seen → List FlowRecord
 leaving_records one meter =
-    if leaves_with one meter then flow_records_of (meter_with (one.1 ∷ []) meter) else []
+    if meter_leaves_with one meter then flow_records_of (meter_with (one.1 ∷ []) meter) else []
 
 -- the records of the meters that leave while packets leave, leaving by leaving and meter by meter
-abbrev pub gone_after : PortLeavings → List Seen → List FlowRecord
-gone_after [] meters = []
-gone_after (one ∷ left) meters =
-    flat_map (leaving_records one) meters ++ gone_after left (meters_after (one ∷ []) meters)
+abbrev pub meters_gone_after : PortLeavings → List Seen → List FlowRecord
+meters_gone_after [] meters = []
+meters_gone_after (one ∷ left) meters =
+    flat_map (leaving_records one) meters ++ meters_gone_after left (meters_after (one ∷ []) meters)
 
 -- the records of the meters that leave in a network with these ports
 abbrev pub gone_records : ℕ → PortLeavings → List Seen → List FlowRecord
-gone_records ports left meters = gone_after left (filter (λ meter. has ports meter.port) meters)
+gone_records ports left meters = meters_gone_after left (filter (λ meter. has ports meter.port) meters)
 
 -- the meters on a board, in order, and the records of those that left it
 pub record BoardValue (M : Type 0) : Type 0 where

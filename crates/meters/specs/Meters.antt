@@ -13,7 +13,7 @@ pub record Recorded : Type 0 where
   pub held : List Leaving
 
 -- a recorder that is complete when it has recorded this many leavings
-pub record Limited : Type 0 where
+pub record LimitedMeter : Type 0 where
   pub recorder : Recorded
   pub most : ℕ
 
@@ -30,10 +30,10 @@ abbrev pub flow_records_of : Seen → List FlowRecord
 flow_records_of meter = meter.recorded meter.held
 
 -- a meter after it recorded a leaving, by its result
-abbrev pub IsNoted : Leaving → Seen → Seen → Stay → Type 0
-IsNoted leaving old new stay.Stay = (new ≡ meter_with (leaving ∷ []) old) × (has_ended new ≡ false)
-IsNoted leaving old new stay.Leave = (new ≡ meter_with (leaving ∷ []) old) × (has_ended new ≡ true)
-IsNoted leaving old new stay.NoMemory = new ≡ old
+abbrev pub IsMeterNoted : Leaving → Seen → Seen → Stay → Type 0
+IsMeterNoted leaving old new stay.Stay = (new ≡ meter_with (leaving ∷ []) old) × (has_ended new ≡ false)
+IsMeterNoted leaving old new stay.Leave = (new ≡ meter_with (leaving ∷ []) old) × (has_ended new ≡ true)
+IsMeterNoted leaving old new stay.NoMemory = new ≡ old
 
 -- leavings of all ports, in order, each with its port
 abbrev pub PortLeavings : Type 0

@@ -2,7 +2,7 @@
 ghost use Rattle.std.specs.Prelude.{◌≡◌, ◌∷◌, ◌++◌, [], map, filter, OnOk};
 ghost use Rattle.base.specs.Masks.{has};
 ghost use Rattle.meters.specs.Meters.{meters_after, kept_meters, flow_records_of};
-ghost use Rattle.meters.specs.Gone.{GainsLeaving, gone_after, seen_board, leaving_records};
+ghost use Rattle.meters.specs.Gone.{GainsLeaving, meters_gone_after, seen_board, leaving_records};
 
 use crate::flows::Flows;
 use crate::meter::{Meter, Stay};
@@ -49,13 +49,13 @@ impl<M: Meter> Board<M> {
         ensures noted { OnOk result (map M.seen self.new.meters
             ≡ meters_after ((port, leaving.now) ∷ []) (map M.seen self.old.meters)) }
         ensures told { OnOk result (self.new.gone
-            ≡ self.old.gone ++ gone_after ((port, leaving.now) ∷ []) (map M.seen self.old.meters)) }
+            ≡ self.old.gone ++ meters_gone_after ((port, leaving.now) ∷ []) (map M.seen self.old.meters)) }
         ensures goes_on { OnOk result
             (GainsLeaving (port, leaving.now) (seen_board M.seen self.old) (seen_board M.seen self.new)) }
     {
         let mut at = 0;
         while at < self.meters.len() {
-            match offer(&mut self.meters[at], port, leaving) {
+            match offer_leaving(&mut self.meters[at], port, leaving) {
                 Stay::Stay => at += 1,
                 Stay::Leave => {
                     let meter = self.meters.remove(at);
@@ -91,7 +91,7 @@ fn has_port(ports: u64, port: u32) -> bool
 }
 
 /// Lets a meter of this port record the leaving; a meter of another port stays unchanged.
-fn offer<M: Meter>(meter: &mut M, port: u32, leaving: &Leaving) -> Stay
+fn offer_leaving<M: Meter>(meter: &mut M, port: u32, leaving: &Leaving) -> Stay
     ensures stay { result ≡ Stay.Stay
         → meters_after ((port, leaving.now) ∷ []) (M.seen meter.old ∷ []) ≡ M.seen meter.new ∷ [] }
     ensures leave { result ≡ Stay.Leave

@@ -70,9 +70,9 @@ pub struct FirstN {
 }
 
 impl Model for FirstN {
-    ghost use Rattle.meters.specs.Meters.{Limited};
+    ghost use Rattle.meters.specs.Meters.{LimitedMeter};
 
-    ghost Value = { Limited };
+    ghost Value = { LimitedMeter };
 
     ghost view = { λ m. record { recorder = m.recorder; most = m.most } };
 }

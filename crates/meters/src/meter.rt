@@ -1,6 +1,6 @@
 //! What each kind of meter does: the trait `Meter`.
 ghost use Rattle.std.specs.Prelude.{◌≡◌, length, IfOk};
-ghost use Rattle.meters.specs.Meters.{IsNoted, flow_records_of};
+ghost use Rattle.meters.specs.Meters.{IsMeterNoted, flow_records_of};
 ghost use Rattle.meters.specs.Seen.{Seen};
 
 use crate::flows::Flows;
@@ -29,7 +29,7 @@ pub trait Meter: Drop {
 
     /// Appends the leaving to its list, and says whether the list is then complete.
     fn note(&mut self, leaving: &Leaving) -> Stay
-        ensures { IsNoted leaving.now (seen self.old) (seen self.new) result };
+        ensures { IsMeterNoted leaving.now (seen self.old) (seen self.new) result };
 
     /// How many leavings it has recorded.
     fn notes(&self) -> u64

@@ -1,7 +1,7 @@
-pub mod ValueItems
-pub mod MaskBits
-pub mod FreshPorts
-pub mod RowRefusals
-pub mod SoundNetworks
-pub mod RowPlaces
-pub mod NameLemmas
+pub mod NetFileValueItems
+pub mod NetFilePortMasks
+pub mod NetFileFreshPorts
+pub mod NetFileRowRefusals
+pub mod NetFileSoundness
+pub mod NetFileRowPlaces
+pub mod NetFileNames

@@ -7,9 +7,9 @@ use Rattle.net_file.specs.declared.error.NetRefusal.{NetRefusal}
 use Rattle.net_file.specs.declared.error.NetRefusal.TheVariants as refusal
 
 -- the items of an array as a list
-abbrev pub items_list : Items → List Data
-items_list no_items = []
-items_list (item d ds) = d ∷ items_list ds
+abbrev pub toml_items_list : Items → List Data
+toml_items_list no_items = []
+toml_items_list (item d ds) = d ∷ toml_items_list ds
 
 -- a value of the type, or the refusal of another type
 abbrev pub of_type : {X : Type 0} → Option X → Result X NetRefusal
@@ -28,5 +28,5 @@ integer_within low high (pos n) = if nat_le low n && nat_le n high then Some n e
 integer_within low high (negsuc n) = None
 
 -- an integer that must lie from low to high
-abbrev pub number_within : ℕ → ℕ → ℤ → Result ℕ NetRefusal
-number_within low high z = option_map_or Ok (integer_within low high z) (Err refusal.Range)
+abbrev pub toml_number_within : ℕ → ℕ → ℤ → Result ℕ NetRefusal
+toml_number_within low high z = option_map_or Ok (integer_within low high z) (Err refusal.Range)

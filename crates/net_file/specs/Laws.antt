@@ -5,7 +5,7 @@ use Rattle.net_file.specs.declared.net.SwitchRow.{SwitchRow}
 use Rattle.net_file.specs.declared.net.LinkRow.{LinkRow}
 use Rattle.net_file.specs.declared.net.Net.{Net}
 use Rattle.net_file.specs.Net.{IsNet, is_name}
-use Rattle.net_file.specs.Owners.{have_name, port_mask, switch_number, links_of}
+use Rattle.net_file.specs.Owners.{have_switch_name, port_mask, switch_number, links_of}
 use Rattle.net_file.specs.Joins.{are_linked, has_port, owner_of}
 
 -- the byte is no comma, no blank and no line feed
@@ -27,7 +27,7 @@ pub record NameLaws : Type 0 where
   pub below : (switches : List SwitchRow) (name : List ℕ) (s : ℕ)
       → switch_number switches name ≡ Some s → s < length switches
   pub some : (switches : List SwitchRow) (name : List ℕ)
-      → is_some (switch_number switches name) ≡ have_name switches name
+      → is_some (switch_number switches name) ≡ have_switch_name switches name
 
 pub record PortLaws : Type 0 where
   -- the owner of a port is the one switch that has it
@@ -43,8 +43,8 @@ pub record PortLaws : Type 0 where
       → (bit_at (port_mask net.switches) port == 1) ≡ is_some (owner_of net.switches port)
 
 -- the mask has exactly the bits for which the test is true
-abbrev pub IsMask : ℕ → (ℕ → Bool) → Type 0
-IsMask mask test = (k : ℕ) → (bit_at mask k == 1) ≡ test k
+abbrev pub IsPortMask : ℕ → (ℕ → Bool) → Type 0
+IsPortMask mask test = (k : ℕ) → (bit_at mask k == 1) ≡ test k
 
 pub record NetLinkLaws : Type 0 where
   pub both_ways : (links : List LinkRow) (s x : ℕ) → are_linked links s x ≡ are_linked links x s
@@ -52,4 +52,4 @@ pub record NetLinkLaws : Type 0 where
   pub below : (net : Net) (s x : ℕ) → IsNet net → are_linked net.links s x ≡ true
       → x < length net.switches
   pub mask : (net : Net) (s : ℕ) → IsNet net
-      → IsMask (links_of net.links s) (are_linked net.links s)
+      → IsPortMask (links_of net.links s) (are_linked net.links s)

@@ -38,7 +38,7 @@ pub record AreApart (a b : SwitchRow) : Type 0 where
   pub ports : (port : ℕ) → IsTrue (has_port port a) → IsFalse (has_port port b)
 
 -- a link between two different switches, if there are this many
-pub record IsLink (count : ℕ) (link : LinkRow) : Type 0 where
+pub record IsNetLink (count : ℕ) (link : LinkRow) : Type 0 where
   pub one : link.one < count
   pub two : link.two < count
   pub apart : link.one ≢ link.two
@@ -54,7 +54,7 @@ pub record IsNet (net : Net) : Type 0 where
   pub switches : All IsSwitchRow net.switches
   pub apart : AllPairs AreApart net.switches
   pub few_links : length net.links ≤ 256
-  pub links : All (IsLink (length net.switches)) net.links
+  pub links : All (IsNetLink (length net.switches)) net.links
   pub others : AllPairs AreOther net.links
   pub some_rules : 1 ≤ net.leaf_rules
   pub leaf_rules : net.leaf_rules ≤ 8192
@@ -72,9 +72,9 @@ solo_net = record {
 }
 
 -- the name of the switch of this number; empty if there is no such switch
-abbrev pub name_of : Net → ℕ → List ℕ
-name_of net s = option_map_or (λ row. row.name) (slice_get net.switches s) []
+abbrev pub switch_name_of : Net → ℕ → List ℕ
+switch_name_of net s = option_map_or (λ row. row.name) (slice_get net.switches s) []
 
 -- the names of switches, each after a blank
 abbrev pub names_text : Net → List ℕ → List ℕ
-names_text net list = flat_map (λ s. codes " " ++ name_of net s) list
+names_text net list = flat_map (λ s. codes " " ++ switch_name_of net s) list

@@ -11,16 +11,16 @@ abbrev pub port_owner : Ports → ℕ → Option ℕ
 port_owner ports port = slice_index_or ports.owners port None
 
 -- the table says which of the switches has each port
-abbrev pub AreOwners : List SwitchRow → Ports → Type 0
-AreOwners switches ports = (port : ℕ) → port_owner ports port ≡ owner_of switches port
+abbrev pub ArePortOwners : List SwitchRow → Ports → Type 0
+ArePortOwners switches ports = (port : ℕ) → port_owner ports port ≡ owner_of switches port
 
 -- the number of the switch with this name: its place, from 0
 abbrev pub switch_number : List SwitchRow → List ℕ → Option ℕ
 switch_number switches name = position (λ row. bytes_eq row.name name) switches
 
 -- one of the switches has the name; one has the port
-abbrev pub have_name : List SwitchRow → List ℕ → Bool
-have_name switches name = list_any (λ row. bytes_eq row.name name) switches
+abbrev pub have_switch_name : List SwitchRow → List ℕ → Bool
+have_switch_name switches name = list_any (λ row. bytes_eq row.name name) switches
 
 abbrev pub have_port : List SwitchRow → ℕ → Bool
 have_port switches port = list_any (has_port port) switches

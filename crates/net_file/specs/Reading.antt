@@ -3,43 +3,43 @@ use Rattle.std.specs.Prelude.{[], if◌then◌else◌, ◌&&◌, ◌++◌, ◌+�
 use Rattle.base.specs.Exports.{in_row, is_utf8, list_all, list_any, mask_of}
 use Rattle.toml.specs.Data.{Data, Members, as_integer, as_str, as_array, as_table}
 use Rattle.toml.specs.Parse.{parse_document}
-use Rattle.net_file.specs.Keys.{at_key, items_list, number_within, of_type, integer_within}
+use Rattle.net_file.specs.Keys.{at_key, toml_items_list, toml_number_within, of_type, integer_within}
 use Rattle.net_file.specs.Net.{is_name}
-use Rattle.net_file.specs.Refusals.{require, with_value}
+use Rattle.net_file.specs.Refusals.{require_net_value, with_toml_value}
 use Rattle.base.specs.declared.row.InRow.{InRow}
 use Rattle.net_file.specs.declared.error.NetRefusal.{NetRefusal}
 use Rattle.net_file.specs.declared.error.NetRefusal.TheVariants as refusal
 use Rattle.net_file.specs.declared.net.SwitchRow.{SwitchRow}
 use Rattle.net_file.specs.declared.net.LinkRow.{LinkRow}
 use Rattle.net_file.specs.declared.net.Net.{Net}
-use Rattle.net_file.specs.Owners.{have_name, have_port, switch_number}
+use Rattle.net_file.specs.Owners.{have_switch_name, have_port, switch_number}
 use Rattle.net_file.specs.Joins.{are_linked}
 
 -- ---- kinds of values
 
-abbrev pub number_stated : ℕ → ℕ → Data → Result ℕ NetRefusal
-number_stated low high d = with_value (of_type (as_integer d)) (number_within low high)
+abbrev pub toml_number_stated : ℕ → ℕ → Data → Result ℕ NetRefusal
+toml_number_stated low high d = with_toml_value (of_type (as_integer d)) (toml_number_within low high)
 
-abbrev pub array_in : Data → Result (List Data) NetRefusal
-array_in d = with_value (of_type (as_array d)) (λ items. Ok (items_list items))
+abbrev pub toml_array_in : Data → Result (List Data) NetRefusal
+toml_array_in d = with_toml_value (of_type (as_array d)) (λ items. Ok (toml_items_list items))
 
-abbrev pub name_in : Data → Result (List ℕ) NetRefusal
-name_in d = with_value (of_type (as_str d)) (λ text. require (is_name text) refusal.Range (Ok text))
+abbrev pub toml_name_in : Data → Result (List ℕ) NetRefusal
+toml_name_in d = with_toml_value (of_type (as_str d)) (λ text. require_net_value (is_name text) refusal.Range (Ok text))
 
 -- a port of the array `ports`
-abbrev pub port_read : Data → Option ℕ
-port_read d = option_and_then (integer_within 0 63) (as_integer d)
+abbrev pub toml_port_read : Data → Option ℕ
+toml_port_read d = option_and_then (integer_within 0 63) (as_integer d)
 
-abbrev pub ports_of : List Data → List ℕ
-ports_of ds = filter_map port_read ds
+abbrev pub toml_ports_of : List Data → List ℕ
+toml_ports_of ds = filter_map toml_port_read ds
 
 -- the ports of an array; the type of each is checked before the range of any
-abbrev pub ports_in : Data → Result (List ℕ) NetRefusal
-ports_in d =
-    with_value (array_in d) (λ ports.
-    require (list_all (λ port. is_some (as_integer port)) ports) refusal.WrongType (
-    require (list_all (λ port. is_some (port_read port)) ports) refusal.Range (
-    Ok (ports_of ports))))
+abbrev pub toml_ports_in : Data → Result (List ℕ) NetRefusal
+toml_ports_in d =
+    with_toml_value (toml_array_in d) (λ ports.
+    require_net_value (list_all (λ port. is_some (as_integer port)) ports) refusal.WrongType (
+    require_net_value (list_all (λ port. is_some (toml_port_read port)) ports) refusal.Range (
+    Ok (toml_ports_of ports))))
 
 -- exactly two texts
 abbrev pub texts_of : List Data → Option (List ℕ × List ℕ)
@@ -47,14 +47,14 @@ texts_of (one ∷ two ∷ []) =
     option_and_then (λ one. option_and_then (λ two. Some (one, two)) (as_str two)) (as_str one)
 texts_of _ = None
 
-abbrev pub ends_in : Data → Result (List ℕ × List ℕ) NetRefusal
-ends_in d = with_value (array_in d) (λ ends. of_type (texts_of ends))
+abbrev pub toml_ends_in : Data → Result (List ℕ × List ℕ) NetRefusal
+toml_ends_in d = with_toml_value (toml_array_in d) (λ ends. of_type (texts_of ends))
 
 -- ---- settings
 
 -- a number of the document, or its default if the key is absent
 abbrev pub number_or_default : Members → List ℕ → ℕ → ℕ → ℕ → Result ℕ NetRefusal
-number_or_default table key low high default = at_key (number_stated low high) (Ok default) table
+number_or_default table key low high default = at_key (toml_number_stated low high) (Ok default) table
     key
 
 -- ---- switches
@@ -62,25 +62,25 @@ number_or_default table key low high default = at_key (number_stated low high) (
 -- the array `switch` itself
 abbrev pub switch_array : Members → Result (List Data) NetRefusal
 switch_array table =
-    with_value (at_key array_in (Err refusal.MissingKey) table (codes "switch")) (λ switches.
-    require (nat_le (length switches) 64) refusal.TooMany (
-    require (nat_lt 0 (length switches)) refusal.Range (
+    with_toml_value (at_key toml_array_in (Err refusal.MissingKey) table (codes "switch")) (λ switches.
+    require_net_value (nat_le (length switches) 64) refusal.TooMany (
+    require_net_value (nat_lt 0 (length switches)) refusal.Range (
     Ok switches)))
 
 -- no number occurs twice
-abbrev pub are_distinct : List ℕ → Bool
-are_distinct [] = true
-are_distinct (x ∷ xs) = not (list_any (nat_eq x) xs) && are_distinct xs
+abbrev pub are_distinct_ports : List ℕ → Bool
+are_distinct_ports [] = true
+are_distinct_ports (x ∷ xs) = not (list_any (nat_eq x) xs) && are_distinct_ports xs
 
 -- the ports occur neither twice nor in an earlier switch
 abbrev pub are_new : List SwitchRow → List ℕ → Bool
-are_new earlier ports = are_distinct ports && not (list_any (have_port earlier) ports)
+are_new earlier ports = are_distinct_ports ports && not (list_any (have_port earlier) ports)
 
-abbrev pub name_at : Members → Result (List ℕ) NetRefusal
-name_at keys = at_key name_in (Err refusal.MissingKey) keys (codes "name")
+abbrev pub switch_name_at : Members → Result (List ℕ) NetRefusal
+switch_name_at keys = at_key toml_name_in (Err refusal.MissingKey) keys (codes "name")
 
-abbrev pub ports_at : Members → Result (List ℕ) NetRefusal
-ports_at keys = at_key ports_in (Ok []) keys (codes "ports")
+abbrev pub switch_ports_at : Members → Result (List ℕ) NetRefusal
+switch_ports_at keys = at_key toml_ports_in (Ok []) keys (codes "ports")
 
 -- a list of ports as a mask
 abbrev pub port_bits : List ℕ → ℕ
@@ -88,67 +88,67 @@ port_bits ports = mask_of (λ port. list_any (nat_eq port) ports)
 
 -- the switch that these keys state, after the earlier switches
 abbrev pub switch_with : List SwitchRow → Members → Result SwitchRow NetRefusal
-switch_with earlier keys = with_value (name_at keys) (λ name. with_value (ports_at keys) (λ ports.
-    with_value (number_or_default keys (codes "authority") 0 8192 0) (λ room.
-    require (not (have_name earlier name)) refusal.DuplicateName (
-    require (are_new earlier ports) refusal.DuplicatePort (
+switch_with earlier keys = with_toml_value (switch_name_at keys) (λ name. with_toml_value (switch_ports_at keys) (λ ports.
+    with_toml_value (number_or_default keys (codes "authority") 0 8192 0) (λ room.
+    require_net_value (not (have_switch_name earlier name)) refusal.DuplicateName (
+    require_net_value (are_new earlier ports) refusal.DuplicatePort (
     Ok (record { name = name; ports = port_bits ports; room = room }))))))
 
 abbrev pub switch_read : List SwitchRow → Data → Result SwitchRow NetRefusal
-switch_read earlier d = with_value (of_type (as_table d)) (switch_with earlier)
+switch_read earlier d = with_toml_value (of_type (as_table d)) (switch_with earlier)
 
 -- ---- links
 
 -- the array `link` itself
 abbrev pub link_array : Members → Result (List Data) NetRefusal
 link_array table =
-    with_value (at_key array_in (Ok []) table (codes "link")) (λ links.
-    require (nat_le (length links) 256) refusal.TooMany (
+    with_toml_value (at_key toml_array_in (Ok []) table (codes "link")) (λ links.
+    require_net_value (nat_le (length links) 256) refusal.TooMany (
     Ok links))
 
-abbrev pub end_read : List SwitchRow → List ℕ → Result ℕ NetRefusal
-end_read switches name = ok_or (switch_number switches name) refusal.UnknownName
+abbrev pub link_end_read : List SwitchRow → List ℕ → Result ℕ NetRefusal
+link_end_read switches name = ok_or (switch_number switches name) refusal.UnknownName
 
 -- the link that these keys state, after the earlier links
-abbrev pub link_with : List SwitchRow → List LinkRow → Members → Result LinkRow NetRefusal
-link_with switches earlier keys =
-    with_value (at_key ends_in (Err refusal.MissingKey) keys (codes "ends")) (λ ends.
-    with_value (end_read switches ends.0) (λ one.
-    with_value (end_read switches ends.1) (λ two.
-    require (not (one == two)) refusal.SelfLink (
-    require (not (are_linked earlier one two)) refusal.DuplicateLink (
+abbrev pub net_link_with : List SwitchRow → List LinkRow → Members → Result LinkRow NetRefusal
+net_link_with switches earlier keys =
+    with_toml_value (at_key toml_ends_in (Err refusal.MissingKey) keys (codes "ends")) (λ ends.
+    with_toml_value (link_end_read switches ends.0) (λ one.
+    with_toml_value (link_end_read switches ends.1) (λ two.
+    require_net_value (not (one == two)) refusal.SelfLink (
+    require_net_value (not (are_linked earlier one two)) refusal.DuplicateLink (
     Ok (record { one = one; two = two }))))))
 
-abbrev pub link_of : List SwitchRow → List LinkRow → Data → Result LinkRow NetRefusal
-link_of switches earlier d = with_value (of_type (as_table d)) (link_with switches earlier)
+abbrev pub net_link_of : List SwitchRow → List LinkRow → Data → Result LinkRow NetRefusal
+net_link_of switches earlier d = with_toml_value (of_type (as_table d)) (net_link_with switches earlier)
 
 -- ---- documents
 
 -- the rows that values state, one after another after the earlier ones; or the first refusal,
 -- whose row is base plus the number of the value, counted from 1
-abbrev pub rows_read : {X : Type 0} → ℕ → (List X → Data → Result X NetRefusal) → List X → List Data
+abbrev pub net_rows_read : {X : Type 0} → ℕ → (List X → Data → Result X NetRefusal) → List X → List Data
     → Result (List X) (InRow NetRefusal)
-rows_read base read earlier [] = Ok earlier
-rows_read base read earlier (d ∷ ds) =
-    with_value (in_row (base + (length earlier + 1)) (read earlier d))
-    (λ row. rows_read base read (earlier ++ row ∷ []) ds)
+net_rows_read base read earlier [] = Ok earlier
+net_rows_read base read earlier (d ∷ ds) =
+    with_toml_value (in_row (base + (length earlier + 1)) (read earlier d))
+    (λ row. net_rows_read base read (earlier ++ row ∷ []) ds)
 
 abbrev pub switches_read : List Data → Result (List SwitchRow) (InRow NetRefusal)
-switches_read ds = rows_read 0 switch_read [] ds
+switches_read ds = net_rows_read 0 switch_read [] ds
 
-abbrev pub links_in : List SwitchRow → List Data → Result (List LinkRow) (InRow NetRefusal)
-links_in switches ds = rows_read 100 (link_of switches) [] ds
+abbrev pub net_links_in : List SwitchRow → List Data → Result (List LinkRow) (InRow NetRefusal)
+net_links_in switches ds = net_rows_read 100 (net_link_of switches) [] ds
 
 -- the network that a document states, or its first refusal
 abbrev pub net_read : Members → Result Net (InRow NetRefusal)
 net_read table =
-    with_value (in_row 0 (number_or_default table (codes "leaf_rules") 1 8192 64)) (λ leaf_rules.
-    with_value (in_row 0 (number_or_default table (codes "backups") 0 3 0)) (λ backups.
-    with_value (in_row 0 (number_or_default table (codes "cache") 0 65536 256)) (λ cache.
-    with_value (in_row 0 (switch_array table)) (λ switch_values.
-    with_value (switches_read switch_values) (λ switches.
-    with_value (in_row 0 (link_array table)) (λ link_values.
-    with_value (links_in switches link_values) (λ links.
+    with_toml_value (in_row 0 (number_or_default table (codes "leaf_rules") 1 8192 64)) (λ leaf_rules.
+    with_toml_value (in_row 0 (number_or_default table (codes "backups") 0 3 0)) (λ backups.
+    with_toml_value (in_row 0 (number_or_default table (codes "cache") 0 65536 256)) (λ cache.
+    with_toml_value (in_row 0 (switch_array table)) (λ switch_values.
+    with_toml_value (switches_read switch_values) (λ switches.
+    with_toml_value (in_row 0 (link_array table)) (λ link_values.
+    with_toml_value (net_links_in switches link_values) (λ links.
     Ok (record {
       switches = switches;
       links = links;
@@ -158,9 +158,9 @@ net_read table =
     }))))))))
 
 -- the document of some bytes, as the crate `toml` reads UTF-8
-abbrev pub document_of : List ℕ → Option Members
-document_of bytes = if is_utf8 bytes then parse_document bytes else None
+abbrev pub toml_document_of : List ℕ → Option Members
+toml_document_of bytes = if is_utf8 bytes then parse_document bytes else None
 
 -- the network that a text states, or its first refusal
 unfoldable pub net_of : List ℕ → Result Net (InRow NetRefusal)
-net_of bytes = with_value (in_row 0 (ok_or (document_of bytes) refusal.Toml)) net_read
+net_of bytes = with_toml_value (in_row 0 (ok_or (toml_document_of bytes) refusal.Toml)) net_read

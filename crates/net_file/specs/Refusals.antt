@@ -17,10 +17,10 @@ net_code refusal.DuplicateLink = 9
 net_code refusal.TooMany = 10
 
 -- what follows from a value, or the refusal if there is no value
-abbrev pub with_value : {X Y E : Type 0} → Result X E → (X → Result Y E) → Result Y E
-with_value (Ok value) next = next value
-with_value (Err refusal) next = Err refusal
+abbrev pub with_toml_value : {X Y E : Type 0} → Result X E → (X → Result Y E) → Result Y E
+with_toml_value (Ok value) next = next value
+with_toml_value (Err refusal) next = Err refusal
 
 -- what follows, if the condition is true; otherwise the refusal
-abbrev pub require : {Y E : Type 0} → Bool → E → Result Y E → Result Y E
-require holds refusal next = if holds then next else Err refusal
+abbrev pub require_net_value : {Y E : Type 0} → Bool → E → Result Y E → Result Y E
+require_net_value holds refusal next = if holds then next else Err refusal

@@ -2,5 +2,5 @@
 use Rattle.net_file.specs.declared.net.SwitchRow.{SwitchRow}
 use Rattle.net_file.specs.declared.switches.Stated.{Stated}
 
-abbrev pub row_stated : Stated → SwitchRow
-row_stated stated = record { name = stated.name.now; ports = stated.ports; room = stated.room }
+abbrev pub net_row_stated : Stated → SwitchRow
+net_row_stated stated = record { name = stated.name.now; ports = stated.ports; room = stated.room }

@@ -1,14 +1,14 @@
 ghost use Rattle.std.specs.Prelude.{◌≡◌, option_map};
 ghost use Rattle.toml.specs.Data.{as_str, as_table, get_member};
 ghost use Rattle.toml.specs.View.{table_view, view};
-ghost use Rattle.net_file.specs.Exports.{array_in, number_stated, of_type, number_or_default, integer_within};
-ghost use Rattle.net_file.specs.Outcomes.{IsRead, seen_values};
+ghost use Rattle.net_file.specs.Exports.{toml_array_in, toml_number_stated, of_type, number_or_default, integer_within};
+ghost use Rattle.net_file.specs.Outcomes.{IsNetRowRead, toml_seen_values};
 
 use crate::error::NetRefusal;
 use toml::{Table, Value};
 
 /// The value at a key of a table, if there is one.
-pub fn value_at<'a>(table: &'a Table, key: &str) -> Option<&'a Value>
+pub fn toml_value_at<'a>(table: &'a Table, key: &str) -> Option<&'a Value>
     ensures { option_map (λ v. view v.now) result ≡ get_member key.now (table_view table.now) }
 {
     table.get(key)
@@ -26,7 +26,7 @@ pub fn within(low: u32, high: u32, number: i64) -> Option<u32>
 
 /// The integer that a value is; `WrongType` for any other value, `Range` if it is out of range.
 pub fn number_in(low: u32, high: u32, value: &Value) -> Result<u32, NetRefusal>
-    ensures { result ≡ number_stated low high (view value.now) }
+    ensures { result ≡ toml_number_stated low high (view value.now) }
 {
     let number = value.as_integer().ok_or(NetRefusal::WrongType)?;
     within(low, high, number).ok_or(NetRefusal::Range)
@@ -42,15 +42,15 @@ pub fn setting_of(
 ) -> Result<u32, NetRefusal>
     ensures { result ≡ number_or_default (table_view table.now) key.now low high default }
 {
-    match value_at(table, key) {
+    match toml_value_at(table, key) {
         Some(value) => number_in(low, high, value),
         None => Ok(default),
     }
 }
 
 /// The values of an array; `WrongType` for any other value.
-pub fn array_in(value: &Value) -> Result<&[Value], NetRefusal>
-    ensures { IsRead seen_values (array_in (view value.now)) result }
+pub fn toml_array_in(value: &Value) -> Result<&[Value], NetRefusal>
+    ensures { IsNetRowRead toml_seen_values (toml_array_in (view value.now)) result }
 {
     match value.as_array() {
         Some(values) => Ok(values.as_slice()),
@@ -59,8 +59,8 @@ pub fn array_in(value: &Value) -> Result<&[Value], NetRefusal>
 }
 
 /// The keys of a table; `WrongType` for any other value.
-pub fn table_in(value: &Value) -> Result<&Table, NetRefusal>
-    ensures { IsRead (λ keys. table_view keys.now) (of_type (as_table (view value.now))) result }
+pub fn toml_table_in(value: &Value) -> Result<&Table, NetRefusal>
+    ensures { IsNetRowRead (λ keys. table_view keys.now) (of_type (as_table (view value.now))) result }
 {
     match value.as_table() {
         Some(keys) => Ok(keys),
@@ -69,8 +69,8 @@ pub fn table_in(value: &Value) -> Result<&Table, NetRefusal>
 }
 
 /// The text that a value is; `WrongType` for any other value.
-pub fn text_in(value: &Value) -> Result<&str, NetRefusal>
-    ensures { IsRead (λ text. text.now) (of_type (as_str (view value.now))) result }
+pub fn toml_text_in(value: &Value) -> Result<&str, NetRefusal>
+    ensures { IsNetRowRead (λ text. text.now) (of_type (as_str (view value.now))) result }
 {
     match value.as_str() {
         Some(text) => Ok(text),

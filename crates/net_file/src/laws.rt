@@ -4,12 +4,12 @@ ghost use Rattle.net_file.specs.declared.net.Net.{Net};
 
 /// Names and numbers of switches correspond one to one, and no byte of a name is a comma, a blank
 /// or a line feed.
-pub fn name_laws()
+pub fn switch_name_laws()
     ensures { NameLaws }
 {}
 
 /// A port has at most one owner, and the mask of all ports has exactly those with an owner.
-pub fn port_laws()
+pub fn net_port_laws()
     ensures { PortLaws }
 {}
 

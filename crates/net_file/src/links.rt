@@ -1,11 +1,11 @@
 ghost use Rattle.std.specs.Prelude.{◌≡◌, ◌≤◌, ◌<◌, Ok, [], IfOk, IfErr, length, map, Err};
 ghost use Rattle.toml.specs.View.{table_view, view};
-ghost use Rattle.net_file.specs.Exports.{are_linked, end_read, ends_in, link_array, link_of, links_in};
-ghost use Rattle.net_file.specs.Outcomes.{IsRead, seen_values};
+ghost use Rattle.net_file.specs.Exports.{are_linked, link_end_read, toml_ends_in, link_array, net_link_of, net_links_in};
+ghost use Rattle.net_file.specs.Outcomes.{IsNetRowRead, toml_seen_values};
 ghost use Rattle.base.specs.Refusals.{IsRefusal};
 
 use crate::error::{NetError, NetRefusal};
-use crate::keys::{array_in, table_in, value_at};
+use crate::keys::{toml_array_in, toml_table_in, toml_value_at};
 use crate::net::{LinkRow, SwitchRow, number_in};
 use base::InRow;
 use std::alloc::Global;
@@ -19,13 +19,13 @@ const MAX_LINKS: usize = 256;
 
 /// The values of the array `link`; none without the key. `TooMany` if there are more than 256.
 pub fn link_array(table: &Table) -> Result<&[Value], NetRefusal>
-    ensures values { IsRead seen_values (link_array (table_view table.now)) result }
+    ensures values { IsNetRowRead toml_seen_values (link_array (table_view table.now)) result }
     ensures few { IfOk result (λ values. length values.now ≤ 256) }
 {
-    let Some(value) = value_at(table, "link") else {
+    let Some(value) = toml_value_at(table, "link") else {
         return Ok(&[]);
     };
-    let values = array_in(value)?;
+    let values = toml_array_in(value)?;
     if values.len() > MAX_LINKS {
         return Err(NetRefusal::TooMany);
     }
@@ -33,10 +33,10 @@ pub fn link_array(table: &Table) -> Result<&[Value], NetRefusal>
 }
 
 // The two names that a value states; `WrongType` for any other value.
-fn ends_in(value: &Value) -> Result<(&str, &str), NetRefusal>
-    ensures { IsRead (λ ends. (ends.0.now, ends.1.now)) (ends_in (view value.now)) result }
+fn toml_ends_in(value: &Value) -> Result<(&str, &str), NetRefusal>
+    ensures { IsNetRowRead (λ ends. (ends.0.now, ends.1.now)) (toml_ends_in (view value.now)) result }
 {
-    let [one, two] = array_in(value)? else {
+    let [one, two] = toml_array_in(value)? else {
         return Err(NetRefusal::WrongType);
     };
     match (one.as_str(), two.as_str()) {
@@ -48,7 +48,7 @@ fn ends_in(value: &Value) -> Result<(&str, &str), NetRefusal>
 // The number of the switch with this name; `UnknownName` if there is none.
 fn end_of(switches: &[SwitchRow], name: &str) -> Result<u32, NetRefusal>
     requires { length switches.now ≤ 64 }
-    ensures { result ≡ end_read switches.now name.now }
+    ensures { result ≡ link_end_read switches.now name.now }
 {
     number_in(switches, name.as_bytes()).ok_or(NetRefusal::UnknownName)
 }
@@ -67,12 +67,12 @@ fn read_link(
     value: &Value,
 ) -> Result<LinkRow, NetRefusal>
     requires { length switches.now ≤ 64 }
-    ensures { result ≡ link_of switches.now earlier.now (view value.now) }
+    ensures { result ≡ net_link_of switches.now earlier.now (view value.now) }
 {
-    let Some(value) = value_at(table_in(value)?, "ends") else {
+    let Some(value) = toml_value_at(toml_table_in(value)?, "ends") else {
         return Err(NetRefusal::MissingKey);
     };
-    let (one, two) = ends_in(value)?;
+    let (one, two) = toml_ends_in(value)?;
     let one = end_of(switches, one)?;
     let two = end_of(switches, two)?;
     if one == two {
@@ -96,8 +96,8 @@ pub fn read_links(
     requires few_switches { length switches.now ≤ 64 }
     requires few_links { length values.now ≤ 256 }
     ensures links { IfOk result (λ rows.
-        links_in switches.now (map view values.now) ≡ Ok rows.items) }
-    ensures refused { IfErr result (IsRefusal (links_in switches.now (map view values.now))) }
+        net_links_in switches.now (map view values.now) ≡ Ok rows.items) }
+    ensures refused { IfErr result (IsRefusal (net_links_in switches.now (map view values.now))) }
 {
     let mut rows = Vec::new(alloc);
     let mut row = LINK_ROWS;

@@ -1,6 +1,6 @@
 ghost use Rattle.std.specs.Prelude.{◌≡◌, ◌++◌, OnOk, IsTrue};
 ghost use Rattle.std.specs.String.{string_bytes};
-ghost use Rattle.net_file.specs.Net.{IsNet, is_name, name_of, names_text};
+ghost use Rattle.net_file.specs.Net.{IsNet, is_name, switch_name_of, names_text};
 
 use crate::net::Net;
 use std::alloc::AllocError;
@@ -11,7 +11,7 @@ impl Net {
     /// The name of the switch of this number, or an empty text if there is no such switch.
     pub fn name(&self, s: u32) -> &str
         requires { IsNet self.now }
-        ensures { result.now ≡ name_of self.now s }
+        ensures { result.now ≡ switch_name_of self.now s }
     {
         match self.switches.items().get(s as usize) {
             Some(row) => text_of(row.name.bytes()),
@@ -37,7 +37,7 @@ impl Net {
 }
 
 // A name as text.
-#[tactic(auto, using(crate::proofs::NameLemmas::name_is_text))]
+#[tactic(auto, using(crate::proofs::NetFileNames::name_is_text))]
 fn text_of(name: &[u8]) -> &str
     requires { IsTrue (is_name name.now) }
     ensures { result.now ≡ name.now }

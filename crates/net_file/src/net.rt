@@ -1,5 +1,5 @@
 ghost use Rattle.std.specs.Prelude.{◌≡◌, ◌≤◌, ◌<◌, ◌==◌, ℕ, false, IfOk, IfNone, IfSome, length};
-ghost use Rattle.net_file.specs.Exports.{AreOwners, IsLink, IsNet, joins, links_of, owner_of, port_mask, solo_net, switch_number};
+ghost use Rattle.net_file.specs.Exports.{ArePortOwners, IsNetLink, IsNet, joins, links_of, owner_of, port_mask, solo_net, switch_number};
 
 use crate::ports::{Ports, owners};
 use base::{Items, has, with};
@@ -66,7 +66,7 @@ impl LinkRow {
 
     // The other end of the link; `None` if neither end is this switch.
     fn other_end(&self, switch: u32) -> Option<u32>
-        requires { IsLink 64 self.now }
+        requires { IsNetLink 64 self.now }
         ensures small { IfSome result (λ other. other < 64) }
         ensures other { IfSome result (λ other. (x : ℕ) → joins switch x self.now ≡ (x == other)) }
         ensures none { IfNone result ((x : ℕ) → joins switch x self.now ≡ false) }
@@ -121,7 +121,7 @@ pub(crate) fn number_in(switches: &[SwitchRow], name: &[u8]) -> Option<u32>
 }
 
 // The place of the switch that has the port; `None` if no switch has it.
-fn owner_place(switches: &[SwitchRow], port: u32) -> Option<usize>
+fn port_owner_place(switches: &[SwitchRow], port: u32) -> Option<usize>
     requires { port < 64 }
     ensures place { result ≡ owner_of switches.now port }
     ensures there { IfSome result (λ place. place < length switches.now) }
@@ -130,13 +130,13 @@ fn owner_place(switches: &[SwitchRow], port: u32) -> Option<usize>
 }
 
 /// The number of the switch that has the port; `None` if no switch has it.
-pub(crate) fn owner_in(switches: &[SwitchRow], port: u32) -> Option<u32>
+pub(crate) fn port_owner_in(switches: &[SwitchRow], port: u32) -> Option<u32>
     requires few { length switches.now ≤ 64 }
     requires port { port < 64 }
     ensures owner { result ≡ owner_of switches.now port }
     ensures small { IfSome result (λ owner. owner < 64) }
 {
-    match owner_place(switches, port) {
+    match port_owner_place(switches, port) {
         Some(place) => Some(place as u32),
         None => None,
     }
@@ -203,7 +203,7 @@ impl Net {
     /// Which switch has each port.
     pub fn ports(&self) -> Ports
         requires { IsNet self.now }
-        ensures { AreOwners self.now.switches result }
+        ensures { ArePortOwners self.now.switches result }
     {
         owners(self.switches.items())
     }

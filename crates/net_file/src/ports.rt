@@ -1,7 +1,7 @@
 ghost use Rattle.std.specs.Prelude.{◌≡◌, ◌<◌, ◌≤◌, ℕ, None, length};
 ghost use Rattle.net_file.specs.Exports.{owner_of, port_owner};
 
-use crate::net::{SwitchRow, owner_in};
+use crate::net::{SwitchRow, port_owner_in};
 
 /// How many ports a network can have.
 pub(crate) const PORTS: usize = 64;
@@ -33,7 +33,7 @@ pub(crate) fn owners(switches: &[SwitchRow]) -> Ports
 {
     let mut owners = [None; PORTS];
     for port in 0..PORTS {
-        owners[port] = owner_in(switches, port as u32).map(|owner| owner as u8);
+        owners[port] = port_owner_in(switches, port as u32).map(|owner| owner as u8);
     }
     Ports { owners }
 }

@@ -1,6 +1,6 @@
 ghost use Rattle.std.specs.Prelude.{◌≡◌, Ok, Some, IfOk, IfErr, ok_or};
 ghost use Rattle.toml.specs.View.{table_view};
-ghost use Rattle.net_file.specs.Exports.{IsNet, document_of, net_of, net_read};
+ghost use Rattle.net_file.specs.Exports.{IsNet, toml_document_of, net_of, net_read};
 ghost use Rattle.base.specs.Refusals.{IsRefusal, in_row};
 ghost use Rattle.net_file.specs.declared.error.NetRefusal.TheVariants.{Toml};
 
@@ -33,8 +33,8 @@ fn read_table(alloc: Global, table: &Table) -> Result<Net, NetError>
 
 // The TOML document of the bytes; `Toml` in row 0 if they are none.
 fn read_document(alloc: Global, bytes: &[u8]) -> Result<Table, NetError>
-    ensures document { IfOk result (λ table. document_of bytes.now ≡ Some (table_view table)) }
-    ensures refused { IfErr result (IsRefusal (in_row 0 (ok_or (document_of bytes.now) Toml))) }
+    ensures document { IfOk result (λ table. toml_document_of bytes.now ≡ Some (table_view table)) }
+    ensures refused { IfErr result (IsRefusal (in_row 0 (ok_or (toml_document_of bytes.now) Toml))) }
 {
     match toml::table_from_slice(alloc, bytes) {
         Ok(table) => Ok(table),

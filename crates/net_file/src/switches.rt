@@ -2,12 +2,12 @@ ghost use Rattle.std.specs.Prelude.{◌≡◌, ◌≤◌, ◌<◌, Ok, [], IfOk,
 ghost use Rattle.std.specs.List.{list_all};
 ghost use Rattle.toml.specs.Data.{as_integer};
 ghost use Rattle.toml.specs.View.{table_view, view};
-ghost use Rattle.net_file.specs.Exports.{IsMask, are_name_bytes, are_new, have_name, have_port, is_label, is_name, is_name_byte, name_at, port_bits, port_read, ports_at, ports_of, row_stated, switch_array, switch_read, switch_with, switches_read};
-ghost use Rattle.net_file.specs.Outcomes.{IsRead, seen_values};
+ghost use Rattle.net_file.specs.Exports.{IsPortMask, are_name_bytes, are_new, have_switch_name, have_port, is_label, is_name, is_name_byte, switch_name_at, port_bits, toml_port_read, switch_ports_at, toml_ports_of, net_row_stated, switch_array, switch_read, switch_with, switches_read};
+ghost use Rattle.net_file.specs.Outcomes.{IsNetRowRead, toml_seen_values};
 ghost use Rattle.base.specs.Refusals.{IsRefusal, in_row};
 
 use crate::error::{NetError, NetRefusal};
-use crate::keys::{array_in, setting_of, table_in, text_in, value_at, within};
+use crate::keys::{setting_of, toml_array_in, toml_table_in, toml_text_in, toml_value_at, within};
 use crate::net::{Name, SwitchRow};
 use base::{InRow, MAX_SWITCHES, has, with};
 use std::alloc::Global;
@@ -22,13 +22,13 @@ const MAX_MORE: usize = 15;
 /// The values of the array `switch`. `MissingKey` without the key, `TooMany` if there are more than
 /// 64, `Range` if there are none.
 pub fn switch_array(table: &Table) -> Result<&[Value], NetRefusal>
-    ensures values { IsRead seen_values (switch_array (table_view table.now)) result }
+    ensures values { IsNetRowRead toml_seen_values (switch_array (table_view table.now)) result }
     ensures few { IfOk result (λ values. length values.now ≤ 64) }
 {
-    let Some(value) = value_at(table, "switch") else {
+    let Some(value) = toml_value_at(table, "switch") else {
         return Err(NetRefusal::MissingKey);
     };
-    let values = array_in(value)?;
+    let values = toml_array_in(value)?;
     if values.len() > MAX_SWITCHES as usize {
         return Err(NetRefusal::TooMany);
     }
@@ -74,12 +74,12 @@ pub fn is_name(name: &[u8]) -> bool
 
 // The name of a switch; `MissingKey` without the key, `Range` if it can't be a name.
 fn read_name(keys: &Table) -> Result<&str, NetRefusal>
-    ensures { IsRead (λ name. name.now) (name_at (table_view keys.now)) result }
+    ensures { IsNetRowRead (λ name. name.now) (switch_name_at (table_view keys.now)) result }
 {
-    let Some(value) = value_at(keys, "name") else {
+    let Some(value) = toml_value_at(keys, "name") else {
         return Err(NetRefusal::MissingKey);
     };
-    let name = text_in(value)?;
+    let name = toml_text_in(value)?;
     if !is_name(name.as_bytes()) {
         return Err(NetRefusal::Range);
     }
@@ -87,8 +87,8 @@ fn read_name(keys: &Table) -> Result<&str, NetRefusal>
 }
 
 // The port that a value is, if it is a number from 0 to 63.
-fn port_of(value: &Value) -> Option<u32>
-    ensures port { result ≡ port_read (view value.now) }
+fn toml_port_of(value: &Value) -> Option<u32>
+    ensures port { result ≡ toml_port_read (view value.now) }
     ensures small { IfSome result (λ port. port < 64) }
 {
     within(0, 63, value.as_integer()?)
@@ -103,20 +103,20 @@ fn are_integers(values: &[Value]) -> bool
 
 // Whether each value is a port.
 fn are_ports(values: &[Value]) -> bool
-    ensures { result ≡ list_all (λ value. is_some (port_read (view value))) values.now }
+    ensures { result ≡ list_all (λ value. is_some (toml_port_read (view value))) values.now }
 {
-    values.iter().all(|value| port_of(value).is_some())
+    values.iter().all(|value| toml_port_of(value).is_some())
 }
 
 // The values of the array `ports`, each of which is a port; none without the key.
 fn read_ports(keys: &Table) -> Result<&[Value], NetRefusal>
-    ensures { IsRead (λ values. ports_of (seen_values values))
-        (ports_at (table_view keys.now)) result }
+    ensures { IsNetRowRead (λ values. toml_ports_of (toml_seen_values values))
+        (switch_ports_at (table_view keys.now)) result }
 {
-    let Some(value) = value_at(keys, "ports") else {
+    let Some(value) = toml_value_at(keys, "ports") else {
         return Ok(&[]);
     };
-    let values = array_in(value)?;
+    let values = toml_array_in(value)?;
     if !are_integers(values) {
         return Err(NetRefusal::WrongType);
     }
@@ -127,22 +127,22 @@ fn read_ports(keys: &Table) -> Result<&[Value], NetRefusal>
 }
 
 // Whether one of the switches has the name.
-fn have_name(rows: &[SwitchRow], name: &[u8]) -> bool
-    ensures { result ≡ have_name rows.now name.now }
+fn have_switch_name(rows: &[SwitchRow], name: &[u8]) -> bool
+    ensures { result ≡ have_switch_name rows.now name.now }
 {
     rows.iter().any(|row| row.name.bytes() == name)
 }
 
 // The mask of the ports; `None` if one occurs twice or is in `taken`, the earlier ports.
 fn new_ports(values: &[Value], earlier: &[SwitchRow], taken: u64) -> Option<u64>
-    requires { IsMask taken (have_port earlier.now) }
-    ensures new { is_some result ≡ are_new earlier.now (ports_of (map view values.now)) }
-    ensures mask { IfSome result (λ mask. mask ≡ port_bits (ports_of (map view values.now))) }
+    requires { IsPortMask taken (have_port earlier.now) }
+    ensures new { is_some result ≡ are_new earlier.now (toml_ports_of (map view values.now)) }
+    ensures mask { IfSome result (λ mask. mask ≡ port_bits (toml_ports_of (map view values.now))) }
 {
     let mut seen = taken;
     let mut ports = 0;
     for value in values {
-        if let Some(port) = port_of(value) {
+        if let Some(port) = toml_port_of(value) {
             if has(seen, port) {
                 return None;
             }
@@ -161,18 +161,18 @@ struct Stated<'a> {
 }
 
 // Reads the keys of a switch. `taken` is the mask of the earlier switches' ports.
-fn read_keys<'a>(
+fn read_switch_keys<'a>(
     earlier: &[SwitchRow],
     taken: u64,
     keys: &'a Table,
 ) -> Result<Stated<'a>, NetRefusal>
-    requires { IsMask taken (have_port earlier.now) }
-    ensures { IsRead row_stated (switch_with earlier.now (table_view keys.now)) result }
+    requires { IsPortMask taken (have_port earlier.now) }
+    ensures { IsNetRowRead net_row_stated (switch_with earlier.now (table_view keys.now)) result }
 {
     let name = read_name(keys)?;
     let values = read_ports(keys)?;
     let room = setting_of(keys, "authority", 0, MAX_ROOM, 0)?;
-    if have_name(earlier, name.as_bytes()) {
+    if have_switch_name(earlier, name.as_bytes()) {
         return Err(NetRefusal::DuplicateName);
     }
     let ports = new_ports(values, earlier, taken).ok_or(NetRefusal::DuplicatePort)?;
@@ -187,16 +187,16 @@ fn read_switch(
     value: &Value,
     row: u32,
 ) -> Result<SwitchRow, NetError>
-    requires { IsMask taken (have_port earlier.now) }
+    requires { IsPortMask taken (have_port earlier.now) }
     ensures switch { IfOk result (λ switch. switch_read earlier.now (view value.now) ≡ Ok switch) }
     ensures refused { IfErr result (IsRefusal (in_row row (switch_read earlier.now
         (view value.now)))) }
 {
-    let keys = match table_in(value) {
+    let keys = match toml_table_in(value) {
         Ok(keys) => keys,
         Err(refusal) => return Err(NetError::Refused(InRow { refusal, row })),
     };
-    let Stated { name, ports, room } = match read_keys(earlier, taken, keys) {
+    let Stated { name, ports, room } = match read_switch_keys(earlier, taken, keys) {
         Ok(stated) => stated,
         Err(refusal) => return Err(NetError::Refused(InRow { refusal, row })),
     };

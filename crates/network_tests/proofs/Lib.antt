@@ -1,1 +1,1 @@
-pub mod FewPackets
+pub mod NetworkTestPackets

@@ -4,17 +4,17 @@ use Rattle.base.proofs.Exports.{All-contains, Any-from_list_any, find-there, som
 use Rattle.five_tuple.specs.Exports.{IsHeader, number_of}
 use Rattle.update_machine.specs.Exports.{Action, AuthorityRule, CacheEntry, Decision, Exit, Found, HaveCauses, Header, How, IsSetting, Item, Leg, NamesOwnPort, Seek, Setting, Tables, cache_of, current_mark, found_down, lookup_at, no_switch, owner, policy_at, retired_mark, route_from, stamp_of, targets_of}
 use Rattle.net_file.specs.Exports.{IsNet, are_linked, owner_of}
-use Rattle.net_file.proofs.RowPlaces.{joined_below}
+use Rattle.net_file.proofs.NetFileRowPlaces.{joined_below}
 use Rattle.policy_rules.specs.Exports.{scan}
 use Rattle.switch_table.specs.Exports.{Hosted, first_entry, table_lookup}
 use Rattle.ternary.specs.Exports.{holds}
 use Rattle.control_laws.specs.Exports.{HasItemCause, LinksAreThere}
 use Rattle.control_laws.proofs.Exports.{HasBothCauses}
-use Rattle.packet_laws.specs.Exports.{AuthorityDecides, Avoids, Blocked, CacheDecides, CameIn, DecidesBy, HasKeptFacts, IsAt, IsDecided, IsLookedUp, IsOnLeg, IsOnWay, IsPartitionOf, IsRedirected, IsRightEntry, IsRightlyDecided, IsSought, IsUnderWay, Judged, LeadsTo, MeetsDown, MovesOver, OnWay, PacketFacts, Stage, TakesDetour, TakesExit, TakesRoute, facts_after, stage_of, what_is_known}
+use Rattle.packet_laws.specs.Exports.{AuthorityDecides, PacketRouteAvoidsFound, Blocked, CacheDecides, CameIn, PacketDecidesBy, HasKeptFacts, IsAt, IsDecided, IsLookedUp, IsOnLeg, IsOnWay, IsPartitionOf, IsPacketRedirected, IsRightEntry, IsRightlyDecided, IsSought, IsUnderWay, Judged, PacketRouteLeadsToTarget, PacketMeetsDown, PacketMovesOver, OnWay, PacketFacts, Stage, PacketTakesDetour, PacketTakesExit, PacketTakesRoute, packet_facts_after, stage_of, what_is_known}
 use Rattle.packet_laws.proofs.PacketHeaderLookups.{FindsTargets, IsHere, decision_in, found_in, here_of, leg_in, next_in, redirect_found, rules_of, scan_named, seeking_of}
 use Rattle.packet_laws.proofs.PacketBlocks.{WhenDecided}
 use Rattle.packet_laws.proofs.PacketKnownRoutes.{IsWay, route_way}
-use Rattle.packet_laws.proofs.CacheRules.{scan_of_version}
+use Rattle.packet_laws.proofs.PacketCacheRules.{scan_of_version}
 
 -- what is known of the journal before an item, and kept of its packet
 pub record Knows (setting : Setting) (before : List Item) (i : ℕ) (stage : Option Stage) : Type 0
@@ -32,7 +32,7 @@ here_known setting before i s knows at = search (rules, here_of)
 
 -- a packet that moves on
 moving_on : (setting : Setting) (before : List Item) (facts : PacketFacts) → IsOnWay setting before
-    facts → Avoids facts.found facts.route → HasKeptFacts setting before facts (Some OnWay)
+    facts → PacketRouteAvoidsFound facts.found facts.route → HasKeptFacts setting before facts (Some OnWay)
 moving_on setting before facts on avoids = search rules
 
 -- a packet that doesn't travel
@@ -79,7 +79,7 @@ stage_alone h0 = search rules
 
 -- the partition to which a lookup sends it
 pub redirected_to : (setting : Setting) (before : List Item) (i s version partition : ℕ)
-    → (here : IsHere setting before i s) → IsRedirected setting before i s version partition
+    → (here : IsHere setting before i s) → IsPacketRedirected setting before i s version partition
     → (hosted : Hosted) × IsPartitionOf setting before here.under.header version partition hosted
 redirected_to setting before i s version partition here takes =
     let leads : FindsTargets setting before s here.under.header partition takes.targets =
@@ -109,11 +109,7 @@ sets_out : (setting : Setting) (before : List Item) (i s : ℕ) (taken : Option 
     → let after = record (what_is_known before i) { leg = taken; route = route; hops = 0 } in
     IsOnLeg setting before after here.under.header leg → HasKeptFacts setting before after (Some OnWay)
 sets_out setting before i s taken leg targets route here takes way on = moving_on _ _ _ (record {
-  under_way = record {
-    entry = here.under.entry;
-    place = here.under.place;
-    mark = here.under.mark;
-  };
+  under_way = record { entry = here.under.entry; place = here.under.place; mark = here.under.mark };
   leg = leg;
   takes = takes;
   on_leg = on;
@@ -122,9 +118,9 @@ sets_out setting before i s taken leg targets route here takes way on = moving_o
 
 pub seeking_after : (setting : Setting) (before : List Item) (i mark version partition : ℕ)
     (route : List ℕ) → Knows setting before i (stage_of before i)
-    → TakesRoute setting before i (Seek version partition) route
+    → PacketTakesRoute setting before i (Seek version partition) route
     → HasKeptFacts setting before
-    (facts_after mark (Item.Seeking i version partition route) (what_is_known before i)) (Some OnWay)
+    (packet_facts_after mark (Item.Seeking i version partition route) (what_is_known before i)) (Some OnWay)
 seeking_after setting before i mark version partition route knows takes =
     let facts : PacketFacts = what_is_known before i in
     let s : ℕ = takes.switch in
@@ -154,8 +150,8 @@ pub port_named : (setting : Setting) (port : ℕ) (act : Action) → act ≡ Act
 port_named setting port act is named = is_home (owner_of setting.net.switches port) (rw is at named)
 
 pub exiting_after : (setting : Setting) (before : List Item) (i mark : ℕ) (route : List ℕ)
-    → Knows setting before i (stage_of before i) → TakesExit setting before i route
-    → HasKeptFacts setting before (facts_after mark (Item.Exiting i route) (what_is_known before i)) (Some OnWay)
+    → Knows setting before i (stage_of before i) → PacketTakesExit setting before i route
+    → HasKeptFacts setting before (packet_facts_after mark (Item.Exiting i route) (what_is_known before i)) (Some OnWay)
 exiting_after setting before i mark route knows exits =
     let facts : PacketFacts = what_is_known before i in
     let s : ℕ = exits.by.switch in
@@ -183,7 +179,7 @@ exiting_after setting before i mark route knows exits =
 -- on its leg with another route
 leg_by : (setting : Setting) (before : List Item) (facts : PacketFacts) (route : List ℕ)
     (header : Header) (leg : Leg) → IsOnLeg setting before facts header leg
-    → LeadsTo setting (targets_of setting before leg) route
+    → PacketRouteLeadsToTarget setting (targets_of setting before leg) route
     → IsOnLeg setting before (record facts { route = route }) header leg
 leg_by setting before facts route header (Seek version partition) on leads = record {
   undecided = on.undecided;
@@ -193,8 +189,8 @@ leg_by setting before facts route header (Seek version partition) on leads = rec
 leg_by setting before facts route header (Exit port) on leads = search rules
 
 pub rerouted_after : (setting : Setting) (before : List Item) (i mark : ℕ) (route : List ℕ)
-    → Knows setting before i (stage_of before i) → TakesDetour setting before i route
-    → HasKeptFacts setting before (facts_after mark (Item.Rerouted i route) (what_is_known before i)) (Some OnWay)
+    → Knows setting before i (stage_of before i) → PacketTakesDetour setting before i route
+    → HasKeptFacts setting before (packet_facts_after mark (Item.Rerouted i route) (what_is_known before i)) (Some OnWay)
 rerouted_after setting before i mark route knows turns =
     let facts : PacketFacts = what_is_known before i in
     let s : ℕ = turns.switch in
@@ -210,8 +206,8 @@ rerouted_after setting before i mark route knows turns =
     here.under.header was.under_way.entered here.under.entered) at was.on_leg)) way.leads)
 
 pub hopped_after : (setting : Setting) (before : List Item) (i mark next : ℕ)
-    → Knows setting before i (stage_of before i) → MovesOver setting before i next
-    → HasKeptFacts setting before (facts_after mark (Item.Hopped i next) (what_is_known before i)) (Some OnWay)
+    → Knows setting before i (stage_of before i) → PacketMovesOver setting before i next
+    → HasKeptFacts setting before (packet_facts_after mark (Item.Hopped i next) (what_is_known before i)) (Some OnWay)
 hopped_after setting before i mark next knows moves =
     let here = here_known setting before i moves.switch knows moves.at in
     let was = knows.kept.on_way here.travelling (inl moves.moving) in
@@ -233,8 +229,8 @@ hopped_after setting before i mark next knows moves =
     }) (knows.kept.avoids here.travelling moves.moving)
 
 pub found_after : (setting : Setting) (before : List Item) (i mark one two : ℕ) → Knows setting
-    before i (stage_of before i) → MeetsDown setting before i one two → HasKeptFacts setting before
-    (facts_after mark (Item.FoundDown i one two) (what_is_known before i)) (Some Blocked)
+    before i (stage_of before i) → PacketMeetsDown setting before i one two → HasKeptFacts setting before
+    (packet_facts_after mark (Item.FoundDown i one two) (what_is_known before i)) (Some Blocked)
 found_after setting before i mark one two knows meets = record {
   under_way = λ travels. under;
   came_in = λ travels is. absurd cc;
@@ -255,7 +251,7 @@ found_after setting before i mark one two knows meets = record {
   was = knows.kept.on_way here.travelling (inl meets.moving)
 
   under : IsUnderWay setting before
-      (facts_after mark (Item.FoundDown i one two) (what_is_known before i))
+      (packet_facts_after mark (Item.FoundDown i one two) (what_is_known before i))
   under = record {
     entry = was.under_way.entry;
     place = was.under_way.place;
@@ -265,7 +261,7 @@ found_after setting before i mark one two knows meets = record {
 pub entered_after : (setting : Setting) (before : List Item)
     (i s : ℕ) (header : Header) (facts : PacketFacts) → s < length setting.net.switches
     → IsHeader header → facts.decision ≡ None → facts.leg ≡ None → HasKeptFacts setting before
-    (facts_after (retired_mark before) (Item.Entered i s header) facts) (Some CameIn)
+    (packet_facts_after (retired_mark before) (Item.Entered i s header) facts) (Some CameIn)
 entered_after setting before i s header facts there sound undecided no_leg = search rules
 
 -- ---- decisions
@@ -361,7 +357,7 @@ pub decided_now : (setting : Setting) (before : List Item) (i s version : ℕ) (
     (act : Action) (by : How) → Knows setting before i (stage_of before i)
     → (here : IsHere setting before i s)
     → All (IsRightEntry setting before) (cache_of setting before s).entries
-    → DecidesBy setting before i s version rule act by
+    → PacketDecidesBy setting before i s version rule act by
     → IsDecidedNow setting before i s version rule act here.under.header
 decided_now setting before i s version rule act (How.Cached message) knows here right decides =
     record {
@@ -378,10 +374,10 @@ pub decided_after : (setting : Setting) (before : List Item) (i mark version : �
     (act : Action) (by : How) → Knows setting before i (stage_of before i)
     → ((s : ℕ) → All (IsRightEntry setting before) (cache_of setting before s).entries)
     → IsDecided setting before i version rule act by → HasKeptFacts setting before
-    (facts_after mark (Item.Decided i version rule act by) (what_is_known before i)) (Some Judged)
+    (packet_facts_after mark (Item.Decided i version rule act by) (what_is_known before i)) (Some Judged)
 decided_after setting before i mark version rule act by knows right decided =
     let facts : PacketFacts = what_is_known before i in
-    let after : PacketFacts = facts_after mark (Item.Decided i version rule act by) facts in
+    let after : PacketFacts = packet_facts_after mark (Item.Decided i version rule act by) facts in
     let s : ℕ = decided.switch in
     let here : IsHere setting before i s = here_known setting before i s knows decided.at in
     let now = decided_now setting before i s version rule act by knows here (right s) decided.by in

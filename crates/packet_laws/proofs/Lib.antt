@@ -1,26 +1,26 @@
-pub mod AllKept
+pub mod PacketsAllKept
 pub mod PacketKnownRoutes
 pub mod PacketBlocks
-pub mod OtherBlocks
-pub mod SparedPackets
+pub mod PacketOtherBlocks
+pub mod PacketsSpared
 pub mod PacketHeaderLookups
-pub mod CacheRules
-pub mod ServedPackets
-pub mod RestingPackets
+pub mod PacketCacheRules
+pub mod PacketsServed
+pub mod PacketsAtRest
 pub mod KeptPacketFacts
-pub mod HopAnswers
-pub mod RouteHops
+pub mod PacketHopAnswers
+pub mod PacketRouteHops
 pub mod PacketEnds
-pub mod StronglyCaused
-pub mod MachineRuns
-mod CauseTrials
-mod BrokenJournals
-mod RunRows
-mod WaitingMessages
-mod FewRoutes
-mod PlayExistence
-mod DrainHops
+pub mod PacketStrongCauses
+pub mod PacketMachineRuns
+mod PacketCauseTrials
+mod PacketBrokenJournals
+mod PacketRunRows
+mod PacketFlushMessages
+mod PacketFewRoutes
+mod PacketPlayExistence
+mod PacketDrainHops
 mod PacketRows
-mod EntryTrials
+mod PacketEntryTrials
 mod PacketHistories
 pub mod Exports

@@ -1,11 +1,11 @@
 -- The blocks of a packet's items have their causes, whatever journal they follow.
 use Rattle.std.proofs.Common.{[], ◌++◌, ◌∙◌, ◌∷◌, ◌≡◌, ◌⊎◌, Bool, IsTrue, List, None, Option, Some, false, inl, inr, refl, rules, slice_get, subst, sym, true, unwrap_or, ℕ}
 use Rattle.base.proofs.Exports.{option_or}
-use Rattle.update_machine.specs.Exports.{Action, AuthorityRule, Decision, Exit, Found, HaveCauses, Header, How, Item, Leg, Lose, Message, Seek, Setting, arrive_by, arrive_items, authority_items, authority_rule, cache_items, decision_of, end_items, first_place, found_down, found_items, gives_decision, gives_serving, gives_standing, gives_travelling, go_on, header_at, header_in, holds_version, hop_items, in_turn, items_then, leg_items, leg_of, lookup_at, lookup_items, lose_items, move_items, near, next_switch, nothing, packet_items, plan_at, present_step, reroute_by, reroute_items, route_for, route_in, route_place, sent_from, serves, stamp_of, standing, stuck_on, takes_route, travels}
+use Rattle.update_machine.specs.Exports.{Action, AuthorityRule, Decision, Exit, Found, HaveCauses, Header, How, Item, Leg, Lose, Message, Seek, Setting, arrive_by_leg_items, arrive_items, authority_items, authority_rule, cache_items, decision_of, end_items, first_place, found_down, found_items, gives_decision, gives_serving, gives_standing, gives_travelling, go_on, packet_header_at, header_in, holds_version, hop_items, in_turn, journal_items_then, leg_items, leg_of, lookup_at, lookup_items, lose_items, move_items, near, next_switch, nothing, packet_items, plan_at, present_step, reroute_by, reroute_items, packet_route_for, route_in, route_place, sent_from, serves, stamp_of, standing, stuck_on_leg_items, takes_route, travels}
 use Rattle.base.specs.Exports.{has}
 use Rattle.update_machine.proofs.Exports.{folded_append, have_append, have_first, last_given_append, lookup_stays, near_stays, policies_keep, switch_keeps}
 use Rattle.control_laws.proofs.Exports.{last_more, own, serving_more}
-use Rattle.packet_laws.specs.Exports.{AreResting, Arrives, AuthorityFinds, Blocked, CameIn, IsAt, IsLookedUp, IsLookedUpBy, IsOfRow, Judged, OnWay, PacketCause, ReachesAuthority, Stage, TakesLeg, gives_stage, stage_of}
+use Rattle.packet_laws.specs.Exports.{AreResting, PacketArrives, AuthorityFinds, Blocked, CameIn, IsAt, IsLookedUp, IsLookedUpBy, IsOfRow, Judged, OnWay, PacketCause, ReachesAuthority, Stage, TakesLeg, gives_stage, stage_of}
 use Rattle.packet_laws.proofs.PacketKnownRoutes.{first_usable}
 
 abbrev pub Ways : Setting → List Item → List Item → Type 0
@@ -52,7 +52,7 @@ still before next i s travelling stands serving at =
 
 takes_cause : (setting : Setting) (journal : List Item) (i s : ℕ) (leg : Leg) (route : List ℕ)
     → IsAt journal i s → TakesLeg setting journal i s leg
-    → route_for setting journal i s leg ≡ Some route
+    → packet_route_for setting journal i s leg ≡ Some route
     → PacketCause setting journal (takes_route i leg route)
 takes_cause setting journal i s (Seek version partition) route at takes leads =
     record { switch = s; at = at; takes = takes; leads = leads }
@@ -130,7 +130,7 @@ finds_on setting journal i s version found rule act by finds =
         | inl here ↦ inl (record {
           answer = rw (
             same_header,
-            lookup_stays setting s (header_at journal i) journal (decided ∷ []) (refl, tt),
+            lookup_stays setting s (packet_header_at journal i) journal (decided ∷ []) (refl, tt),
           ) here.answer;
           stamp = here.stamp ∙ sym same_stamp;
         })
@@ -199,7 +199,7 @@ rule_version : (setting : Setting) (journal : List Item) (version partition plac
 rule_version setting journal version partition place found is = search rules
 
 found_ways : (setting : Setting) (journal : List Item) (i s : ℕ) (what : Found) → IsAt journal i s
-    → IsLookedUp journal i s → lookup_at setting journal s (header_at journal i) ≡ what
+    → IsLookedUp journal i s → lookup_at setting journal s (packet_header_at journal i) ≡ what
     → Ways setting journal (found_items setting i s what journal)
 found_ways setting journal i s (Found.Cached entry) at looked answer =
     have_first (PacketCause setting)
@@ -232,14 +232,14 @@ lookup_ways setting journal i s at looked = search (rules, found_ways)
 -- ---- on the way
 
 arrive_ways : (setting : Setting) (journal : List Item) (i s : ℕ) → IsAt journal i s
-    → Arrives journal i → Ways setting journal (arrive_items setting i s journal)
+    → PacketArrives journal i → Ways setting journal (arrive_items setting i s journal)
 unfolding arrive_items
 arrive_ways setting journal i s at arrives = by_leg (leg_of journal i) refl where
   by_held : (version partition : ℕ) (b : Bool) → leg_of journal i ≡ Some (Seek version partition)
       → holds_version journal s version ≡ b → Ways setting journal (elim b [
         | false ↦ lookup_items setting i s journal
         | true ↦ authority_items setting i s (authority_rule setting journal version partition
-            (first_place setting journal version partition (header_at journal i))) journal
+            (first_place setting journal version partition (packet_header_at journal i))) journal
       ])
   by_held version partition false seeks held = lookup_ways setting journal i s at (inr (record {
     arrives = arrives;
@@ -249,7 +249,7 @@ arrive_ways setting journal i s at arrives = by_leg (leg_of journal i) refl wher
     missing = held;
   }))
   by_held version partition true seeks held =
-      let place : ℕ = first_place setting journal version partition (header_at journal i) in
+      let place : ℕ = first_place setting journal version partition (packet_header_at journal i) in
       authority_ways setting journal i s version
       (authority_rule setting journal version partition place) at
       (inr (record { arrives = arrives; partition = partition; seeks = seeks; held = held }))
@@ -264,7 +264,7 @@ arrive_ways setting journal i s at arrives = by_leg (leg_of journal i) refl wher
       ))
 
   by_leg : (o : Option Leg) → leg_of journal i ≡ o
-      → Ways setting journal (arrive_by setting i s o journal)
+      → Ways setting journal (arrive_by_leg_items setting i s o journal)
   by_leg None e = tt
   by_leg (Some (Exit port)) e =
       (record { switch = s; at = at; at_port = inr (arrives, e); own = refl }, tt)
@@ -287,8 +287,8 @@ reroute_ways : (setting : Setting) (journal : List Item) (i s : ℕ) → IsAt jo
 unfolding reroute_items
 reroute_ways setting journal i s at blocked = by_leg (leg_of journal i) refl where
   detour : (leg : Leg) (route : List ℕ) → leg_of journal i ≡ Some leg
-      → route_for setting journal i s leg ≡ Some route
-      → Ways setting journal (items_then (Item.Rerouted i route ∷ []) (go_on setting i s) journal)
+      → packet_route_for setting journal i s leg ≡ Some route
+      → Ways setting journal (journal_items_then (Item.Rerouted i route ∷ []) (go_on setting i s) journal)
   detour leg route takes leads = let turned : Item = Item.Rerouted i route in
       have_first (PacketCause setting) turned (go_on setting i s) journal
       (record {
@@ -304,9 +304,9 @@ reroute_ways setting journal i s at blocked = by_leg (leg_of journal i) refl whe
       next _ (found_down journal i) route leads (sym (route_now journal i route) ∙ goes_on))))
 
   by_route : (leg : Leg) (o : Option (List ℕ)) → leg_of journal i ≡ Some leg
-      → route_for setting journal i s leg ≡ o → Ways setting journal (elim o [
-        | None ↦ stuck_on setting journal i s leg ∷ []
-        | Some route ↦ items_then (Item.Rerouted i route ∷ []) (go_on setting i s) journal
+      → packet_route_for setting journal i s leg ≡ o → Ways setting journal (elim o [
+        | None ↦ stuck_on_leg_items setting journal i s leg ∷ []
+        | Some route ↦ journal_items_then (Item.Rerouted i route ∷ []) (go_on setting i s) journal
       ])
   by_route leg None takes none = (
     record {
@@ -323,7 +323,7 @@ reroute_ways setting journal i s at blocked = by_leg (leg_of journal i) refl whe
   by_leg : (o : Option Leg) → leg_of journal i ≡ o
       → Ways setting journal (reroute_by setting i s o journal)
   by_leg None e = tt
-  by_leg (Some leg) e = by_route leg (route_for setting journal i s leg) e refl
+  by_leg (Some leg) e = by_route leg (packet_route_for setting journal i s leg) e refl
 
 move_ways : (setting : Setting) (journal : List Item) (i s : ℕ) → IsAt journal i s
     → stage_of journal i ≡ Some OnWay → Ways setting journal (move_items setting i s journal)
@@ -332,7 +332,7 @@ move_ways setting journal i s at moving = by_next (next_switch journal i) refl w
   by_link : (next : ℕ) (b : Bool) → next_switch journal i ≡ Some next
       → has (near setting journal s) next ≡ b → Ways setting journal (elim b [
         | true ↦ Item.Hopped i next ∷ []
-        | false ↦ items_then (Item.FoundDown i s next ∷ []) (reroute_items setting i s) journal
+        | false ↦ journal_items_then (Item.FoundDown i s next ∷ []) (reroute_items setting i s) journal
       ])
   by_link next true goes_on e =
       (record { switch = s; at = at; moving = moving; goes_on = goes_on; usable = e }, tt)
@@ -346,7 +346,7 @@ move_ways setting journal i s at moving = by_next (next_switch journal i) refl w
     | None ↦ arrive_items setting i s journal
     | Some next ↦ elim (has (near setting journal s) next) [
       | true ↦ Item.Hopped i next ∷ []
-      | false ↦ items_then (Item.FoundDown i s next ∷ []) (reroute_items setting i s) journal
+      | false ↦ journal_items_then (Item.FoundDown i s next ∷ []) (reroute_items setting i s) journal
     ]
   ])
   by_next None e = arrive_ways setting journal i s at (record { moving = moving; last = e })
@@ -364,7 +364,7 @@ unfolding packet_items
 packet_ways setting journal i s header of_row = by_serving (serves journal s) refl where
   by_serving : (b : Bool) → serves journal s ≡ b → Ways setting journal (elim b [
     | false ↦ Item.Closed i s ∷ []
-    | true ↦ items_then (Item.Entered i s header ∷ []) (lookup_items setting i s) journal
+    | true ↦ journal_items_then (Item.Entered i s header ∷ []) (lookup_items setting i s) journal
   ])
   by_serving false e = (((header, of_row), e), tt)
   by_serving true e = let entered : Item = Item.Entered i s header in

@@ -5,12 +5,12 @@ use Rattle.failover.specs.Exports.{IsReachable}
 use Rattle.failover.proofs.RouteSearch.{length-known_links}
 use Rattle.base.specs.Exports.{has}
 use Rattle.net_file.specs.Exports.{are_linked, owner_of}
-use Rattle.update_machine.specs.Exports.{Action, AreTargets, Cause, Decision, Exit, FindsDown, FindsNoPath, HasCause, IsLostRightly, IsStuckRightly, Item, Leads, LeavesRightly, Leaving, Leg, Seek, SeeksOwn, Setting, can_use, decision_of, found_down, header_at, header_in, is_open, is_up, links_known, near, no_switch, owner, plan_at, serves, standing, targets_of}
+use Rattle.update_machine.specs.Exports.{Action, AreTargets, Cause, Decision, Exit, FindsDown, FindsNoPath, HasCause, IsLostRightly, IsStuckRightly, Item, Leads, LeavesRightly, Leaving, Leg, Seek, SeeksOwn, Setting, can_use, decision_of, found_down, packet_header_at, header_in, is_open, is_up, links_known, near, no_switch, owner, plan_at, serves, standing, targets_of}
 use Rattle.switch_table.specs.Exports.{Hosted}
 use Rattle.update_machine.proofs.Exports.{plan_is, unreached}
 use Rattle.control_laws.specs.Exports.{HasItemCause}
 use Rattle.control_laws.proofs.Exports.{IsKnown, linked_by_mask, own_end}
-use Rattle.packet_laws.specs.Exports.{FindsNoRoute, FollowsLinks, IsAt, IsAtPort, IsBlockedOn, IsLostHere, IsOnWay, IsPartitionOf, LeavesHere, MeetsDown, PacketCause, PacketFacts, SeeksRightly, TakesLeg, entry_mark, stage_of, what_is_known}
+use Rattle.packet_laws.specs.Exports.{FindsNoRoute, PacketRouteFollowsLinks, IsAt, IsAtPort, IsBlockedOn, IsLostHere, IsOnWay, IsPartitionOf, PacketLeavesHere, PacketMeetsDown, PacketCause, PacketFacts, PacketSeeksRightly, TakesLeg, entry_mark, stage_of, what_is_known}
 use Rattle.packet_laws.proofs.PacketHeaderLookups.{IsHere, decision_in, exiting_of, header_in_facts, leg_in, next_in, stands_in, seeking_of}
 use Rattle.packet_laws.proofs.KeptPacketFacts.{Knows, here_known, port_named, redirected_to, stage_looked, undecided_of}
 use Rattle.packet_laws.proofs.PacketKnownRoutes.{Sees, none_leads, open_joined}
@@ -35,12 +35,12 @@ entered_as setting before i s here = header_in_facts before i here.under.header 
 -- ---- links found down
 
 follows : (setting : Setting) (journal : List Item) (facts : PacketFacts) (way : IsOnWay setting journal facts)
-    → FollowsLinks setting facts.route
+    → PacketRouteFollowsLinks setting facts.route
 follows setting journal facts way = search rules
 
 -- a link that a packet finds down is one of the network, since its route follows links
 pub meets_link : (setting : Setting) (before : List Item) (i one two : ℕ)
-    → Knows setting before i (stage_of before i) → MeetsDown setting before i one two
+    → Knows setting before i (stage_of before i) → PacketMeetsDown setting before i one two
     → IsTrue (are_linked setting.net.links one two)
 meets_link setting before i one two knows meets =
     let facts : PacketFacts = what_is_known before i in
@@ -93,7 +93,7 @@ mark_in journal i = refl
 pub seeks_rightly : (setting : Setting) (before : List Item) (i s : ℕ) (version partition : ℕ)
     → Knows setting before i (stage_of before i) → IsHere setting before i s
     → TakesLeg setting before i s (Seek version partition)
-    ⊎ IsBlockedOn before i (Seek version partition) → SeeksRightly before i version
+    ⊎ IsBlockedOn before i (Seek version partition) → PacketSeeksRightly before i version
 seeks_rightly setting before i s version partition knows here (inl takes) = record {
   undecided = decision_out before i None (undecided_of setting before i s (stage_of before i)
       knows.kept here (stage_looked before i s takes.looked_up));
@@ -132,7 +132,7 @@ stuck_rightly setting before i s cause leg down knows finds =
 -- ---- by what the switch knows of links, as relations
 
 pub finds_down : (setting : Setting) (before : List Item) (i one two : ℕ) → Knows setting before i
-    (stage_of before i) → MeetsDown setting before i one two → FindsDown setting before i one two
+    (stage_of before i) → PacketMeetsDown setting before i one two → FindsDown setting before i one two
 finds_down setting before i one two knows meets = record {
   stands = stands_known setting before i one knows meets.at;
   linked = meets_link setting before i one two knows meets;
@@ -252,7 +252,7 @@ record LeavesBy (setting : Setting) (before : List Item) (i s port : ℕ) : Type
   action : decision.action ≡ Action.Out port
 
 leaves_by : (setting : Setting) (before : List Item) (i port : ℕ) (leaving : Leaving)
-    → Knows setting before i (stage_of before i) → (way : LeavesHere setting before i port leaving)
+    → Knows setting before i (stage_of before i) → (way : PacketLeavesHere setting before i port leaving)
     → IsHere setting before i way.switch → LeavesBy setting before i way.switch port
 leaves_by setting before i port leaving knows way here = by_port way.at_port where
   facts : PacketFacts
@@ -289,7 +289,7 @@ leaves_by setting before i port leaving knows way here = by_port way.at_port whe
 abbrev leaving_of : List Item → ℕ → Leaving
 leaving_of before i = record {
   packet = i;
-  header = header_at before i;
+  header = packet_header_at before i;
   version = unwrap_or (option_map (λ (d : Decision). d.version) (decision_of before i)) 0;
   rule = unwrap_or (option_map (λ (d : Decision). d.rule) (decision_of before i)) None;
 }
@@ -299,7 +299,7 @@ leaving_is : (one other : Leaving) (i port : ℕ)
 leaving_is one other i port e = cc
 
 pub leaves_rightly : (setting : Setting) (before : List Item) (i port : ℕ) (leaving : Leaving)
-    → Knows setting before i (stage_of before i) → LeavesHere setting before i port leaving
+    → Knows setting before i (stage_of before i) → PacketLeavesHere setting before i port leaving
     → LeavesRightly setting before i port leaving
 leaves_rightly setting before i port leaving knows way =
     let s : ℕ = way.switch in

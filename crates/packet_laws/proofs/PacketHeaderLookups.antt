@@ -2,13 +2,13 @@
 use Rattle.std.proofs.Common.{[], ◌+◌, ◌<◌, ◌∙◌, ◌≡◌, ◌≤◌, All, Bool, Contains, IsTrue, List, None, Option, Some, ap, arith, false, filter, find, if◌then◌else◌, inl, inr, length, map, option_and_then, option_map, position, refl, slice_get, subst, sym, true, unwrap_or, ℕ, rules}
 use Rattle.base.proofs.Exports.{All-filter, find-position, find-there, get_or-map, length-map, option_map_or, slice_get-get_or, some_of_map, some_of_then, some_same}
 use Rattle.five_tuple.specs.Exports.{IsHeader, fields_of, number_of}
-use Rattle.update_machine.specs.Exports.{AuthorityRule, CacheEntry, Decision, Exit, Found, HasPlan, HaveCauses, Header, IsSetting, Item, Leg, NamesOwnPort, Partition, Row, Rule, Seek, Setting, authority_rule, current_mark, decision_of, first_place, found_down, header_at, header_in, leg_of, lookup_at, next_switch, plan_at, policy_at, retired_mark, serves, stamp_of, standing, tables_at, travels}
-use Rattle.partition.specs.Plan.{IsPlan}
-use Rattle.policy_rules.specs.Exports.{first_rule, hit_of, hit_of_rule, is_held, is_highest, is_in, row_matches, scan}
+use Rattle.update_machine.specs.Exports.{AuthorityRule, CacheEntry, Decision, Exit, Found, HasPlan, HaveCauses, Header, IsSetting, Item, Leg, NamesOwnPort, Partition, Row, Rule, Seek, Setting, authority_rule, current_mark, decision_of, first_place, found_down, packet_header_at, header_in, leg_of, lookup_at, next_switch, plan_at, policy_at, retired_mark, serves, stamp_of, standing, tables_at, travels}
+use Rattle.partition.specs.Plan.{IsPartitionPlan}
+use Rattle.policy_rules.specs.Exports.{first_rule, hit_of, hit_of_rule, is_held, is_highest_row, is_in, row_matches, scan}
 use Rattle.switch_table.specs.Exports.{Hosted, authority_of, has_target, lookup_in, part_of, table_lookup, tables_of}
-use Rattle.switch_table.proofs.TableLemmas.{tables_planned}
+use Rattle.switch_table.proofs.SwitchTableLemmas.{tables_planned}
 use Rattle.update_machine.proofs.Exports.{begins_planned, version_is_planned, versions_own}
-use Rattle.control_laws.specs.Exports.{HasItemCause, HoldsStamp}
+use Rattle.control_laws.specs.Exports.{HasItemCause, HoldsStampedVersions}
 use Rattle.control_laws.proofs.Exports.{bounded, serving_hold, versions_planned}
 use Rattle.packet_laws.specs.Exports.{AuthorityFinds, HasKeptFacts, IsAt, IsOnLeg, IsOnWay, IsSought, IsUnderWay, PacketFacts, Stage, what_is_known}
 
@@ -19,7 +19,7 @@ use Rattle.packet_laws.specs.Exports.{AuthorityFinds, HasKeptFacts, IsAt, IsOnLe
 
 -- rows that name ports of the network alone, and their plan on it
 pub record IsPlanned (setting : Setting) (rows : List Row) (plan : List Hosted) : Type 0 where
-  pub parts : IsPlan rows setting.net plan
+  pub parts : IsPartitionPlan rows setting.net plan
   pub ports : All (λ row. NamesOwnPort setting row.action) rows
 
 -- a version with a plan is planned
@@ -37,11 +37,11 @@ abbrev rows_that_match : List Row → Header → List Row
 rows_that_match rows header = filter (λ row. row_matches row (fields_of header)) rows
 
 hit_named : (setting : Setting) (rows : List Row) (best : Option Row)
-    → All (λ row. NamesOwnPort setting row.action) rows → find (is_highest rows) rows ≡ best →
+    → All (λ row. NamesOwnPort setting row.action) rows → find (is_highest_row rows) rows ≡ best →
     NamesOwnPort setting (hit_of best).action
 hit_named setting rows None all e = tt
 hit_named setting rows (Some row) all e =
-    let there : Contains rows row = (find-there (is_highest rows) rows row e).0 in
+    let there : Contains rows row = (find-there (is_highest_row rows) rows row e).0 in
     subst (λ (r : Row). NamesOwnPort setting r.action) there.2 (all there.0 row there.1)
 
 -- the action of a first match names a port of the network, if it names one
@@ -136,7 +136,7 @@ pub stamped : (setting : Setting) (journal : List Item) (s : ℕ) → IsSetting 
     → HaveCauses (HasItemCause setting) [] journal → s < length setting.net.switches
     → IsTrue (serves journal s) → IsStamped setting journal s
 stamped setting journal s is have there serving =
-    let holds : HoldsStamp journal s = serving_hold setting journal have s there serving in record {
+    let holds : HoldsStampedVersions journal s = serving_hold setting journal have s there serving in record {
       retired = holds.retired;
       current = holds.current;
       planned = current_planned _ journal _ is have (omega (arith, holds.retired)) holds.current;
@@ -293,7 +293,7 @@ pub record IsHere (setting : Setting) (before : List Item) (i s : ℕ) : Type 0 
   pub travelling : IsTrue (what_is_known before i).travels
   pub under : IsUnderWay setting before (what_is_known before i)
   pub at : s ≡ under.switch
-  pub header : header_at before i ≡ under.header
+  pub header : packet_header_at before i ≡ under.header
   pub stamped : IsStamped setting before s
 
 pub here_of : (setting : Setting) (before : List Item) (i s : ℕ) (stage : Option Stage)

@@ -1,11 +1,11 @@
 -- What held on the way, by the laws that say it one by one.
 use Rattle.std.proofs.Common.{[], ◌++◌, ◌∙◌, ◌∷◌, ◌≡◌, ◌≤◌, List, Option, ap, append-nil, append_assoc, drop, length, refl, subst, suc, sym, take, zero, ℕ, rules}
-use Rattle.update_machine.specs.Exports.{AreSettled, BeginsAnswer, Event, HasCause, HaveCauses, IsPlay, IsRun, IsSetting, Item, Setting, StepOfRow, after_steps, most_versions, piece, step_items}
-use Rattle.packet_laws.specs.Exports.{BeginStep, EndsStep, HeldOnTheWay, HoldsBetween, HoldsSoFar, IsKeptBehind, KeepVersionsWhole, PacketsTravel, StrongCause, detour_count, exit_count, hops_on_route, hops_taken, most_hops, most_routes, most_switches, routes_taken, search_count, steps_played}
-use Rattle.packet_laws.proofs.SparedPackets.{IsNoRow}
-use Rattle.packet_laws.proofs.RestingPackets.{no_rows, play_begins}
-use Rattle.control_laws.specs.Exports.{AreEvents, HoldsAtEnds, HoldsReached}
-use Rattle.packet_laws.proofs.PlayExistence.{OfReached}
+use Rattle.update_machine.specs.Exports.{AreSettled, BeginsAnswer, Event, HasCause, HaveCauses, IsPlay, IsRun, IsSetting, Item, Setting, StepOfRow, journal_after_steps, most_versions, piece, step_items}
+use Rattle.packet_laws.specs.Exports.{BeginStep, EndsStep, HeldOnTheWay, HoldsBetween, HoldsSoFar, IsKeptBehind, KeepVersionsWhole, PacketsTravel, StrongCause, detour_count, exit_count, hops_on_route, hops_taken, most_hops, most_routes, most_switches, routes_taken, search_count, packet_steps_played}
+use Rattle.packet_laws.proofs.PacketsSpared.{IsNoRow}
+use Rattle.packet_laws.proofs.PacketsAtRest.{no_rows, play_begins}
+use Rattle.control_laws.specs.Exports.{AreNetworkEvents, HoldsAtEnds, HoldsReached}
+use Rattle.packet_laws.proofs.PacketPlayExistence.{OfReached}
 
 -- ---- where a step begins behind some items of what steps wrote, or nothing is left, these items
 -- are what the first of the steps wrote.
@@ -17,7 +17,7 @@ written setting before (next ∷ steps) = piece setting before next.row next.ste
     ++ written setting (before ++ piece setting before next.row next.step) steps
 
 after_is : (setting : Setting) (before : List Item) (steps : List StepOfRow)
-    → after_steps setting before steps ≡ before ++ written setting before steps
+    → journal_after_steps setting before steps ≡ before ++ written setting before steps
 after_is setting before [] = sym (append-nil before)
 after_is setting before (next ∷ steps) =
     let own : List Item = piece setting before next.row next.step in
@@ -53,7 +53,7 @@ record Firsts (setting : Setting) (before : List Item) (steps : List StepOfRow) 
     : Type 0 where
   count : ℕ
   are : before ++ take n (written setting before steps)
-      ≡ after_steps setting before (take count steps)
+      ≡ journal_after_steps setting before (take count steps)
 
 firsts : (setting : Setting) (before : List Item) (steps : List StepOfRow) (n : ℕ)
     → BeginStep (drop n (written setting before steps)) → Firsts setting before steps n
@@ -73,8 +73,8 @@ firsts setting before (next ∷ steps) (suc n) begins =
     }
 
 pub ends_at : (setting : Setting) (steps : List StepOfRow) (n : ℕ)
-    → EndsStep (after_steps setting [] steps) n → (count : ℕ)
-    × (take n (after_steps setting [] steps) ≡ after_steps setting [] (take count steps))
+    → EndsStep (journal_after_steps setting [] steps) n → (count : ℕ)
+    × (take n (journal_after_steps setting [] steps) ≡ journal_after_steps setting [] (take count steps))
 ends_at setting steps n ends =
     let is = after_is setting [] steps in
     let found : Firsts setting [] steps n =
@@ -136,7 +136,7 @@ kept_behind travel settle = record {
   };
   played = λ setting events journal full own play n is. record {
     packets = travel.played setting events journal full own play n is;
-    settled = settle.stepped setting (take n (steps_played setting events journal full play));
+    settled = settle.stepped setting (take n (packet_steps_played setting events journal full play));
   };
 }
 
@@ -162,15 +162,15 @@ fewer_begin setting events journal n begins =
 
 written_of : (setting : Setting) (events : List Event) (journal : List Item) (full : Option ℕ)
     → (play : IsPlay setting events journal full)
-    → journal ≡ after_steps setting [] (steps_played setting events journal full play)
+    → journal ≡ journal_after_steps setting [] (packet_steps_played setting events journal full play)
 written_of setting events journal full play = search rules
 
 pub held_on_the_way : OfReached HoldsSoFar → OfSteps IsKeptBehind
     → (setting : Setting) (events : List Event) (journal : List Item) (full : Option ℕ)
-    → IsSetting setting → AreEvents setting events → IsPlay setting events journal full
+    → IsSetting setting → AreNetworkEvents setting events → IsPlay setting events journal full
     → HeldOnTheWay setting journal
 held_on_the_way so_far behind setting events journal full is own play =
-    let steps : List StepOfRow = steps_played setting events journal full play in
+    let steps : List StepOfRow = packet_steps_played setting events journal full play in
     let written = written_of setting events journal full play in record {
       so_far = λ n. so_far.begun setting events (take n journal) own
           (fewer_begin setting events journal n (play_begins setting events journal full play)) is;

@@ -2,17 +2,17 @@
 -- none of the links that the packet found down.
 use Rattle.std.proofs.Common.{[], ◌&&◌, ◌++◌, ◌+◌, ◌-◌, ◌<◌, ◌∙◌, ◌∷◌, ◌≡◌, ◌≢◌, ◌≤◌, Bool, IsFalse, IsTrue, List, None, Option, Some, ap, arith, eq-eqb, false, get_or, get_or-set_other, get_or-set_same, inl, inr, length, length-set, map, nat_eq, not, refl, replicate, set, slice_get, slice_index, subst, suc, sym, true, zero, ℕ, rules}
 use Rattle.base.proofs.Exports.{cases_eq, get_or-map, get_or_past, has-zero, length-map, list_any, or_left}
-use Rattle.failover.specs.Exports.{AreJoined, IsPath, IsReachable, IsRoute, LinksLead, has_link, held_advert, is_link, named_links, names_neighbour, neighbours_named}
+use Rattle.failover.specs.Exports.{AreJoinedByLinks, IsPath, IsReachable, IsRoute, LinksLeadTo, has_link, held_advert, is_link, named_links, names_neighbour, neighbours_named}
 use Rattle.base.specs.Exports.{has}
 use Rattle.update_machine.specs.Exports.{Advert, HaveCauses, Hop, Item, Leads, Setting, adverts_of_others, found_down, is_end, is_open, links_known, near, route_from, serves, travels}
 use Rattle.update_machine.proofs.Exports.{has_known_link, heard_by_origin, known_link_laws, link_not_found, one}
 use Rattle.control_laws.proofs.Exports.{HasBothCauses, IsNamed, names_end, own_end, second}
-use Rattle.failover.proofs.KnownLinkRows.{has_known}
+use Rattle.failover.proofs.FailoverKnownLinks.{has_known}
 use Rattle.failover.proofs.RouteSearch.{path_is_route_list, straight_path}
 use Rattle.net_file.specs.Exports.{IsNet, links_of}
-use Rattle.net_file.proofs.MaskBits.{in_mask_of}
+use Rattle.net_file.proofs.NetFilePortMasks.{in_mask_of}
 use Rattle.control_laws.specs.Exports.{LinksAreThere}
-use Rattle.packet_laws.specs.Exports.{Avoids, LeadsTo, StartsAt, finding_count, hops_on_route, hops_taken, most_switches}
+use Rattle.packet_laws.specs.Exports.{PacketRouteAvoidsFound, PacketRouteLeadsToTarget, PacketRouteStartsAt, finding_count, hops_on_route, hops_taken, most_switches}
 
 -- ---- the first link of a route that a switch knows is one that it can use
 
@@ -22,7 +22,7 @@ own_row : (rows : List ℕ) (at own other : ℕ) → IsTrue (has (get_or (set ro
 own_row rows at own other is = search (rules, get_or-set_same, has-zero, get_or_past, length-set)
 
 joined_sees : (setting : Setting) (journal : List Item) (s next : ℕ) (down : List ℕ) → s < 64
-    → next < 64 → AreJoined (links_known setting journal s down) s next
+    → next < 64 → AreJoinedByLinks (links_known setting journal s down) s next
     → IsTrue (has (near setting journal s) next)
 unfolding is_link named_links
 joined_sees setting journal s next down small fits joined = own_row _ s (near setting journal s)
@@ -30,7 +30,7 @@ joined_sees setting journal s next down small fits joined = own_row _ s (near se
 
 path_begins : (links : List ℕ) (from target next : ℕ) (route : List ℕ)
     → IsPath links from target route → slice_get route 1 ≡ Some next
-    → (from < 64) × (next < 64) × AreJoined links from next
+    → (from < 64) × (next < 64) × AreJoinedByLinks links from next
 unfolding IsPath
 path_begins links from target next [] path is = absurd path
 path_begins links from target next (first ∷ []) path is = absurd cc
@@ -38,7 +38,7 @@ path_begins links from target next (first ∷ second ∷ rest) path is = search 
 
 route_begins : (links : List ℕ) (from next : ℕ) (targets route : List ℕ)
     → IsRoute links from targets (Some route) → slice_get route 1 ≡ Some next
-    → (from < 64) × (next < 64) × AreJoined links from next
+    → (from < 64) × (next < 64) × AreJoinedByLinks links from next
 unfolding IsRoute
 route_begins links from next [] route is begins = absurd cc
 route_begins links from next (target ∷ targets) route (inl least) begins =
@@ -60,16 +60,16 @@ first_usable setting journal s next targets down route is begins =
 -- ---- ways
 
 leads_over : (joined : ℕ → ℕ → Bool) (links : List ℕ) (at target : ℕ) (path : List ℕ)
-    → ((one two : ℕ) → IsTrue (joined one two) → (two < 64) × AreJoined links one two)
-    → Leads joined at path target → LinksLead links target at path
+    → ((one two : ℕ) → IsTrue (joined one two) → (two < 64) × AreJoinedByLinks links one two)
+    → Leads joined at path target → LinksLeadTo links target at path
 leads_over joined links at target [] over leads = leads
 leads_over joined links at target (next ∷ path) over leads =
-    let step : (next < 64) × AreJoined links at next = over at next leads.0 in
+    let step : (next < 64) × AreJoinedByLinks links at next = over at next leads.0 in
     (step.0, step.1, leads_over joined links next target path over leads.1)
 
 -- where the masks don't reach the target, no way leads there
 pub none_leads : (joined : ℕ → ℕ → Bool) (links : List ℕ) (from target : ℕ) → length links ≡ 64
-    → ((one two : ℕ) → IsTrue (joined one two) → (two < 64) × AreJoined links one two)
+    → ((one two : ℕ) → IsTrue (joined one two) → (two < 64) × AreJoinedByLinks links one two)
     → from < 64 → ¬ IsReachable links from target → (path : List ℕ)
     → ¬ Leads joined from path target
 none_leads joined links from target rows over small unreached path leads = unreached
@@ -140,7 +140,7 @@ all_four a b c d p q r s = rw (p, q, r, s) refl
 -- a link that the switch knows, and that the packet didn't find down, is in the masks
 pub open_joined : (setting : Setting) (before : List Item) (i s : ℕ) → Sees setting before s
     → (one two : ℕ) → IsTrue (is_open setting before i s one two)
-    → (two < 64) × AreJoined (links_known setting before s (found_down before i)) one two
+    → (two < 64) × AreJoinedByLinks (links_known setting before s (found_down before i)) one two
 unfolding is_link
 open_joined setting before i s sees one two is =
     search (rules, all_parts, end_has, has_known, all_four, link_not_found)
@@ -162,7 +162,7 @@ not_down neighbours down one two is = search (rules, last_false)
 
 good_link : (setting : Setting) (journal : List Item) (at one two : ℕ) (down : List ℕ)
     → LinksAreThere setting journal → one < 64 → two < 64
-    → AreJoined (links_known setting journal at down) one two → IsGoodLink setting down one two
+    → AreJoinedByLinks (links_known setting journal at down) one two → IsGoodLink setting down one two
 unfolding has
 good_link setting journal at one two down there one_small two_small joined = record {
   linked = in_mask_of _ two two_small ∙ there.known at one two down one_small two_small joined;
@@ -172,14 +172,14 @@ good_link setting journal at one two down there one_small two_small joined = rec
 last_of : (first : ℕ) (rest : List ℕ) → length (first ∷ rest) - 1 ≡ length rest
 last_of first rest = omega arith
 
-leads_last : (links : List ℕ) (target at : ℕ) (rest : List ℕ) → LinksLead links target at rest
+leads_last : (links : List ℕ) (target at : ℕ) (rest : List ℕ) → LinksLeadTo links target at rest
     → slice_get (at ∷ rest) (length rest) ≡ Some target
 leads_last links target at [] leads = ap Some leads
 leads_last links target at (next ∷ rest) leads = leads_last links target next rest leads.2
 
 leads_at : (links : List ℕ) (target at : ℕ) (rest : List ℕ) (k one two : ℕ) → at < 64
-    → LinksLead links target at rest → slice_get (at ∷ rest) k ≡ Some one
-    → slice_get (at ∷ rest) (suc k) ≡ Some two → (one < 64) × (two < 64) × AreJoined links one two
+    → LinksLeadTo links target at rest → slice_get (at ∷ rest) k ≡ Some one
+    → slice_get (at ∷ rest) (suc k) ≡ Some two → (one < 64) × (two < 64) × AreJoinedByLinks links one two
 leads_at links target at [] zero one two fits way here there = absurd cc
 leads_at links target at (next ∷ more) zero one two fits way here there = search rules
 leads_at links target at [] (suc k) one two fits way here there = absurd cc
@@ -188,9 +188,9 @@ leads_at links target at (next ∷ more) (suc k) one two fits way here there =
 
 -- what a route does
 pub record IsWay (setting : Setting) (at : ℕ) (targets down route : List ℕ) : Type 0 where
-  pub leads : LeadsTo setting targets route
-  pub begins : StartsAt at route
-  pub avoids : Avoids down route
+  pub leads : PacketRouteLeadsToTarget setting targets route
+  pub begins : PacketRouteStartsAt at route
+  pub avoids : PacketRouteAvoidsFound down route
 
 path_way : (setting : Setting) (journal : List Item) (at target : ℕ) (targets down route : List ℕ)
     → LinksAreThere setting journal → IsTrue (list_any (nat_eq target) targets)

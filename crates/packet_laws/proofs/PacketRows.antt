@@ -1,10 +1,10 @@
 -- The packet rows of the steps of events are those of the events.
 use Rattle.std.proofs.Common.{[], ◌++◌, ◌+◌, ◌-◌, ◌∙◌, ◌∷◌, ◌≡◌, ◌≤◌, ◌⊎◌, Bool, List, None, Option, Some, ap, append-nil, append_assoc, arith, false, inl, inr, refl, subst, suc, sym, take, true, ℕ, rules}
-use Rattle.update_machine.specs.Exports.{Answers, AreFirstSteps, AreFirstStepsOf, AreSome, AreSteps, AreStepsOf, Drain, Event, Flush, HaveCauses, Header, IsPlay, Item, One, Packet, Setting, Step, StepOfRow, after_steps, items_then, lookup_items, next_delivery, next_hop, next_packet, packet_items, piece, serves}
+use Rattle.update_machine.specs.Exports.{Answers, AreFirstSteps, AreFirstStepsOf, AreFirstEventSteps, AreSteps, AreStepsOf, Drain, Event, Flush, HaveCauses, Header, IsPlay, Item, One, Packet, Setting, Step, StepOfRow, journal_after_steps, journal_items_then, lookup_items, next_delivery, next_hop, next_packet, packet_items, piece, serves}
 use Rattle.update_machine.proofs.Exports.{AreOf, HasNexts, all_first, all_given_append, event_steps_are, firsts_are}
-use Rattle.packet_laws.proofs.SparedPackets.{IsInStep, IsNoRow, lookup_in_step}
-use Rattle.packet_laws.proofs.RestingPackets.{no_entries, no_rows}
-use Rattle.packet_laws.specs.Exports.{AreEntered, EachEnters, StepRow, event_row, gives_row, rows_played, step_row, step_rows, step_rows_in}
+use Rattle.packet_laws.proofs.PacketsSpared.{IsInStep, IsNoRow, lookup_in_step}
+use Rattle.packet_laws.proofs.PacketsAtRest.{no_entries, no_rows}
+use Rattle.packet_laws.specs.Exports.{AreEntered, EachPacketRowEnters, StepRow, event_row, gives_packet_row, rows_played, step_row, step_rows, step_rows_in}
 use Rattle.policy_rules.proofs.CallerLemmas.{append_not_nil}
 
 -- ---- what the pieces of steps have of packet rows and their entries
@@ -32,19 +32,19 @@ rows_of [] = []
 rows_of (next ∷ steps) = step_row next.row next.step ++ rows_of steps
 
 pub steps_rows : (setting : Setting) (before : List Item) (steps : List StepOfRow)
-    → step_rows_in (after_steps setting before steps) ≡ step_rows_in before ++ rows_of steps
+    → step_rows_in (journal_after_steps setting before steps) ≡ step_rows_in before ++ rows_of steps
 steps_rows setting before [] = sym (append-nil (step_rows_in before))
 steps_rows setting before (next ∷ steps) =
     steps_rows setting (before ++ piece setting before next.row next.step) steps
     ∙ ap (λ rows. rows ++ rows_of steps)
-    (all_given_append gives_row before (piece setting before next.row next.step)
+    (all_given_append gives_packet_row before (piece setting before next.row next.step)
     ∙ ap (λ rows. step_rows_in before ++ rows) (piece_rows setting before next.row next.step))
     ∙ append_assoc (step_rows_in before) (step_row next.row next.step) (rows_of steps)
 
 -- ---- the entries
 
 none_enter : (before journal items : List Item)
-    → HaveCauses (λ js next. IsInStep next) journal items → EachEnters before items
+    → HaveCauses (λ js next. IsInStep next) journal items → EachPacketRowEnters before items
 none_enter before journal [] none = tt
 none_enter before journal (Item.Row row step ∷ items) none = absurd none.0
 none_enter before journal (Item.Entered packet switch header ∷ items) none = absurd none.0
@@ -52,7 +52,7 @@ none_enter before journal (Item.Closed packet switch ∷ items) none = absurd no
 none_enter before journal (first ∷ items) none = none_enter (before ++ first ∷ []) _ items none.1
 
 packet_enters : (setting : Setting) (before : List Item) (row s : ℕ) (header : Header)
-    → EachEnters before (piece setting before row (Packet s header))
+    → EachPacketRowEnters before (piece setting before row (Packet s header))
 unfolding piece packet_items
 packet_enters setting before row s header = by_serving (serves here s) refl where
   i : ℕ
@@ -61,22 +61,22 @@ packet_enters setting before row s header = by_serving (serves here s) refl wher
   here : List Item
   here = before ++ Item.Row row (Packet s header) ∷ []
 
-  by_serving : (b : Bool) → serves here s ≡ b → EachEnters before (Item.Row row (Packet s header) ∷ elim b [
+  by_serving : (b : Bool) → serves here s ≡ b → EachPacketRowEnters before (Item.Row row (Packet s header) ∷ elim b [
     | false ↦ Item.Closed i s ∷ []
-    | true ↦ items_then (Item.Entered i s header ∷ []) (lookup_items setting i s) here
+    | true ↦ journal_items_then (Item.Entered i s header ∷ []) (lookup_items setting i s) here
   ])
   by_serving false is = ((refl, refl, is), tt)
   by_serving true is = ((refl, refl, refl, is), none_enter _ _ _ (lookup_in_step setting i s _))
 
 piece_enters : (setting : Setting) (before : List Item) (row : ℕ) (step : Step)
-    → EachEnters before (piece setting before row step)
+    → EachPacketRowEnters before (piece setting before row step)
 unfolding piece
 piece_enters setting before row (Packet s header) = packet_enters setting before row s header
 piece_enters setting before row step = none_enter _ _ _ (no_entries setting before row step tt)
 
-enter_on : (before items more : List Item) → EachEnters before items
-    → EachEnters (before ++ items) more → EachEnters before (items ++ more)
-enter_on before [] more first then = subst (λ js. EachEnters js more) (append-nil before) then
+enter_on : (before items more : List Item) → EachPacketRowEnters before items
+    → EachPacketRowEnters (before ++ items) more → EachPacketRowEnters before (items ++ more)
+enter_on before [] more first then = subst (λ js. EachPacketRowEnters js more) (append-nil before) then
 enter_on before (Item.Row row (Packet s header) ∷ []) more first then = absurd first
 enter_on before (Item.Row row (Packet s header) ∷ entry ∷ items) more first then =
     let own : List Item = Item.Row row (Packet s header) ∷ entry ∷ [] in (
@@ -89,7 +89,7 @@ enter_on before (next ∷ items) more first then = enter_on (before ++ next ∷ 
     (rw (append_assoc before (next ∷ []) items) then)
 
 pub steps_enter : (setting : Setting) (before : List Item) (steps : List StepOfRow)
-    → EachEnters [] before → EachEnters [] (after_steps setting before steps)
+    → EachPacketRowEnters [] before → EachPacketRowEnters [] (journal_after_steps setting before steps)
 steps_enter setting before [] known = known
 steps_enter setting before (next ∷ steps) known =
     steps_enter setting (before ++ piece setting before next.row next.step) steps
@@ -145,7 +145,7 @@ one_front row one (first ∷ steps) last is e = absurd (append_not_nil steps las
 
 some_last : (setting : Setting) (next : List Item → Option Step) (row : ℕ) (before : List Item)
     (steps : List StepOfRow) (last : StepOfRow)
-    → AreSome setting next row before (steps ++ last ∷ []) → last.row ≡ row
+    → AreFirstEventSteps setting next row before (steps ++ last ∷ []) → last.row ≡ row
 some_last setting next row before [] last some = some.0
 some_last setting next row before (first ∷ steps) last some = some_last setting next row
     (before ++ piece setting before first.row first.step) steps last some.2
@@ -254,7 +254,7 @@ steps_in_front setting row (event ∷ events) before steps last (inl first) = of
     (event ∷ events) steps last (event_front setting row event before steps last first)
 steps_in_front setting row (event ∷ events) before steps last
     (inr (mine, rest, split, all, others)) =
-    let after : List Item = after_steps setting before mine in
+    let after : List Item = journal_after_steps setting before mine in
     front_played setting row event events before steps last mine rest all
     (λ front is. steps_in_front setting (row + 1) events after front last (rw is at others))
     (where_ends steps last mine rest split.split)
@@ -262,7 +262,7 @@ steps_in_front setting row (event ∷ events) before steps last
 -- ---- the packets of plays
 
 steps_entered : (setting : Setting) (steps : List StepOfRow) (journal : List Item)
-    (rows : List StepRow) → journal ≡ after_steps setting [] steps → rows_of steps ≡ rows
+    (rows : List StepRow) → journal ≡ journal_after_steps setting [] steps → rows_of steps ≡ rows
     → AreEntered rows journal
 steps_entered setting steps journal rows written are =
     subst (AreEntered rows) (sym written) (record {

@@ -6,7 +6,7 @@ use Rattle.std.specs.Prelude.{[], if◌then◌else◌, ◌++◌, ◌+◌, ◌<�
 use Rattle.update_machine.specs.Exports.{CacheEntry, Decision, Edit, Header, Hit, Item, Row, Setting, Stamp, body_to_switch, cache_of, decision_of, header_in, policy_in, stamp_of, touched_by}
 use Rattle.five_tuple.specs.Exports.{fields_of}
 use Rattle.policy_rules.specs.Exports.{IsFirstMatch, applied, row_matches, touched_rows}
-use Rattle.switch_table.specs.Exports.{is_carried, meets_any, under}
+use Rattle.switch_table.specs.Exports.{is_carried, meets_any_touched, under}
 use Rattle.ternary.specs.Exports.{WordValue}
 use Rattle.journal.specs.declared.item.Item.TheVariants as item
 use Rattle.packet_laws.specs.Rules.{IsRightEntry}
@@ -57,8 +57,8 @@ ChangesLeaveOthers setting journal = (version : ℕ) (header : Header)
 
 -- the cache has a rule of this version with the entry's word, and the rule decides each header of
 -- the word as the version's policy does
-abbrev pub HasUnder : Setting → List Item → ℕ → ℕ → CacheEntry → Type 0
-HasUnder setting journal s version entry =
+abbrev pub CacheHasUnder : Setting → List Item → ℕ → ℕ → CacheEntry → Type 0
+CacheHasUnder setting journal s version entry =
     Any (λ kept. (kept.version ≡ version) × ((kept.word ≡ entry.word)
     × IsRightEntry setting journal kept)) (cache_of setting journal s).entries
 
@@ -69,8 +69,8 @@ IsToldStamp before s number boot version touched =
 
 -- the entry outlives the cache's move to a version: it is of this version or a later one; or of
 -- the one before, if its word meets no touched word and no entry of the version has that word
-abbrev pub outlives : ℕ → List WordValue → List CacheEntry → CacheEntry → Bool
-outlives version touched entries entry =
+abbrev pub cached_entry_outlives : ℕ → List WordValue → List CacheEntry → CacheEntry → Bool
+cached_entry_outlives version touched entries entry =
     nat_le version entry.version || is_carried version touched entries entry
 
 -- the entry, of the same message, under this version; or as it is, if its version isn't lower
@@ -80,7 +80,7 @@ at_least version entry = if nat_le version entry.version then entry else under v
 -- exactly the entries that outlive the move are left, in their order, each at least at the version
 abbrev pub StayInOrder : ℕ → List WordValue → (before after : List CacheEntry) → Type 0
 StayInOrder version touched before after =
-    after ≡ map (at_least version) (filter (outlives version touched before) before)
+    after ≡ map (at_least version) (filter (cached_entry_outlives version touched before) before)
 
 -- when a message raises the stamp of a switch to a version, the entries of its cache stay in their
 -- order, except those of earlier versions that don't outlive the rise. An entry of the version
@@ -93,8 +93,8 @@ pub record OutliveRise (setting : Setting) (before : List Item) (s number versio
       (cache_of setting (before ++ item.Delivered number ∷ []) s).entries
   pub untouched : (entry : CacheEntry) → Contains (cache_of setting before s).entries entry
       → entry.version + 1 ≡ version
-      → IsFalse (meets_any (touched_by setting before version) entry.word)
-      → HasUnder setting (before ++ item.Delivered number ∷ []) s version entry
+      → IsFalse (meets_any_touched (touched_by setting before version) entry.word)
+      → CacheHasUnder setting (before ++ item.Delivered number ∷ []) s version entry
 
 abbrev pub UntouchedStay : Setting → List Item → Type 0
 UntouchedStay setting before =

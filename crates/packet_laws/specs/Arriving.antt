@@ -1,15 +1,15 @@
 -- Packets at the end of their route, just before the switch there receives them.
 use Rattle.std.specs.Prelude.{◌≡◌, IsTrue, List, Some, ℕ}
 use Rattle.update_machine.specs.Exports.{Header, Item, Leg, Setting, header_in, leg_of, standing, travels}
-use Rattle.control_laws.specs.Exports.{EndsAt}
-use Rattle.packet_laws.specs.PacketCauses.{Arrives}
+use Rattle.control_laws.specs.Exports.{LegEndsAt}
+use Rattle.packet_laws.specs.PacketCauses.{PacketArrives}
 
 -- the packet travels with this header on this leg, and is at this switch, where its route ends,
 -- even if it took that route just now, in the middle of a hop
 pub record IsAtEnd (journal : List Item) (packet s : ℕ) (header : Header) (leg : Leg) : Type 0
   where
     pub travelling : IsTrue (travels journal packet)
-    pub arrives : Arrives journal packet
+    pub arrives : PacketArrives journal packet
     pub stands : standing journal packet ≡ Some s
     pub with_header : header_in journal packet ≡ Some header
     pub takes : leg_of journal packet ≡ Some leg
@@ -17,4 +17,4 @@ pub record IsAtEnd (journal : List Item) (packet s : ℕ) (header : Header) (leg
 -- each packet at the end of its route is where its leg leads
 abbrev pub PacketsArrive : Setting → List Item → Type 0
 PacketsArrive setting journal = (packet s : ℕ) (header : Header) (leg : Leg)
-    → IsAtEnd journal packet s header leg → EndsAt setting journal s header leg
+    → IsAtEnd journal packet s header leg → LegEndsAt setting journal s header leg

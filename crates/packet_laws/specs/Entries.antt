@@ -33,13 +33,13 @@ rows_played (Some row) events = step_rows 1 (take (row - 1) events)
 
 -- ---- in a journal
 
-abbrev pub gives_row : Item → List StepRow
-gives_row (item.Row row step) = step_row row step
-gives_row _ = []
+abbrev pub gives_packet_row : Item → List StepRow
+gives_packet_row (item.Row row step) = step_row row step
+gives_packet_row _ = []
 
 -- the step rows that a journal has, in order
 abbrev pub step_rows_in : List Item → List StepRow
-step_rows_in journal = all_given gives_row journal
+step_rows_in journal = all_given gives_packet_row journal
 
 -- the item says that packet i entered with this header at the switch, if the switch serves; or, if
 -- it doesn't, that it was closed to the packet
@@ -52,17 +52,17 @@ IsEntryOf serving i s header _ = ⊥
 
 -- after this journal each packet row among the items has its entry right after it, under the next
 -- number, and nothing else enters or is closed
-abbrev pub EachEnters : List Item → List Item → Type 0
-EachEnters before [] = ⊤
-EachEnters before (item.Row row (Packet s header) ∷ []) = ⊥
-EachEnters before (item.Row row (Packet s header) ∷ entry ∷ items) =
+abbrev pub EachPacketRowEnters : List Item → List Item → Type 0
+EachPacketRowEnters before [] = ⊤
+EachPacketRowEnters before (item.Row row (Packet s header) ∷ []) = ⊥
+EachPacketRowEnters before (item.Row row (Packet s header) ∷ entry ∷ items) =
     IsEntryOf (serves (before ++ item.Row row (Packet s header) ∷ []) s) (next_packet before) s
-    header entry × EachEnters (before ++ item.Row row (Packet s header) ∷ entry ∷ []) items
-EachEnters before (item.Entered packet switch header ∷ items) = ⊥
-EachEnters before (item.Closed packet switch ∷ items) = ⊥
-EachEnters before (first ∷ items) = EachEnters (before ++ first ∷ []) items
+    header entry × EachPacketRowEnters (before ++ item.Row row (Packet s header) ∷ entry ∷ []) items
+EachPacketRowEnters before (item.Entered packet switch header ∷ items) = ⊥
+EachPacketRowEnters before (item.Closed packet switch ∷ items) = ⊥
+EachPacketRowEnters before (first ∷ items) = EachPacketRowEnters (before ++ first ∷ []) items
 
 -- the journal has these rows, each packet row with its entry, and no other entry
 pub record AreEntered (rows : List StepRow) (journal : List Item) : Type 0 where
   pub in_order : step_rows_in journal ≡ rows
-  pub each : EachEnters [] journal
+  pub each : EachPacketRowEnters [] journal

@@ -1,19 +1,19 @@
 -- All that a journal says about one packet, as one value, and how each item changes it.
 use Rattle.std.specs.Prelude.{if◌then◌else◌, ◌+◌, ◌==◌, Bool, List, Option, Some, false, option_and_then, true, unwrap_or, ℕ}
 use Rattle.failover.specs.Exports.{with_link}
-use Rattle.update_machine.specs.Exports.{Decision, Exit, Header, Item, Leg, Seek, decision_of, folded_value, found_down, header_in, ingress_of, leg_of, port_in, retired_mark, route_in, route_place, standing, travels}
+use Rattle.update_machine.specs.Exports.{Decision, Exit, Header, Item, Leg, Seek, decision_of, folded_value, found_down, header_in, ingress_of, leg_of, port_of_action, retired_mark, route_in, route_place, standing, travels}
 use Rattle.journal.specs.declared.item.Item.TheVariants as item
 
 -- ---- the mark of a packet
 
-abbrev pub changes_mark : ℕ → List Item → ℕ → Item → ℕ
-changes_mark i before mark (item.Entered packet switch header) =
+abbrev pub changes_packet_mark : ℕ → List Item → ℕ → Item → ℕ
+changes_packet_mark i before mark (item.Entered packet switch header) =
     if packet == i then retired_mark before else mark
-changes_mark i before mark _ = mark
+changes_packet_mark i before mark _ = mark
 
 -- the mark up to which versions were retired when the packet entered; 0 if it didn't enter
 unfoldable pub entry_mark : List Item → ℕ → ℕ
-entry_mark journal i = folded_value (changes_mark i) 0 journal
+entry_mark journal i = folded_value (changes_packet_mark i) 0 journal
 
 -- ---- all that is known of it
 
@@ -45,40 +45,40 @@ what_is_known journal i = record {
 
 -- the port by which a packet with this decision leaves; 0 if it has no decision or no port
 abbrev pub port_decided : Option Decision → ℕ
-port_decided decision = unwrap_or (option_and_then (λ d. port_in d.action) decision) 0
+port_decided decision = unwrap_or (option_and_then (λ d. port_of_action d.action) decision) 0
 
 -- what is known of the packet after an item that names it, when this is the retired mark
-abbrev pub facts_after : ℕ → Item → PacketFacts → PacketFacts
-facts_after mark (item.Entered packet switch header) facts = record facts {
+abbrev pub packet_facts_after : ℕ → Item → PacketFacts → PacketFacts
+packet_facts_after mark (item.Entered packet switch header) facts = record facts {
   header = Some header;
   ingress = Some switch;
   stands = Some switch;
   travels = true;
   mark = mark;
 }
-facts_after mark (item.Seeking packet version partition route) facts = record facts {
+packet_facts_after mark (item.Seeking packet version partition route) facts = record facts {
   leg = Some (Seek version partition);
   route = route;
   hops = 0;
 }
-facts_after mark (item.Exiting packet route) facts = record facts {
+packet_facts_after mark (item.Exiting packet route) facts = record facts {
   leg = Some (Exit (port_decided facts.decision));
   route = route;
   hops = 0;
 }
-facts_after mark (item.Rerouted packet route) facts = record facts { route = route; hops = 0 }
-facts_after mark (item.Hopped packet switch) facts =
+packet_facts_after mark (item.Rerouted packet route) facts = record facts { route = route; hops = 0 }
+packet_facts_after mark (item.Hopped packet switch) facts =
     record facts { stands = Some switch; hops = facts.hops + 1 }
-facts_after mark (item.FoundDown packet one two) facts =
+packet_facts_after mark (item.FoundDown packet one two) facts =
     record facts { found = with_link facts.found one two }
-facts_after mark (item.Decided packet version rule action how) facts = record facts {
+packet_facts_after mark (item.Decided packet version rule action how) facts = record facts {
   decision = Some (record { version = version; rule = rule; action = action });
 }
-facts_after mark (item.Left packet port leaving) facts = record facts { travels = false }
-facts_after mark (item.Dropped packet) facts = record facts { travels = false }
-facts_after mark (item.Lost packet) facts = record facts { travels = false }
-facts_after mark (item.Stuck packet switch cause leg down) facts = record facts { travels = false }
-facts_after mark _ facts = facts
+packet_facts_after mark (item.Left packet port leaving) facts = record facts { travels = false }
+packet_facts_after mark (item.Dropped packet) facts = record facts { travels = false }
+packet_facts_after mark (item.Lost packet) facts = record facts { travels = false }
+packet_facts_after mark (item.Stuck packet switch cause leg down) facts = record facts { travels = false }
+packet_facts_after mark _ facts = facts
 
 -- the item names the packet
 abbrev pub is_of_packet : ℕ → Item → Bool

@@ -4,13 +4,13 @@ use Rattle.update_machine.specs.Exports.{Body, CacheRule, Decision, Header, Item
 use Rattle.failover.specs.Exports.{has_link}
 use Rattle.policy_rules.specs.Exports.{scan}
 use Rattle.packet_laws.specs.Rules.{IsRightEntry, IsRightRule}
-use Rattle.packet_laws.specs.OnWay.{IsOnWay, IsSought, IsUnderWay, IsUnknown}
+use Rattle.packet_laws.specs.OnWay.{IsOnWay, IsSought, IsUnderWay, IsUnknownPacket}
 use Rattle.packet_laws.specs.Facts.{PacketFacts, what_is_known}
 use Rattle.packet_laws.specs.Stages.{Blocked, CameIn, Judged, OnWay, Stage, stage_of}
 
 -- the route uses none of the links of the set
-abbrev pub Avoids : List ℕ → List ℕ → Type 0
-Avoids down route = (k one two : ℕ) → slice_get route k ≡ Some one
+abbrev pub PacketRouteAvoidsFound : List ℕ → List ℕ → Type 0
+PacketRouteAvoidsFound down route = (k one two : ℕ) → slice_get route k ≡ Some one
     → slice_get route (k + 1) ≡ Some two → IsFalse (has_link down one two)
 
 -- the packet was decided by the first match of a version that wasn't retired when it entered and
@@ -39,18 +39,18 @@ pub record HasKeptFacts (setting : Setting) (journal : List Item) (facts : Packe
       → (header : Header) → facts.header ≡ Some header → IsRightlyDecided setting journal facts header
   pub on_way : IsTrue facts.travels → (stage ≡ Some OnWay) ⊎ (stage ≡ Some Blocked)
       → IsOnWay setting journal facts
-  pub avoids : IsTrue facts.travels → stage ≡ Some OnWay → Avoids facts.found facts.route
+  pub avoids : IsTrue facts.travels → stage ≡ Some OnWay → PacketRouteAvoidsFound facts.found facts.route
 
 -- a cache rule that a body brings is right
-abbrev pub BringsRight : Setting → List Item → Body → Type 0
-BringsRight setting journal (CacheRule version word rule action) =
+abbrev pub BringsRightRule : Setting → List Item → Body → Type 0
+BringsRightRule setting journal (CacheRule version word rule action) =
     IsRightRule setting journal version word rule action
-BringsRight setting journal _ = ⊤
+BringsRightRule setting journal _ = ⊤
 
 -- this is true of all packets, of those that didn't enter, of all messages sent, and of all caches
 pub record AllKept (setting : Setting) (journal : List Item) : Type 0 where
   pub packets : (i : ℕ) → HasKeptFacts setting journal (what_is_known journal i) (stage_of journal i)
-  pub unknown : (i : ℕ) → next_packet journal ≤ i → IsUnknown (what_is_known journal i)
+  pub unknown : (i : ℕ) → next_packet journal ≤ i → IsUnknownPacket (what_is_known journal i)
   pub sent : (n : ℕ) (message : Message) → message_of journal n ≡ Some message
-      → BringsRight setting journal message.body
+      → BringsRightRule setting journal message.body
   pub cached : (s : ℕ) → All (IsRightEntry setting journal) (cache_of setting journal s).entries

@@ -10,7 +10,7 @@ use Rattle.packet_laws.specs.Whole.{KeepVersionsWhole}
 
 -- the packet took at most 64 routes to authorities, one to its port and 256 around links; and,
 -- while it travelled, at most 64 hops on its last route, and 20,544 in all
-pub record TakesFew (journal : List Item) (i : ℕ) : Type 0 where
+pub record TakesFewHops (journal : List Item) (i : ℕ) : Type 0 where
   pub searches : search_count journal i ≤ 64
   pub exits : exit_count journal i ≤ 1
   pub detours : detour_count journal i ≤ 256
@@ -25,7 +25,7 @@ pub record HoldsSoFar (setting : Setting) (journal : List Item) : Type 0 where
   pub causes : HaveCauses (HasCause setting) [] journal
   pub strong : HaveCauses (StrongCause setting) [] journal
   pub versions : KeepVersionsWhole setting journal
-  pub few : (i : ℕ) → TakesFew journal i
+  pub few : (i : ℕ) → TakesFewHops journal i
 
 -- after a step each packet that travels is on its way to a target of its own version, or to its
 -- port, and the marks are settled

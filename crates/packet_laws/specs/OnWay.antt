@@ -12,8 +12,8 @@ use Rattle.packet_laws.specs.Facts.{PacketFacts}
 -- ---- routes
 
 -- each switch of the route is joined to the next by a link of the network
-abbrev pub FollowsLinks : Setting → List ℕ → Type 0
-FollowsLinks setting route = (k one two : ℕ) → slice_get route k ≡ Some one →
+abbrev pub PacketRouteFollowsLinks : Setting → List ℕ → Type 0
+PacketRouteFollowsLinks setting route = (k one two : ℕ) → slice_get route k ≡ Some one →
     slice_get route (k + 1) ≡ Some two → IsTrue (has (links_of setting.net.links one) two)
 
 -- its last switch is one of the targets
@@ -23,14 +23,14 @@ pub record EndsAtTarget (route targets : List ℕ) : Type 0 where
   pub own : IsTrue (list_any (nat_eq target) targets)
 
 -- one to 64 distinct switches, each joined to the next, of which the last is one of the targets
-pub record LeadsTo (setting : Setting) (targets route : List ℕ) : Type 0 where
+pub record PacketRouteLeadsToTarget (setting : Setting) (targets route : List ℕ) : Type 0 where
   pub list : IsRouteList route
-  pub joined : FollowsLinks setting route
+  pub joined : PacketRouteFollowsLinks setting route
   pub ends : EndsAtTarget route targets
 
 -- the route begins at this switch
-abbrev pub StartsAt : ℕ → List ℕ → Type 0
-StartsAt switch route = slice_get route 0 ≡ Some switch
+abbrev pub PacketRouteStartsAt : ℕ → List ℕ → Type 0
+PacketRouteStartsAt switch route = slice_get route 0 ≡ Some switch
 
 -- ---- legs
 
@@ -59,7 +59,7 @@ pub record IsSeeking (setting : Setting) (journal : List Item) (held : Option De
   pub undecided : held ≡ None
   pub sought : IsSought setting journal mark header version partition
   pub open sought use *
-  pub leads : LeadsTo setting hosted.1 route
+  pub leads : PacketRouteLeadsToTarget setting hosted.1 route
 
 -- on its way out the packet was decided to leave by the port, and its route leads to that switch
 pub record IsExiting (setting : Setting) (held : Option Decision) (route : List ℕ) (port : ℕ)
@@ -69,17 +69,17 @@ pub record IsExiting (setting : Setting) (held : Option Decision) (route : List 
   pub action : decision.action ≡ Out port
   pub owner : ℕ
   pub has_port : owner_of setting.net.switches port ≡ Some owner
-  pub leads : LeadsTo setting (owner ∷ []) route
+  pub leads : PacketRouteLeadsToTarget setting (owner ∷ []) route
 
 -- the invariants of a packet with this decision, mark and route on this leg
-abbrev pub IsBound : Setting → List Item → Option Decision → ℕ → List ℕ → Header → Leg → Type 0
-IsBound setting journal held mark route header (Seek version partition) =
+abbrev pub IsPacketBound : Setting → List Item → Option Decision → ℕ → List ℕ → Header → Leg → Type 0
+IsPacketBound setting journal held mark route header (Seek version partition) =
     IsSeeking setting journal held mark route header version partition
-IsBound setting journal held mark route header (Exit port) = IsExiting setting held route port
+IsPacketBound setting journal held mark route header (Exit port) = IsExiting setting held route port
 
 abbrev pub IsOnLeg : Setting → List Item → PacketFacts → Header → Leg → Type 0
 IsOnLeg setting journal facts header leg =
-    IsBound setting journal facts.decision facts.mark facts.route header leg
+    IsPacketBound setting journal facts.decision facts.mark facts.route header leg
 
 -- ---- travelling packets
 
@@ -93,7 +93,7 @@ pub record HasComeIn (setting : Setting) (told : Option Header) (first : Option 
   pub at_first : ingress < length setting.net.switches
 
 -- the packet is at a switch of the network
-pub record StandsThere (setting : Setting) (place : Option ℕ) : Type 0 where
+pub record PacketStandsThere (setting : Setting) (place : Option ℕ) : Type 0 where
   pub switch : ℕ
   pub stands : place ≡ Some switch
   pub now : switch < length setting.net.switches
@@ -102,7 +102,7 @@ pub record StandsThere (setting : Setting) (place : Option ℕ) : Type 0 where
 pub record IsUnderWay (setting : Setting) (journal : List Item) (facts : PacketFacts) : Type 0 where
   pub entry : HasComeIn setting facts.header facts.ingress
   pub open entry use *
-  pub place : StandsThere setting facts.stands
+  pub place : PacketStandsThere setting facts.stands
   pub open place use *
   pub mark : facts.mark ≤ retired_mark journal
 
@@ -115,7 +115,7 @@ pub record IsOnWay (setting : Setting) (journal : List Item) (facts : PacketFact
   pub stands : slice_get facts.route facts.hops ≡ Some under_way.switch
 
 -- nothing is known of a packet that didn't enter
-pub record IsUnknown (facts : PacketFacts) : Type 0 where
+pub record IsUnknownPacket (facts : PacketFacts) : Type 0 where
   pub header : facts.header ≡ None
   pub travels : facts.travels ≡ false
   pub decision : facts.decision ≡ None

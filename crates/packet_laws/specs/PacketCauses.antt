@@ -2,7 +2,7 @@
 -- packet. They depend only on the items, for steps of all kinds; packets are those of Yu, Rexford,
 -- Freedman and Wang, "Scalable Flow-Based Networking with DIFANE".
 use Rattle.std.specs.Prelude.{◌==◌, ◌≡◌, ◌⊎◌, Bool, IsFalse, IsTrue, List, None, Option, Some, false, true, unwrap_or, ℕ, ⊤}
-use Rattle.update_machine.specs.Exports.{Action, AuthorityRule, Body, CacheEntry, CacheRule, Cause, Crash, Decision, Exit, Header, How, IsLinkStep, Item, Leaving, Leg, Lose, Message, Packet, Restart, Seek, Setting, Update, authority_rule, cache_rule, cause_at, decision_of, first_place, found_down, header_at, holds_version, ingress_of, is_at, is_up, last_given, leaving_item, leg_of, lookup_at, near, next_packet, next_switch, owner, present_step, route_for, serves, stamp_of, standing, travels}
+use Rattle.update_machine.specs.Exports.{Action, AuthorityRule, Body, CacheEntry, CacheRule, Cause, Crash, Decision, Exit, Header, How, IsLinkStep, Item, Leaving, Leg, Lose, Message, Packet, Restart, Seek, Setting, Update, authority_rule, cache_rule, stuck_cause_at, decision_of, first_place, found_down, packet_header_at, holds_version, ingress_of, is_at, is_up, last_given, leaving_item, leg_of, lookup_at, near, next_packet, next_switch, owner, present_step, packet_route_for, serves, stamp_of, standing, travels}
 use Rattle.base.specs.Exports.{has}
 use Rattle.policy_rules.specs.declared.packet.How.TheVariants as how
 use Rattle.policy_rules.specs.declared.policy.Action.TheVariants as action
@@ -33,13 +33,13 @@ pub record IsOfRow (before : List Item) (packet switch : ℕ) (header : Header) 
   pub behind : IsTrue (ends_with_row before)
 
 -- the packet is on its way, and its route ends here
-pub record Arrives (before : List Item) (packet : ℕ) : Type 0 where
+pub record PacketArrives (before : List Item) (packet : ℕ) : Type 0 where
   pub moving : stage_of before packet ≡ Some OnWay
   pub last : next_switch before packet ≡ None
 
 -- it arrives on its way to an authority, at a switch that doesn't have the version
-pub record Misses (before : List Item) (packet switch : ℕ) : Type 0 where
-  pub arrives : Arrives before packet
+pub record PacketMissesVersion (before : List Item) (packet switch : ℕ) : Type 0 where
+  pub arrives : PacketArrives before packet
   pub version : ℕ
   pub partition : ℕ
   pub seeks : leg_of before packet ≡ Some (Seek version partition)
@@ -48,7 +48,7 @@ pub record Misses (before : List Item) (packet switch : ℕ) : Type 0 where
 -- the switch looks it up: it just entered, or arrived with a version that the switch doesn't have
 abbrev pub IsLookedUp : List Item → ℕ → ℕ → Type 0
 IsLookedUp before packet switch =
-    (stage_of before packet ≡ Some CameIn) ⊎ Misses before packet switch
+    (stage_of before packet ≡ Some CameIn) ⊎ PacketMissesVersion before packet switch
 
 -- the switch looks it up under this version, its stamp
 abbrev pub IsLookedUpBy : List Item → ℕ → ℕ → ℕ → Type 0
@@ -58,11 +58,11 @@ IsLookedUpBy before packet switch version =
 -- ---- legs
 
 -- the lookup, under the switch's stamp, sends it to the targets of the partition
-pub record IsRedirected (setting : Setting) (before : List Item)
+pub record IsPacketRedirected (setting : Setting) (before : List Item)
     (packet switch version partition : ℕ) : Type 0 where
   pub looked_up : IsLookedUp before packet switch
   pub targets : List ℕ
-  pub answer : lookup_at setting before switch (header_at before packet)
+  pub answer : lookup_at setting before switch (packet_header_at before packet)
       ≡ found.Redirect partition targets
   pub stamp : version ≡ stamp_of before switch
 
@@ -77,7 +77,7 @@ pub record IsSentOut (setting : Setting) (before : List Item) (packet switch por
 
 abbrev pub TakesLeg : Setting → List Item → ℕ → ℕ → Leg → Type 0
 TakesLeg setting before packet switch (Seek version partition) =
-    IsRedirected setting before packet switch version partition
+    IsPacketRedirected setting before packet switch version partition
 TakesLeg setting before packet switch (Exit port) = IsSentOut setting before packet switch port
 
 -- it found a link down on this leg
@@ -86,38 +86,38 @@ pub record IsBlockedOn (before : List Item) (packet : ℕ) (leg : Leg) : Type 0 
   pub takes : leg_of before packet ≡ Some leg
 
 -- it takes the leg from its switch, on the route that the switch knows
-pub record TakesRoute (setting : Setting) (before : List Item) (packet : ℕ) (leg : Leg)
+pub record PacketTakesRoute (setting : Setting) (before : List Item) (packet : ℕ) (leg : Leg)
     (route : List ℕ) : Type 0 where
   pub switch : ℕ
   pub at : IsAt before packet switch
   pub takes : TakesLeg setting before packet switch leg
-  pub leads : route_for setting before packet switch leg ≡ Some route
+  pub leads : packet_route_for setting before packet switch leg ≡ Some route
 
-pub record TakesExit (setting : Setting) (before : List Item) (packet : ℕ) (route : List ℕ)
+pub record PacketTakesExit (setting : Setting) (before : List Item) (packet : ℕ) (route : List ℕ)
     : Type 0 where
   pub port : ℕ
-  pub by : TakesRoute setting before packet (Exit port) route
+  pub by : PacketTakesRoute setting before packet (Exit port) route
 
 -- it takes another route on its leg
-pub record TakesDetour (setting : Setting) (before : List Item) (packet : ℕ) (route : List ℕ)
+pub record PacketTakesDetour (setting : Setting) (before : List Item) (packet : ℕ) (route : List ℕ)
     : Type 0 where
   pub switch : ℕ
   pub at : IsAt before packet switch
   pub leg : Leg
   pub blocked : IsBlockedOn before packet leg
-  pub leads : route_for setting before packet switch leg ≡ Some route
+  pub leads : packet_route_for setting before packet switch leg ≡ Some route
 
 -- its switch knows no route for a leg that it takes, or on which it found a link down
 pub record FindsNoRoute (setting : Setting) (before : List Item) (packet switch : ℕ)
     (cause : Cause) (leg : Leg) (down : List ℕ) : Type 0 where
   pub at : IsAt before packet switch
   pub on : TakesLeg setting before packet switch leg ⊎ IsBlockedOn before packet leg
-  pub none : route_for setting before packet switch leg ≡ None
-  pub why : cause ≡ cause_at setting before switch (found_down before packet) leg
+  pub none : packet_route_for setting before packet switch leg ≡ None
+  pub why : cause ≡ stuck_cause_at setting before switch (found_down before packet) leg
   pub found : down ≡ found_down before packet
 
 -- it moves on to the next switch of its route, over a usable link
-pub record MovesOver (setting : Setting) (before : List Item) (packet next : ℕ) : Type 0 where
+pub record PacketMovesOver (setting : Setting) (before : List Item) (packet next : ℕ) : Type 0 where
   pub switch : ℕ
   pub at : IsAt before packet switch
   pub moving : stage_of before packet ≡ Some OnWay
@@ -125,7 +125,7 @@ pub record MovesOver (setting : Setting) (before : List Item) (packet next : ℕ
   pub usable : IsTrue (has (near setting before switch) next)
 
 -- it finds the link to the next switch of its route unusable
-pub record MeetsDown (setting : Setting) (before : List Item) (packet one two : ℕ) : Type 0 where
+pub record PacketMeetsDown (setting : Setting) (before : List Item) (packet one two : ℕ) : Type 0 where
   pub at : IsAt before packet one
   pub moving : stage_of before packet ≡ Some OnWay
   pub goes_on : next_switch before packet ≡ Some two
@@ -134,9 +134,9 @@ pub record MeetsDown (setting : Setting) (before : List Item) (packet one two : 
 -- ---- decisions
 
 -- the switch's lookup returns the place of its own rule
-pub record AnswersHere (setting : Setting) (before : List Item)
+pub record PacketAnswersHere (setting : Setting) (before : List Item)
     (packet switch version partition place : ℕ) : Type 0 where
-  pub answer : lookup_at setting before switch (header_at before packet)
+  pub answer : lookup_at setting before switch (packet_header_at before packet)
       ≡ found.Authority partition place
   pub stamp : version ≡ stamp_of before switch
 
@@ -144,7 +144,7 @@ pub record AnswersHere (setting : Setting) (before : List Item)
 pub record IsSoughtHere (setting : Setting) (before : List Item)
     (packet version partition place : ℕ) : Type 0 where
   pub seeks : leg_of before packet ≡ Some (Seek version partition)
-  pub first : place ≡ first_place setting before version partition (header_at before packet)
+  pub first : place ≡ first_place setting before version partition (packet_header_at before packet)
 
 -- an authority rule of the switch for the packet
 pub record AuthorityFinds (setting : Setting) (before : List Item) (packet switch version : ℕ)
@@ -152,7 +152,7 @@ pub record AuthorityFinds (setting : Setting) (before : List Item) (packet switc
   pub partition : ℕ
   pub place : ℕ
   pub rule : authority_rule setting before version partition place ≡ Some found
-  pub says : AnswersHere setting before packet switch version partition place
+  pub says : PacketAnswersHere setting before packet switch version partition place
       ⊎ IsSoughtHere setting before packet version partition place
 
 -- a cached rule decides the packet
@@ -160,7 +160,7 @@ pub record CacheDecides (setting : Setting) (before : List Item) (packet switch 
     (rule : Option ℕ) (action : Action) (message : ℕ) : Type 0 where
   pub looked_up : IsLookedUp before packet switch
   pub entry : CacheEntry
-  pub answer : lookup_at setting before switch (header_at before packet) ≡ found.Cached entry
+  pub answer : lookup_at setting before switch (packet_header_at before packet) ≡ found.Cached entry
   pub of_version : version ≡ entry.version
   pub by_rule : rule ≡ entry.rule
   pub says : action ≡ entry.action
@@ -168,7 +168,7 @@ pub record CacheDecides (setting : Setting) (before : List Item) (packet switch 
 
 -- it arrives at an authority that has the version
 pub record ReachesAuthority (before : List Item) (packet switch version : ℕ) : Type 0 where
-  pub arrives : Arrives before packet
+  pub arrives : PacketArrives before packet
   pub partition : ℕ
   pub seeks : leg_of before packet ≡ Some (Seek version partition)
   pub held : IsTrue (holds_version before switch version)
@@ -184,10 +184,10 @@ pub record AuthorityDecides (setting : Setting) (before : List Item) (packet swi
   pub says : action ≡ found.rule.action
   pub of_part : partition ≡ found.part.number
 
-abbrev pub DecidesBy : Setting → List Item → ℕ → ℕ → ℕ → Option ℕ → Action → How → Type 0
-DecidesBy setting before packet switch version rule action (how.Cached message) =
+abbrev pub PacketDecidesBy : Setting → List Item → ℕ → ℕ → ℕ → Option ℕ → Action → How → Type 0
+PacketDecidesBy setting before packet switch version rule action (how.Cached message) =
     CacheDecides setting before packet switch version rule action message
-DecidesBy setting before packet switch version rule action (how.Authority authority partition) =
+PacketDecidesBy setting before packet switch version rule action (how.Authority authority partition) =
     (authority ≡ switch)
     × AuthorityDecides setting before packet switch version rule action partition
 
@@ -195,10 +195,10 @@ pub record IsDecided (setting : Setting) (before : List Item) (packet version : 
     (rule : Option ℕ) (action : Action) (how : How) : Type 0 where
   pub switch : ℕ
   pub at : IsAt before packet switch
-  pub by : DecidesBy setting before packet switch version rule action how
+  pub by : PacketDecidesBy setting before packet switch version rule action how
 
 -- the authority's rule that decided the packet is sent to its ingress, which is another switch
-pub record SendsRule (setting : Setting) (before : List Item) (message : Message) : Type 0 where
+pub record PacketSendsRule (setting : Setting) (before : List Item) (message : Message) : Type 0 where
   pub packet : ℕ
   pub switch : ℕ
   pub at : IsAt before packet switch
@@ -212,7 +212,7 @@ pub record SendsRule (setting : Setting) (before : List Item) (message : Message
   })
   pub apart : is_at switch (ingress_of before packet) ≡ false
   pub says : message
-      ≡ cache_rule found (unwrap_or (ingress_of before packet) 0) (header_at before packet)
+      ≡ cache_rule found (unwrap_or (ingress_of before packet) 0) (packet_header_at before packet)
 
 -- ---- ends
 
@@ -222,9 +222,9 @@ IsAtPort setting before packet switch port =
     ((stage_of before packet ≡ Some Judged) × ((owner setting port == switch) ≡ true)
     × ((decision : Decision) × (decision_of before packet ≡ Some decision)
     × (decision.action ≡ action.Out port)))
-    ⊎ (Arrives before packet × (leg_of before packet ≡ Some (Exit port)))
+    ⊎ (PacketArrives before packet × (leg_of before packet ≡ Some (Exit port)))
 
-pub record LeavesHere (setting : Setting) (before : List Item) (packet port : ℕ)
+pub record PacketLeavesHere (setting : Setting) (before : List Item) (packet port : ℕ)
     (leaving : Leaving) : Type 0 where
   pub switch : ℕ
   pub at : IsAt before packet switch
@@ -265,7 +265,7 @@ pub record IsLostHere (before : List Item) (packet : ℕ) : Type 0 where
 
 abbrev pub SendsRightRule : Setting → List Item → Message → Body → Type 0
 SendsRightRule setting before message (CacheRule version word rule action) =
-    SendsRule setting before message
+    PacketSendsRule setting before message
 SendsRightRule setting before message _ = ⊤
 
 -- each item of packets and of cache rules, and each that changes a switch or a link or submits a
@@ -276,15 +276,15 @@ PacketCause setting before (item.Entered packet switch header) =
 PacketCause setting before (item.Closed packet switch) =
     ((header : Header) × IsOfRow before packet switch header) × IsFalse (serves before switch)
 PacketCause setting before (item.Seeking packet version partition route) =
-    TakesRoute setting before packet (Seek version partition) route
-PacketCause setting before (item.Exiting packet route) = TakesExit setting before packet route
-PacketCause setting before (item.Rerouted packet route) = TakesDetour setting before packet route
-PacketCause setting before (item.Hopped packet switch) = MovesOver setting before packet switch
-PacketCause setting before (item.FoundDown packet one two) = MeetsDown setting before packet one two
+    PacketTakesRoute setting before packet (Seek version partition) route
+PacketCause setting before (item.Exiting packet route) = PacketTakesExit setting before packet route
+PacketCause setting before (item.Rerouted packet route) = PacketTakesDetour setting before packet route
+PacketCause setting before (item.Hopped packet switch) = PacketMovesOver setting before packet switch
+PacketCause setting before (item.FoundDown packet one two) = PacketMeetsDown setting before packet one two
 PacketCause setting before (item.Decided packet version rule action how) =
     IsDecided setting before packet version rule action how
 PacketCause setting before (item.Left packet port leaving) =
-    LeavesHere setting before packet port leaving
+    PacketLeavesHere setting before packet port leaving
 PacketCause setting before (item.Dropped packet) = IsDroppedHere before packet
 PacketCause setting before (item.Lost packet) = IsLostHere before packet
 PacketCause setting before (item.Stuck packet switch cause leg down) =

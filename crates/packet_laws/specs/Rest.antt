@@ -14,9 +14,9 @@ abbrev pub AreServed : List Item → Type 0
 AreServed journal = (packet : ℕ) → IsTrue (travels journal packet) → IsServed journal packet
 
 -- a packet that travels is on its way
-abbrev pub IsMoving : List Item → ℕ → Type 0
-IsMoving journal packet = IsTrue (travels journal packet) → stage_of journal packet ≡ Some OnWay
+abbrev pub IsPacketMoving : List Item → ℕ → Type 0
+IsPacketMoving journal packet = IsTrue (travels journal packet) → stage_of journal packet ≡ Some OnWay
 
 pub record AreResting (journal : List Item) : Type 0 where
   pub served : AreServed journal
-  pub moving : (packet : ℕ) → IsMoving journal packet
+  pub moving : (packet : ℕ) → IsPacketMoving journal packet

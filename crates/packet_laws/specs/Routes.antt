@@ -25,10 +25,10 @@ hops_on_route journal i = folded_value (changes_on_route i) 0 journal
 
 -- ---- links found down
 
-abbrev pub is_finding : ℕ → Item → Bool
-is_finding i (item.FoundDown packet one two) = packet == i
-is_finding i _ = false
+abbrev pub is_finding_link_down : ℕ → Item → Bool
+is_finding_link_down i (item.FoundDown packet one two) = packet == i
+is_finding_link_down i _ = false
 
 -- how often it found a link down
 unfoldable pub finding_count : List Item → ℕ → ℕ
-finding_count journal i = count_of (is_finding i) journal
+finding_count journal i = count_of (is_finding_link_down i) journal

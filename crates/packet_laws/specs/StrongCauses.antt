@@ -3,12 +3,12 @@
 -- or is lost by a row, or stuck because no route is known.
 use Rattle.std.specs.Prelude.{◌<◌, ◌≡◌, ◌≢◌, ◌≤◌, IsFalse, List, None, Some, ℕ, ⊤}
 use Rattle.failover.specs.Exports.{IsRoute}
-use Rattle.update_machine.specs.Exports.{Cause, Exit, FindsNextDown, FindsNoPath, Item, LeavesRightly, Leg, Seek, SeeksOwn, Setting, cause_at, current_mark, decision_of, found_down, holds_version, leg_of, links_known, route_from, standing, targets_of}
+use Rattle.update_machine.specs.Exports.{Cause, Exit, FindsNextDown, FindsNoPath, Item, LeavesRightly, Leg, Seek, SeeksOwn, Setting, stuck_cause_at, current_mark, decision_of, found_down, holds_version, leg_of, links_known, route_from, standing, targets_of}
 use Rattle.journal.specs.declared.item.Item.TheVariants as item
 use Rattle.steps.specs.Exports.{HasLink}
-use Rattle.control_laws.specs.Exports.{RetiresRightly, SubmitsRightly}
+use Rattle.control_laws.specs.Exports.{RetirementHasCause, SubmissionHasCause}
 use Rattle.packet_laws.specs.Facts.{entry_mark}
-use Rattle.packet_laws.specs.KeptFacts.{Avoids}
+use Rattle.packet_laws.specs.KeptFacts.{PacketRouteAvoidsFound}
 use Rattle.packet_laws.specs.Stages.{Blocked, stage_of}
 use Rattle.packet_laws.specs.PacketCauses.{PacketCause}
 
@@ -21,23 +21,23 @@ pub record FindsLinkDown (setting : Setting) (before : List Item) (packet one tw
 
 -- the packet is undecided, and the version, by which it seeks an authority or is being decided,
 -- wasn't retired when it entered and is at most the current one
-pub record SeeksRightly (before : List Item) (packet version : ℕ) : Type 0 where
+pub record PacketSeeksRightly (before : List Item) (packet version : ℕ) : Type 0 where
   pub undecided : decision_of before packet ≡ None
   pub not_retired : entry_mark before packet < version
   pub current : version ≤ current_mark before
 
 abbrev pub IsOnRightLeg : List Item → ℕ → Leg → Type 0
-IsOnRightLeg before packet (Seek version partition) = SeeksRightly before packet version
+IsOnRightLeg before packet (Seek version partition) = PacketSeeksRightly before packet version
 IsOnRightLeg before packet (Exit port) = ⊤
 
 -- a lookup on the way raises the version that the packet seeks
-abbrev pub RaisesVersion : List Item → ℕ → ℕ → Type 0
-RaisesVersion before packet version = (earlier partition : ℕ)
+abbrev pub PacketRaisesVersion : List Item → ℕ → ℕ → Type 0
+PacketRaisesVersion before packet version = (earlier partition : ℕ)
     → leg_of before packet ≡ Some (Seek earlier partition) → earlier < version
 
 -- so does a decision by a switch that doesn't have the version that the packet seeks
-abbrev pub RaisesUnheld : List Item → ℕ → ℕ → Type 0
-RaisesUnheld before packet version = (earlier partition switch : ℕ)
+abbrev pub PacketRaisesUnheld : List Item → ℕ → ℕ → Type 0
+PacketRaisesUnheld before packet version = (earlier partition switch : ℕ)
     → leg_of before packet ≡ Some (Seek earlier partition)
     → standing before packet ≡ Some switch → IsFalse (holds_version before switch earlier)
     → earlier < version
@@ -45,7 +45,7 @@ RaisesUnheld before packet version = (earlier partition switch : ℕ)
 -- so does a lookup after which the packet is stuck at once, before it found a link of the leg down
 abbrev pub RaisesOnLeg : List Item → ℕ → Leg → Type 0
 RaisesOnLeg before packet (Seek version partition) =
-    (stage_of before packet ≢ Some Blocked) → RaisesVersion before packet version
+    (stage_of before packet ≢ Some Blocked) → PacketRaisesVersion before packet version
 RaisesOnLeg before packet (Exit port) = ⊤
 
 -- the packet is stuck, with the links that it found down, only because its switch finds no route;
@@ -55,13 +55,13 @@ pub record IsStuckOnLeg (setting : Setting) (before : List Item) (packet switch 
   pub stuck : FindsNoPath setting before packet switch leg
   pub found : down ≡ found_down before packet
   pub no_route : route_from setting before switch (targets_of setting before leg) down ≡ None
-  pub why : cause ≡ cause_at setting before switch down leg
+  pub why : cause ≡ stuck_cause_at setting before switch down leg
   pub rightly : IsOnRightLeg before packet leg
   pub raises : RaisesOnLeg before packet leg
 
 -- a route uses no link that the packet found down
-abbrev pub AvoidsFound : List Item → ℕ → List ℕ → Type 0
-AvoidsFound before packet route = Avoids (found_down before packet) route
+abbrev pub PacketAvoidsFound : List Item → ℕ → List ℕ → Type 0
+PacketAvoidsFound before packet route = PacketRouteAvoidsFound (found_down before packet) route
 
 -- the route is a shortest one from where the packet is to the first target of the leg that is
 -- reachable, and of these the least. The links are those that its switch knows, except those that
@@ -72,7 +72,7 @@ pub record IsLeastRoute (setting : Setting) (before : List Item) (packet : ℕ) 
   pub stands : standing before packet ≡ Some switch
   pub least : (let links = links_known setting before switch (found_down before packet) in
       IsRoute links switch (targets_of setting before leg) (Some route))
-  pub avoids : AvoidsFound before packet route
+  pub avoids : PacketAvoidsFound before packet route
 
 -- it takes a least route to the port of its decision
 pub record ExitsByLeast (setting : Setting) (before : List Item) (packet : ℕ) (route : List ℕ)
@@ -91,17 +91,17 @@ pub record TurnsToLeast (setting : Setting) (before : List Item) (packet : ℕ) 
 -- what is required of an item beyond its cause
 abbrev pub FurtherCause : Setting → List Item → Item → Type 0
 FurtherCause setting before (item.Submitted file version) =
-    SubmitsRightly setting before file version
-FurtherCause setting before (item.Retired version) = RetiresRightly setting before version
+    SubmissionHasCause setting before file version
+FurtherCause setting before (item.Retired version) = RetirementHasCause setting before version
 FurtherCause setting before (item.Seeking packet version partition route) =
-    RaisesVersion before packet version
+    PacketRaisesVersion before packet version
     × IsLeastRoute setting before packet (Seek version partition) route
 FurtherCause setting before (item.Exiting packet route) = ExitsByLeast setting before packet route
 FurtherCause setting before (item.Rerouted packet route) = TurnsToLeast setting before packet route
 FurtherCause setting before (item.FoundDown packet one two) =
     FindsLinkDown setting before packet one two
 FurtherCause setting before (item.Decided packet version rule action how) =
-    SeeksRightly before packet version × RaisesUnheld before packet version
+    PacketSeeksRightly before packet version × PacketRaisesUnheld before packet version
 FurtherCause setting before (item.Left packet port leaving) =
     LeavesRightly setting before packet port leaving
 FurtherCause setting before (item.Stuck packet switch cause leg down) =

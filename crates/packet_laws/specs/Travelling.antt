@@ -4,7 +4,7 @@ use Rattle.update_machine.specs.Exports.{Item, Message, Seek, Setting, cache_of,
 use Rattle.packet_laws.specs.Rules.{IsRightEntry}
 use Rattle.packet_laws.specs.OnWay.{IsOnWay}
 use Rattle.packet_laws.specs.Facts.{what_is_known}
-use Rattle.packet_laws.specs.KeptFacts.{Avoids, BringsRight}
+use Rattle.packet_laws.specs.KeptFacts.{PacketRouteAvoidsFound, BringsRightRule}
 use Rattle.packet_laws.specs.Rest.{IsServed}
 
 -- the packet is at its place on a route that leads over links of the network to a target of its
@@ -13,7 +13,7 @@ use Rattle.packet_laws.specs.Rest.{IsServed}
 pub record IsTravelling (setting : Setting) (journal : List Item) (packet : ℕ) : Type 0 where
   pub on_way : IsOnWay setting journal (what_is_known journal packet)
   pub served : IsServed journal packet
-  pub avoids : Avoids (found_down journal packet) (route_in journal packet)
+  pub avoids : PacketRouteAvoidsFound (found_down journal packet) (route_in journal packet)
   pub held : (version partition s : ℕ) → leg_of journal packet ≡ Some (Seek version partition)
       → s < length setting.net.switches → IsTrue (serves journal s)
       → IsTrue (holds_version journal s version) ⊎ (version < stamp_of journal s)
@@ -26,5 +26,5 @@ PacketsTravel setting journal = (packet : ℕ) → IsTrue (travels journal packe
 -- the current one, and decides each header of its word as this version's policy does
 pub record RulesAreRight (setting : Setting) (journal : List Item) : Type 0 where
   pub sent : (n : ℕ) (message : Message) → message_of journal n ≡ Some message
-      → BringsRight setting journal message.body
+      → BringsRightRule setting journal message.body
   pub cached : (s : ℕ) → All (IsRightEntry setting journal) (cache_of setting journal s).entries

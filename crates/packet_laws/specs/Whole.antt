@@ -2,7 +2,7 @@
 -- version and half of a new one.
 use Rattle.std.specs.Prelude.{[], List, ℕ}
 use Rattle.update_machine.specs.Exports.{HaveCauses, Item, Setting}
-use Rattle.control_laws.specs.Exports.{AcksHold, BootsAreKnown, HasItemCause, IsAckedFirst, MarksAreBounded, MembersAcknowledged, OpensAtOneVersion, ServingHold, ServingIsKnown, StampsSayTouched, TablesArePlanned}
+use Rattle.control_laws.specs.Exports.{AcksHold, BootsAreKnown, HasItemCause, IsAckedFirst, MarksAreBounded, MembersAcknowledged, OpensAtOneVersion, ServingHoldVersions, ServingIsKnown, StampsSayTouched, TablesArePlanned}
 use Rattle.packet_laws.specs.Amended.{ChangesLeaveOthers, UntouchedStay}
 use Rattle.packet_laws.specs.Travelling.{RulesAreRight}
 
@@ -30,7 +30,7 @@ pub record KeepVersionsWhole (setting : Setting) (journal : List Item) : Type 0 
   pub marks : MarksAreBounded setting journal
   -- a switch that serves has the version that it stamps with, and each later version up to the
   -- current one
-  pub holding : ServingHold setting journal
+  pub holding : ServingHoldVersions setting journal
   -- a switch that is told to stamp with a version also gets what its change touches
   pub touched : StampsSayTouched setting journal
   -- each cache rule decides each header of its word as its own version does

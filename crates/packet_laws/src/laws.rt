@@ -2,7 +2,7 @@
 ghost use Rattle.std.specs.Prelude.{[], All, ◌≡◌, ◌++◌, ◌*◌, ◌-◌, ◌<◌, ◌≤◌, Some, List, length, ℕ, Option};
 ghost use Rattle.steps.specs.Steps.{IsEvent};
 ghost use Rattle.steps.specs.declared.step.Step.TheVariants.{Deliver, Hop};
-ghost use Rattle.update_machine.specs.Exports.{Answers, AreAll, AreSome, Event, HasCause, HasPlay, HaveCauses, IsPlay, IsReached, IsRun, IsSetting, Item, Setting, StepOfRow, current_mark, most_versions, next_delivery, next_hop, next_packet, next_travelling, next_waiting, piece};
+ghost use Rattle.update_machine.specs.Exports.{Answers, AreAllEventSteps, AreFirstEventSteps, Event, HasCause, HasPlay, HaveCauses, IsPlay, IsReached, IsRun, IsSetting, Item, Setting, StepOfRow, current_mark, most_versions, next_delivery, next_hop, next_packet, next_travelling, next_waiting, piece};
 ghost use Rattle.control_laws.specs.Always.{HoldsReached};
 ghost use Rattle.packet_laws.specs.Exports.{AllKept, AreEntered, AreResting, ChangesLeaveOthers, GoesOrStops, HoldsBetween, KeepVersionsWhole, PacketsArrive, PacketsTravel, RulesAreRight, UntouchedStay, StrongCause, PacketCause, detour_count, drain_left, exit_count, finding_count, hops_on_route, hops_taken, most_hops, most_routes, most_switches, routes_taken, rows_played, search_count, step_rows};
 
@@ -129,10 +129,10 @@ pub fn drains_end()
         → drain_left (journal ++ piece setting journal row (Hop i)) < drain_left journal }
     ensures ends { (setting : Setting) (journal : List Item) (row : ℕ)
         → IsSetting setting → IsReached setting journal
-        → (steps : List StepOfRow) × AreAll setting next_hop row journal steps }
+        → (steps : List StepOfRow) × AreAllEventSteps setting next_hop row journal steps }
     ensures short { (setting : Setting) (journal : List Item) (row : ℕ) (steps : List StepOfRow)
         → IsSetting setting → IsReached setting journal
-        → AreSome setting next_hop row journal steps
+        → AreFirstEventSteps setting next_hop row journal steps
         → length steps ≤ most_hops * (next_packet journal - 1) }
 {}
 

@@ -1,7 +1,7 @@
 //! Laws about what is true on the way to a journal: at each moment, and after each step.
 ghost use Rattle.std.specs.Prelude.{List, Option, ℕ};
 ghost use Rattle.update_machine.specs.Exports.{Event, IsPlay, IsSetting, Item, Setting};
-ghost use Rattle.control_laws.specs.Always.{AreEvents, HoldsReached};
+ghost use Rattle.control_laws.specs.Always.{AreNetworkEvents, HoldsReached};
 ghost use Rattle.packet_laws.specs.Exports.{HeldOnTheWay, HoldsBetween, HoldsSoFar, IsKeptBehind};
 
 use crate::laws::{
@@ -35,7 +35,7 @@ pub fn steps_are_kept()
 /// and after each of its steps.
 pub fn plays_held_on_the_way()
     ensures { (setting : Setting) (events : List Event) (journal : List Item) (full : Option ℕ)
-        → IsSetting setting → AreEvents setting events → IsPlay setting events journal full
+        → IsSetting setting → AreNetworkEvents setting events → IsPlay setting events journal full
         → HeldOnTheWay setting journal }
 {
     journals_hold_so_far();

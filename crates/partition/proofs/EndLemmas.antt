@@ -5,13 +5,13 @@ use Rattle.std.proofs.lemmas.Bool.{cases_Bool, and_from}
 use Rattle.std.proofs.lemmas.List.Elements.{All-nil, All-cons, All-append}
 use Rattle.ternary.specs.Exports.{WordValue, any_word, covers_of, fix_of, meets}
 use Rattle.ternary.proofs.CallerLemmas.{covers_reflexive, covers_transitive, fix_within, meet_greatest, meets_comm, meets_cover, met_joined}
-use Rattle.policy_rules.specs.Exports.{EndInCover, IsPolicy, LastCovers, default_rule, rules_of}
+use Rattle.policy_rules.specs.Exports.{EndInCover, IsPolicy, LastRuleCovers, default_rule, rules_of}
 use Rattle.policy_rules.specs.declared.policy.Row.{Row}
 use Rattle.policy_rules.specs.declared.rules.Rule.{Rule}
 use Rattle.policy_rules.proofs.CallerLemmas.{IsRuleList-rules_of}
-use Rattle.cut_tree.specs.Exports.{End, IsDefinedTree, IsTreeOf, Node, Shape, leaves_of, narrow, narrowed_rule, side_of, tree_of}
+use Rattle.cut_tree.specs.Exports.{End, IsDefinedTree, IsTreeOf, Node, Shape, leaves_of, narrow, narrowed_rule, side_of_cut, tree_of}
 use Rattle.cut_tree.proofs.CallerLemmas.{tree_defined}
-use Rattle.cut_tree.proofs.NarrowLemmas.{narrow_apart, narrow_covered, narrow_more}
+use Rattle.cut_tree.proofs.CutNarrowing.{narrow_apart, narrow_covered, narrow_more}
 use Rattle.partition.specs.Parts.{parts_of, partitions_of}
 use Rattle.partition.proofs.PartLemmas.{numbered_all}
 
@@ -80,9 +80,9 @@ ended_leaves (End r rs) rules region most is ends = All-cons IsEndedLeaf (r, rs)
     (ends.0, ends.1, is.same_rules ∙ ends.2, rw is.same_region ends.3) (All-nil IsEndedLeaf)
 ended_leaves (Node bit low high) rules region most is ends = let free = is.0.least.cuts.free in
     All-append IsEndedLeaf (leaves_of low) (leaves_of high)
-    (ended_leaves low (side_of rules region bit false) (fix_of region bit false) most is.1
+    (ended_leaves low (side_of_cut rules region bit false) (fix_of region bit false) most is.1
     (half_ends rules region (fix_of region bit false) (fix_within region bit false free) ends))
-    (ended_leaves high (side_of rules region bit true) (fix_of region bit true) most is.2
+    (ended_leaves high (side_of_cut rules region bit true) (fix_of region bit true) most is.2
     (half_ends rules region (fix_of region bit true) (fix_within region bit true free) ends))
 
 -- ---- the partitions of a policy
@@ -92,12 +92,12 @@ rules_end rows policy = let ends = (IsRuleList-rules_of rows policy).ends in
     (ends.0, default_rule _, ends.1, covers_reflexive any_word)
 
 pub parts_ended : (rows : List Row) (most : ℕ) (tree : Shape) → IsPolicy rows
-    → IsDefinedTree (rules_of rows) most tree → All LastCovers (parts_of tree)
+    → IsDefinedTree (rules_of rows) most tree → All LastRuleCovers (parts_of tree)
 parts_ended rows most tree policy is =
-    numbered_all LastCovers IsEndedLeaf (λ number leaf ended. ended) 0 (leaves_of tree)
+    numbered_all LastRuleCovers IsEndedLeaf (λ number leaf ended. ended) 0 (leaves_of tree)
     (ended_leaves tree (rules_of rows) any_word most is (rules_end rows policy))
 
 pub partitions_ended : (rows : List Row) (most : ℕ) → 0 < most → IsPolicy rows
-    → All LastCovers (partitions_of (rules_of rows) most)
+    → All LastRuleCovers (partitions_of (rules_of rows) most)
 partitions_ended rows most some policy = parts_ended rows most (tree_of (rules_of rows) most) policy
     (tree_defined (rules_of rows) most some (IsRuleList-rules_of rows policy).words)

@@ -19,9 +19,9 @@ use Rattle.policy_rules.specs.declared.policy.Hit.{Hit}
 use Rattle.policy_rules.specs.declared.rules.Partition.{Partition}
 use Rattle.policy_rules.specs.declared.rules.Rule.{Rule}
 use Rattle.policy_rules.proofs.CallerLemmas.{IsRuleList-rules_of, first_rule-rules_of, at_item}
-use Rattle.cut_tree.specs.Exports.{AreWords, End, IsDefinedTree, IsTreeOf, Node, Shape, leaf_count, leaves_of, narrow, narrowed_rule, side_of, tree_of}
+use Rattle.cut_tree.specs.Exports.{AreRuleWords, End, IsDefinedTree, IsTreeOf, Node, Shape, leaf_count, leaves_of, narrow, narrowed_rule, side_of_cut, tree_of}
 use Rattle.cut_tree.proofs.CallerLemmas.{narrow_few, narrow_first, tree_defined}
-use Rattle.partition.specs.Parts.{DecideAs, DecidesAs, partition_numbered, numbered_from, parts_of, partitions_of}
+use Rattle.partition.specs.Parts.{PartitionsDecideAs, PartitionDecidesAs, partition_numbered, partitions_from, parts_of, partitions_of}
 
 -- what becomes of a header by the first rule that holds it
 abbrev hit_at : ℕ → List Rule → Option Hit
@@ -51,9 +51,9 @@ leaf_count_at : (tree : Shape) (rules : List Rule) (region : WordValue) (most he
     (holds region header)
 leaf_count_at (End r rs) rules region most header is = rw is.same_region (omega (arith, counted))
 leaf_count_at (Node bit low high) rules region most header is =
-    let below = leaf_count_at low (side_of rules region bit false) (fix_of region bit false) most
+    let below = leaf_count_at low (side_of_cut rules region bit false) (fix_of region bit false) most
     header is.1 in
-    let above = leaf_count_at high (side_of rules region bit true) (fix_of region bit true) most
+    let above = leaf_count_at high (side_of_cut rules region bit true) (fix_of region bit true) most
     header is.2 in
     let both = sum_by-append (λ (leaf : WordValue × List Rule). cond (holds leaf.0 header) 1 0)
     (leaves_of low) (leaves_of high) in
@@ -101,33 +101,33 @@ leaves_decide (End r rs) rules region most header is =
 leaves_decide (Node bit low high) rules region most header is =
     let free = is.0.least.cuts.free in
     let half = fix_of region bit in
-    let above = leaves_decide high (side_of rules region bit true) (half true) most header is.2 in
+    let above = leaves_decide high (side_of_cut rules region bit true) (half true) most header is.2 in
     All-append (IsLeafThatDecides rules region header) (leaves_of low) (leaves_of high)
     (All-weaker (IsLeafThatDecides (narrow rules (half false)) (half false) header)
     (IsLeafThatDecides rules region header)
     (widened rules region (half false) header (fix_within region bit false free)) (leaves_of low)
-    (leaves_decide low (side_of rules region bit false) (half false) most header is.1))
+    (leaves_decide low (side_of_cut rules region bit false) (half false) most header is.1))
     (All-weaker (IsLeafThatDecides (narrow rules (half true)) (half true) header)
     (IsLeafThatDecides rules region header) (widened rules region (half true) header
     (fix_within region bit true free)) (leaves_of high) above)
 
 -- ---- leaves with numbers
 
-pub numbered_none : (number : ℕ) → numbered_from number [] ≡ []
-unfolding numbered_from
+pub numbered_none : (number : ℕ) → partitions_from number [] ≡ []
+unfolding partitions_from
 numbered_none number = refl
 
 pub numbered_more : (number : ℕ) (leaf : WordValue × List Rule)
-    (leaves : List (WordValue × List Rule)) → numbered_from number (leaf ∷ leaves) ≡ partition_numbered
-    (number, leaf) ∷ numbered_from (number + 1) leaves
-unfolding numbered_from
+    (leaves : List (WordValue × List Rule)) → partitions_from number (leaf ∷ leaves) ≡ partition_numbered
+    (number, leaf) ∷ partitions_from (number + 1) leaves
+unfolding partitions_from
 numbered_more number leaf leaves = refl
 
 numbered_count : (number : ℕ) (leaves : List (WordValue × List Rule)) (header : Header)
-    → count_by (is_in header) (numbered_from number leaves) ≡ leaves_at (number_of header) leaves
+    → count_by (is_in header) (partitions_from number leaves) ≡ leaves_at (number_of header) leaves
 numbered_count number [] header = ap (count_by (is_in header)) (numbered_none number)
 numbered_count number (leaf ∷ leaves) header =
-    let parts = numbered_from (number + 1) leaves in
+    let parts = partitions_from (number + 1) leaves in
     let more = ap (count_by (is_in header)) (numbered_more number leaf leaves) in
     let part = sum_by-cons (λ part. cond (is_in header part) 1 0)
     (partition_numbered (number, leaf)) parts in
@@ -139,30 +139,30 @@ numbered_count number (leaf ∷ leaves) header =
 pub numbered_all : (P : Partition → Type 0) (Q : WordValue × List Rule → Type 0)
     → ((number : ℕ) (leaf : WordValue × List Rule) → Q leaf → P (partition_numbered (number, leaf)))
     → (number : ℕ) (leaves : List (WordValue × List Rule)) → All Q leaves
-    → All P (numbered_from number leaves)
+    → All P (partitions_from number leaves)
 numbered_all P Q each number [] all = All-same P _ _ (numbered_none number) (All-nil P)
 numbered_all P Q each number (leaf ∷ leaves) all = All-same P _ _ (numbered_more number leaf leaves)
-    (All-cons P (partition_numbered (number, leaf)) (numbered_from (number + 1) leaves)
+    (All-cons P (partition_numbered (number, leaf)) (partitions_from (number + 1) leaves)
     (each number leaf (All-head Q leaf leaves all))
     (numbered_all P Q each (number + 1) leaves (All-tail Q leaf leaves all)))
 
 pub numbered_length : (number : ℕ) (leaves : List (WordValue × List Rule))
-    → length (numbered_from number leaves) ≡ length leaves
-unfolding numbered_from
+    → length (partitions_from number leaves) ≡ length leaves
+unfolding partitions_from
 numbered_length number leaves = length-map (enumerate_from number leaves) partition_numbered
     ∙ length-enumerate_from number leaves
 
 pub numbered_append : (number : ℕ) (a b : List (WordValue × List Rule))
-    → numbered_from number (a ++ b) ≡ numbered_from number a ++ numbered_from (number + length a) b
-numbered_append number [] b = rw numbered_none (ap (λ n. numbered_from n b) (sym (add-zero number)))
+    → partitions_from number (a ++ b) ≡ partitions_from number a ++ partitions_from (number + length a) b
+numbered_append number [] b = rw numbered_none (ap (λ n. partitions_from n b) (sym (add-zero number)))
 numbered_append number (leaf ∷ a) b = numbered_more number leaf (a ++ b)
     ∙ ap (λ ps. partition_numbered (number, leaf) ∷ ps) (numbered_append (number + 1) a b
-    ∙ ap (λ n. numbered_from (number + 1) a ++ numbered_from n b) (omega arith))
-    ∙ ap (λ ps. ps ++ numbered_from (number + length (leaf ∷ a)) b)
+    ∙ ap (λ n. partitions_from (number + 1) a ++ partitions_from n b) (omega arith))
+    ∙ ap (λ ps. ps ++ partitions_from (number + length (leaf ∷ a)) b)
     (sym (numbered_more number leaf a))
 
 numbers_at : (number : ℕ) (leaves : List (WordValue × List Rule)) (place : ℕ) (d : Partition)
-    → place < length leaves → (get_or (numbered_from number leaves) place d).number ≡ number + place
+    → place < length leaves → (get_or (partitions_from number leaves) place d).number ≡ number + place
 numbers_at number [] place d within = absurd (omega arith)
 numbers_at number (leaf ∷ leaves) zero d within = search (rules, numbered_more, add-zero)
 numbers_at number (leaf ∷ leaves) (suc place) d within =
@@ -172,12 +172,12 @@ numbers_at number (leaf ∷ leaves) (suc place) d within =
 -- ---- the partitions of a tree
 
 pub parts_decide : (rules : List Rule) (most : ℕ) (tree : Shape) → IsDefinedTree rules most tree
-    → DecideAs rules (parts_of tree)
+    → PartitionsDecideAs rules (parts_of tree)
 parts_decide rules most tree is = record {
   one = λ header. numbered_count 0 (leaves_of tree) header ∙ leaf_count_at tree rules any_word most
       (number_of header) is ∙ ap from_bool (any_holds (number_of header));
   decides = λ header. numbered_all
-      (λ part. IsTrue (is_in header part) → DecidesAs rules header part)
+      (λ part. IsTrue (is_in header part) → PartitionDecidesAs rules header part)
       (IsLeafThatDecides rules any_word (number_of header)) (λ number leaf decides. decides.same) 0
       (leaves_of tree) (leaves_decide tree rules any_word most (number_of header) is);
   few = numbered_all (λ part. length part.rules ≤ length rules) (IsLeafThatDecides rules any_word 0)
@@ -195,7 +195,7 @@ parts_sound rows most tree policy is =
     let decide = parts_decide (rules_of rows) most tree is in record {
       one = λ header good. decide.one header;
       decides = λ header good.
-          All-weaker (λ part. IsTrue (is_in header part) → DecidesAs (rules_of rows) header part)
+          All-weaker (λ part. IsTrue (is_in header part) → PartitionDecidesAs (rules_of rows) header part)
           (λ part. IsTrue (is_in header part)
           → option_map hit_of_rule (first_rule part.rules header) ≡ Some (scan rows header))
           (λ part decided here. decided here ∙ first_rule-rules_of rows header policy good)
@@ -205,8 +205,8 @@ parts_sound rows most tree policy is =
 
 -- ---- without a tree
 
-pub partitions_decide : (rules : List Rule) (most : ℕ) → 0 < most → AreWords rules
-    → DecideAs rules (partitions_of rules most)
+pub partitions_decide : (rules : List Rule) (most : ℕ) → 0 < most → AreRuleWords rules
+    → PartitionsDecideAs rules (partitions_of rules most)
 partitions_decide rules most some words = parts_decide rules most (tree_of rules most)
     (tree_defined rules most some words)
 
@@ -289,21 +289,21 @@ part_here header parts index part within is here =
 
 pub pushed_leaf : (old : List Partition) (tree : Shape) (number : ℕ) (region : WordValue)
     (rules copy : List Rule) → tree ≡ End region rules → copy ≡ rules → number ≡ length old
-    → old ++ record { number = number; region = region; rules = copy } ∷ [] ≡ old ++ numbered_from
+    → old ++ record { number = number; region = region; rules = copy } ∷ [] ≡ old ++ partitions_from
     (length old) (leaves_of tree)
-unfolding numbered_from
+unfolding partitions_from
 pushed_leaf old tree number region rules copy is same last = rw (is, same, last) refl
 
 pub pushed_room : (old new : List Partition) (tree low high : Shape) (bit most : ℕ)
-    → tree ≡ Node bit low high → new ≡ old ++ numbered_from (length old) (leaves_of low)
+    → tree ≡ Node bit low high → new ≡ old ++ partitions_from (length old) (leaves_of low)
     → length old + leaf_count tree < most → length new + leaf_count high < most
 pushed_room old new tree low high bit most is pushed room =
     search (rules, length-append, numbered_length)
 
 pub pushed_both : (old middle new : List Partition) (tree low high : Shape) (bit : ℕ)
-    → tree ≡ Node bit low high → middle ≡ old ++ numbered_from (length old) (leaves_of low)
-    → new ≡ middle ++ numbered_from (length middle) (leaves_of high)
-    → new ≡ old ++ numbered_from (length old) (leaves_of tree)
+    → tree ≡ Node bit low high → middle ≡ old ++ partitions_from (length old) (leaves_of low)
+    → new ≡ middle ++ partitions_from (length middle) (leaves_of high)
+    → new ≡ old ++ partitions_from (length old) (leaves_of tree)
 pushed_both old middle new tree low high bit is first second =
     search (rules, length-append, numbered_length, numbered_append, append_assoc)
 

@@ -5,7 +5,7 @@ use Rattle.std.proofs.lemmas.Bool.Decides.{nat_tests}
 use Rattle.std.proofs.lemmas.List.{length-map}
 use Rattle.std.proofs.lemmas.List.Elements.{All-nil, All-cons, All-append, All-same, All-weaker, All-from_get_or}
 use Rattle.std.proofs.lemmas.Slice.Zip.{length-zip, firsts-zip, get_or-zip, seconds-zip}
-use Rattle.cut_tree.specs.Exports.{End, IsDefinedTree, IsTreeOf, Node, Shape, leaf_count, leaves_of, side_of, tree_of}
+use Rattle.cut_tree.specs.Exports.{End, IsDefinedTree, IsTreeOf, Node, Shape, leaf_count, leaves_of, side_of_cut, tree_of}
 use Rattle.cut_tree.proofs.CallerLemmas.{tree_defined}
 use Rattle.net_file.specs.Exports.{IsNet}
 use Rattle.net_file.specs.declared.net.Net.{Net}
@@ -17,8 +17,8 @@ use Rattle.policy_rules.specs.declared.policy.Row.{Row}
 use Rattle.policy_rules.specs.declared.rules.Partition.{Partition}
 use Rattle.policy_rules.specs.declared.rules.Rule.{Rule}
 use Rattle.policy_rules.proofs.CallerLemmas.{IsRuleList-rules_of, cond_if_above, cond_if_below}
-use Rattle.partition.specs.Parts.{numbered_from, parts_of}
-use Rattle.partition.specs.Plan.{IsPlan, Hosted, hosted_on, plan_of, plan_of_tree, rooms_of, sizes_of}
+use Rattle.partition.specs.Parts.{partitions_from, parts_of}
+use Rattle.partition.specs.Plan.{IsPartitionPlan, Hosted, partitions_hosted_on, plan_of, plan_of_tree, rooms_of, sizes_of}
 use Rattle.partition.proofs.EndLemmas.{parts_ended}
 use Rattle.partition.proofs.PartLemmas.{numbered_length, numbered_more, numbered_none, parts_sound}
 
@@ -37,11 +37,11 @@ small_leaves (End r rs) rules region most is =
     All-cons (IsSmallLeaf most) (r, rs) [] small (All-nil (IsSmallLeaf most))
 small_leaves (Node bit low high) rules region most is =
     All-append (IsSmallLeaf most) (leaves_of low) (leaves_of high)
-    (small_leaves low (side_of rules region bit false) (fix_of region bit false) most is.1)
-    (small_leaves high (side_of rules region bit true) (fix_of region bit true) most is.2)
+    (small_leaves low (side_of_cut rules region bit false) (fix_of region bit false) most is.1)
+    (small_leaves high (side_of_cut rules region bit true) (fix_of region bit true) most is.2)
 
 small_parts : (most number : ℕ) (leaves : List (WordValue × List Rule))
-    → All (IsSmallLeaf most) leaves → All (IsSmall most) (numbered_from number leaves)
+    → All (IsSmallLeaf most) leaves → All (IsSmall most) (partitions_from number leaves)
 small_parts most number [] all = search (rules, All-same, numbered_none)
 small_parts most number (leaf ∷ leaves) all = All-same (IsSmall most) _ _
     (numbered_more number leaf leaves) (All-cons (IsSmall most) _ _ (all 0 leaf (omega arith))
@@ -63,7 +63,7 @@ hosted_by parts plan answer is = search rules
 
 made_by : (rows : List Row) (net : Net) (plan : List Hosted) (tree : Shape) (many : Bool)
     → ltb 512 (leaf_count tree) ≡ many
-    → cond many (Err TooManyLeaves) (hosted_on net (parts_of tree)) ≡ Ok plan
+    → cond many (Err TooManyLeaves) (partitions_hosted_on net (parts_of tree)) ≡ Ok plan
     → IsMadeOf rows net plan tree
 made_by rows net plan tree many test is = search (rules, nat_tests, hosted_by)
 
@@ -99,7 +99,7 @@ targets_there net sizes targets placement = All-from_get_or (AreThere net) targe
 zip_holds : (rows : List Row) (net : Net) (tree : Shape) (targets : List (List ℕ)) → IsPolicy rows
     → IsDefinedTree (rules_of rows) net.leaf_rules tree → leaf_count tree ≤ 512
     → IsPlacement (sizes_of (parts_of tree)) (rooms_of net) net.backups targets
-    → IsPlan rows net (zip (parts_of tree) targets)
+    → IsPartitionPlan rows net (zip (parts_of tree) targets)
 zip_holds rows net tree targets policy defined few placement =
     let parts = parts_of tree in
     let count = placement.number ∙ length-map parts (λ part. length part.rules) in
@@ -125,7 +125,7 @@ zip_holds rows net tree targets policy defined few placement =
     }
 
 pub plan_holds : (rows : List Row) (net : Net) (plan : List Hosted) → IsPolicy rows → IsNet net
-    → plan_of rows net ≡ Ok plan → IsPlan rows net plan
+    → plan_of rows net ≡ Ok plan → IsPartitionPlan rows net plan
 plan_holds rows net plan policy network is =
     let made = made_of rows net plan is in
     let tree = tree_of (rules_of rows) net.leaf_rules in
@@ -133,7 +133,7 @@ plan_holds rows net plan policy network is =
     (IsRuleList-rules_of rows policy).words in
     let placement = placement_there (sizes_of (parts_of tree)) (rooms_of net) net.backups
     made.targets made.chosen in
-    let P : List Hosted → Type 0 = IsPlan rows net in
+    let P : List Hosted → Type 0 = IsPartitionPlan rows net in
     subst P made.pairs (zip_holds rows net tree made.targets policy defined made.few placement)
 
 -- ---- the way to a plan
@@ -160,7 +160,7 @@ no_leaves rows net few many = worded rows net few
 
 pub hosted_plan : (rows : List Row) (net : Net) (tree : Shape) → word_total rows ≤ 4096
     → tree ≡ tree_of (rules_of rows) net.leaf_rules → leaf_count tree ≤ 512
-    → plan_of rows net ≡ hosted_on net (parts_of tree)
+    → plan_of rows net ≡ partitions_hosted_on net (parts_of tree)
 hosted_plan rows net tree few is small =
     worded rows net few ∙ sym (ap (plan_of_tree net) is) ∙ cond_if_above 512 (leaf_count tree) _ _ small
 

@@ -13,27 +13,27 @@ abbrev pub partition_numbered : ℕ × (WordValue × List Rule) → Partition
 partition_numbered (number, leaf) = record { number = number; region = leaf.0; rules = leaf.1 }
 
 -- leaves as partitions with numbers from this one on
-unfoldable pub numbered_from : ℕ → List (WordValue × List Rule) → List Partition
-numbered_from number leaves = map partition_numbered (enumerate_from number leaves)
+unfoldable pub partitions_from : ℕ → List (WordValue × List Rule) → List Partition
+partitions_from number leaves = map partition_numbered (enumerate_from number leaves)
 
 -- the partitions of a tree: its leaves, low side before high side, numbered from 0
 abbrev pub parts_of : Shape → List Partition
-parts_of tree = numbered_from 0 (leaves_of tree)
+parts_of tree = partitions_from 0 (leaves_of tree)
 
 -- the partitions of a list of rules with this cap
 abbrev pub partitions_of : List Rule → ℕ → List Partition
 partitions_of rules most = parts_of (tree_of rules most)
 
 -- the rules of the partition decide the header as these rules do
-abbrev pub DecidesAs : List Rule → Header → Partition → Type 0
-DecidesAs rules header part =
+abbrev pub PartitionDecidesAs : List Rule → Header → Partition → Type 0
+PartitionDecidesAs rules header part =
     option_map hit_of_rule (first_rule part.rules header)
     ≡ option_map hit_of_rule (first_rule rules header)
 
 -- each header lies in exactly one region, whose rules decide it as the whole list does
-pub record DecideAs (rules : List Rule) (parts : List Partition) : Type 0 where
+pub record PartitionsDecideAs (rules : List Rule) (parts : List Partition) : Type 0 where
   pub one : (header : Header) → count_by (is_in header) parts ≡ 1
   pub decides : (header : Header) →
-      All (λ part. IsTrue (is_in header part) → DecidesAs rules header part) parts
+      All (λ part. IsTrue (is_in header part) → PartitionDecidesAs rules header part) parts
   -- no partition has more rules than the list
   pub few : All (λ part. length part.rules ≤ length rules) parts

@@ -1,10 +1,10 @@
 ghost use Rattle.std.specs.Prelude.{ℕ, ◌≡◌, ◌+◌, ◌<◌, ◌^◌, ◌++◌, All, IfOk, OnOk, IsTrue, List, Some, count_by, find, length, option_map};
-ghost use Rattle.policy_rules.specs.Exports.{AreSoundPartitions, IsPolicy, LastCovers, is_in, rules_of};
+ghost use Rattle.policy_rules.specs.Exports.{AreSoundPartitions, IsPolicy, LastRuleCovers, is_in, rules_of};
 ghost use Rattle.policy_rules.specs.declared.policy.Row.{Row};
 ghost use Rattle.policy_rules.specs.declared.rules.Rule.{Rule};
 ghost use Rattle.cut_tree.specs.DefinedTree.{IsDefinedTree};
 ghost use Rattle.cut_tree.specs.Shape.{leaf_count, leaves_of, shape_of};
-ghost use Rattle.partition.specs.Parts.{DecideAs, numbered_from, parts_of};
+ghost use Rattle.partition.specs.Parts.{PartitionsDecideAs, partitions_from, parts_of};
 
 use cut_tree::Tree;
 use five_tuple::Header;
@@ -23,13 +23,13 @@ pub fn list(alloc: Global, tree: &Tree) -> Result<Vec<Partition>, AllocError>
     ensures parts { IfOk result (λ parts. parts.items ≡ parts_of (shape_of tree.now)) }
     ensures count { IfOk result (λ parts. length parts.items ≡ leaf_count (shape_of tree.now)) }
     ensures decide { IfOk result (λ parts. (rules : List Rule) (cap : ℕ) →
-        IsDefinedTree rules cap (shape_of tree.now) → DecideAs rules parts.items) }
+        IsDefinedTree rules cap (shape_of tree.now) → PartitionsDecideAs rules parts.items) }
     ensures sound { IfOk result (λ parts. (rows : List Row) (cap : ℕ) →
         IsPolicy rows → IsDefinedTree (rules_of rows) cap (shape_of tree.now) →
         AreSoundPartitions rows parts.items) }
     ensures ended { IfOk result (λ parts. (rows : List Row) (cap : ℕ) →
         IsPolicy rows → IsDefinedTree (rules_of rows) cap (shape_of tree.now) →
-        All LastCovers parts.items) }
+        All LastRuleCovers parts.items) }
 {
     let mut parts = Vec::new(alloc);
     push_leaves(tree, &mut parts)?;
@@ -39,7 +39,7 @@ pub fn list(alloc: Global, tree: &Tree) -> Result<Vec<Partition>, AllocError>
 fn push_leaves(tree: &Tree, parts: &mut Vec<Partition>) -> Result<(), AllocError>
     requires { length parts.old.items + leaf_count (shape_of tree.now) < 2 ^ 32 }
     ensures { OnOk result (parts.new.items ≡ parts.old.items
-        ++ numbered_from (length parts.old.items) (leaves_of (shape_of tree.now))) }
+        ++ partitions_from (length parts.old.items) (leaves_of (shape_of tree.now))) }
 {
     match tree {
         Tree::Leaf { region, rules } => {

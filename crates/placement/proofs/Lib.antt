@@ -1,5 +1,5 @@
-mod OrderLemmas
-mod FirstLemmas
-mod TurnLemmas
+mod PlacementOrder
+mod PlacementFirsts
+mod PlacementTurns
 mod PlacementLemmas
 pub mod CallerLemmas

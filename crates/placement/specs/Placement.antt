@@ -21,23 +21,23 @@ pub record MayTakeTurns (keys rooms : List ℕ) (backups : ℕ) : Type 0 where
 -- ---- which partition comes first, and what the switches have then
 
 -- partitions come by falling size, then by number
-unfoldable pub is_earlier : List ℕ → ℕ → ℕ → Bool
-is_earlier sizes a b =
+unfoldable pub is_placed_earlier : List ℕ → ℕ → ℕ → Bool
+is_placed_earlier sizes a b =
     nat_lt (slice_index sizes b) (slice_index sizes a)
     || ((slice_index sizes b == slice_index sizes a) && nat_lt a b)
 
-abbrev pub targets_at : List (List ℕ) → ℕ → List ℕ
-targets_at placement partition = slice_index_or placement partition []
+abbrev pub placed_targets_at : List (List ℕ) → ℕ → List ℕ
+placed_targets_at placement partition = slice_index_or placement partition []
 
 abbrev pub is_target : List (List ℕ) → ℕ → ℕ → Bool
-is_target placement partition switch = list_any (nat_eq switch) (targets_at placement partition)
+is_target placement partition switch = list_any (nat_eq switch) (placed_targets_at placement partition)
 
 -- the sum of these numbers over the earlier partitions that load the switch: it is one of the
 -- targets that they load
 abbrev pub sum_before : (List ℕ → List ℕ) → List ℕ → List ℕ → List (List ℕ) → ℕ → ℕ → ℕ
 sum_before loaded keys numbers placement partition switch =
     let loads = λ (other : ℕ).
-    is_earlier keys other partition && list_any (nat_eq switch) (loaded (targets_at placement other)) in
+    is_placed_earlier keys other partition && list_any (nat_eq switch) (loaded (placed_targets_at placement other)) in
     sum_by (slice_index numbers) (filter loads (range_with_len 0 (length keys)))
 
 -- ---- which switches a partition is put on
@@ -51,25 +51,25 @@ abbrev pub with_room : (ℕ → ℕ) → List ℕ → ℕ → List ℕ
 with_room held rooms size = filter (has_room held rooms size) (range_with_len 0 (length rooms))
 
 -- switches come by load, then by number
-unfoldable pub is_lighter : (ℕ → ℕ) → ℕ → ℕ → Bool
-is_lighter load a b = nat_lt (load a) (load b) || ((load a == load b) && nat_lt a b)
+unfoldable pub is_lighter_switch : (ℕ → ℕ) → ℕ → ℕ → Bool
+is_lighter_switch load a b = nat_lt (load a) (load b) || ((load a == load b) && nat_lt a b)
 
 -- these are the first by load of the switches that have room besides what they have: all other such
 -- switches come after all of them
-pub record AreFirst (held load : ℕ → ℕ) (rooms : List ℕ) (size count : ℕ) (targets : List ℕ)
+pub record AreLightestSwitches (held load : ℕ → ℕ) (rooms : List ℕ) (size count : ℕ) (targets : List ℕ)
     : Type 0 where
   pub number : length targets ≡ count
   pub fit : All (λ s. IsTrue (has_room held rooms size s)) targets
-  pub rising : AllPairs (λ a b. IsTrue (is_lighter load a b)) targets
+  pub rising : AllPairs (λ a b. IsTrue (is_lighter_switch load a b)) targets
   pub least : (other : ℕ) → IsTrue (has_room held rooms size other)
       → IsFalse (list_any (nat_eq other) targets)
-      → All (λ s. IsTrue (is_lighter load s other)) targets
+      → All (λ s. IsTrue (is_lighter_switch load s other)) targets
 
 -- ---- partitions one after another
 
 -- how partitions take their turns: by falling keys, then by number. Each puts its size on all of
 -- its targets, and its key on those that it loads
-pub record TurnRule : Type 0 where
+pub record PlacementTurnRule : Type 0 where
   pub keys : List ℕ
   pub sizes : List ℕ
   pub loaded : List ℕ → List ℕ
@@ -77,37 +77,37 @@ pub record TurnRule : Type 0 where
   pub backups : ℕ
 
 -- the targets that a partition loads
-abbrev pub loaded_by : Load → List ℕ → List ℕ
-loaded_by load.OnAll targets = targets
-loaded_by load.OnFirst targets = take 1 targets
+abbrev pub placement_loaded_by : Load → List ℕ → List ℕ
+placement_loaded_by load.OnAll targets = targets
+placement_loaded_by load.OnFirst targets = take 1 targets
 
-abbrev pub turn_rule : Load → List ℕ → List ℕ → List ℕ → ℕ → TurnRule
-turn_rule load keys sizes rooms backups = record {
+abbrev pub placement_turn_rule : Load → List ℕ → List ℕ → List ℕ → ℕ → PlacementTurnRule
+placement_turn_rule load keys sizes rooms backups = record {
   keys = keys;
   sizes = sizes;
-  loaded = loaded_by load;
+  loaded = placement_loaded_by load;
   rooms = rooms;
   backups = backups;
 }
 
 -- the partition has the targets that its turn gives it: one and the backups, by the rules and the
 -- loads that switches have then
-abbrev pub HasDueTargets : TurnRule → List (List ℕ) → ℕ → Type 0
+abbrev pub HasDueTargets : PlacementTurnRule → List (List ℕ) → ℕ → Type 0
 HasDueTargets t placement partition =
-    AreFirst (sum_before (λ targets. targets) t.keys t.sizes placement partition)
+    AreLightestSwitches (sum_before (λ targets. targets) t.keys t.sizes placement partition)
     (sum_before t.loaded t.keys t.keys placement partition) t.rooms
-    (slice_index t.sizes partition) (1 + t.backups) (targets_at placement partition)
+    (slice_index t.sizes partition) (1 + t.backups) (placed_targets_at placement partition)
 
 -- each partition has its targets
-pub record AreHosted (t : TurnRule) (placement : List (List ℕ)) : Type 0 where
+pub record AreHosted (t : PlacementTurnRule) (placement : List (List ℕ)) : Type 0 where
   pub number : length placement ≡ length t.keys
   pub hosted : (partition : ℕ) → partition < length t.keys → HasDueTargets t placement partition
 
 -- the earlier partitions have their targets, and too few switches have room for this one
-pub record IsRefused (t : TurnRule) (partition : ℕ) : Type 0 where
+pub record IsPlacementRefused (t : PlacementTurnRule) (partition : ℕ) : Type 0 where
   pub there : partition < length t.keys
   pub placement : List (List ℕ)
-  pub earlier : (other : ℕ) → other < length t.keys → IsTrue (is_earlier t.keys other partition)
+  pub earlier : (other : ℕ) → other < length t.keys → IsTrue (is_placed_earlier t.keys other partition)
       → HasDueTargets t placement other
   pub fewer : (let held = sum_before (λ targets. targets) t.keys t.sizes placement partition in
       length (with_room held t.rooms (slice_index t.sizes partition)) < 1 + t.backups)
@@ -115,14 +115,14 @@ pub record IsRefused (t : TurnRule) (partition : ℕ) : Type 0 where
 -- ---- a placement, and why there is none
 
 -- by falling size; a partition loads each of its targets with its size
-abbrev pub placing : List ℕ → List ℕ → ℕ → TurnRule
-placing sizes rooms backups = turn_rule load.OnAll sizes sizes rooms backups
+abbrev pub placing_by_size : List ℕ → List ℕ → ℕ → PlacementTurnRule
+placing_by_size sizes rooms backups = placement_turn_rule load.OnAll sizes sizes rooms backups
 
 abbrev pub IsPlacement : List ℕ → List ℕ → ℕ → List (List ℕ) → Type 0
-IsPlacement sizes rooms backups placement = AreHosted (placing sizes rooms backups) placement
+IsPlacement sizes rooms backups placement = AreHosted (placing_by_size sizes rooms backups) placement
 
 abbrev pub LacksRoom : List ℕ → List ℕ → ℕ → ℕ → Type 0
-LacksRoom sizes rooms backups partition = IsRefused (placing sizes rooms backups) partition
+LacksRoom sizes rooms backups partition = IsPlacementRefused (placing_by_size sizes rooms backups) partition
 
 -- the load of a switch before a partition: the sum of the sizes of the earlier partitions whose
 -- targets contain it
@@ -137,7 +137,7 @@ abbrev pub placement_from : List ℕ → List ℕ → ℕ → List (List ℕ) �
 placement_from sizes rooms backups placement [] = Ok placement
 placement_from sizes rooms backups placement (partition ∷ later) =
     let load = load_before sizes placement partition in
-    let found = in_order (is_lighter load) (with_room load rooms (slice_index sizes partition)) in
+    let found = in_order (is_lighter_switch load) (with_room load rooms (slice_index sizes partition)) in
     let chosen = take (1 + backups) found in
     if nat_lt (length found) (1 + backups)
     then Err partition
@@ -147,7 +147,7 @@ placement_from sizes rooms backups placement (partition ∷ later) =
 -- that finds too few
 unfoldable pub placement_of : List ℕ → List ℕ → ℕ → Result (List (List ℕ)) ℕ
 placement_of sizes rooms backups =
-    let turns = in_order (is_earlier sizes) (range_with_len 0 (length sizes)) in
+    let turns = in_order (is_placed_earlier sizes) (range_with_len 0 (length sizes)) in
     placement_from sizes rooms backups (replicate (length sizes) []) turns
 
 -- what the function returns, a placement or a refusal, satisfies its own relation

@@ -2,7 +2,7 @@ ghost use Rattle.std.specs.Prelude.{ℕ, ◌≡◌, ◌+◌, ◌<◌, ◌≤◌,
 ghost use Rattle.std.specs.List.{list_any, range_with_len};
 ghost use Rattle.base.specs.Refusals.{IfRefused};
 ghost use Rattle.placement.specs.Order.{in_order};
-ghost use Rattle.placement.specs.Placement.{AreHosted, IsRefused, MayTakeTurns, is_earlier, is_lighter, has_room, loaded_by, turn_rule, with_room};
+ghost use Rattle.placement.specs.Placement.{AreHosted, IsPlacementRefused, MayTakeTurns, is_placed_earlier, is_lighter_switch, has_room, placement_loaded_by, placement_turn_rule, with_room};
 
 use crate::NoRoom;
 use base::Failure;
@@ -37,26 +37,26 @@ impl Load {
     ) -> Result<Vec<Targets>, Failure<NoRoom>>
         requires { MayTakeTurns keys.now rooms.now backups }
         ensures hosted { IfOk result (λ targets.
-            AreHosted (turn_rule self keys.now sizes.now rooms.now backups) targets.items) }
+            AreHosted (placement_turn_rule self keys.now sizes.now rooms.now backups) targets.items) }
         ensures refused { IfErr result (IfRefused (λ lack.
-            IsRefused (turn_rule self keys.now sizes.now rooms.now backups) lack.partition)) }
+            IsPlacementRefused (placement_turn_rule self keys.now sizes.now rooms.now backups) lack.partition)) }
     {
         let none_yet = Targets::new(&[0]).unwrap();
         let mut placement = vec![in alloc; none_yet; keys.len()]?;
         let mut held = vec![in alloc; 0; rooms.len()]?;
         let mut loads = vec![in alloc; 0; rooms.len()]?;
-        let order = by_falling(alloc, keys)?;
+        let order = by_falling_key(alloc, keys)?;
         for partition in &order {
             let size = number_at(sizes, *partition);
             let key = number_at(keys, *partition);
-            let switches = by_load(alloc, &held, &loads, rooms, size)?;
+            let switches = by_switch_load(alloc, &held, &loads, rooms, size)?;
             let Some(targets) = front(&switches, backups) else {
                 return Err(Failure::Refused(NoRoom {
                     partition: *partition,
                 }));
             };
-            add_load(&mut held, targets.items(), size);
-            add_load(&mut loads, self.loaded(&targets), key);
+            add_switch_load(&mut held, targets.items(), size);
+            add_switch_load(&mut loads, self.loaded(&targets), key);
             placement[*partition as usize] = targets;
         }
         Ok(placement)
@@ -64,7 +64,7 @@ impl Load {
 
     // The targets that a partition loads.
     fn loaded(self, targets: &Targets) -> &[u32]
-        ensures { result.now ≡ loaded_by self targets.now }
+        ensures { result.now ≡ placement_loaded_by self targets.now }
     {
         match self {
             Load::OnAll => targets.items(),
@@ -74,10 +74,10 @@ impl Load {
 }
 
 // The places of these numbers, by falling number and then by place.
-fn by_falling(alloc: Global, numbers: &[u64]) -> Result<Vec<u32>, AllocError>
+fn by_falling_key(alloc: Global, numbers: &[u64]) -> Result<Vec<u32>, AllocError>
     requires { length numbers.now < 2 ^ 32 }
     ensures { IfOk result (λ order.
-        order.items ≡ in_order (is_earlier numbers.now) (range_with_len 0 (length numbers.now))) }
+        order.items ≡ in_order (is_placed_earlier numbers.now) (range_with_len 0 (length numbers.now))) }
 {
     let mut order = numbers_below(alloc, numbers.len() as u32)?;
     order.sort_unstable_by_key(|place| (Reverse(number_at(numbers, *place)), *place));
@@ -85,7 +85,7 @@ fn by_falling(alloc: Global, numbers: &[u64]) -> Result<Vec<u32>, AllocError>
 }
 
 // The switches that have room for this many more rules, by load and then by number.
-fn by_load(
+fn by_switch_load(
     alloc: Global,
     held: &[u64],
     loads: &[u64],
@@ -95,7 +95,7 @@ fn by_load(
     requires { length rooms.now ≤ 64 }
     ensures { IfOk result (λ switches. let load = slice_index loads.now in
         switches.items
-        ≡ in_order (is_lighter load) (with_room (slice_index held.now) rooms.now size)) }
+        ≡ in_order (is_lighter_switch load) (with_room (slice_index held.now) rooms.now size)) }
 {
     let mut switches = numbers_below(alloc, rooms.len() as u32)?;
     switches.retain(|switch| has_room(held, rooms, size, *switch));
@@ -118,7 +118,7 @@ fn front(switches: &[u32], backups: u32) -> Option<Targets>
 }
 
 // Adds this much to the loads of these switches.
-fn add_load(loads: &mut [u64], targets: &[u32], more: u64)
+fn add_switch_load(loads: &mut [u64], targets: &[u32], more: u64)
     requires there { All (λ s. s < length loads.old) targets.now }
     requires fits { All (λ s. slice_index loads.old s + more < 2 ^ 64) targets.now }
     requires distinct { AllPairs (λ a b. a ≡ b → ⊥) targets.now }
@@ -150,7 +150,7 @@ pub fn widened(alloc: Global, numbers: &[u32]) -> Result<Vec<u64>, AllocError>
         .collect(alloc)
 }
 
-#[tactic(auto, using(crate::proofs::FirstLemmas::capped_within), unfolding(crate::specs::Placement::has_room))]
+#[tactic(auto, using(crate::proofs::PlacementFirsts::capped_within), unfolding(crate::specs::Placement::has_room))]
 fn has_room(held: &[u64], rooms: &[u32], size: u64, switch: u32) -> bool
     ensures { result ≡ has_room (slice_index held.now) rooms.now size switch }
 {

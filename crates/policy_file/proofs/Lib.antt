@@ -1,6 +1,6 @@
-mod RowFields
-mod EditFields
-mod StatedRows
-mod PlainFields
-mod StatedLines
-mod AddedPorts
+mod PolicyFileRowFields
+mod PolicyFileEdits
+mod PolicyFileRows
+mod PolicyFilePlainFields
+mod PolicyFileLines
+mod PolicyFilePorts

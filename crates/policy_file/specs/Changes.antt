@@ -10,7 +10,7 @@ use Rattle.policy_rules.specs.declared.amendment.Edit.TheVariants.{Remove, Add}
 use Rattle.policy_rules.specs.declared.file.PolicyFile.{PolicyFile}
 use Rattle.policy_rules.specs.declared.file.PolicyFile.TheVariants.{Whole, Change}
 use Rattle.base.specs.declared.row.InRow.{InRow}
-use Rattle.policy_file.specs.Reading.{RowFormat, policy_heading, policy_of, row_read, rows_in, with_field}
+use Rattle.policy_file.specs.Reading.{PolicyRowFormat, policy_heading, policy_of, csv_row_read, csv_rows_in, with_csv_field}
 use Rattle.policy_file.specs.declared.error.PolicyRefusal.{PolicyRefusal}
 use Rattle.policy_file.specs.declared.error.PolicyRefusal.TheVariants as why
 
@@ -22,26 +22,26 @@ abbrev pub change_heading : List (List ℕ)
 change_heading = codes "op" ∷ policy_heading
 
 -- the edit that removes the row of a priority, which is the only field
-abbrev pub removal_read : List (List ℕ) → Result Edit PolicyRefusal
-removal_read (priority ∷ []) =
-    with_field (number_up_to 4294967295 priority) why.Priority (λ priority. Ok (Remove priority))
-removal_read _ = Err why.Width
+abbrev pub csv_removal_read : List (List ℕ) → Result Edit PolicyRefusal
+csv_removal_read (priority ∷ []) =
+    with_csv_field (number_up_to 4294967295 priority) why.Priority (λ priority. Ok (Remove priority))
+csv_removal_read _ = Err why.Width
 
 -- the edit that the fields state, or the refusal of the first field that can't be read
-abbrev pub edit_read : List (List ℕ) → Result Edit PolicyRefusal
-edit_read [] = Err why.Op
-edit_read (op ∷ fields) =
-    if bytes_eq op (codes "remove") then removal_read fields
-    else if bytes_eq op (codes "add") then on_ok Add (row_read fields)
+abbrev pub csv_edit_read : List (List ℕ) → Result Edit PolicyRefusal
+csv_edit_read [] = Err why.Op
+csv_edit_read (op ∷ fields) =
+    if bytes_eq op (codes "remove") then csv_removal_read fields
+    else if bytes_eq op (codes "add") then on_ok Add (csv_row_read fields)
     else Err why.Op
 
 -- no two edits of a change do the same to a row of the same priority
-abbrev pub change_rows : RowFormat Edit
-change_rows = record { heading = change_heading; read = edit_read; repeats = repeats }
+abbrev pub change_rows : PolicyRowFormat Edit
+change_rows = record { heading = change_heading; read = csv_edit_read; repeats = repeats }
 
 -- the change that a text states
 unfoldable pub change_of : List ℕ → Result (List Edit) (InRow PolicyRefusal)
-change_of bytes = rows_in change_rows bytes
+change_of bytes = csv_rows_in change_rows bytes
 
 -- the first record is a change's heading
 abbrev pub has_change_heading : List (List (List ℕ)) → Bool

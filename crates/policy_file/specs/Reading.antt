@@ -30,19 +30,19 @@ policy_heading =
     ∷ codes "action" ∷ []
 
 -- what `next` makes of a field's value, or the refusal if the field has none
-abbrev pub with_field : {X Y : Type 0} → Option X → PolicyRefusal → (X → Result Y PolicyRefusal)
+abbrev pub with_csv_field : {X Y : Type 0} → Option X → PolicyRefusal → (X → Result Y PolicyRefusal)
     → Result Y PolicyRefusal
-with_field (Some value) refusal next = next value
-with_field None refusal next = Err refusal
+with_csv_field (Some value) refusal next = next value
+with_csv_field None refusal next = Err refusal
 
 -- the row that the fields state, or the refusal of the first field that can't be read
-abbrev pub row_read : List (List ℕ) → Result Row PolicyRefusal
-row_read (priority ∷ src ∷ dst ∷ sport ∷ dport ∷ proto ∷ action ∷ []) =
-    with_field (number_up_to 4294967295 priority) why.Priority
-    (λ priority. with_field (prefix_of src) why.Src
-    (λ src. with_field (prefix_of dst) why.Dst (λ dst. with_field (range_of sport) why.Sport
-    (λ sport. with_field (range_of dport) why.Dport (λ dport. with_field (proto_of proto) why.Proto
-    (λ proto. with_field (action_of action) why.Action (λ action. Ok (record {
+abbrev pub csv_row_read : List (List ℕ) → Result Row PolicyRefusal
+csv_row_read (priority ∷ src ∷ dst ∷ sport ∷ dport ∷ proto ∷ action ∷ []) =
+    with_csv_field (number_up_to 4294967295 priority) why.Priority
+    (λ priority. with_csv_field (prefix_of src) why.Src
+    (λ src. with_csv_field (prefix_of dst) why.Dst (λ dst. with_csv_field (range_of sport) why.Sport
+    (λ sport. with_csv_field (range_of dport) why.Dport (λ dport. with_csv_field (proto_of proto) why.Proto
+    (λ proto. with_csv_field (action_of action) why.Action (λ action. Ok (record {
       priority = priority;
       src = src;
       dst = dst;
@@ -51,104 +51,104 @@ row_read (priority ∷ src ∷ dst ∷ sport ∷ dport ∷ proto ∷ action ∷ 
       proto = proto;
       action = action;
     }))))))))
-row_read _ = Err why.Width
+csv_row_read _ = Err why.Width
 
 -- ---- the rows of a file, of any kind
 
 -- how a file states its rows: its heading, what a record states, and which row repeats another
-pub record RowFormat (X : Type 0) : Type 0 where
+pub record PolicyRowFormat (X : Type 0) : Type 0 where
   pub heading : List (List ℕ)
   pub read : List (List ℕ) → Result X PolicyRefusal
   pub repeats : List X → X → Bool
 
 -- the rows that records state
-abbrev pub rows_stated : {X : Type 0} → RowFormat X → List (List (List ℕ)) → List X
-rows_stated format records = filter_map (λ fields. result_ok (format.read fields)) records
+abbrev pub csv_rows_stated : {X : Type 0} → PolicyRowFormat X → List (List (List ℕ)) → List X
+csv_rows_stated format records = filter_map (λ fields. result_ok (format.read fields)) records
 
 -- why a record is refused after earlier rows: it states no row, or one that repeats an earlier one
-abbrev pub refusal_after : {X : Type 0} → RowFormat X → List X → Result X PolicyRefusal
+abbrev pub row_refusal_after : {X : Type 0} → PolicyRowFormat X → List X → Result X PolicyRefusal
     → Option PolicyRefusal
-refusal_after format earlier (Err refusal) = Some refusal
-refusal_after format earlier (Ok row) =
+row_refusal_after format earlier (Err refusal) = Some refusal
+row_refusal_after format earlier (Ok row) =
     if format.repeats earlier row then Some why.SamePriority else None
 
 -- why the record at this place is refused, if it is: a file has at most 2,000 rows
-abbrev pub refusal_at : {X : Type 0} → RowFormat X → List (List (List ℕ)) → ℕ → Option PolicyRefusal
-refusal_at format records place =
+abbrev pub row_refusal_at : {X : Type 0} → PolicyRowFormat X → List (List (List ℕ)) → ℕ → Option PolicyRefusal
+row_refusal_at format records place =
     if place == 2000 then Some why.TooManyRows
-    else refusal_after format (rows_stated format (take place records))
+    else row_refusal_after format (csv_rows_stated format (take place records))
     (format.read (slice_index_or records place []))
 
 -- the value of the least of the numbers below n that has one
-abbrev pub first_some : {X : Type 0} → (ℕ → Option X) → ℕ → Option X
-first_some at zero = None
-first_some at (suc n) = option_or (first_some at n) (at n)
+abbrev pub first_row_refused : {X : Type 0} → (ℕ → Option X) → ℕ → Option X
+first_row_refused at zero = None
+first_row_refused at (suc n) = option_or (first_row_refused at n) (at n)
 
 -- why the record at this place is refused, if it is, with its row, counted from 1
-abbrev pub refused_at : {X : Type 0} → RowFormat X → List (List (List ℕ)) → ℕ
+abbrev pub row_refused_at : {X : Type 0} → PolicyRowFormat X → List (List (List ℕ)) → ℕ
     → Option (InRow PolicyRefusal)
-refused_at format records place =
+row_refused_at format records place =
     option_map (λ refusal. record { refusal = refusal; row = place + 1 })
-    (refusal_at format records place)
+    (row_refusal_at format records place)
 
 -- the first refusal among the records
-abbrev pub first_refusal : {X : Type 0} → RowFormat X → List (List (List ℕ))
+abbrev pub first_refusal : {X : Type 0} → PolicyRowFormat X → List (List (List ℕ))
     → Option (InRow PolicyRefusal)
-first_refusal format records = first_some (refused_at format records) (length records)
+first_refusal format records = first_row_refused (row_refused_at format records) (length records)
 
 -- the rows that the records state, one each, or the first refusal among them
-abbrev pub rows_of : {X : Type 0} → RowFormat X → List (List (List ℕ))
+abbrev pub rows_of : {X : Type 0} → PolicyRowFormat X → List (List (List ℕ))
     → Result (List X) (InRow PolicyRefusal)
 rows_of format records =
-    option_map_or Err (first_refusal format records) (Ok (rows_stated format records))
+    option_map_or Err (first_refusal format records) (Ok (csv_rows_stated format records))
 
-abbrev pub no_heading : {X : Type 0} → Result (List X) (InRow PolicyRefusal)
-no_heading = Err (record { refusal = why.Header; row = 0 })
+abbrev pub no_policy_heading : {X : Type 0} → Result (List X) (InRow PolicyRefusal)
+no_policy_heading = Err (record { refusal = why.Header; row = 0 })
 
 -- the rows under the heading
-abbrev pub rows_under_heading : {X : Type 0} → RowFormat X → List (List (List ℕ))
+abbrev pub rows_under_heading : {X : Type 0} → PolicyRowFormat X → List (List (List ℕ))
     → Result (List X) (InRow PolicyRefusal)
-rows_under_heading format [] = no_heading
+rows_under_heading format [] = no_policy_heading
 rows_under_heading format (first ∷ records) =
-    if is_heading format.heading first then rows_of format records else no_heading
+    if is_heading format.heading first then rows_of format records else no_policy_heading
 
 -- the rows that a text states
-abbrev pub rows_in : {X : Type 0} → RowFormat X → List ℕ → Result (List X) (InRow PolicyRefusal)
-rows_in format bytes = rows_under_heading format (records_of bytes)
+abbrev pub csv_rows_in : {X : Type 0} → PolicyRowFormat X → List ℕ → Result (List X) (InRow PolicyRefusal)
+csv_rows_in format bytes = rows_under_heading format (records_of bytes)
 
 -- ---- policies
 
 -- no two rows of a policy have the same priority
-abbrev pub policy_rows : RowFormat Row
+abbrev pub policy_rows : PolicyRowFormat Row
 policy_rows = record {
   heading = policy_heading;
-  read = row_read;
+  read = csv_row_read;
   repeats = λ earlier row. has_priority earlier row.priority;
 }
 
 -- the policy that a text states
 unfoldable pub policy_of : List ℕ → Result (List Row) (InRow PolicyRefusal)
-policy_of bytes = rows_in policy_rows bytes
+policy_of bytes = csv_rows_in policy_rows bytes
 
 -- ---- rows that were read from records
 
 -- the records state these rows, one each
-abbrev pub StateEach : {X : Type 0} → RowFormat X → List (List (List ℕ)) → List X → Type 0
-StateEach format records rows = map format.read records ≡ map (λ row. Ok row) rows
+abbrev pub RecordsStateEach : {X : Type 0} → PolicyRowFormat X → List (List (List ℕ)) → List X → Type 0
+RecordsStateEach format records rows = map format.read records ≡ map (λ row. Ok row) rows
 
 -- the first records state these rows; then the records end, or the next is refused for this
-pub record IsReadUpTo {X : Type 0} (format : RowFormat X) (records : List (List (List ℕ)))
+pub record IsReadUpTo {X : Type 0} (format : PolicyRowFormat X) (records : List (List (List ℕ)))
     (rows : List X) (end : Option PolicyRefusal) : Type 0 where
-  pub stated : StateEach format (take (length rows) records) rows
+  pub stated : RecordsStateEach format (take (length rows) records) rows
   pub few : length rows ≤ 2000
   pub within : length rows ≤ length records
   pub ends : MatchOption end (length records ≡ length rows)
       (λ refusal. (length rows < length records)
-      × (refusal_at format records (length rows) ≡ Some refusal))
+      × (row_refusal_at format records (length rows) ≡ Some refusal))
 
 -- under the text's heading there are records that state these rows and end like this
-pub record IsReadFrom {X : Type 0} (format : RowFormat X) (bytes : List ℕ) (rows : List X)
+pub record IsReadFrom {X : Type 0} (format : PolicyRowFormat X) (bytes : List ℕ) (rows : List X)
     (end : Option PolicyRefusal) : Type 0 where
   pub records : List (List (List ℕ))
-  pub under : rows_in format bytes ≡ rows_of format records
+  pub under : csv_rows_in format bytes ≡ rows_of format records
   pub read : IsReadUpTo format records rows end

@@ -1,12 +1,12 @@
 ghost use Rattle.std.specs.Prelude.{◌≡◌, drop, IfOk};
 ghost use Rattle.csv.specs.Records.{fields_of};
 ghost use Rattle.csv_records.specs.Texts.{is_heading};
-ghost use Rattle.policy_rules.specs.Exports.{AddsOnly, HasSmallPort};
-ghost use Rattle.policy_file.specs.Changes.{change_heading, edit_read, removal_read};
+ghost use Rattle.policy_rules.specs.Exports.{EditAddsOnly, HasSmallPort};
+ghost use Rattle.policy_file.specs.Changes.{change_heading, csv_edit_read, csv_removal_read};
 
 use crate::error::PolicyRefusal;
 use crate::row::{is_heading, read_priority, read_row};
-use csv_records::{ByteRecord, field, has_text};
+use csv_records::{ByteRecord, csv_field_has_text, field};
 use policy_rules::Edit;
 
 // The name of an edit's first field, and the keywords of that field.
@@ -17,11 +17,11 @@ pub const REMOVE: &str = "remove";
 pub const ADD: &str = "add";
 
 /// Whether the record is the heading of a change.
-#[tactic(auto, using(crate::proofs::EditFields::edits))]
+#[tactic(auto, using(crate::proofs::PolicyFileEdits::edits))]
 pub fn is_change_heading(fields: &ByteRecord) -> bool
     ensures { result ≡ is_heading change_heading (fields_of fields.now) }
 {
-    has_text(fields, 0, OP) && is_heading(fields, 1)
+    csv_field_has_text(fields, 0, OP) && is_heading(fields, 1)
 }
 
 /// The edit that the record states: after `remove` the priority of a row, and after `add` the
@@ -30,25 +30,25 @@ pub fn is_change_heading(fields: &ByteRecord) -> bool
 /// # Errors
 /// `Op` if the first field is neither, `Width` if the wrong number of fields follows it; otherwise
 /// the refusal of the first field that can't be read.
-#[tactic(auto, using(crate::proofs::EditFields::edits))]
+#[tactic(auto, using(crate::proofs::PolicyFileEdits::edits))]
 pub fn read_edit(fields: &ByteRecord) -> Result<Edit, PolicyRefusal>
-    ensures edit { result ≡ edit_read (fields_of fields.now) }
-    ensures small_port { IfOk result (AddsOnly (λ row. HasSmallPort row.action)) }
+    ensures edit { result ≡ csv_edit_read (fields_of fields.now) }
+    ensures small_port { IfOk result (EditAddsOnly (λ row. HasSmallPort row.action)) }
 {
-    if has_text(fields, 0, REMOVE) {
+    if csv_field_has_text(fields, 0, REMOVE) {
         return read_removal(fields);
     }
-    if has_text(fields, 0, ADD) {
+    if csv_field_has_text(fields, 0, ADD) {
         return Ok(Edit::Add(read_row(fields, 1)?));
     }
     Err(PolicyRefusal::Op)
 }
 
 // The edit that removes the row of a priority, which is the second and last field.
-#[tactic(auto, using(crate::proofs::EditFields::edits))]
+#[tactic(auto, using(crate::proofs::PolicyFileEdits::edits))]
 fn read_removal(fields: &ByteRecord) -> Result<Edit, PolicyRefusal>
-    ensures edit { result ≡ removal_read (drop 1 (fields_of fields.now)) }
-    ensures small_port { IfOk result (AddsOnly (λ row. HasSmallPort row.action)) }
+    ensures edit { result ≡ csv_removal_read (drop 1 (fields_of fields.now)) }
+    ensures small_port { IfOk result (EditAddsOnly (λ row. HasSmallPort row.action)) }
 {
     if fields.len() != 2 {
         return Err(PolicyRefusal::Width);

@@ -1,11 +1,11 @@
 ghost use Rattle.std.specs.Prelude.{◌≡◌, ◌≤◌, Ok, IfOk, IfErr, All, length};
-ghost use Rattle.policy_rules.specs.Exports.{AddsOnly, GivesOnly, HasSmallPort, IsAmendment, IsPolicyFile};
+ghost use Rattle.policy_rules.specs.Exports.{EditAddsOnly, PolicyFileGivesOnly, HasSmallPort, IsAmendment, IsPolicyFile};
 ghost use Rattle.policy_file.specs.Changes.{change_of, file_length, is_change_text, policy_file_of};
 ghost use Rattle.base.specs.Refusals.{IsRefusal};
 
 use crate::edit::is_change_heading;
 use crate::error::{PolicyError, PolicyRefusal};
-use crate::file_rows::{Reading, read_rows};
+use crate::file_rows::{Reading, read_policy_rows};
 use crate::read::read_policy;
 use base::{Failure, InRow};
 use csv_records::{ByteRecord, Records};
@@ -43,10 +43,10 @@ pub fn read_change(alloc: Global, bytes: &[u8]) -> Result<Amendment, PolicyError
     ensures change { IfOk result (λ change. change_of bytes.now ≡ Ok change) }
     ensures sound { IfOk result IsAmendment }
     ensures few { IfOk result (λ change. length change ≤ 2000) }
-    ensures small_ports { IfOk result (All (AddsOnly (λ row. HasSmallPort row.action))) }
+    ensures small_ports { IfOk result (All (EditAddsOnly (λ row. HasSmallPort row.action))) }
     ensures refused { IfErr result (IsRefusal (change_of bytes.now)) }
 {
-    let Reading { rows, refusal } = read_rows(alloc, bytes)?;
+    let Reading { rows, refusal } = read_policy_rows(alloc, bytes)?;
     let number = rows.len() as u32;
     let change = match Amendment::of_edits(alloc, rows) {
         Ok(change) => change,
@@ -77,7 +77,7 @@ pub fn read_file(alloc: Global, bytes: &[u8]) -> Result<PolicyFile, PolicyError>
     ensures file { IfOk result (λ file. policy_file_of bytes.now ≡ Ok file) }
     ensures sound { IfOk result IsPolicyFile }
     ensures few { IfOk result (λ file. file_length file ≤ 2000) }
-    ensures small_ports { IfOk result (GivesOnly (λ row. HasSmallPort row.action)) }
+    ensures small_ports { IfOk result (PolicyFileGivesOnly (λ row. HasSmallPort row.action)) }
     ensures refused { IfErr result (IsRefusal (policy_file_of bytes.now)) }
 {
     let is_change = is_change(alloc, bytes)?;

@@ -1,9 +1,9 @@
 ghost use Rattle.std.specs.Prelude.{◌≡◌, ◌≤◌, All, IfErr, IfOk, length};
 ghost use Rattle.csv.specs.Records.{fields_of};
 ghost use Rattle.csv_records.specs.Texts.{is_heading};
-ghost use Rattle.policy_rules.specs.Exports.{AddsOnly, HasSmallPort};
+ghost use Rattle.policy_rules.specs.Exports.{EditAddsOnly, HasSmallPort};
 ghost use Rattle.policy_file.specs.Changes.{change_rows};
-ghost use Rattle.policy_file.specs.Reading.{IsReadFrom, IsReadUpTo, RowFormat, policy_rows, rows_in};
+ghost use Rattle.policy_file.specs.Reading.{IsReadFrom, IsReadUpTo, PolicyRowFormat, policy_rows, csv_rows_in};
 ghost use Rattle.base.specs.Refusals.{IsRefusal};
 
 use crate::edit::{is_change_heading, read_edit};
@@ -17,7 +17,7 @@ use std::alloc::{AllocError, Global};
 /// A row of a file, of one kind.
 pub trait FileRow: Drop {
     /// How a file states rows of this kind.
-    ghost format: { RowFormat Self };
+    ghost format: { PolicyRowFormat Self };
 
     /// True of a row that names a port below 64, or none.
     ghost has_small_port: { Self → Type 0 };
@@ -49,7 +49,7 @@ impl FileRow for Row {
 impl FileRow for Edit {
     ghost format = { change_rows };
 
-    ghost has_small_port = { AddsOnly (λ row. HasSmallPort row.action) };
+    ghost has_small_port = { EditAddsOnly (λ row. HasSmallPort row.action) };
 
     fn is_heading(fields: &ByteRecord) -> bool {
         is_change_heading(fields)
@@ -69,12 +69,12 @@ pub struct Reading<R> {
 
 /// Reads the rows under the text's heading, until it ends, a record states no row, or there are too
 /// many. An error is `Header` in row 0 if that heading is missing, or out of memory.
-pub fn read_rows<R: FileRow>(alloc: Global, bytes: &[u8]) -> Result<Reading<R>, PolicyError>
+pub fn read_policy_rows<R: FileRow>(alloc: Global, bytes: &[u8]) -> Result<Reading<R>, PolicyError>
     ensures read { IfOk result (λ reading.
         IsReadFrom R.format bytes.now reading.rows.items reading.refusal) }
     ensures few { IfOk result (λ reading. length reading.rows.items ≤ 2000) }
     ensures small_ports { IfOk result (λ reading. All R.has_small_port reading.rows.items) }
-    ensures refused { IfErr result (IsRefusal (rows_in R.format bytes.now)) }
+    ensures refused { IfErr result (IsRefusal (csv_rows_in R.format bytes.now)) }
 {
     let mut records = Records::new(alloc, bytes);
     let mut fields = ByteRecord::new(alloc);
@@ -82,11 +82,11 @@ pub fn read_rows<R: FileRow>(alloc: Global, bytes: &[u8]) -> Result<Reading<R>, 
         let refusal = PolicyRefusal::Header;
         return Err(PolicyError::Refused(InRow { refusal, row: 0 }));
     }
-    Ok(read_records(alloc, &mut records, &mut fields)?)
+    Ok(read_row_records(alloc, &mut records, &mut fields)?)
 }
 
 // Reads rows until the records end, one states no row, or there are more than 2,000.
-fn read_records<R: FileRow>(
+fn read_row_records<R: FileRow>(
     alloc: Global,
     records: &mut Records<'_>,
     fields: &mut ByteRecord,

@@ -1,6 +1,6 @@
 ghost use Rattle.std.specs.Prelude.{◌≡◌, ◌<◌, All, IfNone, IfSome, IsTrue, OnOk, length, not, position};
 ghost use Rattle.std.specs.Result.{result_err};
-ghost use Rattle.policy_rules.specs.Exports.{AddsOnly, GivesOnly};
+ghost use Rattle.policy_rules.specs.Exports.{EditAddsOnly, PolicyFileGivesOnly};
 ghost use Rattle.policy_file.specs.Ports.{adds_port_of, first_in_change, first_in_file, first_without_port, names_port_of};
 
 use base::has;
@@ -25,7 +25,7 @@ fn has_port(ports: u64, action: Action) -> bool
 }
 
 // The place of the first row whose action names a port outside the mask.
-fn place_without_port(ports: u64, rows: &[Row]) -> Option<usize>
+fn row_without_port(ports: u64, rows: &[Row]) -> Option<usize>
     ensures place { result ≡ position (λ row. not (names_port_of ports row.action)) rows.now }
     ensures there { IfSome result (λ place. place < length rows.now) }
     ensures all { IfNone result (All (λ row. IsTrue (names_port_of ports row.action)) rows.now) }
@@ -41,7 +41,7 @@ pub fn check_ports(policy: &Policy, ports: u64) -> Result<(), NoPort>
     ensures first { result_err result ≡ first_without_port ports policy.now }
     ensures all { OnOk result (All (λ row. IsTrue (names_port_of ports row.action)) policy.now) }
 {
-    match place_without_port(ports, policy.rows()) {
+    match row_without_port(ports, policy.rows()) {
         None => Ok(()),
         Some(place) => Err(NoPort {
             row: place as u32 + 1,
@@ -50,7 +50,7 @@ pub fn check_ports(policy: &Policy, ports: u64) -> Result<(), NoPort>
 }
 
 // Whether the edit adds no row, or one whose action names no port or one of the mask.
-fn adds_port(ports: u64, edit: &Edit) -> bool
+fn edit_adds_port(ports: u64, edit: &Edit) -> bool
     ensures { result ≡ adds_port_of ports edit.now }
 {
     match edit {
@@ -60,12 +60,12 @@ fn adds_port(ports: u64, edit: &Edit) -> bool
 }
 
 // The place of the first edit that adds a row whose action names a port outside the mask.
-fn place_of_edit(ports: u64, edits: &[Edit]) -> Option<usize>
+fn edit_without_port(ports: u64, edits: &[Edit]) -> Option<usize>
     ensures place { result ≡ position (λ edit. not (adds_port_of ports edit)) edits.now }
     ensures there { IfSome result (λ place. place < length edits.now) }
     ensures all { IfNone result (All (λ edit. IsTrue (adds_port_of ports edit)) edits.now) }
 {
-    edits.iter().position(|edit| !adds_port(ports, edit))
+    edits.iter().position(|edit| !edit_adds_port(ports, edit))
 }
 
 /// Checks that the action of each row that the file states names a port of the mask, or none: the
@@ -76,7 +76,7 @@ fn place_of_edit(ports: u64, edits: &[Edit]) -> Option<usize>
 pub fn check_file_ports(file: &PolicyFile, ports: u64) -> Result<(), NoPort>
     ensures first { result_err result ≡ first_in_file ports file.now }
     ensures all { OnOk result
-        (GivesOnly (λ row. IsTrue (names_port_of ports row.action)) file.now) }
+        (PolicyFileGivesOnly (λ row. IsTrue (names_port_of ports row.action)) file.now) }
 {
     match file {
         PolicyFile::Whole(policy) => check_ports(policy, ports),
@@ -87,9 +87,9 @@ pub fn check_file_ports(file: &PolicyFile, ports: u64) -> Result<(), NoPort>
 fn check_change_ports(change: &Amendment, ports: u64) -> Result<(), NoPort>
     ensures first { result_err result ≡ first_in_change ports change.now }
     ensures all { OnOk result
-        (All (AddsOnly (λ row. IsTrue (names_port_of ports row.action))) change.now) }
+        (All (EditAddsOnly (λ row. IsTrue (names_port_of ports row.action))) change.now) }
 {
-    match place_of_edit(ports, change.edits()) {
+    match edit_without_port(ports, change.edits()) {
         None => Ok(()),
         Some(place) => Err(NoPort {
             row: place as u32 + 1,

@@ -4,7 +4,7 @@ ghost use Rattle.policy_file.specs.Reading.{policy_of};
 ghost use Rattle.base.specs.Refusals.{IsRefusal};
 
 use crate::error::{PolicyError, PolicyRefusal};
-use crate::file_rows::{Reading, read_rows};
+use crate::file_rows::{Reading, read_policy_rows};
 use base::{Failure, InRow};
 use policy_rules::Policy;
 use std::alloc::Global;
@@ -26,7 +26,7 @@ pub fn read_policy(alloc: Global, bytes: &[u8]) -> Result<Policy, PolicyError>
     ensures small_ports { IfOk result (All (λ row. HasSmallPort row.action)) }
     ensures refused { IfErr result (IsRefusal (policy_of bytes.now)) }
 {
-    let Reading { rows, refusal } = read_rows(alloc, bytes)?;
+    let Reading { rows, refusal } = read_policy_rows(alloc, bytes)?;
     let number = rows.len() as u32;
     let policy = match Policy::new(alloc, rows) {
         Ok(policy) => policy,

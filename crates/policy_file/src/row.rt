@@ -3,10 +3,10 @@ ghost use Rattle.csv.specs.Records.{fields_of};
 ghost use Rattle.csv_records.specs.Texts.{field_or_empty, is_heading};
 ghost use Rattle.five_tuple.specs.Texts.{number_up_to};
 ghost use Rattle.policy_rules.specs.Read.{HasSmallPort};
-ghost use Rattle.policy_file.specs.Reading.{policy_heading, row_read};
+ghost use Rattle.policy_file.specs.Reading.{policy_heading, csv_row_read};
 
 use crate::error::PolicyRefusal;
-use csv_records::{ByteRecord, field, has_text};
+use csv_records::{ByteRecord, csv_field_has_text, field};
 use five_tuple::{read_number, read_prefix, read_proto, read_range};
 use policy_rules::{Row, read_action};
 
@@ -29,27 +29,27 @@ pub const PROTO: &str = "proto";
 pub const ACTION: &str = "action";
 
 // Whether the fields at this place and the next are these texts.
-fn has_texts(fields: &ByteRecord, place: usize, one: &str, next: &str) -> bool
+fn csv_fields_are(fields: &ByteRecord, place: usize, one: &str, next: &str) -> bool
     requires { place + 1 < 2 ^ 64 }
     ensures { result ≡ (bytes_eq (field_or_empty (fields_of fields.now) place) one.now
         && bytes_eq (field_or_empty (fields_of fields.now) (place + 1)) next.now) }
 {
-    has_text(fields, place, one) && has_text(fields, place + 1, next)
+    csv_field_has_text(fields, place, one) && csv_field_has_text(fields, place + 1, next)
 }
 
 /// Whether the record's fields from this place on are the names of a row's fields; from place 0,
 /// whether the record is the heading of a policy.
-#[tactic(auto, using(crate::proofs::RowFields::sevens))]
+#[tactic(auto, using(crate::proofs::PolicyFileRowFields::sevens))]
 pub fn is_heading(fields: &ByteRecord, from: usize) -> bool
     ensures { result ≡ is_heading policy_heading (drop from (fields_of fields.now)) }
 {
     if fields.len() < from || fields.len() - from != WIDTH {
         return false;
     }
-    has_text(fields, from, PRIORITY)
-        && has_texts(fields, from + 1, SRC, DST)
-        && has_texts(fields, from + 3, SPORT, DPORT)
-        && has_texts(fields, from + 5, PROTO, ACTION)
+    csv_field_has_text(fields, from, PRIORITY)
+        && csv_fields_are(fields, from + 1, SRC, DST)
+        && csv_fields_are(fields, from + 3, SPORT, DPORT)
+        && csv_fields_are(fields, from + 5, PROTO, ACTION)
 }
 
 /// The priority that the field states, up to 4294967295; `None` if it states none.
@@ -65,22 +65,22 @@ pub fn read_priority(text: &[u8]) -> Option<u32>
 /// # Errors
 /// `Width` if there aren't seven fields from there on; otherwise the refusal of the first
 /// field that can't be read.
-#[tactic(auto, using(crate::proofs::RowFields::sevens))]
+#[tactic(auto, using(crate::proofs::PolicyFileRowFields::sevens))]
 pub fn read_row(fields: &ByteRecord, from: usize) -> Result<Row, PolicyRefusal>
-    ensures row { result ≡ row_read (drop from (fields_of fields.now)) }
+    ensures row { result ≡ csv_row_read (drop from (fields_of fields.now)) }
     ensures small_port { IfOk result (λ row. HasSmallPort row.action) }
 {
     if fields.len() < from || fields.len() - from != WIDTH {
         return Err(PolicyRefusal::Width);
     }
-    read_seven(fields, from)
+    read_row_fields(fields, from)
 }
 
 // The row that the seven fields from this place on state.
-fn read_seven(fields: &ByteRecord, from: usize) -> Result<Row, PolicyRefusal>
+fn read_row_fields(fields: &ByteRecord, from: usize) -> Result<Row, PolicyRefusal>
     requires { from + 6 < 2 ^ 64 }
     ensures row { let all = fields_of fields.now in
-        result ≡ row_read (field_or_empty all from ∷ field_or_empty all (from + 1)
+        result ≡ csv_row_read (field_or_empty all from ∷ field_or_empty all (from + 1)
         ∷ field_or_empty all (from + 2) ∷ field_or_empty all (from + 3)
         ∷ field_or_empty all (from + 4) ∷ field_or_empty all (from + 5)
         ∷ field_or_empty all (from + 6) ∷ []) }

@@ -2,16 +2,16 @@ ghost use Rattle.std.specs.Prelude.{ℕ, ◌≡◌, ◌<◌, ◌≤◌, ◌^◌,
 ghost use Rattle.std.specs.List.{join_with_byte};
 ghost use Rattle.std.specs.String.{string_bytes};
 ghost use Rattle.five_tuple.specs.Texts.{number_up_to};
-ghost use Rattle.policy_rules.specs.Exports.{AddsOnly, HasSmallPort, IsAmendment, IsPolicy, IsSoundRow};
+ghost use Rattle.policy_rules.specs.Exports.{EditAddsOnly, HasSmallPort, IsAmendment, IsPolicy, IsSoundRow};
 ghost use Rattle.policy_rules.specs.declared.amendment.Edit.{Edit};
 ghost use Rattle.policy_rules.specs.declared.file.PolicyFile.TheVariants.{Whole, Change};
 ghost use Rattle.policy_rules.specs.declared.policy.Row.{Row};
 ghost use Rattle.policy_file.specs.Changes.{change_heading, change_of, policy_file_of};
 ghost use Rattle.policy_file.specs.Printing.{change_text, edit_fields, fields_line, policy_text, row_fields, rows_text};
-ghost use Rattle.policy_file.specs.Reading.{policy_heading, policy_of, row_read};
+ghost use Rattle.policy_file.specs.Reading.{policy_heading, policy_of, csv_row_read};
 
 use crate::edit::{ADD, REMOVE};
-use five_tuple::{printed_forms_are_plain, printed_forms_are_read_back};
+use five_tuple::{printed_fields_are_plain, printed_fields_are_read_back};
 use policy_rules::{Amendment, Edit, Policy, Row, printed_actions_are_read_back};
 use std::alloc::{AllocError, Global};
 use std::fmt;
@@ -37,7 +37,7 @@ pub fn write_policy(alloc: Global, policy: &Policy) -> Result<Vec<u8>, AllocErro
 pub fn write_change(alloc: Global, change: &Amendment) -> Result<Vec<u8>, AllocError>
     ensures text { IfOk result (λ bytes. bytes.items ≡ change_text change.now) }
     ensures read_back { IfOk result (λ bytes. length change.now ≤ 2000
-        → All (AddsOnly (λ row. HasSmallPort row.action)) change.now
+        → All (EditAddsOnly (λ row. HasSmallPort row.action)) change.now
         → policy_file_of bytes.items ≡ Ok (Change change.now)) }
 {
     change_texts_are_read_back();
@@ -54,31 +54,31 @@ pub fn policy_texts_are_read_back()
         → policy_file_of (policy_text rows) ≡ Ok (Whole rows) }
 {
     row_fields_state_the_row();
-    printed_forms_are_plain();
+    printed_fields_are_plain();
 }
 
 /// The text of a change is read back to the change, for at most 2,000 edits that add rows with
 /// ports below 64: a law about the texts only.
 pub fn change_texts_are_read_back()
     ensures change { (edits : List Edit) → IsAmendment edits → length edits ≤ 2000
-        → All (AddsOnly (λ row. HasSmallPort row.action)) edits
+        → All (EditAddsOnly (λ row. HasSmallPort row.action)) edits
         → change_of (change_text edits) ≡ Ok edits }
     ensures file { (edits : List Edit) → IsAmendment edits → length edits ≤ 2000
-        → All (AddsOnly (λ row. HasSmallPort row.action)) edits
+        → All (EditAddsOnly (λ row. HasSmallPort row.action)) edits
         → policy_file_of (change_text edits) ≡ Ok (Change edits) }
 {
     row_fields_state_the_row();
     priorities_are_read_back();
-    printed_forms_are_plain();
+    printed_fields_are_plain();
 }
 
 // The printed fields of a row whose port is below 64 state the row: a law about the texts only.
 fn row_fields_state_the_row()
     ensures { (row : Row) → IsSoundRow row → HasSmallPort row.action
-        → row_read (row_fields row) ≡ Ok row }
+        → csv_row_read (row_fields row) ≡ Ok row }
 {
     priorities_are_read_back();
-    printed_forms_are_read_back();
+    printed_fields_are_read_back();
     printed_actions_are_read_back();
 }
 
@@ -87,7 +87,7 @@ fn priorities_are_read_back()
     ensures { (priority : ℕ) → priority < 2 ^ 32
         → number_up_to 4294967295 (decimal priority) ≡ Some priority }
 {
-    printed_forms_are_read_back();
+    printed_fields_are_read_back();
 }
 
 // A row that is written as a CSV record.
@@ -153,12 +153,12 @@ fn text_of<R: CsvRecord>(alloc: Global, rows: &[R]) -> Result<Vec<u8>, AllocErro
 {
     let mut text = String::new(alloc);
     R::write_heading(&mut text)?;
-    write_rows(&mut text, rows)?;
+    write_csv_rows(&mut text, rows)?;
     Ok(text.into_bytes())
 }
 
 // Appends a line for each row.
-fn write_rows<R: CsvRecord>(text: &mut String, rows: &[R]) -> Result<(), AllocError>
+fn write_csv_rows<R: CsvRecord>(text: &mut String, rows: &[R]) -> Result<(), AllocError>
     ensures { OnOk result
         (string_bytes text.new ≡ string_bytes text.old ++ rows_text R.fields rows.now) }
 {

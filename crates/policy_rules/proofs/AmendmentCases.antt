@@ -2,8 +2,8 @@
 use Rattle.std.proofs.Common.{[], ◌&&◌, ◌+◌, ◌<◌, ◌||◌, ◌∙◌, ◌∷◌, ◌≡◌, ◌≢◌, ◌≤◌, ◌⊎◌, All, AllPairs, Bool, Contains, Err, List, Ok, Result, ap, arith, cond, count_by, eq-eqb, eqb, false, filter, inl, inr, le-ltb, length, lt-ltb, ltb, ltb-false, map, not, refl, subst, suc, sym, true, ℕ, rules}
 use Rattle.base.proofs.Exports.{All-append, All-cons, All-contains_itself, All-filter, All-nil, All-weaker, AllPairs-append, AllPairs-filter, AllPairs-map, Decides-eqb, IsDistinct, IsDistinct-from_AllPairs, IsIntersection, any-filter_same, any_key, count_by-le-length, exact_unsigned_eq, is_member, length-IsIntersection, length-filter_both, length-map, list_all, list_any, list_any_at, nat_eq_equiv, nat_tests, sum_by-cons}
 use Rattle.policy_rules.specs.declared.policy.Row.{Row}
-use Rattle.policy_rules.specs.Exports.{AddsOnly, HaveDistinctPriorities, IsAmendment, IsPolicy, IsSoundEdit, IsSoundRow, additions, adds_taken, amended_rows, applied, has_priority, removals, removes, removes_absent, staying_rows}
-use Rattle.policy_rules.proofs.RowWords.{eqb_sym}
+use Rattle.policy_rules.specs.Exports.{EditAddsOnly, HaveDistinctPriorities, IsAmendment, IsPolicy, IsSoundEdit, IsSoundRow, additions, adds_taken, amended_rows, applied, has_priority, removals, removes, removes_absent, rows_after_removal}
+use Rattle.policy_rules.proofs.PolicyRowWords.{eqb_sym}
 use Rattle.policy_rules.specs.declared.amendment.Edit.{Edit}
 use Rattle.policy_rules.specs.declared.amendment.Edit.TheVariants.{Remove, Add}
 use Rattle.policy_rules.specs.declared.applying.Inapplicable.{Inapplicable}
@@ -69,7 +69,7 @@ can_apply rows after change is = by (removes_absent rows change) (adds_taken row
 
 -- ---- the rows are a policy
 
-pub All-additions : (P : Row → Type 0) (edits : List Edit) → All (AddsOnly P) edits
+pub All-additions : (P : Row → Type 0) (edits : List Edit) → All (EditAddsOnly P) edits
     → All P (additions edits)
 All-additions P [] only = All-nil _
 All-additions P (Remove priority ∷ edits) only = All-additions P edits
@@ -81,9 +81,9 @@ All-additions P (Add row ∷ edits) only = All-cons P row (additions edits)
 -- the rows that sound edits add are sound
 pub additions_sound : (edits : List Edit) → All IsSoundEdit edits → All IsSoundRow (additions edits)
 additions_sound edits sound = All-additions IsSoundRow edits
-    (All-weaker IsSoundEdit (AddsOnly IsSoundRow) by_edit edits sound)
+    (All-weaker IsSoundEdit (EditAddsOnly IsSoundRow) by_edit edits sound)
   where
-    by_edit : (edit : Edit) → IsSoundEdit edit → AddsOnly IsSoundRow edit
+    by_edit : (edit : Edit) → IsSoundEdit edit → EditAddsOnly IsSoundRow edit
     by_edit (Remove priority) sound = tt
     by_edit (Add row) sound = sound
 
@@ -97,12 +97,12 @@ pub IsPolicy-amended : (rows : List Row) (change : List Edit) → IsPolicy rows 
     → IsPolicy (amended_rows rows change)
 IsPolicy-amended rows change policy amendment free few =
     let stays : Row → Bool = λ row. not (removes change row.priority) in record {
-      sound = All-append IsSoundRow (staying_rows rows change) (additions change)
+      sound = All-append IsSoundRow (rows_after_removal rows change) (additions change)
           (All-filter stays IsSoundRow rows policy.sound) (additions_sound change amendment.sound);
-      distinct = AllPairs-append (λ (x y : Row). x.priority ≢ y.priority) (staying_rows rows change)
+      distinct = AllPairs-append (λ (x y : Row). x.priority ≢ y.priority) (rows_after_removal rows change)
           (additions change)
           (AllPairs-filter (λ (x y : Row). x.priority ≢ y.priority) stays rows policy.distinct)
-          amendment.distinct.added_once (apart (staying_rows rows change) (additions change) free);
+          amendment.distinct.added_once (apart (rows_after_removal rows change) (additions change) free);
       few = omega (arith, few);
     }
 
@@ -114,7 +114,7 @@ IsPolicy-applied rows after change policy amendment is = let can = can_apply row
 pub All-applied : (P : Row → Type 0) (rows after : List Row) (change : List Edit) → All P rows
     → All P (additions change) → applied rows change ≡ Ok after → All P after
 All-applied P rows after change kept added is = let can = can_apply rows after change is in
-    subst (All P) can.is (All-append P (staying_rows rows change) (additions change)
+    subst (All P) can.is (All-append P (rows_after_removal rows change) (additions change)
     (All-filter (λ (row : Row). not (removes change row.priority)) P rows kept) added)
 
 pub rows-applied : (rows after : List Row) (change : List Edit) → applied rows change ≡ Ok after
@@ -179,7 +179,7 @@ some_fails test (x ∷ xs) =
 -- the policy lacks a priority that is removed where fewer rows go than priorities are removed
 pub absent_by : (rows : List Row) (change : List Edit) → HaveDistinctPriorities rows
     → AllPairs (λ (x y : ℕ). x ≢ y) (removals change) → removes_absent rows change
-    ≡ ltb (length rows) (length (staying_rows rows change) + length (removals change))
+    ≡ ltb (length rows) (length (rows_after_removal rows change) + length (removals change))
 absent_by rows change distinct once =
     let gone = filter (λ row. removes change row.priority) rows in
     let held : (q : ℕ) → has_priority rows q ≡ is_member eqb (priorities rows) q =
@@ -192,7 +192,7 @@ absent_by rows change distinct once =
     ∙ ap (λ (test : ℕ → Bool). count_by test (removals change)) (λ i q. sym (held q) i) in
     some_fails (has_priority rows) (removals change)
     ∙ ap (λ n. ltb n (length (removals change))) (sym count)
-    ∙ fewer (length gone) (length (staying_rows rows change)) (length rows)
+    ∙ fewer (length gone) (length (rows_after_removal rows change)) (length rows)
     (length (removals change))
     (length-filter_both (λ row. removes change row.priority)
     (λ row. not (removes change row.priority)) (λ row. refl) rows)
@@ -222,8 +222,8 @@ share_priority rows (other ∷ others) =
 
 pub taken_by : (new : ℕ → Bool) (rows : List Row) (change : List Edit)
     → IsSetOf new (priorities (additions change))
-    → adds_taken rows change ≡ list_any (λ row. new row.priority) (staying_rows rows change)
-taken_by new rows change is_new = share_priority (staying_rows rows change) (additions change)
-    ∙ ap (λ (test : Row → Bool). list_any test (staying_rows rows change))
+    → adds_taken rows change ≡ list_any (λ row. new row.priority) (rows_after_removal rows change)
+taken_by new rows change is_new = share_priority (rows_after_removal rows change) (additions change)
+    ∙ ap (λ (test : Row → Bool). list_any test (rows_after_removal rows change))
     (λ i row. (sym (any_key (λ (added : Row). added.priority) (additions change) row.priority)
     ∙ sym (is_new row.priority)) i)

@@ -1,13 +1,13 @@
-mod FirstMatch
-mod DistinctRows
-mod RowWords
-mod RuleRanks
-mod BlockLoops
-mod FallingRows
-mod PrioritySets
-mod RuleLaw
-mod RuleShape
+mod PolicyFirstMatch
+mod PolicyDistinctRows
+mod PolicyRowWords
+mod PolicyRuleRanks
+mod PolicyBlockLoops
+mod PolicyFallingRows
+mod PolicyPrioritySets
+mod PolicyRuleLaw
+mod PolicyRuleShape
 pub mod CallerLemmas
-mod EditLists
+mod AmendmentEdits
 mod AmendmentCases
-mod TouchedHeaders
+mod AmendmentTouchedHeaders

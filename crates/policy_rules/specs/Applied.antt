@@ -52,12 +52,12 @@ abbrev pub removes : List Edit → ℕ → Bool
 removes edits priority = list_any (λ removed. removed == priority) (removals edits)
 
 -- the rows that stay: those whose priorities the change doesn't remove
-abbrev pub staying_rows : List Row → List Edit → List Row
-staying_rows rows change = filter (λ row. not (removes change row.priority)) rows
+abbrev pub rows_after_removal : List Row → List Edit → List Row
+rows_after_removal rows change = filter (λ row. not (removes change row.priority)) rows
 
 -- the rows that stay, in order, and then those that the change adds
 abbrev pub amended_rows : List Row → List Edit → List Row
-amended_rows rows change = staying_rows rows change ++ additions change
+amended_rows rows change = rows_after_removal rows change ++ additions change
 
 -- the change removes a row that the policy doesn't have
 abbrev pub removes_absent : List Row → List Edit → Bool
@@ -66,7 +66,7 @@ removes_absent rows change = not (list_all (has_priority rows) (removals change)
 -- the change adds a row with the priority of one that stays
 abbrev pub adds_taken : List Row → List Edit → Bool
 adds_taken rows change =
-    list_any (λ row. has_priority (staying_rows rows change) row.priority) (additions change)
+    list_any (λ row. has_priority (rows_after_removal rows change) row.priority) (additions change)
 
 -- the rows of a policy with the change applied to it, or the first reason why there are none
 unfoldable pub applied : List Row → List Edit → Result (List Row) Inapplicable

@@ -11,13 +11,13 @@ abbrev pub edits_of : List ℕ → List Row → List Edit
 edits_of removed added = map Remove removed ++ map Add added
 
 -- one of the edits adds a row of this priority
-abbrev pub adds : List Edit → ℕ → Bool
-adds edits priority = has_priority (additions edits) priority
+abbrev pub edits_add : List Edit → ℕ → Bool
+edits_add edits priority = has_priority (additions edits) priority
 
 -- an earlier edit did the same at this edit's priority: it removed the row, or added one
 abbrev pub repeats : List Edit → Edit → Bool
 repeats earlier (Remove priority) = removes earlier priority
-repeats earlier (Add row) = adds earlier row.priority
+repeats earlier (Add row) = edits_add earlier row.priority
 
 -- the edits of an amendment, with what they remove and add
 pub record AreHeld (edits : List Edit) (removed : List ℕ) (added : List Row) : Type 0 where
@@ -27,9 +27,9 @@ pub record AreHeld (edits : List Edit) (removed : List ℕ) (added : List Row) :
 
 -- the tests are true of exactly the priorities of the rows that these edits remove, and of those
 -- that they add
-pub record AreSeen (removed added : ℕ → Bool) (edits : List Edit) : Type 0 where
+pub record AreEditsSeen (removed added : ℕ → Bool) (edits : List Edit) : Type 0 where
   pub of_removed : (priority : ℕ) → removed priority ≡ removes edits priority
-  pub of_added : (priority : ℕ) → added priority ≡ adds edits priority
+  pub of_added : (priority : ℕ) → added priority ≡ edits_add edits priority
 
 -- the edit at this place is the first that repeats an earlier one
 pub record IsFirstRepeatedEdit (edits : List Edit) (place : ℕ) : Type 0 where

@@ -1,20 +1,20 @@
 -- The definitions that clauses of this crate and of those above use for policies and their rules,
 -- passed on from the files that define them.
-pub use Rattle.policy_rules.specs.Applied.{AreDistinctEdits, IsAmendment, IsSoundEdit, addition, additions, adds_taken, amended_rows, has_priority, removal, removals, removes, removes_absent, staying_rows}
+pub use Rattle.policy_rules.specs.Applied.{AreDistinctEdits, IsAmendment, IsSoundEdit, addition, additions, adds_taken, amended_rows, has_priority, removal, removals, removes, removes_absent, rows_after_removal}
 unfoldable pub use Rattle.policy_rules.specs.Applied.{applied}
-pub use Rattle.policy_rules.specs.Edits.{AreSeen, RefusesEdits, edits_of, repeats}
+pub use Rattle.policy_rules.specs.Edits.{AreEditsSeen, RefusesEdits, edits_of, repeats}
 pub use Rattle.policy_rules.specs.Hosted.{Hosted, NoPlan, NoRoom, TooManyLeaves, TooManyWords, is_in}
 pub use Rattle.policy_rules.specs.Laws.{AmendmentLaws, RuleListLaws}
-pub use Rattle.policy_rules.specs.Partitions.{ArePartsNumbered, AreSoundPartitions, EndInCover, LastCovers}
+pub use Rattle.policy_rules.specs.Partitions.{ArePartsNumbered, AreSoundPartitions, EndInCover, LastRuleCovers}
 pub use Rattle.policy_rules.specs.Policy.{HaveDistinctPriorities, IsFirstMatch, IsHighestIn, action_text, row_matches, rule_text}
-pub use Rattle.policy_rules.specs.PolicyFiles.{AddsOnly, GivesOnly, IsPolicyFile}
+pub use Rattle.policy_rules.specs.PolicyFiles.{EditAddsOnly, PolicyFileGivesOnly, IsPolicyFile}
 pub use Rattle.policy_rules.specs.Read.{HasSmallPort}
 unfoldable pub use Rattle.policy_rules.specs.Read.{action_of}
-pub use Rattle.policy_rules.specs.Repeats.{IsFalling, IsFirstRepeat, RefusesRows}
-pub use Rattle.policy_rules.specs.RuleList.{AppendsRanked, IsRuleList, RefusesRules, default_rule, entries_of, hit_of_rule, ranked_rule, with_default, with_hit, word_count, word_total}
+pub use Rattle.policy_rules.specs.Repeats.{IsPriorityFalling, IsFirstRepeat, RefusesRows}
+pub use Rattle.policy_rules.specs.RuleList.{AppendsRankedRules, IsRuleList, RefusesRules, default_rule, row_word_hits, hit_of_rule, ranked_rule, with_default, words_with_hit, word_count, word_total}
 unfoldable pub use Rattle.policy_rules.specs.RuleList.{by_falling_priority, falling_below, ranked_from, rules_of}
 pub use Rattle.policy_rules.specs.Rules.{first_rule, is_held}
-pub use Rattle.policy_rules.specs.Scan.{IsHighestMatch, highest_row, hit_of, is_highest, scan, scan_by}
+pub use Rattle.policy_rules.specs.Scan.{IsHighestMatch, highest_row, hit_of, is_highest_row, scan, scan_by}
 pub use Rattle.policy_rules.specs.SoundPolicies.{IsPolicy, IsSoundRow}
 pub use Rattle.policy_rules.specs.Touched.{removed_rows, touched_rows, touched_words}
 pub use Rattle.policy_rules.specs.Words.{prefix_mask, proto_mask, proto_value, words_of_row}

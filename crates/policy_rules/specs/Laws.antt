@@ -10,13 +10,13 @@ use Rattle.policy_rules.specs.SoundPolicies.{IsPolicy, IsSoundRow}
 use Rattle.policy_rules.specs.Rules.{first_rule}
 use Rattle.policy_rules.specs.RuleList.{IsRuleList, by_falling_priority, hit_of_rule, rules_of, word_count, word_total}
 use Rattle.policy_rules.specs.Words.{words_of_row}
-use Rattle.policy_rules.specs.Applied.{IsAmendment, additions, applied, staying_rows}
+use Rattle.policy_rules.specs.Applied.{IsAmendment, additions, applied, rows_after_removal}
 use Rattle.policy_rules.specs.declared.amendment.Edit.{Edit}
 use Rattle.policy_rules.specs.declared.policy.Hit.{Hit}
 use Rattle.policy_rules.specs.declared.policy.Row.{Row}
 use Rattle.policy_rules.specs.Scan.{scan}
 use Rattle.policy_rules.specs.Touched.{touched_rows, touched_words}
-use Rattle.policy_rules.specs.Repeats.{IsFalling}
+use Rattle.policy_rules.specs.Repeats.{IsPriorityFalling}
 
 pub record PolicyLaws : Type 0 where
   -- a policy has one first match of a header
@@ -26,9 +26,9 @@ pub record PolicyLaws : Type 0 where
   pub scan : (rows : List Row) (header : Header) → IsFirstMatch rows header (scan rows header)
   -- the rows by falling priority are the rows in falling order, and no other list of them is
   pub sorted : (rows : List Row) → IsPolicy rows → IsPermutation rows (by_falling_priority rows)
-  pub falling : (rows : List Row) → IsFalling (by_falling_priority rows)
+  pub falling : (rows : List Row) → IsPriorityFalling (by_falling_priority rows)
   pub only : (rows sorted : List Row) → IsPolicy rows → IsPermutation rows sorted
-      → IsFalling sorted → sorted ≡ by_falling_priority rows
+      → IsPriorityFalling sorted → sorted ≡ by_falling_priority rows
 
 -- the words of a sound row ..
 pub record RowWordsLaws : Type 0 where
@@ -64,7 +64,7 @@ pub record AmendmentLaws : Type 0 where
   -- .. only the rows that stay and those that it adds decide each header; ..
   pub decides : (rows after : List Row) (change : List Edit) (header : Header)
       → applied rows change ≡ Ok after
-      → IsFirstMatch (staying_rows rows change ++ additions change) header (scan after header)
+      → IsFirstMatch (rows_after_removal rows change ++ additions change) header (scan after header)
   -- .. a header that no removed and no added row matches has the first match that it had, ..
   pub same : (rows after : List Row) (change : List Edit) (header : Header) → IsPolicy rows
       → applied rows change ≡ Ok after

@@ -24,8 +24,8 @@ EndInCover region rules = (earlier : List Rule) × (last : Rule)
     × (rules ≡ earlier ++ last ∷ []) × IsTrue (covers_of last.word region)
 
 -- the last rule of the partition covers its region
-abbrev pub LastCovers : Partition → Type 0
-LastCovers part = EndInCover part.region part.rules
+abbrev pub LastRuleCovers : Partition → Type 0
+LastRuleCovers part = EndInCover part.region part.rules
 
 -- sound partitions of a policy: each header lies in exactly one region, and the first rule there
 -- that holds it has the rule and the action of the policy's first match

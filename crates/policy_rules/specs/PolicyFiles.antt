@@ -14,11 +14,11 @@ IsPolicyFile (Whole rows) = IsPolicy rows
 IsPolicyFile (Change edits) = IsAmendment edits
 
 -- the row that the edit adds, if it adds one, has this property
-abbrev pub AddsOnly : (Row → Type 0) → Edit → Type 0
-AddsOnly P (Remove priority) = ⊤
-AddsOnly P (Add row) = P row
+abbrev pub EditAddsOnly : (Row → Type 0) → Edit → Type 0
+EditAddsOnly P (Remove priority) = ⊤
+EditAddsOnly P (Add row) = P row
 
 -- each row that the file states, of a policy or added by a change, has this property
-abbrev pub GivesOnly : (Row → Type 0) → PolicyFile → Type 0
-GivesOnly P (Whole rows) = All P rows
-GivesOnly P (Change edits) = All (AddsOnly P) edits
+abbrev pub PolicyFileGivesOnly : (Row → Type 0) → PolicyFile → Type 0
+PolicyFileGivesOnly P (Whole rows) = All P rows
+PolicyFileGivesOnly P (Change edits) = All (EditAddsOnly P) edits

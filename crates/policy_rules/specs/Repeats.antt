@@ -6,8 +6,8 @@ use Rattle.policy_rules.specs.declared.policy.SamePriority.{SamePriority}
 use Rattle.policy_rules.specs.SoundPolicies.{HaveDistinctPriorities}
 
 -- no row exceeds an earlier one in priority
-abbrev pub IsFalling : List Row → Type 0
-IsFalling rows = AllPairs (λ row later. later.priority ≤ row.priority) rows
+abbrev pub IsPriorityFalling : List Row → Type 0
+IsPriorityFalling rows = AllPairs (λ row later. later.priority ≤ row.priority) rows
 
 -- the row at this place is the first that has an earlier row's priority
 pub record IsFirstRepeat (rows : List Row) (place : ℕ) : Type 0 where

@@ -22,12 +22,12 @@ unfoldable pub by_falling_priority : List Row → List Row
 by_falling_priority rows = falling_below (2 ^ 32) rows
 
 -- words, with what the row does with their headers
-abbrev pub with_hit : Row → List WordValue → List (WordValue × Hit)
-with_hit row words = map (λ word. (word, hit_of (Some row))) words
+abbrev pub words_with_hit : Row → List WordValue → List (WordValue × Hit)
+words_with_hit row words = map (λ word. (word, hit_of (Some row))) words
 
 -- the words of the row, with what it does with their headers
-abbrev pub entries_of : Row → List (WordValue × Hit)
-entries_of row = with_hit row (words_of_row row)
+abbrev pub row_word_hits : Row → List (WordValue × Hit)
+row_word_hits row = words_with_hit row (words_of_row row)
 
 -- a word and what becomes of its headers, as the rule of a rank
 abbrev pub ranked_rule : ℕ × (WordValue × Hit) → Rule
@@ -39,12 +39,12 @@ unfoldable pub ranked_from : ℕ → List (WordValue × Hit) → List Rule
 ranked_from rank entries = map ranked_rule (enumerate_from rank entries)
 
 -- the new rules are the old ones and after them these entries, each ranked by its place
-abbrev pub AppendsRanked : List Rule → List Rule → List (WordValue × Hit) → Type 0
-AppendsRanked old new entries = new ≡ old ++ ranked_from (length old) entries
+abbrev pub AppendsRankedRules : List Rule → List Rule → List (WordValue × Hit) → Type 0
+AppendsRankedRules old new entries = new ≡ old ++ ranked_from (length old) entries
 
 -- the entries of rows, and last the default, whose word holds each header
 abbrev pub with_default : List Row → List (WordValue × Hit)
-with_default rows = flat_map entries_of rows ++ (any_word, hit_of None) ∷ []
+with_default rows = flat_map row_word_hits rows ++ (any_word, hit_of None) ∷ []
 
 -- the rules of these rows: each entry has its place as its rank
 unfoldable pub rules_of : List Row → List Rule

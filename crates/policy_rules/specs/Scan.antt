@@ -16,12 +16,12 @@ IsHighestMatch rows f best =
     MatchOption best (matching ≡ []) (λ row. IsHighestIn matching row.now)
 
 -- none of the rows exceeds this one in priority
-abbrev pub is_highest : List Row → Row → Bool
-is_highest rows row = list_all (λ other. nat_le other.priority row.priority) rows
+abbrev pub is_highest_row : List Row → Row → Bool
+is_highest_row rows row = list_all (λ other. nat_le other.priority row.priority) rows
 
 -- the row of the greatest priority
 abbrev pub highest_row : List Row → Option Row
-highest_row rows = find (is_highest rows) rows
+highest_row rows = find (is_highest_row rows) rows
 
 abbrev pub hit_of : Option Row → Hit
 hit_of None = record { rule = None; action = Drop }

@@ -1,7 +1,7 @@
 ghost use Rattle.std.specs.Prelude.{◌≡◌, ◌+◌, ◌<◌, ◌^◌, ◌++◌, ◌∷◌, [], List, IfOk, IfErr, OnOk, length, vec_len, not};
 ghost use Rattle.std.specs.BTreeSet.{contains};
 ghost use Rattle.std.specs.Ordering.{nat_cmp};
-ghost use Rattle.policy_rules.specs.Exports.{AreSeen, IsAmendment, IsSoundEdit, RefusesEdits, addition, additions, edits_of, removal, removals, repeats};
+ghost use Rattle.policy_rules.specs.Exports.{AreEditsSeen, IsAmendment, IsSoundEdit, RefusesEdits, addition, additions, edits_of, removal, removals, repeats};
 ghost use Rattle.policy_rules.specs.declared.amendment.Edit.{Edit};
 ghost use Rattle.base.specs.Refusals.{IfRefused};
 
@@ -193,11 +193,11 @@ fn is_new(
     edit: &Edit,
 ) -> Result<bool, AllocError>
     ensures new { IfOk result (λ new. (earlier : List Edit)
-        → AreSeen (contains nat_cmp removed.old) (contains nat_cmp added.old) earlier
+        → AreEditsSeen (contains nat_cmp removed.old) (contains nat_cmp added.old) earlier
         → new ≡ not (repeats earlier edit.now)) }
     ensures seen { OnOk result ((earlier : List Edit)
-        → AreSeen (contains nat_cmp removed.old) (contains nat_cmp added.old) earlier
-        → AreSeen (contains nat_cmp removed.new) (contains nat_cmp added.new)
+        → AreEditsSeen (contains nat_cmp removed.old) (contains nat_cmp added.old) earlier
+        → AreEditsSeen (contains nat_cmp removed.new) (contains nat_cmp added.new)
         (earlier ++ edit.now ∷ [])) }
 {
     match edit {

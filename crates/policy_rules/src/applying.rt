@@ -48,12 +48,12 @@ pub fn apply(alloc: Global, policy: &Policy, change: &Amendment) -> Result<Polic
     let rows = policy.rows();
     let removed = change.removed();
     let added = change.added();
-    let mut amended = staying_rows(alloc, rows, removed)?;
+    let mut amended = rows_after_removal(alloc, rows, removed)?;
     // Neither list has a priority twice, so each removed priority belongs to one row or to none.
     if rows.len() < amended.len() + removed.len() {
         return Err(ApplyError::Refused(Inapplicable::Absent));
     }
-    let new = priorities_of(alloc, added)?;
+    let new = row_priorities_of(alloc, added)?;
     if has_some(&amended, &new) {
         return Err(ApplyError::Refused(Inapplicable::Taken));
     }
@@ -67,7 +67,7 @@ pub fn apply(alloc: Global, policy: &Policy, change: &Amendment) -> Result<Polic
 }
 
 // The rows whose priorities aren't removed.
-fn staying_rows(alloc: Global, rows: &[Row], removed: &[u32]) -> Result<Vec<Row>, AllocError>
+fn rows_after_removal(alloc: Global, rows: &[Row], removed: &[u32]) -> Result<Vec<Row>, AllocError>
     ensures { IfOk result (λ staying. staying.items ≡ filter
         (λ row. not (list_any (λ priority. priority == row.priority) removed.now)) rows.now) }
 {
@@ -77,7 +77,7 @@ fn staying_rows(alloc: Global, rows: &[Row], removed: &[u32]) -> Result<Vec<Row>
 }
 
 // The set of the rows' priorities.
-fn priorities_of(alloc: Global, rows: &[Row]) -> Result<BTreeSet<u32>, AllocError>
+fn row_priorities_of(alloc: Global, rows: &[Row]) -> Result<BTreeSet<u32>, AllocError>
     ensures { IfOk result (λ set. (q : ℕ) → contains nat_cmp set q
         ≡ list_any (λ priority. priority == q) (map (λ row. row.priority) rows.now)) }
 {

@@ -108,7 +108,7 @@ impl Policy {
         ensures policy { OnOk result (IsPolicy rows.items) }
         ensures refused { IfErr result (IfRefused (RefusesRows rows.items)) }
     {
-        check_rows(alloc, &rows)?;
+        check_row_priorities(alloc, &rows)?;
         Ok(Policy { rows })
     }
 
@@ -175,13 +175,13 @@ fn exceeds(row: &Row, other: Option<&Row>) -> bool
 }
 
 // Finds the first row that has an earlier row's priority.
-fn check_rows(alloc: Global, rows: &[Row]) -> Result<(), Failure<SamePriority>>
+fn check_row_priorities(alloc: Global, rows: &[Row]) -> Result<(), Failure<SamePriority>>
     requires { length rows.now < 2 ^ 32 }
     ensures policy { OnOk result (IsPolicy rows.now) }
     ensures refused { IfErr result (IfRefused (RefusesRows rows.now)) }
 {
     // No priority needs to be remembered if each row has a lower one than the row before.
-    let falling = are_falling(rows);
+    let falling = are_priorities_falling(rows);
     if falling {
         return Ok(());
     }
@@ -199,7 +199,7 @@ fn check_rows(alloc: Global, rows: &[Row]) -> Result<(), Failure<SamePriority>>
 }
 
 // Whether the priorities fall from row to row, so that no two are equal.
-fn are_falling(rows: &[Row]) -> bool
+fn are_priorities_falling(rows: &[Row]) -> bool
     requires { length rows.now < 2 ^ 32 }
     ensures { IsTrue result → IsPolicy rows.now }
 {
@@ -223,12 +223,12 @@ pub fn row_is_sound(row: &Row)
 {
     let _priority = row.priority;
     let _ = (row.src.len, row.dst.len);
-    range_is_sound(&row.sport);
-    range_is_sound(&row.dport);
-    proto_is_sound(&row.proto);
+    row_range_is_sound(&row.sport);
+    row_range_is_sound(&row.dport);
+    row_proto_is_sound(&row.proto);
 }
 
-fn range_is_sound(range: &PortRange)
+fn row_range_is_sound(range: &PortRange)
     ensures { IsPortRange range.now }
 {
     let PortRange {
@@ -237,7 +237,7 @@ fn range_is_sound(range: &PortRange)
     } = *range;
 }
 
-fn proto_is_sound(proto: &Proto)
+fn row_proto_is_sound(proto: &Proto)
     ensures { IsProtocol proto.now }
 {
     if let Proto::Is(number) = proto {

@@ -3,7 +3,7 @@ ghost use Rattle.policy_rules.specs.declared.policy.Action.{Action};
 ghost use Rattle.policy_rules.specs.Exports.{HasSmallPort, action_of, action_text};
 
 use crate::policy::Action;
-use five_tuple::{printed_forms_are_read_back, read_number};
+use five_tuple::{printed_fields_are_read_back, read_number};
 
 /// The action that the text names: `drop`, or `out:` and a port's number from 0 to 63; `None` for
 /// any other text.
@@ -25,5 +25,5 @@ pub fn printed_actions_are_read_back()
     ensures { (action : Action) → HasSmallPort action
         → action_of (action_text action) ≡ Some action }
 {
-    printed_forms_are_read_back();
+    printed_fields_are_read_back();
 }

@@ -3,14 +3,14 @@ ghost use Rattle.base.specs.Refusals.{IfRefused};
 ghost use Rattle.base.specs.declared.error.Failure.TheVariants.{Refused};
 ghost use Rattle.five_tuple.specs.Exports.{IsHeader};
 ghost use Rattle.five_tuple.specs.declared.header.Header.{Header};
-ghost use Rattle.policy_rules.specs.Exports.{AppendsRanked, IsPolicy, IsRuleList, IsSoundRow, RefusesRules, by_falling_priority, entries_of, first_rule, hit_of_rule, ranked_from, rules_of, scan, with_default, word_total};
+ghost use Rattle.policy_rules.specs.Exports.{AppendsRankedRules, IsPolicy, IsRuleList, IsSoundRow, RefusesRules, by_falling_priority, row_word_hits, first_rule, hit_of_rule, ranked_from, rules_of, scan, with_default, word_total};
 
 use crate::laws::rule_list_laws;
 use crate::policy::{Hit, Policy, Row};
 use crate::rules::Rule;
-use crate::words::push_row_words;
+use crate::words::push_match_words;
 use base::Failure;
-use five_tuple::count_blocks;
+use five_tuple::count_port_blocks;
 use std::alloc::{AllocError, Global};
 use std::cmp::Reverse;
 use ternary::Word;
@@ -46,7 +46,7 @@ pub fn to_rules(alloc: Global, policy: &Policy) -> Result<Vec<Rule>, Failure<Too
         → result ≡ Err (Refused (record { words = word_total policy.now })) }
 {
     rule_list_laws();
-    let words = count_words(policy);
+    let words = count_match_words(policy);
     if words > MAX_WORDS {
         return Err(Failure::Refused(TooManyWords { words }));
     }
@@ -56,12 +56,12 @@ pub fn to_rules(alloc: Global, policy: &Policy) -> Result<Vec<Rule>, Failure<Too
 }
 
 /// How many words the rows of the policy have together: as many as it has rules before the default.
-pub fn count_words(policy: &Policy) -> u64
+pub fn count_match_words(policy: &Policy) -> u64
     ensures { result ≡ word_total policy.now }
 {
     let mut words = 0;
     for row in policy.rows() {
-        words += u64::from(count_blocks(&row.sport) * count_blocks(&row.dport));
+        words += u64::from(count_port_blocks(&row.sport) * count_port_blocks(&row.dport));
     }
     words
 }
@@ -95,10 +95,10 @@ fn list_rules(alloc: Global, rows: &[Row], room: usize) -> Result<Vec<Rule>, All
 fn push_row(rules: &mut Vec<Rule>, words: &mut Vec<Word>, row: &Row) -> Result<(), AllocError>
     requires few { length rules.old.items ≤ 4096 }
     requires row { IsSoundRow row.now }
-    ensures { OnOk result (AppendsRanked rules.old.items rules.new.items (entries_of row.now)) }
+    ensures { OnOk result (AppendsRankedRules rules.old.items rules.new.items (row_word_hits row.now)) }
 {
     words.clear();
-    push_row_words(words, row)?;
+    push_match_words(words, row)?;
     for word in words.as_slice() {
         push_rule(rules, *word, Hit::of(row))?;
     }
@@ -107,7 +107,7 @@ fn push_row(rules: &mut Vec<Rule>, words: &mut Vec<Word>, row: &Row) -> Result<(
 
 fn push_rule(rules: &mut Vec<Rule>, word: Word, hit: Hit) -> Result<(), AllocError>
     requires { length rules.old.items < 2 ^ 32 }
-    ensures { OnOk result (AppendsRanked rules.old.items rules.new.items ((word, hit) ∷ [])) }
+    ensures { OnOk result (AppendsRankedRules rules.old.items rules.new.items ((word, hit) ∷ [])) }
 {
     let rank = rules.len() as u32;
     rules.push(Rule {

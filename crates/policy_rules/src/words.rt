@@ -14,18 +14,22 @@ use ternary::Word;
 ///
 /// # Errors
 /// Only out of memory; then some of the words may have been added.
-pub fn push_row_words(words: &mut Vec<Word>, row: &Row) -> Result<(), AllocError>
+pub fn push_match_words(words: &mut Vec<Word>, row: &Row) -> Result<(), AllocError>
     requires { IsSoundRow row.now }
     ensures { OnOk result (words.new.items ≡ words.old.items ++ words_of_row row.now) }
 {
     for source in row.sport.blocks() {
-        push_source_words(words, row, source)?;
+        push_source_match_words(words, row, source)?;
     }
     Ok(())
 }
 
 // Adds the words for one block of the row's source ports.
-fn push_source_words(words: &mut Vec<Word>, row: &Row, source: PortBlock) -> Result<(), AllocError>
+fn push_source_match_words(
+    words: &mut Vec<Word>,
+    row: &Row,
+    source: PortBlock,
+) -> Result<(), AllocError>
     requires row { IsSoundRow row.now }
     requires source { IsPortBlock source }
     ensures { OnOk result (words.new.items
@@ -45,13 +49,13 @@ pub fn word_of_row(row: &Row, source: PortBlock, destination: PortBlock) -> Word
     requires destination { IsPortBlock destination }
     ensures { result ≡ word_of_row row.now source destination }
 {
-    let value = value_of_row(row, source.0, destination.0);
-    let mask = mask_of_row(row, source.1, destination.1);
+    let value = match_value_of_row(row, source.0, destination.0);
+    let mask = match_mask_of_row(row, source.1, destination.1);
     Word::new(value, mask).unwrap()
 }
 
 // The value of the row's word, with these bits for the ports.
-fn value_of_row(row: &Row, sport: u16, dport: u16) -> u128
+fn match_value_of_row(row: &Row, sport: u16, dport: u16) -> u128
     ensures { result ≡
         packed_number row.now.src.address row.now.dst.address sport dport
         (proto_value row.now.proto) }
@@ -67,7 +71,7 @@ fn value_of_row(row: &Row, sport: u16, dport: u16) -> u128
 }
 
 // The mask of the row's word, with these bits for the ports.
-fn mask_of_row(row: &Row, sport: u16, dport: u16) -> u128
+fn match_mask_of_row(row: &Row, sport: u16, dport: u16) -> u128
     ensures { result ≡
         packed_number (prefix_mask row.now.src) (prefix_mask row.now.dst) sport dport
         (proto_mask row.now.proto) }

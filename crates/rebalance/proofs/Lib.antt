@@ -1,5 +1,5 @@
-mod LoadSums
-mod LoadLemmas
-mod WeightLemmas
-mod SpreadLemmas
+mod RebalanceSums
+mod RebalanceLoads
+mod RebalanceWeights
+mod RebalanceSpread
 mod ProposedPlans

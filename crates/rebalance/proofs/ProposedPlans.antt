@@ -4,31 +4,31 @@ use Rattle.base.proofs.Exports.{firsts-zip, get_or_default, length-map, length-r
 use Rattle.controller.specs.Exports.{LeadEveryHeader}
 use Rattle.update_machine.specs.Exports.{Item, Net, Partition, Row}
 use Rattle.net_file.specs.Exports.{IsNet}
-use Rattle.partition.specs.Plan.{Hosted, IsPlan, rooms_of, sizes_of}
+use Rattle.partition.specs.Plan.{Hosted, IsPartitionPlan, rooms_of, sizes_of}
 use Rattle.placement.specs.Placement.{IsPlacement}
-use Rattle.policy_rules.specs.Exports.{LastCovers}
+use Rattle.policy_rules.specs.Exports.{LastRuleCovers}
 use Rattle.policy_rules.proofs.CallerLemmas.{first_match-scan}
 use Rattle.rebalance.specs.Loads.{Fits, bound, peak, weight}
-use Rattle.rebalance.specs.Proposals.{IsFoundFor, IsProposedFor, ProposesFor, peaks_text, sizes_in, targets_by_partition, weights_in, with_targets}
-use Rattle.rebalance.specs.Spread.{AreWeighed, IsProposal, SpreadLaws}
+use Rattle.rebalance.specs.Proposals.{IsFoundFor, IsProposedFor, CommandProposesFor, peaks_text, proposal_sizes_in, targets_by_partition, proposal_weights_in, with_targets}
+use Rattle.rebalance.specs.Spread.{ArePartitionsWeighed, IsProposal, SpreadLaws}
 use Rattle.rebalance.specs.declared.plan_proposal.Proposal.{Proposal}
 use Rattle.show_text.specs.Text.{compile_text}
 use Rattle.switch_table.specs.Exports.{part_of}
 
 -- ---- the plan
 
-pub sizes_are : (plan : List Hosted) → sizes_of (map part_of plan) ≡ sizes_in plan
+pub sizes_are : (plan : List Hosted) → sizes_of (map part_of plan) ≡ proposal_sizes_in plan
 sizes_are [] = refl
 sizes_are (hosted ∷ plan) = ap (λ sizes. length hosted.0.rules ∷ sizes) (sizes_are plan)
 
 -- each partition was asked so often
 pub as_many_weights : (journal : List Item) (plan : List Hosted)
-    → length (weights_in journal plan) ≡ length plan
+    → length (proposal_weights_in journal plan) ≡ length plan
 as_many_weights journal plan = length-map (range_with_len 0 (length plan)) (weight journal)
     ∙ length-range_with_len 0 (length plan)
 
 pub sized : (journal : List Item) (plan : List Hosted)
-    → length (sizes_in plan) ≡ length (weights_in journal plan)
+    → length (proposal_sizes_in plan) ≡ length (proposal_weights_in journal plan)
 sized journal plan = omega (
   arith,
   length-map plan (λ (hosted : Hosted). length hosted.0.rules),
@@ -36,7 +36,7 @@ sized journal plan = omega (
 )
 
 pub targeted : (journal : List Item) (plan : List Hosted)
-    → length (targets_by_partition plan) ≡ length (weights_in journal plan)
+    → length (targets_by_partition plan) ≡ length (proposal_weights_in journal plan)
 targeted journal plan = omega (
   arith,
   length-map plan (λ (hosted : Hosted). hosted.1),
@@ -44,12 +44,12 @@ targeted journal plan = omega (
 )
 
 -- a partition has a rule, since its last one covers its region
-has_rule : (part : Partition) → LastCovers part → 0 < length part.rules
+has_rule : (part : Partition) → LastRuleCovers part → 0 < length part.rules
 has_rule part (earlier, last, rules, covers) =
     omega (arith, ap length rules, length-append earlier (last ∷ []))
 
 weighed : (rows : List Row) (plan : List Hosted) (net : Net) (journal : List Item) → IsNet net
-    → IsPlan rows net plan → AreWeighed (sizes_in plan) (weights_in journal plan) (rooms_of net)
+    → IsPartitionPlan rows net plan → ArePartitionsWeighed (proposal_sizes_in plan) (proposal_weights_in journal plan) (rooms_of net)
 weighed rows plan net journal sound is = record {
   each = sized journal plan;
   some = λ k d within. let few : k < length plan =
@@ -60,11 +60,11 @@ weighed rows plan net journal sound is = record {
   few = omega (arith, length-map net.switches (λ row. row.room), sound.few_switches);
 } where
   sized_at : (k d : ℕ) → k < length plan → k < length (map (λ (hosted : Hosted). hosted.0) plan)
-      → 0 < get_or (sizes_in plan) k d
+      → 0 < get_or (proposal_sizes_in plan) k d
   sized_at k d few all = by_list plan k few is.ended where
     by_list : (hosts : List Hosted) (k : ℕ) → k < length hosts
-        → All LastCovers (map (λ (hosted : Hosted). hosted.0) hosts)
-        → 0 < get_or (sizes_in hosts) k d
+        → All LastRuleCovers (map (λ (hosted : Hosted). hosted.0) hosts)
+        → 0 < get_or (proposal_sizes_in hosts) k d
     by_list [] k below ended = absurd (omega (arith, below))
     by_list (hosted ∷ hosts) zero below ended = has_rule hosted.0 (ended 0 hosted.0 (omega arith))
     by_list (hosted ∷ hosts) (suc k) below ended = by_list hosts k (omega (arith, below))
@@ -86,15 +86,15 @@ some_targets sizes rooms backups P fits = λ k d within.
 
 pub proposed_for : (rows : List Row) (plan : List Hosted) (net : Net) (journal : List Item)
     (placement : List (List ℕ))
-    → ((sizes weights rooms : List ℕ) (backups : ℕ) → AreWeighed sizes weights rooms
-    → SpreadLaws sizes weights rooms backups) → IsNet net → IsPlan rows net plan
-    → IsProposal (sizes_in plan) (weights_in journal plan) (rooms_of net) net.backups
+    → ((sizes weights rooms : List ℕ) (backups : ℕ) → ArePartitionsWeighed sizes weights rooms
+    → SpreadLaws sizes weights rooms backups) → IsNet net → IsPartitionPlan rows net plan
+    → IsProposal (proposal_sizes_in plan) (proposal_weights_in journal plan) (rooms_of net) net.backups
     (targets_by_partition plan) placement → (All (λ switches. 0 < length switches) placement
     → LeadEveryHeader rows (with_targets plan placement))
     → IsProposedFor rows plan net journal placement
 proposed_for rows plan net journal placement laws sound is proposal leads =
-    let sizes = sizes_in plan in
-    let weights = weights_in journal plan in
+    let sizes = proposal_sizes_in plan in
+    let weights = proposal_weights_in journal plan in
     let rooms = rooms_of net in
     let all = laws sizes weights rooms net.backups (weighed rows plan net journal sound is) in
     let old : Fits sizes rooms net.backups (targets_by_partition plan) = all.placed (targets_by_partition plan)
@@ -124,8 +124,8 @@ few_rooms net sound = omega (arith, length-map net.switches (λ row. row.room), 
 -- and where the partitions are
 pub record AreMeasured (plan : List Hosted) (net : Net) (journal : List Item)
     (sizes weights rooms : List ℕ) (old : List (List ℕ)) : Type 0 where
-  pub sizes_are : sizes ≡ sizes_in plan
-  pub weights_are : weights ≡ weights_in journal plan
+  pub sizes_are : sizes ≡ proposal_sizes_in plan
+  pub weights_are : weights ≡ proposal_weights_in journal plan
   pub rooms_are : rooms ≡ rooms_of net
   pub old_is : old ≡ targets_by_partition plan
 
@@ -143,8 +143,8 @@ module _ (plan : List Hosted) (net : Net) (journal : List Item) (sizes weights r
 pub found_for : (rows : List Row) (plan : List Hosted) (net : Net) (journal : List Item)
     (found : Proposal) (sizes weights rooms : List ℕ) (old new : List (List ℕ))
     → ((sizes weights rooms : List ℕ) (backups : ℕ)
-    → AreWeighed sizes weights rooms → SpreadLaws sizes weights rooms backups) → IsNet net
-    → IsPlan rows net plan → AreMeasured plan net journal sizes weights rooms old
+    → ArePartitionsWeighed sizes weights rooms → SpreadLaws sizes weights rooms backups) → IsNet net
+    → IsPartitionPlan rows net plan → AreMeasured plan net journal sizes weights rooms old
     → IsProposal sizes weights rooms net.backups old new
     → found.plan.policy ≡ rows → found.plan.hosted ≡ with_targets plan new
     → (All (λ switches. 0 < length switches) new → LeadEveryHeader rows found.plan.hosted)
@@ -169,13 +169,12 @@ found_for rows plan net journal found sizes weights rooms old new laws sound is 
 pub text_of_found : {E : Type 0} (rows : List Row) (plan : List Hosted) (net : Net)
     (journal : List Item) (found : Proposal) (text : List ℕ) (result : Result (Vec ℕ Global) E)
     → IsFoundFor rows plan net journal found
-    → text ≡ compile_text found.plan.policy found.plan.hosted net
-    → IfOk result (λ whole.
-    whole.items ≡ peaks_text found.old_peak found.new_peak found.bound ++ text)
-    → IfOk result (λ whole. ProposesFor rows plan net journal (λ told. whole.items ≡ told))
+    → text ≡ compile_text found.plan.policy found.plan.hosted net → IfOk result
+    (λ whole. whole.items ≡ peaks_text found.old_peak found.new_peak found.bound ++ text)
+    → IfOk result (λ whole. CommandProposesFor rows plan net journal (λ told. whole.items ≡ told))
 text_of_found rows plan net journal found text (Err error) is plan_text made = tt
 text_of_found rows plan net journal found text (Ok whole) is plan_text made =
-    let weights = weights_in journal plan in
+    let weights = proposal_weights_in journal plan in
     let old = peak weights (targets_by_partition plan) in
     let new = peak weights is.placement in
     let least = bound weights (rooms_of net) in

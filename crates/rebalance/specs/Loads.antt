@@ -5,28 +5,28 @@ use Rattle.std.specs.Prelude.{if◌then◌else◌, ◌+◌, ◌<◌, ◌==◌, �
 use Rattle.base.specs.Exports.{div_ceil, list_any, range_with_len}
 use Rattle.update_machine.specs.Exports.{How, Item, current_mark}
 use Rattle.journal.specs.declared.item.Item.TheVariants as item
-use Rattle.placement.specs.Placement.{is_target, targets_at}
+use Rattle.placement.specs.Placement.{is_target, placed_targets_at}
 use Rattle.policy_rules.specs.declared.packet.How.TheVariants as how
 
 -- ---- how often a partition's authorities decided
 
-abbrev pub partition_asked : How → Option ℕ
-partition_asked (how.Authority switch partition) = Some partition
-partition_asked (how.Cached message) = None
+abbrev pub weighed_partition : How → Option ℕ
+weighed_partition (how.Authority switch partition) = Some partition
+weighed_partition (how.Cached message) = None
 
 -- the partition whose authority decided a packet by this version, if the item says so
-abbrev pub asked_in : ℕ → Item → Option ℕ
-asked_in version (item.Decided packet used rule action how) =
-    if used == version then partition_asked how else None
-asked_in version _ = None
+abbrev pub weighed_partition_in : ℕ → Item → Option ℕ
+weighed_partition_in version (item.Decided packet used rule action how) =
+    if used == version then weighed_partition how else None
+weighed_partition_in version _ = None
 
 -- the partitions whose authorities decided by this version, one for each decision
-abbrev pub all_asked : ℕ → List Item → List ℕ
-all_asked version journal = filter_map (asked_in version) journal
+abbrev pub weighed_partitions : ℕ → List Item → List ℕ
+weighed_partitions version journal = filter_map (weighed_partition_in version) journal
 
 -- how often the partition's authorities decided, by the version that is current at the end
 unfoldable pub weight : List Item → ℕ → ℕ
-weight journal partition = count_by (nat_eq partition) (all_asked (current_mark journal) journal)
+weight journal partition = count_by (nat_eq partition) (weighed_partitions (current_mark journal) journal)
 
 -- the weights of this many partitions, by their numbers
 abbrev pub weights_of : List Item → ℕ → List ℕ
@@ -35,20 +35,20 @@ weights_of journal parts = map (weight journal) (range_with_len 0 parts)
 -- ---- the load of a placement
 
 -- the switch is the first target of the partition
-abbrev pub is_primary : List (List ℕ) → ℕ → ℕ → Bool
-is_primary placement partition switch =
-    list_any (nat_eq switch) (take 1 (targets_at placement partition))
+abbrev pub is_primary_target : List (List ℕ) → ℕ → ℕ → Bool
+is_primary_target placement partition switch =
+    list_any (nat_eq switch) (take 1 (placed_targets_at placement partition))
 
 -- the sum of the weights of the partitions whose first target the switch is
 abbrev pub traffic : List ℕ → List (List ℕ) → ℕ → ℕ
 traffic weights placement switch =
     sum_by (slice_index weights)
-    (filter (λ partition. is_primary placement partition switch)
+    (filter (λ partition. is_primary_target placement partition switch)
     (range_with_len 0 (length weights)))
 
 -- the sum of the sizes, in rules, of the partitions of which the switch is a target
-abbrev pub rules_at : List ℕ → List (List ℕ) → ℕ → ℕ
-rules_at sizes placement switch =
+abbrev pub placed_rules_at : List ℕ → List (List ℕ) → ℕ → ℕ
+placed_rules_at sizes placement switch =
     sum_by (slice_index sizes)
     (filter (λ partition. is_target placement partition switch) (range_with_len 0 (length sizes)))
 
@@ -81,9 +81,9 @@ bound weights rooms = if usable_rooms rooms == 0
 pub record Fits (sizes rooms : List ℕ) (backups : ℕ) (placement : List (List ℕ)) : Type 0 where
   pub number : length placement ≡ length sizes
   pub targets : (partition : ℕ) → partition < length sizes
-      → length (targets_at placement partition) ≡ 1 + backups
+      → length (placed_targets_at placement partition) ≡ 1 + backups
   pub different : (partition : ℕ) → partition < length sizes
-      → AllPairs (λ a b. a ≡ b → ⊥) (targets_at placement partition)
+      → AllPairs (λ a b. a ≡ b → ⊥) (placed_targets_at placement partition)
   pub there : (partition : ℕ) → partition < length sizes
-      → All (λ switch. switch < length rooms) (targets_at placement partition)
-  pub within : (switch : ℕ) → rules_at sizes placement switch ≤ slice_index rooms switch
+      → All (λ switch. switch < length rooms) (placed_targets_at placement partition)
+  pub within : (switch : ℕ) → placed_rules_at sizes placement switch ≤ slice_index rooms switch

@@ -3,7 +3,7 @@
 use Rattle.std.specs.Prelude.{◌++◌, ◌≡◌, ◌≤◌, List, codes, decimal, length, map, zip, ℕ}
 use Rattle.controller.specs.Exports.{LeadEveryHeader}
 use Rattle.update_machine.specs.Exports.{Header, Item, Net, Row}
-use Rattle.partition.specs.Plan.{Hosted, IsPlan, rooms_of}
+use Rattle.partition.specs.Plan.{Hosted, IsPartitionPlan, rooms_of}
 use Rattle.policy_rules.specs.Exports.{IsFirstMatch, scan}
 use Rattle.rebalance.specs.Loads.{Fits, bound, peak, weights_of}
 use Rattle.rebalance.specs.Spread.{IsProposal}
@@ -18,12 +18,12 @@ abbrev pub targets_by_partition : List Hosted → List (List ℕ)
 targets_by_partition plan = map (λ (hosted : Hosted). hosted.1) plan
 
 -- how many rules each partition has
-abbrev pub sizes_in : List Hosted → List ℕ
-sizes_in plan = map (λ (hosted : Hosted). length hosted.0.rules) plan
+abbrev pub proposal_sizes_in : List Hosted → List ℕ
+proposal_sizes_in plan = map (λ (hosted : Hosted). length hosted.0.rules) plan
 
 -- the weight of each partition
-abbrev pub weights_in : List Item → List Hosted → List ℕ
-weights_in journal plan = weights_of journal (length plan)
+abbrev pub proposal_weights_in : List Item → List Hosted → List ℕ
+proposal_weights_in journal plan = weights_of journal (length plan)
 
 -- the same partitions with other targets
 abbrev pub with_targets : List Hosted → List (List ℕ) → List Hosted
@@ -37,14 +37,14 @@ with_targets plan placement = zip (map part_of plan) placement
 -- targets, too, the tables lead each header to its first match, which a scan of the policy finds
 pub record IsProposedFor (rows : List Row) (plan : List Hosted) (net : Net) (journal : List Item)
     (placement : List (List ℕ)) : Type 0 where
-  pub proposal : IsProposal (sizes_in plan) (weights_in journal plan) (rooms_of net) net.backups
+  pub proposal : IsProposal (proposal_sizes_in plan) (proposal_weights_in journal plan) (rooms_of net) net.backups
       (targets_by_partition plan) placement
-  pub fits : Fits (sizes_in plan) (rooms_of net) net.backups placement
-  pub lower : peak (weights_in journal plan) placement
-      ≤ peak (weights_in journal plan) (targets_by_partition plan)
-  pub bounded : bound (weights_in journal plan) (rooms_of net)
-      ≤ peak (weights_in journal plan) placement
-  pub parts : IsPlan rows net plan
+  pub fits : Fits (proposal_sizes_in plan) (rooms_of net) net.backups placement
+  pub lower : peak (proposal_weights_in journal plan) placement
+      ≤ peak (proposal_weights_in journal plan) (targets_by_partition plan)
+  pub bounded : bound (proposal_weights_in journal plan) (rooms_of net)
+      ≤ peak (proposal_weights_in journal plan) placement
+  pub parts : IsPartitionPlan rows net plan
   pub same_parts : map part_of (with_targets plan placement) ≡ map part_of plan
   pub leads : LeadEveryHeader rows (with_targets plan placement)
   -- what a scan finds, to which the tables lead, is the first match
@@ -59,7 +59,7 @@ peaks_text old new least =
 -- the same of a placement for the plan, and the plan with this placement
 abbrev pub placement_text : List Row → List Hosted → Net → List Item → List (List ℕ) → List ℕ
 placement_text rows plan net journal placement =
-    let weights = weights_in journal plan in
+    let weights = proposal_weights_in journal plan in
     peaks_text (peak weights (targets_by_partition plan)) (peak weights placement)
     (bound weights (rooms_of net)) ++ compile_text rows (with_targets plan placement) net
 
@@ -71,12 +71,12 @@ pub record IsFoundFor (rows : List Row) (plan : List Hosted) (net : Net) (journa
   pub proposed : IsProposedFor rows plan net journal placement
   pub policy : found.plan.policy ≡ rows
   pub hosted : found.plan.hosted ≡ with_targets plan placement
-  pub old_peak : found.old_peak ≡ peak (weights_in journal plan) (targets_by_partition plan)
-  pub new_peak : found.new_peak ≡ peak (weights_in journal plan) placement
-  pub least : found.bound ≡ bound (weights_in journal plan) (rooms_of net)
+  pub old_peak : found.old_peak ≡ peak (proposal_weights_in journal plan) (targets_by_partition plan)
+  pub new_peak : found.new_peak ≡ peak (proposal_weights_in journal plan) placement
+  pub least : found.bound ≡ bound (proposal_weights_in journal plan) (rooms_of net)
 
 -- there is a proposal, and this is true of its text
-pub record ProposesFor (rows : List Row) (plan : List Hosted) (net : Net) (journal : List Item)
+pub record CommandProposesFor (rows : List Row) (plan : List Hosted) (net : Net) (journal : List Item)
     (IsWritten : List ℕ → Type 0) : Type 0 where
   pub placement : List (List ℕ)
   pub proposed : IsProposedFor rows plan net journal placement

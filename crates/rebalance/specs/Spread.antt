@@ -1,28 +1,28 @@
 -- The spread of partitions over switches by their weights, and the placement that is proposed.
 -- Partitions take their turns by falling weight, and then by number.
 use Rattle.std.specs.Prelude.{◌<◌, ◌≡◌, ◌≤◌, ◌⊎◌, All, List, length, ℕ}
-use Rattle.placement.specs.Placement.{AreHosted, IsPlacement, IsRefused, TurnRule, turn_rule}
+use Rattle.placement.specs.Placement.{AreHosted, IsPlacement, IsPlacementRefused, PlacementTurnRule, placement_turn_rule}
 use Rattle.placement.specs.declared.turns.Load.TheVariants as load
 use Rattle.rebalance.specs.Loads.{Fits, bound, peak}
 
 -- ---- the spread, and why there is none
 
 -- by falling weight; a partition loads its first target with its weight
-abbrev pub spreading : List ℕ → List ℕ → List ℕ → ℕ → TurnRule
-spreading sizes weights rooms backups = turn_rule load.OnFirst weights sizes rooms backups
+abbrev pub spreading : List ℕ → List ℕ → List ℕ → ℕ → PlacementTurnRule
+spreading sizes weights rooms backups = placement_turn_rule load.OnFirst weights sizes rooms backups
 
 abbrev pub IsSpread : List ℕ → List ℕ → List ℕ → ℕ → List (List ℕ) → Type 0
 IsSpread sizes weights rooms backups placement =
     AreHosted (spreading sizes weights rooms backups) placement
 
-abbrev pub FindsFewer : List ℕ → List ℕ → List ℕ → ℕ → ℕ → Type 0
-FindsFewer sizes weights rooms backups partition =
-    IsRefused (spreading sizes weights rooms backups) partition
+abbrev pub SpreadFindsFewer : List ℕ → List ℕ → List ℕ → ℕ → ℕ → Type 0
+SpreadFindsFewer sizes weights rooms backups partition =
+    IsPlacementRefused (spreading sizes weights rooms backups) partition
 
 -- ---- what is proposed
 
 -- the peak of the spread is lower than that of the old placement, and so it is proposed
-pub record IsLower (sizes weights rooms : List ℕ) (backups : ℕ) (old new : List (List ℕ))
+pub record IsSpreadLower (sizes weights rooms : List ℕ) (backups : ℕ) (old new : List (List ℕ))
     : Type 0 where
   pub spread : IsSpread sizes weights rooms backups new
   pub lower : peak weights new < peak weights old
@@ -36,12 +36,12 @@ pub record KeepsPlacement (sizes weights rooms : List ℕ) (backups : ℕ) (old 
 
 abbrev pub IsProposal : List ℕ → List ℕ → List ℕ → ℕ → List (List ℕ) → List (List ℕ) → Type 0
 IsProposal sizes weights rooms backups old new =
-    IsLower sizes weights rooms backups old new ⊎ KeepsPlacement sizes weights rooms backups old new
+    IsSpreadLower sizes weights rooms backups old new ⊎ KeepsPlacement sizes weights rooms backups old new
 
 -- ---- what is true of each
 
 -- the partitions have rules, and each has a weight; the switches have numbers below 64
-pub record AreWeighed (sizes weights rooms : List ℕ) : Type 0 where
+pub record ArePartitionsWeighed (sizes weights rooms : List ℕ) : Type 0 where
   pub each : length sizes ≡ length weights
   pub some : All (λ size. 0 < size) sizes
   pub few : length rooms ≤ 64
@@ -57,9 +57,9 @@ pub record SpreadLaws (sizes weights rooms : List ℕ) (backups : ℕ) : Type 0 
       → IsSpread sizes weights rooms backups other → placement ≡ other
   pub refused : (placement : List (List ℕ)) (partition : ℕ)
       → IsSpread sizes weights rooms backups placement
-      → FindsFewer sizes weights rooms backups partition → ⊥
-  pub first : (partition other : ℕ) → FindsFewer sizes weights rooms backups partition
-      → FindsFewer sizes weights rooms backups other → partition ≡ other
+      → SpreadFindsFewer sizes weights rooms backups partition → ⊥
+  pub first : (partition other : ℕ) → SpreadFindsFewer sizes weights rooms backups partition
+      → SpreadFindsFewer sizes weights rooms backups other → partition ≡ other
   -- no placement that fits has a lower peak than the bound
   pub bounded : (placement : List (List ℕ)) → Fits sizes rooms backups placement
       → bound weights rooms ≤ peak weights placement

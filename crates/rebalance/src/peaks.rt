@@ -41,12 +41,12 @@ fn carry(carried: &mut [u64], weights: &[u64], targets: &[Targets])
         → slice_index carried.new s ≡ traffic weights.now targets.now s }
 {
     for (partition, weight) in weights.iter().enumerate() {
-        add_first(carried, &targets[partition], *weight);
+        add_first_weight(carried, &targets[partition], *weight);
     }
 }
 
 // Adds the weight to the traffic of the first of the targets.
-fn add_first(carried: &mut [u64], targets: &Targets, weight: u64)
+fn add_first_weight(carried: &mut [u64], targets: &Targets, weight: u64)
     requires { All (λ load. load + weight < 2 ^ 64) carried.old }
     ensures { (s : ℕ) → s < length carried.old → slice_index carried.new s
         ≡ slice_index carried.old s

@@ -1,7 +1,7 @@
 ghost use Rattle.std.specs.Prelude.{◌≡◌, ◌++◌, ◌<◌, ◌≤◌, ◌^◌, IfOk, length, sum};
 ghost use Rattle.net_file.specs.Net.{IsNet};
-ghost use Rattle.partition.specs.Plan.{IsPlan};
-ghost use Rattle.rebalance.specs.Proposals.{IsFoundFor, ProposesFor, peaks_text, targets_by_partition};
+ghost use Rattle.partition.specs.Plan.{IsPartitionPlan};
+ghost use Rattle.rebalance.specs.Proposals.{IsFoundFor, CommandProposesFor, peaks_text, targets_by_partition};
 ghost use Rattle.rebalance.specs.Spread.{IsProposal};
 
 use crate::laws::spread_laws;
@@ -42,8 +42,8 @@ pub fn proposal_text(
     net: &Net,
 ) -> Result<Vec<u8>, AllocError>
     requires net { IsNet net.now }
-    requires plan { IsPlan plan.now.policy net.now plan.now.hosted }
-    ensures { IfOk result (λ text. ProposesFor plan.now.policy plan.now.hosted net.now journal.now
+    requires plan { IsPartitionPlan plan.now.policy net.now plan.now.hosted }
+    ensures { IfOk result (λ text. CommandProposesFor plan.now.policy plan.now.hosted net.now journal.now
         (λ whole. text.items ≡ whole)) }
 {
     let found = find_proposal(alloc, journal, plan, net)?;
@@ -77,7 +77,7 @@ fn find_proposal(
     net: &Net,
 ) -> Result<Proposal, AllocError>
     requires net { IsNet net.now }
-    requires plan { IsPlan plan.now.policy net.now plan.now.hosted }
+    requires plan { IsPartitionPlan plan.now.policy net.now plan.now.hosted }
     ensures { IfOk result (IsFoundFor plan.now.policy plan.now.hosted net.now journal.now) }
 {
     spread_laws();

@@ -1,5 +1,5 @@
 ghost use Rattle.std.specs.Prelude.{ℕ, List, ◌≡◌, ◌<◌, ◌^◌, length, sum, IfSome, IfNone};
-ghost use Rattle.rebalance.specs.Spread.{FindsFewer, IsProposal, IsSpread};
+ghost use Rattle.rebalance.specs.Spread.{SpreadFindsFewer, IsProposal, IsSpread};
 
 use crate::peaks::peak;
 use policy_rules::Targets;
@@ -12,7 +12,7 @@ pub fn proposed(weights: &[u64], spread: Option<Vec<Targets>>, old: Vec<Targets>
     requires small { sum weights.now < 2 ^ 64 }
     ensures { (sizes rooms : List ℕ) (backups : ℕ)
         → IfSome spread (λ new. IsSpread sizes weights.now rooms backups new.items)
-        → IfNone spread ((refused : ℕ) × FindsFewer sizes weights.now rooms backups refused)
+        → IfNone spread ((refused : ℕ) × SpreadFindsFewer sizes weights.now rooms backups refused)
         → IsProposal sizes weights.now rooms backups old.items result.items }
 {
     let Some(new) = spread else {

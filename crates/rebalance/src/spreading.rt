@@ -1,6 +1,6 @@
 ghost use Rattle.std.specs.Prelude.{◌≡◌, ◌<◌, ◌≤◌, ◌^◌, length, sum, IfOk, IfErr};
 ghost use Rattle.base.specs.Refusals.{IfRefused};
-ghost use Rattle.rebalance.specs.Spread.{FindsFewer, IsSpread};
+ghost use Rattle.rebalance.specs.Spread.{SpreadFindsFewer, IsSpread};
 
 use base::Failure;
 use placement::{Load, NoRoom, widened};
@@ -32,7 +32,7 @@ pub fn spread(
     ensures spread { IfOk result (λ targets.
         IsSpread sizes.now weights.now rooms.now backups targets.items) }
     ensures refused { IfErr result (IfRefused (λ lack.
-        FindsFewer sizes.now weights.now rooms.now backups lack.partition)) }
+        SpreadFindsFewer sizes.now weights.now rooms.now backups lack.partition)) }
 {
     let wide = widened(alloc, sizes)?;
     Load::OnFirst.take_turns(alloc, weights, &wide, rooms, backups)

@@ -1,5 +1,5 @@
 ghost use Rattle.std.specs.Prelude.{ℕ, ◌≡◌, ◌+◌, ◌<◌, ◌^◌, length, slice_index, count_by, sum, IfOk, nat_eq, option_to_list, unwrap_or, All};
-ghost use Rattle.rebalance.specs.Loads.{asked_in, partition_asked, weights_of};
+ghost use Rattle.rebalance.specs.Loads.{weighed_partition_in, weighed_partition, weights_of};
 ghost use Rattle.update_machine.specs.Marks.{current_mark, gives_current};
 
 use journal::{How, Item, Journal};
@@ -16,27 +16,27 @@ pub fn weights(alloc: Global, journal: &Journal, parts: u32) -> Result<Vec<u64>,
     ensures small { IfOk result (λ weights. sum weights.items < 2 ^ 64) }
 {
     let items = journal.items();
-    let current = current_at_end(items);
+    let current = weighed_version_at_end(items);
     let mut weights = vec![in alloc; 0; parts as usize]?;
     for item in items {
-        add_one(&mut weights, asked_in(item, current));
+        add_one_weight(&mut weights, weighed_partition_in(item, current));
     }
     Ok(weights)
 }
 
 // The version that is current after the items.
-fn current_at_end(items: &[Item]) -> u32
+fn weighed_version_at_end(items: &[Item]) -> u32
     ensures { result ≡ current_mark items.now }
 {
     let mut current = 1;
     for item in items {
-        current = current_behind(item, current);
+        current = weighed_version_behind(item, current);
     }
     current
 }
 
 // The version that is current after the item.
-fn current_behind(item: &Item, current: u32) -> u32
+fn weighed_version_behind(item: &Item, current: u32) -> u32
     ensures { result ≡ unwrap_or (gives_current item.now) current }
 {
     match item {
@@ -46,8 +46,8 @@ fn current_behind(item: &Item, current: u32) -> u32
 }
 
 // The partition whose authority decided a packet by this version, if the item says so.
-fn asked_in(item: &Item, version: u32) -> Option<u32>
-    ensures { result ≡ asked_in version item.now }
+fn weighed_partition_in(item: &Item, version: u32) -> Option<u32>
+    ensures { result ≡ weighed_partition_in version item.now }
 {
     match item {
         Item::Decided {
@@ -56,7 +56,7 @@ fn asked_in(item: &Item, version: u32) -> Option<u32>
             ..
         } => {
             if *used == version {
-                partition_asked(how)
+                weighed_partition(how)
             } else {
                 None
             }
@@ -65,8 +65,8 @@ fn asked_in(item: &Item, version: u32) -> Option<u32>
     }
 }
 
-fn partition_asked(how: &How) -> Option<u32>
-    ensures { result ≡ partition_asked how.now }
+fn weighed_partition(how: &How) -> Option<u32>
+    ensures { result ≡ weighed_partition how.now }
 {
     match how {
         How::Authority { partition, .. } => Some(*partition),
@@ -75,7 +75,7 @@ fn partition_asked(how: &How) -> Option<u32>
 }
 
 // Adds one to the number at this place, if a place is given and exists.
-fn add_one(numbers: &mut [u64], place: Option<u32>)
+fn add_one_weight(numbers: &mut [u64], place: Option<u32>)
     requires { All (λ number. number + 1 < 2 ^ 64) numbers.old }
     ensures { (k : ℕ) → k < length numbers.old → slice_index numbers.new k
         ≡ slice_index numbers.old k + count_by (nat_eq k) (option_to_list place) }

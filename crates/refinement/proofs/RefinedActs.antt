@@ -3,23 +3,23 @@
 use Rattle.std.proofs.Common.{[], ◌++◌, ◌+◌, ◌<◌, ◌∙◌, ◌∷◌, ◌≡◌, ◌≤◌, All, Bool, IsFalse, List, None, Some, ap, append-nil, append_assoc, arith, cond, eq-eqb, get_or, length, map, ne_eqb, refl, subst, sym, ℕ}
 use Rattle.base.proofs.Exports.{All-from_recursion, AllByRecursion, length-map, sum_by-cons}
 use Rattle.controller.specs.declared.sends.Act.{Act}
-use Rattle.refinement.specs.Exports.{AreSpelled, AreUp, AreUsable, IsBagOf, IsControllerOf, NetworkState, RefineJournal, switch_of, written_items}
+use Rattle.refinement.specs.Exports.{AreMessagesSpelled, RefineUpLinks, RefineUsableLinks, IsBagOf, IsControllerOf, NetworkState, RefineJournal, switch_of, acts_written}
 use Rattle.update_machine.specs.Exports.{Hello, IsReached, Item, Message, NoneConcern, Setting, Step, concerns_calls, concerns_known, concerns_links, concerns_packets, count_of, gives_message, is_packet, is_sending, last_given, message_of, next_message, piece}
 use Rattle.update_machine.proofs.Exports.{count_of_append, have_append, last_given_append, messages_keep, near_stays, next_sent, packets_keep}
-use Rattle.world_log.specs.Exports.{IsSpelled, MayNote, MaySend, act_item, act_items, act_posts, number_after}
+use Rattle.world_log.specs.Exports.{IsActSpelled, LogMayNote, LogMaySend, log_act_item, log_act_items, log_act_posts, number_after_act}
 use Rattle.refinement.proofs.RefinedPacketFacts.{NoneName, none_more}
-use Rattle.refinement.proofs.PostedFrames.{SendFrom, bag_sends, posts_in}
+use Rattle.refinement.proofs.RefinedPostedFrames.{SendFrom, bag_sends, posts_in}
 use Rattle.control_laws.specs.Exports.{StepsSendFew}
 use Rattle.switch_core.specs.Exports.{SwitchValue}
-use Rattle.refinement.proofs.SwitchLinkChanges.{kept_is}
+use Rattle.refinement.proofs.RefinedSwitchLinks.{kept_is}
 use Rattle.steps.specs.Exports.{IsStep}
-use Rattle.refinement.proofs.StepRefines.{flight_stays, reached_known, reached_more, up_stays}
+use Rattle.refinement.proofs.RefinedSteps.{flight_stays, reached_known, reached_more, up_stays}
 use Rattle.message_bag.specs.Exports.{HasShortSpelling, Post, new_post}
 use Rattle.ctrl_msg.specs.Exports.{to_controller}
-use Rattle.message_bag.proofs.SpellingLengths.{alone_short}
-use Rattle.refinement.proofs.TableSpellings.{reached_spelled}
-use Rattle.world_log.proofs.MessageLogs.{messages_spelled, posts_as_acts}
-use Rattle.refinement.proofs.BagDeliveries.{sends_few}
+use Rattle.message_bag.proofs.BagSpellingLengths.{alone_short}
+use Rattle.refinement.proofs.RefinedTableSpellings.{reached_spelled}
+use Rattle.world_log.proofs.LogMessages.{messages_spelled, posts_as_acts}
+use Rattle.refinement.proofs.RefinedBagDeliveries.{sends_few}
 
 -- ---- what acts write: what these items concern, and what they send
 
@@ -32,8 +32,8 @@ pub record SparesActs (concerns : List Item → Item → Bool) : Type 0 where
 
 pub acts_apart : (concerns : List Item → Item → Bool) → SparesActs concerns
     → (before : List Item) (number : ℕ) (acts : List Act)
-    → NoneConcern concerns before (act_items number acts)
-unfolding act_items
+    → NoneConcern concerns before (log_act_items number acts)
+unfolding log_act_items
 acts_apart concerns spares before number [] = tt
 acts_apart concerns spares before number (Act.Current v ∷ acts) = (
   spares.current before v,
@@ -50,15 +50,15 @@ acts_apart concerns spares before number (Act.Post message ∷ acts) = (
 
 -- ---- messages
 
-pub acts_send : (number : ℕ) (acts : List Act) → SendFrom number (act_items number acts)
-unfolding act_items
+pub acts_send : (number : ℕ) (acts : List Act) → SendFrom number (log_act_items number acts)
+unfolding log_act_items
 acts_send number [] = tt
 acts_send number (Act.Current v ∷ acts) = acts_send number acts
 acts_send number (Act.Retired v ∷ acts) = acts_send number acts
 acts_send number (Act.Post message ∷ acts) = (refl, acts_send (number + 1) acts)
 
-pub acts_posted : (number : ℕ) (acts : List Act) → posts_in (act_items number acts) ≡ act_posts acts
-unfolding act_items act_posts
+pub acts_posted : (number : ℕ) (acts : List Act) → posts_in (log_act_items number acts) ≡ log_act_posts acts
+unfolding log_act_items log_act_posts
 acts_posted number [] = refl
 acts_posted number (Act.Current v ∷ acts) = acts_posted number acts
 acts_posted number (Act.Retired v ∷ acts) = acts_posted number acts
@@ -66,40 +66,40 @@ acts_posted number (Act.Post message ∷ acts) = cc (acts_posted (number + 1) ac
 
 -- how many messages these items send
 pub acts_counted : (number : ℕ) (acts : List Act)
-    → count_of is_sending (act_items number acts) ≡ length (act_posts acts)
-unfolding act_items act_posts
+    → count_of is_sending (log_act_items number acts) ≡ length (log_act_posts acts)
+unfolding log_act_items log_act_posts
 acts_counted number [] = refl
 acts_counted number (Act.Current v ∷ acts) =
-    let sum = sum_by-cons (λ x. cond (is_sending x) 1 0) (Item.Current v) (act_items number acts) in
+    let sum = sum_by-cons (λ x. cond (is_sending x) 1 0) (Item.Current v) (log_act_items number acts) in
     omega (arith, sum, acts_counted number acts)
 acts_counted number (Act.Retired v ∷ acts) =
-    let sum = sum_by-cons (λ x. cond (is_sending x) 1 0) (Item.Retired v) (act_items number acts) in
+    let sum = sum_by-cons (λ x. cond (is_sending x) 1 0) (Item.Retired v) (log_act_items number acts) in
     omega (arith, sum, acts_counted number acts)
 acts_counted number (Act.Post message ∷ acts) =
     let sum = sum_by-cons (λ x. cond (is_sending x) 1 0) (Item.Sent number message)
-    (act_items (number + 1) acts) in
+    (log_act_items (number + 1) acts) in
     omega (arith, sum, acts_counted (number + 1) acts)
 
 -- ---- acts as the journal's definitions have them
 
 pub written_is : (journal : List Item) (acts : List Act)
-    → written_items journal acts ≡ act_items (next_message journal) acts
-unfolding act_items
+    → acts_written journal acts ≡ log_act_items (next_message journal) acts
+unfolding log_act_items
 written_is journal [] = refl
 written_is journal (Act.Current v ∷ acts) =
     ap (λ items. Item.Current v ∷ items) (written_is (journal ++ Item.Current v ∷ []) acts
-    ∙ ap (λ n. act_items n acts) (messages_keep journal (Item.Current v ∷ []) (refl, tt)).next)
+    ∙ ap (λ n. log_act_items n acts) (messages_keep journal (Item.Current v ∷ []) (refl, tt)).next)
 written_is journal (Act.Retired v ∷ acts) =
     ap (λ items. Item.Retired v ∷ items) (written_is (journal ++ Item.Retired v ∷ []) acts
-    ∙ ap (λ n. act_items n acts) (messages_keep journal (Item.Retired v ∷ []) (refl, tt)).next)
+    ∙ ap (λ n. log_act_items n acts) (messages_keep journal (Item.Retired v ∷ []) (refl, tt)).next)
 written_is journal (Act.Post message ∷ acts) = let n : ℕ = next_message journal in
     ap (λ items. Item.Sent n message ∷ items)
     (written_is (journal ++ Item.Sent n message ∷ []) acts
-    ∙ ap (λ k. act_items k acts) (next_sent journal n message))
+    ∙ ap (λ k. log_act_items k acts) (next_sent journal n message))
 
 -- none of it names a packet
-pub acts_unnamed : (i number : ℕ) (acts : List Act) → NoneName i (act_items number acts)
-unfolding act_items
+pub acts_unnamed : (i number : ℕ) (acts : List Act) → NoneName i (log_act_items number acts)
+unfolding log_act_items
 acts_unnamed i number [] = tt
 acts_unnamed i number (Act.Current v ∷ acts) = (refl, acts_unnamed i number acts)
 acts_unnamed i number (Act.Retired v ∷ acts) = (refl, acts_unnamed i number acts)
@@ -107,15 +107,15 @@ acts_unnamed i number (Act.Post message ∷ acts) = (refl, acts_unnamed i (numbe
 
 -- and no packet enters by it
 pub acts_bring_none : (number : ℕ) (acts : List Act)
-    → count_of is_packet (act_items number acts) ≡ 0
-unfolding act_items
+    → count_of is_packet (log_act_items number acts) ≡ 0
+unfolding log_act_items
 acts_bring_none number [] = refl
 acts_bring_none number (one ∷ acts) =
-    let sum = sum_by-cons (λ x. cond (is_packet x) 1 0) (act_item number one)
-    (act_items (number_after number one) acts) in
-    omega (arith, sum, none_comes one, acts_bring_none (number_after number one) acts)
+    let sum = sum_by-cons (λ x. cond (is_packet x) 1 0) (log_act_item number one)
+    (log_act_items (number_after_act number one) acts) in
+    omega (arith, sum, none_comes one, acts_bring_none (number_after_act number one) acts)
   where
-    none_comes : (one : Act) → ◌≡◌ {A = ℕ} (cond (is_packet (act_item number one)) 1 0) 0
+    none_comes : (one : Act) → ◌≡◌ {A = ℕ} (cond (is_packet (log_act_item number one)) 1 0) 0
     none_comes (Act.Current version) = refl
     none_comes (Act.Retired version) = refl
     none_comes (Act.Post message) = refl
@@ -128,7 +128,7 @@ pub record IsTold (setting : Setting) (journal : List Item) (row : ℕ) (step : 
     (first : List Item) (acts : List Act) (state later : NetworkState) : Type 0 where
   pub may : IsStep setting.net (length setting.files) step
   pub piece_is : piece setting journal row step
-      ≡ Item.Row row step ∷ first ++ act_items (length state.posts + 1) acts
+      ≡ Item.Row row step ∷ first ++ log_act_items (length state.posts + 1) acts
   pub packet : (i : ℕ) → NoneName i (Item.Row row step ∷ first)
   pub packets : NoneConcern concerns_packets journal (Item.Row row step ∷ first)
   pub as_many : length later.switches ≡ length state.switches
@@ -138,8 +138,8 @@ pub record IsTold (setting : Setting) (journal : List Item) (row : ℕ) (step : 
   pub number : length later.posts ≡ length state.posts
   pub controller : IsControllerOf setting (journal ++ piece setting journal row step)
       later.controller
-  pub up : AreUp setting (journal ++ Item.Row row step ∷ first) later.links
-  pub usable : AreUsable setting (journal ++ Item.Row row step ∷ first) later.near
+  pub up : RefineUpLinks setting (journal ++ Item.Row row step ∷ first) later.links
+  pub usable : RefineUsableLinks setting (journal ++ Item.Row row step ∷ first) later.near
 
 -- marks and messages concern no packet, no switch and no call of one
 pub spares_links : SparesActs concerns_links
@@ -172,28 +172,28 @@ spares_calls s = record {
 
 -- marks and messages leave a switch
 pub acts_leave : (setting : Setting) (journal : List Item) (number : ℕ) (acts : List Act) (s : ℕ)
-    → switch_of setting (journal ++ act_items number acts) s ≡ switch_of setting journal s
-acts_leave setting journal number acts s = kept_is setting s journal (act_items number acts)
+    → switch_of setting (journal ++ log_act_items number acts) s ≡ switch_of setting journal s
+acts_leave setting journal number acts s = kept_is setting s journal (log_act_items number acts)
     (acts_apart (concerns_known s) (spares_known s) journal number acts)
     (acts_apart (concerns_calls s) (spares_calls s) journal number acts)
 
 all_apart : (concerns : List Item → Item → Bool) → SparesActs concerns → (journal first : List Item)
     (number : ℕ) (acts : List Act) → NoneConcern concerns journal first
-    → NoneConcern concerns journal (first ++ act_items number acts)
+    → NoneConcern concerns journal (first ++ log_act_items number acts)
 all_apart concerns spares journal first number acts none =
     have_append (λ before item. IsFalse (concerns before item)) journal first
-    (act_items number acts) none (acts_apart concerns spares (journal ++ first) number acts)
+    (log_act_items number acts) none (acts_apart concerns spares (journal ++ first) number acts)
 
 -- marks and messages leave the links
 pub links_left : (setting : Setting) (journal : List Item) (number : ℕ) (acts : List Act)
-    (links near : List ℕ) → AreUp setting journal links → AreUsable setting journal near
-    → AreUp setting (journal ++ act_items number acts) links
-    × AreUsable setting (journal ++ act_items number acts) near
+    (links near : List ℕ) → RefineUpLinks setting journal links → RefineUsableLinks setting journal near
+    → RefineUpLinks setting (journal ++ log_act_items number acts) links
+    × RefineUsableLinks setting (journal ++ log_act_items number acts) near
 links_left setting journal number acts links near up usable =
-    let none : NoneConcern concerns_links journal (act_items number acts) =
+    let none : NoneConcern concerns_links journal (log_act_items number acts) =
     acts_apart concerns_links spares_links journal number acts in (
-      up_stays setting journal (act_items number acts) links none up,
-      λ s below. usable s below ∙ sym (near_stays setting s journal (act_items number acts) none),
+      up_stays setting journal (log_act_items number acts) links none up,
+      λ s below. usable s below ∙ sym (near_stays setting s journal (log_act_items number acts) none),
     )
 
 module _ {setting : Setting} {journal : List Item} {state : NetworkState}
@@ -207,20 +207,20 @@ module _ {setting : Setting} {journal : List Item} {state : NetworkState}
   begun = Item.Row row step ∷ first
 
   abbrev all : List Item
-  all = begun ++ act_items number acts
+  all = begun ++ log_act_items number acts
 
   abbrev after : List Item
   after = journal ++ all
 
-  split : (journal ++ begun) ++ act_items number acts ≡ after
-  split = append_assoc journal begun (act_items number acts)
+  split : (journal ++ begun) ++ log_act_items number acts ≡ after
+  split = append_assoc journal begun (log_act_items number acts)
 
   -- what is told and done is tied to the longer journal
   pub refines_told : RefineJournal setting (journal
-      ++ (Item.Row row step ∷ first ++ act_items number acts)) (record later {
+      ++ (Item.Row row step ∷ first ++ log_act_items number acts)) (record later {
         travelling = state.travelling;
         packets = state.packets;
-        posts = later.posts ++ act_posts acts;
+        posts = later.posts ++ log_act_posts acts;
       })
   refines_told =
       let linked = links_left setting (journal ++ begun) number acts later.links later.near told.up
@@ -234,26 +234,26 @@ module _ {setting : Setting} {journal : List Item} {state : NetworkState}
             ∙ ap (λ js. switch_of setting js s) split;
         packet = λ i. refines.packet i ∙ sym (flight_stays setting journal all i
             (reached_known setting journal refines.sound refines.reached) (none_more i begun
-            (act_items number acts) (told.packet i) (acts_unnamed i number acts)));
+            (log_act_items number acts) (told.packet i) (acts_unnamed i number acts)));
         counted = (packets_keep journal all
             (all_apart concerns_packets spares_packets journal begun number acts
             told.packets)).next ∙ refines.counted;
         controller = rw told.piece_is at told.controller;
         bag = rw split at (rw (acts_posted number acts) at (bag_sends number
-            (journal ++ begun) (act_items number acts) later.posts (acts_send number acts)
+            (journal ++ begun) (log_act_items number acts) later.posts (acts_send number acts)
             (ap (λ n. n + 1) (sym told.number) ∙ sym told.bag.many) told.bag));
-        up = subst (λ js. AreUp setting js later.links) split linked.0;
-        usable = subst (λ js. AreUsable setting js later.near) split linked.1;
+        up = subst (λ js. RefineUpLinks setting js later.links) split linked.0;
+        usable = subst (λ js. RefineUsableLinks setting js later.near) split linked.1;
       }
 
 -- what a step sends finds room behind a journal with room
 pub acts_fit : (setting : Setting) (journal : List Item) (row : ℕ) (step : Step)
     (first : List Item) (number : ℕ) (acts : List Act) → StepsSendFew setting journal
-    → piece setting journal row step ≡ Item.Row row step ∷ first ++ act_items number acts
-    → length (act_posts acts) ≤ 10_000
+    → piece setting journal row step ≡ Item.Row row step ∷ first ++ log_act_items number acts
+    → length (log_act_posts acts) ≤ 10_000
 acts_fit setting journal row step first number acts few is =
     let all = subst (λ items. count_of is_sending items ≤ 10_000) is (few row step) in
-    let sum = count_of_append is_sending (Item.Row row step ∷ first) (act_items number acts) in
+    let sum = count_of_append is_sending (Item.Row row step ∷ first) (log_act_items number acts) in
     omega (arith, all, sum, acts_counted number acts)
 
 -- ---- what a step sends finds room in the bag, and has short spellings
@@ -262,8 +262,8 @@ acts_fit setting journal row step first number acts few is =
 
 -- later numbers are other ones
 untold : (k number : ℕ) (acts : List Act) → k < number
-    → last_given (gives_message k) (act_items number acts) ≡ None
-unfolding act_items
+    → last_given (gives_message k) (log_act_items number acts) ≡ None
+unfolding log_act_items
 untold k number [] below = refl
 untold k number (Act.Current v ∷ acts) below = rw (untold k number acts below) refl
 untold k number (Act.Retired v ∷ acts) below = rw (untold k number acts below) refl
@@ -272,31 +272,31 @@ untold k number (Act.Post message ∷ acts) below =
     rw (untold k (number + 1) acts (omega (arith, below)), other) refl
 
 sent_there : (before : List Item) (number : ℕ) (message : Message) (acts : List Act)
-    → message_of (before ++ Item.Sent number message ∷ act_items (number + 1) acts) number
+    → message_of (before ++ Item.Sent number message ∷ log_act_items (number + 1) acts) number
     ≡ Some message
 unfolding message_of
 sent_there before number message acts = last_given_append (gives_message number) before
-    (Item.Sent number message ∷ act_items (number + 1) acts)
+    (Item.Sent number message ∷ log_act_items (number + 1) acts)
     ∙ rw (untold number (number + 1) acts (omega arith), eq-eqb number number refl) refl
 
 acts_spelled : (before : List Item) (number : ℕ) (acts : List Act)
-    → AreSpelled (before ++ act_items number acts) → AllByRecursion IsSpelled acts
-unfolding act_items
+    → AreMessagesSpelled (before ++ log_act_items number acts) → AllByRecursion IsActSpelled acts
+unfolding log_act_items
 acts_spelled before number [] all = tt
 acts_spelled before number (Act.Current v ∷ acts) all = (
   tt,
-  acts_spelled (before ++ Item.Current v ∷ []) number acts (subst AreSpelled
-      (sym (append_assoc before (Item.Current v ∷ []) (act_items number acts))) all),
+  acts_spelled (before ++ Item.Current v ∷ []) number acts (subst AreMessagesSpelled
+      (sym (append_assoc before (Item.Current v ∷ []) (log_act_items number acts))) all),
 )
 acts_spelled before number (Act.Retired v ∷ acts) all = (
   tt,
-  acts_spelled (before ++ Item.Retired v ∷ []) number acts (subst AreSpelled
-      (sym (append_assoc before (Item.Retired v ∷ []) (act_items number acts))) all),
+  acts_spelled (before ++ Item.Retired v ∷ []) number acts (subst AreMessagesSpelled
+      (sym (append_assoc before (Item.Retired v ∷ []) (log_act_items number acts))) all),
 )
 acts_spelled before number (Act.Post message ∷ acts) all = (
   all number message (sent_there before number message acts),
   acts_spelled (before ++ Item.Sent number message ∷ []) (number + 1) acts
-      (rw (append_assoc before (Item.Sent number message ∷ []) (act_items (number + 1) acts)) all),
+      (rw (append_assoc before (Item.Sent number message ∷ []) (log_act_items (number + 1) acts)) all),
 )
 
 -- ---- what a step sends
@@ -306,12 +306,12 @@ module _ {setting : Setting} {journal : List Item} {state : NetworkState}
   -- the acts of a step, behind the first items, may be noted over posts as many as before
   pub may_note : (row : ℕ) (step : Step) (first : List Item) (posts : List Post) (acts : List Act)
       → IsStep setting.net (length setting.files) step → piece setting journal row step
-      ≡ Item.Row row step ∷ first ++ act_items (length state.posts + 1) acts
-      → length posts ≡ length state.posts → length state.posts < 990_000 → MayNote posts acts
+      ≡ Item.Row row step ∷ first ++ log_act_items (length state.posts + 1) acts
+      → length posts ≡ length state.posts → length state.posts < 990_000 → LogMayNote posts acts
   may_note row step first posts acts may is as_many room =
       let number = length state.posts + 1 in
       let begun : List Item = Item.Row row step ∷ first in
-      let spelled = subst (λ items. AreSpelled (journal ++ items)) is
+      let spelled = subst (λ items. AreMessagesSpelled (journal ++ items)) is
       (reached_spelled setting (journal ++ piece setting journal row step) refines.sound
       (reached_more setting journal row step refines.reached may)) in record {
         few = omega (
@@ -321,13 +321,13 @@ module _ {setting : Setting} {journal : List Item} {state : NetworkState}
           acts_fit setting journal row step first number acts (sends_few setting journal
               (reached_known setting journal refines.sound refines.reached)) is,
         );
-        spelled = All-from_recursion IsSpelled acts (acts_spelled (journal ++ begun) number acts
-            (subst AreSpelled (sym (append_assoc journal begun (act_items number acts))) spelled));
+        spelled = All-from_recursion IsActSpelled acts (acts_spelled (journal ++ begun) number acts
+            (subst AreMessagesSpelled (sym (append_assoc journal begun (log_act_items number acts))) spelled));
       }
 
 -- messages that may be noted as acts may be sent
 pub may_send : (posts : List Post) (messages : List Message)
-    → MayNote posts (map Act.Post messages) → MaySend posts messages
+    → LogMayNote posts (map Act.Post messages) → LogMaySend posts messages
 may_send posts messages may = record {
   few = omega (arith, may.few, ap length (posts_as_acts messages), length-map messages new_post);
   spelled = messages_spelled messages [] (rw (append-nil (map Act.Post messages)) may.spelled);

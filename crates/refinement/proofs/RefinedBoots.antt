@@ -1,28 +1,28 @@
 -- A switch that was down begins its next boot: what is written, and the parts after it.
 use Rattle.std.proofs.Common.{[], if◌then◌else◌, ◌&&◌, ◌++◌, ◌+◌, ◌<◌, ◌==◌, ◌∙◌, ◌∷◌, ◌≡◌, Bool, List, ap, append_assoc, arith, cond, eq-eqb, eqb-true, false, filter, get_or, length, not, refl, set, subst, sym, true, ℕ}
 use Rattle.base.proofs.Exports.{None, Some, length-set, option_or, unwrap_or}
-use Rattle.update_machine.specs.Exports.{HasRoom, HaveCauses, Hello, Item, LinkRow, Message, Restart, Setting, boot_of, gives_boot, gives_serving, has_changed, hello_of, is_link_up, is_up, is_usable, items_then, last_given, near, next_message, nothing, piece, restart_items, send_items, sent_from, serves}
+use Rattle.update_machine.specs.Exports.{HasRoom, HaveCauses, Hello, Item, LinkRow, Message, Restart, Setting, boot_of, gives_boot, gives_serving, usable_links_changed, hello_of, is_link_up, is_up, is_usable, journal_items_then, last_given, near, next_message, nothing, piece, restart_items, send_items, sent_from, serves}
 use Rattle.message_bag.specs.Exports.{new_post}
 use Rattle.control_laws.proofs.Exports.{caused_known, fit_in_room, serving_known}
-use Rattle.refinement.proofs.ControllerResends.{steps_leave}
+use Rattle.refinement.proofs.RefinedControllerResends.{steps_leave}
 use Rattle.controller.specs.declared.sends.Act.TheVariants.{Post as PostAct}
 use Rattle.ctrl_msg.specs.Exports.{to_controller}
 use Rattle.net_file.specs.Exports.{links_of}
 use Rattle.control_laws.specs.Exports.{HasItemCause, NumbersFit}
 use Rattle.switch_core.specs.Exports.{SwitchValue, near_changed, restarted_switch}
 use Rattle.refinement.specs.Exports.{CanRestart, NetworkState, RefineJournal, is_up_link, switch_of}
-use Rattle.refinement.proofs.SwitchKnowledge.{requirements_hold}
-use Rattle.refinement.proofs.SwitchLinkChanges.{kept_is, links_refine, lives_refine}
+use Rattle.refinement.proofs.RefinedSwitchKnowledge.{requirements_hold}
+use Rattle.refinement.proofs.RefinedSwitchLinks.{kept_is, links_refine, lives_refine}
 use Rattle.steps.specs.Exports.{IsStep}
 use Rattle.update_machine.proofs.Exports.{last_given_append, messages_keep, switch_keeps}
-use Rattle.world_log.specs.Exports.{act_items, act_posts}
-use Rattle.refinement.proofs.BagDeliveries.{nothing_happens}
-use Rattle.refinement.proofs.GoneSwitches.{up_as}
-use Rattle.refinement.proofs.StepRefines.{WroteOne, one_changes, reached_known, same_links}
-use Rattle.refinement.proofs.PostedFrames.{bag_on}
-use Rattle.refinement.proofs.NetworkSwitches.{switch_is, switch_there}
+use Rattle.world_log.specs.Exports.{log_act_items, log_act_posts}
+use Rattle.refinement.proofs.RefinedBagDeliveries.{nothing_happens}
+use Rattle.refinement.proofs.RefinedGoneSwitches.{up_as}
+use Rattle.refinement.proofs.RefinedSteps.{WroteOne, one_changes, reached_known, same_links}
+use Rattle.refinement.proofs.RefinedPostedFrames.{bag_on}
+use Rattle.refinement.proofs.RefinedNetworkSwitches.{switch_is, switch_there}
 use Rattle.refinement.proofs.RefinedActs.{refines_told}
-use Rattle.refinement.proofs.LinksChange.{caused_first}
+use Rattle.refinement.proofs.RefinedLinkChanges.{caused_first}
 
 same_filter : (now before : LinkRow → Bool) (links : List LinkRow)
     → ((link : LinkRow) → now link ≡ before link) → filter now links ≡ filter before links
@@ -53,7 +53,7 @@ module _ {setting : Setting} {journal : List Item} {state : NetworkState}
   up_already up = nothing_happens refines row (Restart s) may (λ q. refl)
       (ap (λ b. Item.Row row (Restart s) ∷ elim b [
         | true ↦ nothing
-        | false ↦ items_then (Item.Booted s (boot_of rowed s + 1) ∷ [])
+        | false ↦ journal_items_then (Item.Booted s (boot_of rowed s + 1) ∷ [])
             (λ booted. send_items booted (hello_of booted s ∷ [])) rowed
       ]) (rowed_up ∙ up))
 
@@ -99,10 +99,10 @@ module _ {setting : Setting} {journal : List Item} {state : NetworkState}
   unfolding piece restart_items sent_from
   boot_piece down = ap (λ b. Item.Row row (Restart s) ∷ elim b [
     | true ↦ nothing
-    | false ↦ items_then (Item.Booted s (boot_of rowed s + 1) ∷ [])
+    | false ↦ journal_items_then (Item.Booted s (boot_of rowed s + 1) ∷ [])
         (λ later. send_items later (hello_of later s ∷ [])) rowed
   ]) (rowed_up ∙ down)
-      ∙ ap (λ b. Item.Row row (Restart s) ∷ items_then (Item.Booted s (b + 1) ∷ [])
+      ∙ ap (λ b. Item.Row row (Restart s) ∷ journal_items_then (Item.Booted s (b + 1) ∷ [])
       (λ later. send_items later (hello_of later s ∷ [])) rowed)
       ((switch_keeps setting s journal (Item.Row row (Restart s) ∷ []) (refl, tt)).boot ∙ own_boot)
       ∙ ap (λ js. Item.Row row (Restart s) ∷ booted ∷ send_items js (hello_of js s ∷ [])) split
@@ -171,7 +171,7 @@ module _ {setting : Setting} {journal : List Item} {state : NetworkState}
       ∙ ap (λ b. if b then near_changed (switch_of setting journal q) (near setting now q)
       else switch_of setting journal q) unchanged
     where
-      unchanged : has_changed setting journal now q ≡ false
+      unchanged : usable_links_changed setting journal now q ≡ false
       unchanged = ap (λ n. is_up now q && not (near setting journal q == n)) (near_now down q)
           ∙ ap (λ b. is_up now q && not b) (eq-eqb (near setting journal q)
           (near setting journal q) refl) ∙ none (is_up now q)
@@ -185,7 +185,7 @@ module _ {setting : Setting} {journal : List Item} {state : NetworkState}
         switches = set state.switches s changed;
         posts = state.posts ++ new_post hello ∷ [];
       })
-  unfolding act_items act_posts
+  unfolding log_act_items log_act_posts
   boot_refines changed down changed_is = refines_told refines (record state {
     switches = set state.switches s changed;
   }) row (Restart s) (booted ∷ []) (PostAct hello ∷ []) (record {

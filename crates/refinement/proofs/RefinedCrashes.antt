@@ -2,26 +2,26 @@
 -- the parts are behind it.
 use Rattle.std.proofs.Common.{[], ◌&&◌, ◌++◌, ◌+◌, ◌-◌, ◌<◌, ◌==◌, ◌^◌, ◌||◌, ◌∙◌, ◌∷◌, ◌≡◌, All, List, None, Option, Some, ap, append_assoc, arith, false, get_or, if◌then◌else◌, length, length-set, map, option_map, refl, rules, set, slice_get, subst, sym, true, ℕ}
 use Rattle.base.proofs.Exports.{get_or_default, none_removed, not, sum_by-cons}
-use Rattle.update_machine.specs.Exports.{CacheEntry, Crash, Expire, Item, LinkRow, Message, Setting, concerns_calls, concerns_known, concerns_links, concerns_messages, concerns_policies, concerns_switch, count_of, crash_items, has_changed, is_link_up, is_packet, is_up, items_then, link_changes, near, nothing, packets_at, piece, sent_from, targets_of}
+use Rattle.update_machine.specs.Exports.{CacheEntry, Crash, Expire, Item, LinkRow, Message, Setting, concerns_calls, concerns_known, concerns_links, concerns_messages, concerns_policies, concerns_switch, count_of, crash_items, usable_links_changed, is_link_up, is_packet, is_up, journal_items_then, link_changes, near, nothing, packets_at, piece, sent_from, targets_of}
 use Rattle.switch_core.specs.Exports.{SwitchValue, crashed_switch, entry_expired, near_changed}
 use Rattle.switch_table.specs.Exports.{CacheValue, after_expire}
-use Rattle.refinement.specs.Exports.{IsBagOf, LeavesSwitch, NetworkState, RefineJournal, expired_by, flight_in, is_up_link, message_at, switch_of, up_links}
-use Rattle.refinement.proofs.SwitchLinkChanges.{crash_is, expiry_is, kept_is, lives_refine}
+use Rattle.refinement.specs.Exports.{IsBagOf, RefinementLeavesSwitch, NetworkState, RefineJournal, expired_by, flight_in, is_up_link, message_at, switch_of, up_links}
+use Rattle.refinement.proofs.RefinedSwitchLinks.{crash_is, expiry_is, kept_is, lives_refine}
 use Rattle.steps.specs.Exports.{IsStep}
-use Rattle.refinement.proofs.StepRefines.{WritesOne, WroteOne, grown, one_changes, refines_one, same_links}
-use Rattle.refinement.proofs.PostedFrames.{bag_on}
-use Rattle.refinement.proofs.NetworkSwitches.{switch_is, switch_there}
+use Rattle.refinement.proofs.RefinedSteps.{WritesOne, WroteOne, grown, one_changes, refines_one, same_links}
+use Rattle.refinement.proofs.RefinedPostedFrames.{bag_on}
+use Rattle.refinement.proofs.RefinedNetworkSwitches.{switch_is, switch_there}
 use Rattle.controller.specs.declared.sends.Act.{Act}
 use Rattle.controller.specs.declared.sends.Act.TheVariants.{Post as PostAct}
 use Rattle.net_file.specs.Exports.{links_of}
 use Rattle.update_machine.proofs.Exports.{have_append, last_given_append, links_keep}
-use Rattle.world_log.specs.Exports.{AreRelinked, MaySend, act_items, all_adverts_sent, near_all}
-use Rattle.travelling.specs.Travelling.{Flights, WithoutAt, flight, numbers_at}
+use Rattle.world_log.specs.Exports.{AreSwitchesRelinked, LogMaySend, log_act_items, all_adverts_sent, near_all}
+use Rattle.travelling.specs.Travelling.{Flights, TravellingWithoutAt, flight, numbers_at}
 use Rattle.refinement.proofs.RefinedActs.{SparesActs, acts_apart, acts_unnamed}
-use Rattle.refinement.proofs.BagDeliveries.{nothing_happens}
+use Rattle.refinement.proofs.RefinedBagDeliveries.{nothing_happens}
 use Rattle.refinement.proofs.RefinedPacketTable.{among, among_numbers, flight_lost, losts_apart, losts_bring_none, losts_no_rows, numbers_are}
 use Rattle.refinement.proofs.RefinedPacketFacts.{flight_along, flight_now}
-use Rattle.refinement.proofs.LinksChange.{LinksChange, change_may, change_piece, change_refines, one_advert, one_next, one_relinks, relinked_state}
+use Rattle.refinement.proofs.RefinedLinkChanges.{LinksChange, change_may, change_piece, change_refines, one_advert, one_next, one_relinks, relinked_state}
 
 -- ---- a cached rule expires
 
@@ -143,7 +143,7 @@ pub down_piece : (setting : Setting) (journal : List Item) (row s : ℕ) → is_
 unfolding piece crash_items
 down_piece setting journal row s down = ap (λ b. Item.Row row (Crash s) ∷ elim b [
   | false ↦ nothing
-  | true ↦ items_then (Item.Down s ∷ map Item.Lost (packets_at journal s))
+  | true ↦ journal_items_then (Item.Down s ∷ map Item.Lost (packets_at journal s))
       (link_changes setting journal) (journal ++ Item.Row row (Crash s) ∷ [])
 ]) down
 
@@ -158,7 +158,7 @@ up_piece setting journal row s up =
     let first : List Item = Item.Down s ∷ map Item.Lost (packets_at journal s) in
     ap (λ b. Item.Row row (Crash s) ∷ elim b [
       | false ↦ nothing
-      | true ↦ items_then first (link_changes setting journal)
+      | true ↦ journal_items_then first (link_changes setting journal)
           (journal ++ Item.Row row (Crash s) ∷ [])
     ]) up
     ∙ ap (λ js. Item.Row row (Crash s) ∷ first ++ link_changes setting journal js)
@@ -245,13 +245,13 @@ module _ {setting : Setting} {journal : List Item} {state : NetworkState}
       ∙ ap (λ js. switch_of setting js s) (append_assoc begun (Item.Down s ∷ []) losts
       ∙ append_assoc journal (Item.Row row (Crash s) ∷ []) told)
 
-  unchanged : has_changed setting journal now s ≡ false
+  unchanged : usable_links_changed setting journal now s ≡ false
   unfolding switch_of
   unchanged = ap (λ b. b && not (near setting journal s == near setting now s))
       (sym (ap (λ (w : SwitchValue). w.is_up) (sym changed_is ∙ crashed_is)))
 
   -- another switch hears nothing
-  leaves : (q : ℕ) → (s == q) ≡ false → LeavesSwitch q journal row (Crash s) told
+  leaves : (q : ℕ) → (s == q) ≡ false → RefinementLeavesSwitch q journal row (Crash s) told
   leaves q other = record {
     in_step = (tt, losts_no_rows packets);
     apart = (
@@ -314,7 +314,7 @@ module _ {setting : Setting} {journal : List Item} {state : NetworkState}
       ∷ map Item.Lost (numbers_at state.travelling s) ++ sent_from number messages
   crash_piece = cc (change_piece refines changes, numbers)
 
-  pub crash_may : length state.posts < 990_000 → MaySend state.posts messages
+  pub crash_may : length state.posts < 990_000 → LogMaySend state.posts messages
   crash_may = change_may refines changes
 
   -- each switch has a next number for its own advert
@@ -329,16 +329,16 @@ module _ {setting : Setting} {journal : List Item} {state : NetworkState}
   acts = map PostAct messages
 
   abbrev all : List Item
-  all = Item.Row row (Crash s) ∷ told ++ act_items number acts
+  all = Item.Row row (Crash s) ∷ told ++ log_act_items number acts
 
   -- the packets on their way
-  left : (after : Flights) → WithoutAt state.travelling s after → (i : ℕ)
+  left : (after : Flights) → TravellingWithoutAt state.travelling s after → (i : ℕ)
       → flight after i ≡ flight_in setting (journal ++ all) i
   left after without i = without i ∙ ap (λ b. if b then None else flight state.travelling i)
       (sym (among_numbers state.travelling s i) ∙ ap (among i) numbers) ∙ ap
       (λ o. if among i packets then None else o) (refines.packet i ∙ flight_now setting journal i)
       ∙ sym (flight_along setting journal all i (have_append (λ js one. concerns_policies js one
-      ≡ false) journal (Item.Row row (Crash s) ∷ told) (act_items number acts) (
+      ≡ false) journal (Item.Row row (Crash s) ∷ told) (log_act_items number acts) (
         refl,
         (
           refl,
@@ -346,11 +346,11 @@ module _ {setting : Setting} {journal : List Item} {state : NetworkState}
         ),
       ) (acts_apart concerns_policies spares_policies now number acts))
       ∙ flight_lost (targets_of setting journal) i journal
-      (Item.Row row (Crash s) ∷ Item.Down s ∷ []) packets (act_items number acts) _
+      (Item.Row row (Crash s) ∷ Item.Down s ∷ []) packets (log_act_items number acts) _
       (refl, (refl, tt)) (acts_unnamed i number acts))
 
-  pub crash_refines : (others_now : List SwitchValue) (after : Flights) → AreRelinked state.near
-      (near_all state.links others) others others_now → WithoutAt state.travelling s after
+  pub crash_refines : (others_now : List SwitchValue) (after : Flights) → AreSwitchesRelinked state.near
+      (near_all state.links others) others others_now → TravellingWithoutAt state.travelling s after
       → RefineJournal setting (journal ++ (Item.Row row (Crash s) ∷ Item.Down s
       ∷ map Item.Lost (numbers_at state.travelling s) ++ sent_from number messages))
       (relinked_state state others state.links state.posts others_now after)

@@ -1,27 +1,27 @@
 -- A message that is delivered is heard: what is written then, and what the parts are behind it.
 use Rattle.std.proofs.Common.{[], ◌++◌, ◌+◌, ◌<◌, ◌==◌, ◌||◌, ◌∙◌, ◌∷◌, ◌≡◌, Bool, List, None, Some, ap, append_assoc, false, get_or, is_some, length, length-set, map, refl, rules, set, subst, sym, true, ℕ}
 use Rattle.base.proofs.Exports.{option_map_or}
-use Rattle.message_bag.specs.Exports.{IsMessageOf, Post, delivered_status, is_post_deliverable, new_post, with_delivered, with_status}
-use Rattle.message_bag.proofs.NumberedPosts.{length_changed}
-use Rattle.refinement.specs.Exports.{AreWritten, HearsShut, IsBagOf, NetworkState, RefineJournal, switch_of}
-use Rattle.refinement.proofs.ControllerCalls.{hears}
-use Rattle.refinement.proofs.ControllerResends.{names_there, steps_leave}
-use Rattle.controller.specs.Exports.{ControllerValue, NamesThere, SettlesWith, hear_acts, marks_after}
+use Rattle.message_bag.specs.Exports.{IsMessageOf, Post, delivered_status, is_post_deliverable, new_post, posts_with_delivered, post_with_status}
+use Rattle.message_bag.proofs.BagNumberedPosts.{length_changed}
+use Rattle.refinement.specs.Exports.{AreActsWritten, HearsShut, IsBagOf, NetworkState, RefineJournal, switch_of}
+use Rattle.refinement.proofs.RefinedControllerCalls.{hears}
+use Rattle.refinement.proofs.RefinedControllerResends.{names_there, steps_leave}
+use Rattle.controller.specs.Exports.{ControllerValue, ReplyNamesExist, SettlesWith, hear_acts, marks_after}
 use Rattle.controller.specs.declared.sends.Act.{Act}
 use Rattle.controller.specs.declared.sends.Act.TheVariants.{Post as PostAct}
 use Rattle.update_machine.specs.Exports.{Deliver, Item, Message, Place, Setting, deliver_items, delivery_items, is_deliverable, is_message_to, is_message_to_controller, is_to_controller, is_to_switch, message_of, near, next_message, nothing, piece, sent_from, to_switch}
 use Rattle.ctrl_msg.specs.Exports.{to_controller}
-use Rattle.switch_core.specs.Exports.{SwitchValue, opening_stamp, replies, with_message}
-use Rattle.refinement.proofs.DeliveredRecords.{hearing_refines}
-use Rattle.refinement.proofs.SwitchLinkChanges.{kept_is}
+use Rattle.switch_core.specs.Exports.{SwitchValue, opening_stamp, replies, switch_with_message}
+use Rattle.refinement.proofs.RefinedDeliveredRecords.{hearing_refines}
+use Rattle.refinement.proofs.RefinedSwitchLinks.{kept_is}
 use Rattle.steps.specs.Exports.{IsStep}
 use Rattle.update_machine.proofs.Exports.{message_keeps}
-use Rattle.world_log.specs.Exports.{MayNote, MaySend, act_items, act_posts}
-use Rattle.world_log.proofs.MessageLogs.{posts_as_acts, sent_as_acts}
+use Rattle.world_log.specs.Exports.{LogMayNote, LogMaySend, log_act_items, log_act_posts}
+use Rattle.world_log.proofs.LogMessages.{posts_as_acts, sent_as_acts}
 use Rattle.refinement.proofs.RefinedActs.{IsTold, may_note, may_send, refines_told, written_is}
-use Rattle.refinement.proofs.BagDeliveries.{deliverable_as, nothing_happens, sent_as}
-use Rattle.refinement.proofs.StepRefines.{WroteOne, grown, links_stay, one_changes, reached_known, up_stay}
-use Rattle.refinement.proofs.PostedFrames.{bag_delivered, bag_on, within_posts}
+use Rattle.refinement.proofs.RefinedBagDeliveries.{deliverable_as, nothing_happens, sent_as}
+use Rattle.refinement.proofs.RefinedSteps.{WroteOne, grown, links_stay, one_changes, reached_known, up_stay}
+use Rattle.refinement.proofs.RefinedPostedFrames.{bag_delivered, bag_on, within_posts}
 
 -- ---- what a delivery writes
 
@@ -61,8 +61,8 @@ pub record IsThere (setting : Setting) (journal : List Item) (posts : List Post)
     (message : Message) : Type 0 where
   pub sent : message_of journal n ≡ Some message
   pub deliverable : is_deliverable journal n ≡ true
-  pub bag : IsBagOf (grown journal row (Deliver n) (Item.Delivered n)) (with_delivered posts n)
-  pub as_many : length (with_delivered posts n) ≡ length posts
+  pub bag : IsBagOf (grown journal row (Deliver n) (Item.Delivered n)) (posts_with_delivered posts n)
+  pub as_many : length (posts_with_delivered posts n) ≡ length posts
 
 module _ {setting : Setting} {journal : List Item} {state : NetworkState}
     (refines : RefineJournal setting journal state) where
@@ -75,7 +75,7 @@ module _ {setting : Setting} {journal : List Item} {state : NetworkState}
         (bag_delivered (journal ++ Item.Row row (Deliver n) ∷ []) state.posts n
         (within_posts state.posts n _ there.frames_are)
         (bag_on journal (Item.Row row (Deliver n) ∷ []) state.posts (refl, tt) refines.bag));
-    as_many = length_changed (with_status delivered_status) state.posts n;
+    as_many = length_changed (post_with_status delivered_status) state.posts n;
   }
 
   -- it is delivered, and then more is written
@@ -103,15 +103,14 @@ not_to setting journal row n q message sent other =
 
 -- ---- at the controller
 
-as_told : (message : Message) → message.to ≡ Place.Controller
-    → message ≡ to_controller message.body
+as_told : (message : Message) → message.to ≡ Place.Controller → message ≡ to_controller message.body
 as_told message to = ap (λ p. record { to = p; body = message.body }) to
 
 module _ {setting : Setting} {journal : List Item} {state : NetworkState}
     (refines : RefineJournal setting journal state) where
   -- what it names is there
   pub names_known : (n : ℕ) (message : Message) → IsMessageOf state.posts n message
-      → message.to ≡ Place.Controller → NamesThere message.body state.controller.marks
+      → message.to ≡ Place.Controller → ReplyNamesExist message.body state.controller.marks
   names_known n message there to = names_there setting journal n message.body state.controller.marks
       (reached_known setting journal refines.sound refines.reached).tables.names
       refines.controller.marks
@@ -132,18 +131,18 @@ module _ {setting : Setting} {journal : List Item} {state : NetworkState}
   abbrev first : List Item
   first = Item.Row row (Deliver n) ∷ Item.Delivered n ∷ []
 
-  heard_so : AreWritten setting journal first acts new (piece setting journal row (Deliver n))
+  heard_so : AreActsWritten setting journal first acts new (piece setting journal row (Deliver n))
   heard_so = hears setting journal row n message.body state.controller new
       (reached_known setting journal refines.sound refines.reached).caused refines.controller
       its.deliverable (its.sent ∙ ap Some (as_told message to))
       (names_known refines n message there to) settles
 
   pub control_piece : piece setting journal row (Deliver n)
-      ≡ Item.Row row (Deliver n) ∷ Item.Delivered n ∷ act_items (length state.posts + 1) acts
+      ≡ Item.Row row (Deliver n) ∷ Item.Delivered n ∷ log_act_items (length state.posts + 1) acts
   control_piece = cc (heard_so.same, written_is (journal ++ first) acts, its.bag.many, its.as_many)
 
   control_told : IsTold setting journal row (Deliver n) (Item.Delivered n ∷ []) acts state
-      (record state { controller = new; posts = with_delivered state.posts n })
+      (record state { controller = new; posts = posts_with_delivered state.posts n })
   control_told =
       let each : (s : ℕ) (d : SwitchValue) → s < length state.switches → get_or state.switches s d
       ≡ switch_of setting (grown journal row (Deliver n) (Item.Delivered n)) s =
@@ -152,17 +151,17 @@ module _ {setting : Setting} {journal : List Item} {state : NetworkState}
       search (rules, control_piece, its.bag, its.as_many, heard_so.after, links_stay, up_stay)
 
   pub control_refines : RefineJournal setting (journal ++ Item.Row row (Deliver n)
-      ∷ Item.Delivered n ∷ act_items (length state.posts + 1) acts)
-      (record state { controller = new; posts = with_delivered state.posts n ++ act_posts acts })
+      ∷ Item.Delivered n ∷ log_act_items (length state.posts + 1) acts)
+      (record state { controller = new; posts = posts_with_delivered state.posts n ++ log_act_posts acts })
   control_refines = refines_told refines (record state {
     controller = new;
-    posts = with_delivered state.posts n;
+    posts = posts_with_delivered state.posts n;
   }) row (Deliver n) (Item.Delivered n ∷ []) acts control_told
 
   -- and it may be written
-  pub control_may : length state.posts < 990_000 → MayNote (with_delivered state.posts n) acts
+  pub control_may : length state.posts < 990_000 → LogMayNote (posts_with_delivered state.posts n) acts
   control_may = may_note refines row (Deliver n) (Item.Delivered n ∷ [])
-      (with_delivered state.posts n) acts may control_piece its.as_many
+      (posts_with_delivered state.posts n) acts may control_piece its.as_many
 
 -- ---- at a switch that doesn't open
 
@@ -177,7 +176,7 @@ module _ {setting : Setting} {journal : List Item} {state : NetworkState}
     (there : IsMessageOf state.posts n message) (to : message.to ≡ Place.Switch s)
     (within : s < length state.switches) (own_at : own ≡ get_or state.switches s own)
     (near_is : mask ≡ near setting journal s)
-    (changed_is : changed ≡ with_message own n message.body)
+    (changed_is : changed ≡ switch_with_message own n message.body)
     (shut : opening_stamp own message.body ≡ None) where
   mine : IsThere setting journal state.posts row n message
   mine = is_there refines row n message there
@@ -203,7 +202,7 @@ module _ {setting : Setting} {journal : List Item} {state : NetworkState}
   number_is = mine.bag.many ∙ ap (λ k. k + 1) mine.as_many
 
   items_are : delivery_items setting journal n (grown journal row (Deliver n) (Item.Delivered n))
-      ≡ act_items (length state.posts + 1) reply_acts
+      ≡ log_act_items (length state.posts + 1) reply_acts
   items_are = hears_shut.items row ∙ ap (λ k. sent_from k
       (replies (switch_of setting journal s) (near setting journal s) message.body)) number_is
       ∙ ap (λ w. sent_from
@@ -212,7 +211,7 @@ module _ {setting : Setting} {journal : List Item} {state : NetworkState}
       ∙ sym (sent_as_acts (length state.posts + 1) messages)
 
   shut_piece_acts : piece setting journal row (Deliver n)
-      ≡ Item.Row row (Deliver n) ∷ Item.Delivered n ∷ act_items (length state.posts + 1) reply_acts
+      ≡ Item.Row row (Deliver n) ∷ Item.Delivered n ∷ log_act_items (length state.posts + 1) reply_acts
   shut_piece_acts = cc (deliver_piece setting journal row n mine.deliverable, items_are)
 
   not_controller : is_message_to_controller journal n ≡ false
@@ -221,17 +220,16 @@ module _ {setting : Setting} {journal : List Item} {state : NetworkState}
   shut_told : IsTold setting journal row (Deliver n) (Item.Delivered n ∷ []) reply_acts state
       (record state {
         switches = set state.switches s changed;
-        posts = with_delivered state.posts n;
+        posts = posts_with_delivered state.posts n;
       })
   shut_told =
       let each : (q : ℕ) (d : SwitchValue) → q < length state.switches
       → get_or (set state.switches s changed) q d
-      ≡ switch_of setting (grown journal row (Deliver n) (Item.Delivered n)) q = λ q d below.
-      one_changes setting journal (grown journal row (Deliver n) (Item.Delivered n)) state.switches
-      s q changed d (s == q) refl within
-      (changed_is ∙ ap (λ w. with_message w n message.body) own_is ∙ sym (hears_shut.record_of row))
-      (λ other. not_to setting journal row n q message mine.sent
-      (ap (is_to_switch q) to ∙ other)) (refines.each q d below) in
+      ≡ switch_of setting (grown journal row (Deliver n) (Item.Delivered n)) q =
+      λ q d below. one_changes setting journal (grown journal row (Deliver n) (Item.Delivered n))
+      state.switches s q changed d (s == q) refl within (changed_is ∙ ap (λ w. switch_with_message w
+      n message.body) own_is ∙ sym (hears_shut.record_of row)) (λ other. not_to setting journal row
+      n q message mine.sent (ap (is_to_switch q) to ∙ other)) (refines.each q d below) in
       let controller = steps_leave setting journal row (Deliver n) state.controller
       (reached_known setting journal refines.sound refines.reached).caused not_controller
       refines.controller in
@@ -244,21 +242,21 @@ module _ {setting : Setting} {journal : List Item} {state : NetworkState}
   pub shut_refines : RefineJournal setting (journal ++ Item.Row row (Deliver n) ∷ Item.Delivered n
       ∷ sent_from (length state.posts + 1) messages) (record state {
         switches = set state.switches s changed;
-        posts = with_delivered state.posts n ++ map new_post messages;
+        posts = posts_with_delivered state.posts n ++ map new_post messages;
       })
   shut_refines =
       let with : List Post → NetworkState = λ posts. record state {
         switches = set state.switches s changed;
         posts = posts;
       } in
-      let posts : List Post = with_delivered state.posts n in
+      let posts : List Post = posts_with_delivered state.posts n in
       subst (λ items. RefineJournal setting (journal ++ Item.Row row (Deliver n)
       ∷ Item.Delivered n ∷ items) (with (posts ++ map new_post messages)))
       (sent_as_acts (length state.posts + 1) messages)
       (rw (posts_as_acts messages) at (refines_told refines (with posts) row (Deliver n)
       (Item.Delivered n ∷ []) reply_acts shut_told))
 
-  pub shut_may : length state.posts < 990_000 → MaySend (with_delivered state.posts n) messages
-  shut_may room = may_send (with_delivered state.posts n) messages
-      (may_note refines row (Deliver n) (Item.Delivered n ∷ []) (with_delivered state.posts n)
+  pub shut_may : length state.posts < 990_000 → LogMaySend (posts_with_delivered state.posts n) messages
+  shut_may room = may_send (posts_with_delivered state.posts n) messages
+      (may_note refines row (Deliver n) (Item.Delivered n ∷ []) (posts_with_delivered state.posts n)
       reply_acts may shut_piece_acts mine.as_many room)

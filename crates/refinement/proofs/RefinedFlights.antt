@@ -6,7 +6,7 @@ use Rattle.update_machine.specs.Exports.{Header, Item, Leg, Setting, serves, tar
 use Rattle.tunnel.specs.Exports.{TunnelValue}
 use Rattle.packet_laws.specs.Exports.{IsOnLeg, IsOnWay, IsServed, PacketFacts, what_is_known}
 use Rattle.travelling.specs.Travelling.{Flight}
-use Rattle.refinement.proofs.StepRefines.{Known, Travels, travels_known}
+use Rattle.refinement.proofs.RefinedSteps.{Known, Travels, travels_known}
 use Rattle.refinement.proofs.RefinedPacketFacts.{Targets, flight_by}
 
 -- its tunnel, at this place of this route, with these links found down

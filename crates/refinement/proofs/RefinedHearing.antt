@@ -5,11 +5,11 @@ use Rattle.update_machine.specs.Exports.{Advertise, Body, Hello, Install, Instal
 use Rattle.switch_table.specs.Exports.{after_carry, after_expire, after_raise}
 use Rattle.update_machine.proofs.Exports.{calls_stay, fewer, folded_append, links_keep, switch_keeps}
 use Rattle.control_laws.proofs.Exports.{boot_more, heard_more, serving_more, up_more}
-use Rattle.refinement.proofs.SwitchHears.{SaysTouched, heard_facts, hears_facts}
-use Rattle.refinement.proofs.SwitchFacts.{AreVersioned, IsVersioned, SwitchFacts, by_facts, facts_of, stamp_by, switch_by, switch_is}
+use Rattle.refinement.proofs.RefinedSwitchHearing.{SaysTouched, heard_facts, hears_facts}
+use Rattle.refinement.proofs.RefinedSwitchFacts.{AreVersioned, IsVersioned, SwitchFacts, by_facts, facts_of, stamp_by, switch_by, switch_is}
 use Rattle.ctrl_msg.specs.Exports.{body_boot, is_for_controller}
-use Rattle.failover.specs.Exports.{after_hearing}
-use Rattle.switch_core.specs.Exports.{SwitchValue, after_body, collected_to, holds_version, is_news_here, obeys, opened_by, opening_stamp, raised_to, replies_to, stamped_with, with_heard, with_installed, with_message}
+use Rattle.failover.specs.Exports.{adverts_after_hearing}
+use Rattle.switch_core.specs.Exports.{SwitchValue, switch_after_body, collected_to, holds_version, is_news_here, obeys, opened_by, opening_stamp, stamp_raised_to, replies_to, stamped_with, switch_with_heard, with_installed, switch_with_message}
 use Rattle.refinement.specs.Exports.{switch_of}
 
 -- ---- what one item makes of the facts of a switch
@@ -166,7 +166,7 @@ by_obeying {X = X} switch body up own obeyed left_so is mine same =
     by_kind false own kind same = refl
 
 pub controller_kept : (switch : SwitchValue) (n : ℕ) (body : Body) → is_for_controller body ≡ true
-    → after_body switch n body ≡ switch
+    → switch_after_body switch n body ≡ switch
 controller_kept switch n (Hello s boot) is = refl
 controller_kept switch n (Installed s boot version) is = refl
 controller_kept switch n (Stamped s boot version) is = refl
@@ -186,9 +186,9 @@ controller_shut switch _ is = refl
 
 pub obeyed_by : (switch : SwitchValue) (n : ℕ) (body : Body) (up own : Bool)
     → switch.is_up ≡ up → option_map_or (λ boot. boot == switch.boot) (body_boot body) true ≡ own
-    → with_message switch n body ≡ (if up && own then after_body switch n body else switch)
-unfolding with_message
-obeyed_by switch n body up own is mine = by_obeying switch body up own (after_body switch n body)
+    → switch_with_message switch n body ≡ (if up && own then switch_after_body switch n body else switch)
+unfolding switch_with_message
+obeyed_by switch n body up own is mine = by_obeying switch body up own (switch_after_body switch n body)
     switch is mine (controller_kept switch n body)
 
 -- a message that was sent to the switch says its body where it is meant
@@ -201,13 +201,13 @@ said_is before s n body sent = rw (sent, eq-eqb s s refl, body_to_switch) refl
 
 -- the switch once it heard the body, open or closed as it was
 abbrev hears_shut : ℕ → Body → SwitchValue → SwitchValue
-hears_shut n body switch = record (with_message switch n body) { is_open = switch.is_open }
+hears_shut n body switch = record (switch_with_message switch n body) { is_open = switch.is_open }
 
 pub heard_is : (setting : Setting) (before : List Item) (n s : ℕ) (body : Body)
     → message_of before n ≡ Some (to_switch s body) → AreVersioned (heard before s)
     → IsVersioned body → SaysTouched (touched_by setting before) body
     → switch_of setting (before ++ Item.Delivered n ∷ []) s
-    ≡ record (with_message (switch_of setting before s) n body) {
+    ≡ record (switch_with_message (switch_of setting before s) n body) {
       is_open = (switch_of setting before s).is_open;
     }
 heard_is setting before n s body sent olds new says =
@@ -223,10 +223,10 @@ heard_is setting before n s body sent olds new says =
     switch = switch_by setting s w
 
     obeyed : (meant : Bool) → is_meant before s body ≡ meant
-        → record (if meant then after_body switch n body else switch) { is_open = w.serving }
+        → record (if meant then switch_after_body switch n body else switch) { is_open = w.serving }
         ≡ hears_shut n body switch
     obeyed meant is = ap (λ (after : SwitchValue). record after { is_open = w.serving })
-        (ap (λ b. if b then after_body switch n body else switch) (sym is) ∙ sym (obeyed_by switch n
+        (ap (λ b. if b then switch_after_body switch n body else switch) (sym is) ∙ sym (obeyed_by switch n
         body (is_up before s) (is_for_boot (boot_of before s) body) refl refl))
 
     by_meant : (meant : Bool) → is_meant before s body ≡ meant
@@ -248,8 +248,8 @@ or_kept true switch tables = refl
 or_kept false switch tables = refl
 
 kept_by : (switch : SwitchValue) (n : ℕ) (body : Body) → opened_by switch body ≡ None
-    → (after_body switch n body).is_open ≡ switch.is_open
-unfolding with_installed raised_to stamped_with collected_to with_heard
+    → (switch_after_body switch n body).is_open ≡ switch.is_open
+unfolding with_installed stamp_raised_to stamped_with collected_to switch_with_heard
 kept_by switch n (Install boot tables) shut =
     or_kept (holds_version switch tables.version || nat_le tables.version switch.collected) switch
     tables
@@ -266,7 +266,7 @@ kept_by switch n (Stamp boot version touched) shut = by_test (nat_lt switch.stam
   by_test false = refl
 kept_by switch n (Advertise advert) shut = by_test (is_news_here switch advert) where
   by_test : (b : Bool) → (if b then record switch {
-    database = after_hearing switch.database advert;
+    database = adverts_after_hearing switch.database advert;
   } else switch).is_open ≡ switch.is_open
   by_test true = refl
   by_test false = refl
@@ -274,17 +274,17 @@ kept_by switch n _ shut = refl
 
 -- a switch that doesn't open is open or closed as before
 pub open_kept : (switch : SwitchValue) (n : ℕ) (body : Body) → opening_stamp switch body ≡ None
-    → (with_message switch n body).is_open ≡ switch.is_open
-unfolding with_message opening_stamp
+    → (switch_with_message switch n body).is_open ≡ switch.is_open
+unfolding switch_with_message opening_stamp
 open_kept switch n body shut = by_test (obeys switch body) shut where
   by_test : (b : Bool) → (if b then opened_by switch body else None) ≡ None
-      → (if b then after_body switch n body else switch).is_open ≡ switch.is_open
+      → (if b then switch_after_body switch n body else switch).is_open ≡ switch.is_open
   by_test true shut = kept_by switch n body shut
   by_test false shut = refl
 
 opens_by : (switch : SwitchValue) (n stamp : ℕ) (body : Body) → opened_by switch body ≡ Some stamp
-    → ((after_body switch n body).is_open ≡ true) × (stamp ≡ (after_body switch n body).stamp)
-unfolding raised_to
+    → ((switch_after_body switch n body).is_open ≡ true) × (stamp ≡ (switch_after_body switch n body).stamp)
+unfolding stamp_raised_to
 opens_by switch n stamp (OpenAt boot version) opens = (refl, by_open switch.is_open opens) where
   by_test : (b : Bool) → nat_lt switch.stamp version ≡ b → max switch.stamp version
       ≡ (if b then record switch {
@@ -307,11 +307,11 @@ opens_by switch n stamp _ opens = absurd cc
 -- one that opens is open, with this stamp
 pub opens_as : (switch : SwitchValue) (n stamp : ℕ) (body : Body) → opening_stamp switch body
     ≡ Some stamp
-    → ((with_message switch n body).is_open ≡ true) × (stamp ≡ (with_message switch n body).stamp)
-unfolding with_message opening_stamp
+    → ((switch_with_message switch n body).is_open ≡ true) × (stamp ≡ (switch_with_message switch n body).stamp)
+unfolding switch_with_message opening_stamp
 opens_as switch n stamp body opens = by_test (obeys switch body) opens where
   by_test : (b : Bool) → (if b then opened_by switch body else None) ≡ Some stamp
-      → ((if b then after_body switch n body else switch).is_open ≡ true)
-      × (stamp ≡ (if b then after_body switch n body else switch).stamp)
+      → ((if b then switch_after_body switch n body else switch).is_open ≡ true)
+      × (stamp ≡ (if b then switch_after_body switch n body else switch).stamp)
   by_test true opens = opens_by switch n stamp body opens
   by_test false opens = absurd cc

@@ -2,21 +2,21 @@
 -- what the parts are behind it.
 use Rattle.std.proofs.Common.{[], if◌then◌else◌, ◌&&◌, ◌++◌, ◌+◌, ◌<◌, ◌==◌, ◌^◌, ◌||◌, ◌∙◌, ◌∷◌, ◌≡◌, Bool, List, None, Option, Some, ap, append_assoc, arith, eqb-true, false, get_or, length, max, min, refl, sym, true, unwrap_or, ℕ}
 use Rattle.base.proofs.Exports.{and_parts, any_filter_by, beq, has_mask, mask_of_is, nat_tests, option_or}
-use Rattle.update_machine.specs.Exports.{Item, LinkRow, Message, Net, Setting, Step, concerns_calls, gives_link, is_link_up, items_then, last_given, link_changes, link_items, near, nothing, piece, sent_from}
+use Rattle.update_machine.specs.Exports.{Item, LinkRow, Message, Net, Setting, Step, concerns_calls, gives_link, is_link_up, journal_items_then, last_given, link_changes, link_items, near, nothing, piece, sent_from}
 use Rattle.base.specs.Exports.{has}
 use Rattle.net_file.specs.Exports.{are_linked, joins}
-use Rattle.net_file.proofs.RowPlaces.{links as link_laws}
+use Rattle.net_file.proofs.NetFileRowPlaces.{links as link_laws}
 use Rattle.control_laws.specs.Exports.{asks_controller}
 use Rattle.steps.specs.Exports.{HasLink, IsStep}
 use Rattle.switch_core.specs.Exports.{SwitchValue, next_advert}
-use Rattle.refinement.specs.Exports.{LeavesSwitch, NetworkState, RefineJournal, is_up_link, link_step, relinked_switch, up_links}
-use Rattle.refinement.proofs.SwitchLinkChanges.{links_refine}
+use Rattle.refinement.specs.Exports.{RefinementLeavesSwitch, NetworkState, RefineJournal, is_up_link, link_step, relinked_switch, up_links}
+use Rattle.refinement.proofs.RefinedSwitchLinks.{links_refine}
 use Rattle.update_machine.proofs.Exports.{last_given_append}
-use Rattle.world_log.specs.Exports.{AreRelinked, MaySend, SetsLink, all_adverts_sent, near_all}
-use Rattle.refinement.proofs.BagDeliveries.{nothing_happens}
-use Rattle.refinement.proofs.StepRefines.{WroteOne}
-use Rattle.refinement.proofs.PostedFrames.{bag_on}
-use Rattle.refinement.proofs.LinksChange.{relinked_state, LinksChange, change_piece, change_may, unmoved, change_refines}
+use Rattle.world_log.specs.Exports.{AreSwitchesRelinked, LogMaySend, LogSetsLink, all_adverts_sent, near_all}
+use Rattle.refinement.proofs.RefinedBagDeliveries.{nothing_happens}
+use Rattle.refinement.proofs.RefinedSteps.{WroteOne}
+use Rattle.refinement.proofs.RefinedPostedFrames.{bag_on}
+use Rattle.refinement.proofs.RefinedLinkChanges.{relinked_state, LinksChange, change_piece, change_may, unmoved, change_refines}
 
 -- ---- links that are up
 
@@ -101,7 +101,7 @@ link_piece setting journal row one two false = refl
 abbrev items_if : Setting → List Item → List Item → ℕ → ℕ → Bool → Bool → List Item
 items_if setting before journal one two up same = elim same [
   | true ↦ nothing
-  | false ↦ items_then (Item.LinkIs (min one two) (max one two) up ∷ [])
+  | false ↦ journal_items_then (Item.LinkIs (min one two) (max one two) up ∷ [])
       (link_changes setting before) journal
 ]
 
@@ -163,7 +163,7 @@ module _ {setting : Setting} {journal : List Item} {state : NetworkState}
       (journal ++ Item.Row row step ∷ []) one two up (ap (λ b. beq b up) (sym end_is) ∙ same)))
 
   module _ (links : List ℕ) (other : beq (has (get_or state.links one 0) two) up ≡ false)
-      (sets : SetsLink state.links one two up links)
+      (sets : LogSetsLink state.links one two up links)
       (fit : (s : ℕ) → get_or links s 0 < 2 ^ 64) where
     abbrev link : LinkRow
     link = record { one = one; two = two }
@@ -188,7 +188,7 @@ module _ {setting : Setting} {journal : List Item} {state : NetworkState}
         ∙ ap (λ js. Item.Row row step ∷ first ∷ link_changes setting journal js) split
 
     -- no switch hears of it but by its links
-    leaves : (q : ℕ) → LeavesSwitch q journal row step told
+    leaves : (q : ℕ) → RefinementLeavesSwitch q journal row step told
     leaves q = record {
       in_step = (tt, tt);
       apart = (refl, (refl, tt));
@@ -250,12 +250,12 @@ module _ {setting : Setting} {journal : List Item} {state : NetworkState}
         ≡ Item.Row row step ∷ first ∷ sent_from (length state.posts + 1) messages
     set_piece = change_piece refines changes
 
-    pub set_may : length state.posts < 990_000 → MaySend state.posts messages
+    pub set_may : length state.posts < 990_000 → LogMaySend state.posts messages
     set_may = change_may refines changes
 
     -- the parts behind the step, where these are the switches
     pub set_refines : (others : List SwitchValue)
-        → AreRelinked state.near (near_all links state.switches) state.switches others
+        → AreSwitchesRelinked state.near (near_all links state.switches) state.switches others
         → RefineJournal setting (journal ++ Item.Row row step ∷ first
         ∷ sent_from (length state.posts + 1) messages)
         (relinked_state state state.switches links state.posts others state.travelling)

@@ -2,19 +2,19 @@
 -- the parts are behind it.
 use Rattle.std.proofs.Common.{[], ◌++◌, ◌+◌, ◌-◌, ◌<◌, ◌==◌, ◌^◌, ◌∙◌, ◌∷◌, ◌≡◌, All, List, Some, ap, append_assoc, false, get_or, length, length-set, refl, set, subst, sym, ℕ}
 use Rattle.base.proofs.Exports.{option_map_or}
-use Rattle.message_bag.specs.Exports.{IsMessageOf, Post, with_delivered}
+use Rattle.message_bag.specs.Exports.{IsMessageOf, Post, posts_with_delivered}
 use Rattle.update_machine.specs.Exports.{Deliver, Item, LinkRow, Message, Place, Setting, is_link_up, is_to_controller, is_to_switch, link_changes, near, piece, sent_from}
 use Rattle.net_file.specs.Exports.{links_of}
-use Rattle.switch_core.specs.Exports.{SwitchValue, next_advert, opening_stamp, with_message}
-use Rattle.refinement.specs.Exports.{HearsOpening, IsBagOf, LeavesSwitch, NetworkState, RefineJournal, is_up_link, relinked_switch, switch_of, up_links}
-use Rattle.refinement.proofs.DeliveredRecords.{hearing_refines}
+use Rattle.switch_core.specs.Exports.{SwitchValue, next_advert, opening_stamp, switch_with_message}
+use Rattle.refinement.specs.Exports.{HearsOpening, IsBagOf, RefinementLeavesSwitch, NetworkState, RefineJournal, is_up_link, relinked_switch, switch_of, up_links}
+use Rattle.refinement.proofs.RefinedDeliveredRecords.{hearing_refines}
 use Rattle.steps.specs.Exports.{IsStep}
 use Rattle.update_machine.proofs.Exports.{last_given_append}
-use Rattle.world_log.specs.Exports.{AreRelinked, MaySend, all_adverts_sent, near_all}
+use Rattle.world_log.specs.Exports.{AreSwitchesRelinked, LogMaySend, all_adverts_sent, near_all}
 use Rattle.refinement.proofs.RefinedDeliveries.{IsThere, as_sent, deliver_piece, is_there, row_keeps}
-use Rattle.refinement.proofs.StepRefines.{grown, reached_known, same_links}
-use Rattle.refinement.proofs.PostedFrames.{bag_on}
-use Rattle.refinement.proofs.LinksChange.{relinked_state, one_relinks, one_advert, one_next, LinksChange, change_piece, change_may, unmoved, change_refines}
+use Rattle.refinement.proofs.RefinedSteps.{grown, reached_known, same_links}
+use Rattle.refinement.proofs.RefinedPostedFrames.{bag_on}
+use Rattle.refinement.proofs.RefinedLinkChanges.{relinked_state, one_relinks, one_advert, one_next, LinksChange, change_piece, change_may, unmoved, change_refines}
 
 -- links are up as before, where none is told to be up or down
 same_up : (journal : List Item) (row n s stamp : ℕ) (link : LinkRow)
@@ -28,7 +28,7 @@ module _ {setting : Setting} {journal : List Item} {state : NetworkState}
     (own changed : SwitchValue) (may : IsStep setting.net (length setting.files) (Deliver n))
     (there : IsMessageOf state.posts n message) (to : message.to ≡ Place.Switch s)
     (within : s < length state.switches) (own_at : own ≡ get_or state.switches s own)
-    (changed_is : changed ≡ with_message own n message.body)
+    (changed_is : changed ≡ switch_with_message own n message.body)
     (opens : opening_stamp own message.body ≡ Some stamp) where
   its : IsThere setting journal state.posts row n message
   its = is_there refines row n message there
@@ -36,8 +36,8 @@ module _ {setting : Setting} {journal : List Item} {state : NetworkState}
   own_is : own ≡ switch_of setting journal s
   own_is = own_at ∙ refines.each s own within
 
-  changed_so : changed ≡ with_message (switch_of setting journal s) n message.body
-  changed_so = changed_is ∙ ap (λ w. with_message w n message.body) own_is
+  changed_so : changed ≡ switch_with_message (switch_of setting journal s) n message.body
+  changed_so = changed_is ∙ ap (λ w. switch_with_message w n message.body) own_is
 
   abbrev told : List Item
   told = Item.Delivered n ∷ Item.Opened s stamp ∷ []
@@ -61,7 +61,7 @@ module _ {setting : Setting} {journal : List Item} {state : NetworkState}
   piece_so = cc (deliver_piece setting journal row n its.deliverable, hears_open.items row, split)
 
   -- another switch hears nothing
-  leaves : (q : ℕ) → (s == q) ≡ false → LeavesSwitch q journal row (Deliver n) told
+  leaves : (q : ℕ) → (s == q) ≡ false → RefinementLeavesSwitch q journal row (Deliver n) told
   leaves q other = record {
     in_step = (tt, (tt, tt));
     apart = (refl, (cc (row_keeps journal row n, its.sent, to, other), (other, tt)));
@@ -72,7 +72,7 @@ module _ {setting : Setting} {journal : List Item} {state : NetworkState}
   others = set state.switches s changed
 
   abbrev posts : List Post
-  posts = with_delivered state.posts n
+  posts = posts_with_delivered state.posts n
 
   same : up_links setting now ≡ up_links setting journal
   same = same_links now journal setting.net.links (λ link.
@@ -103,7 +103,7 @@ module _ {setting : Setting} {journal : List Item} {state : NetworkState}
       ∷ Item.Delivered n ∷ Item.Opened s stamp ∷ sent_from (length state.posts + 1) messages
   opening_piece = change_piece refines changes
 
-  pub opening_may : length state.posts < 990_000 → MaySend (with_delivered state.posts n) messages
+  pub opening_may : length state.posts < 990_000 → LogMaySend (posts_with_delivered state.posts n) messages
   opening_may = change_may refines changes
 
   -- each switch has a next number for its own advert
@@ -114,7 +114,7 @@ module _ {setting : Setting} {journal : List Item} {state : NetworkState}
 
   -- the parts behind the step, where these are the switches
   pub opening_refines : (relinked_switch : List SwitchValue)
-      → AreRelinked state.near (near_all state.links others) others relinked_switch
+      → AreSwitchesRelinked state.near (near_all state.links others) others relinked_switch
       → RefineJournal setting (journal ++ Item.Row row (Deliver n) ∷ Item.Delivered n
       ∷ Item.Opened s stamp ∷ sent_from (length state.posts + 1) messages)
       (relinked_state state others state.links posts relinked_switch state.travelling)

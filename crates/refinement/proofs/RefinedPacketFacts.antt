@@ -3,19 +3,19 @@ use Rattle.std.proofs.Common.{[], ◌++◌, ◌+◌, ◌==◌, ◌∙◌, ◌∷
 use Rattle.base.proofs.Exports.{⊤, sum_by-cons}
 use Rattle.message_bag.specs.Exports.{Post, new_post}
 use Rattle.update_machine.specs.Exports.{Action, Exit, Item, Leg, Message, NoneConcern, Ports, Seek, Setting, concerns_policies, count_of, is_packet, retired_mark, sent_from, stays_on_way, takes_route, targets_in, targets_of}
-use Rattle.switch_core.specs.Exports.{Answer, Arrival, SwitchValue, around, call_counted, hop_answer, link_found_down, received}
+use Rattle.switch_core.specs.Exports.{Answer, SwitchArrival, SwitchValue, around, call_counted, hop_answer, link_found_down, received}
 use Rattle.switch_core.specs.Answers as answer
 use Rattle.switch_core.specs.declared.deciding.Decision.{Decision}
 use Rattle.switch_core.specs.declared.tunnel_calls.HopEnd.{HopEnd}
 use Rattle.switch_core.specs.declared.tunnel_calls.Next.{Next}
 use Rattle.tunnel.specs.Exports.{TunnelValue, next as next_switch, tunnel_begun}
 use Rattle.refinement.specs.Exports.{AreInStep, IsInStep, flight_in, flight_of}
-use Rattle.world_log.specs.Exports.{answer_items, answer_posts, arrival_items, arrival_posts, arrived_items, arrived_posts, cache_message, decided_flight, decided_items, end_item, ended_items, ended_posts, entered_items, entered_posts, hop_posts, hop_written, hopped_flight, message_list, turned_items}
+use Rattle.world_log.specs.Exports.{log_answer_items, log_answer_posts, log_arrival_items, log_arrival_posts, log_arrived_items, log_arrived_posts, cache_message, log_decided_flight, log_decided_items, log_end_item, log_ended_items, log_ended_posts, log_entered_items, log_entered_posts, log_hop_posts, log_hop_written, log_hopped_flight, log_message_list, log_turned_items}
 use Rattle.travelling.specs.Travelling.{Flight, Standing, standing_at}
-use Rattle.refinement.proofs.PostedFrames.{SendFrom, posts_in}
+use Rattle.refinement.proofs.RefinedPostedFrames.{SendFrom, posts_in}
 use Rattle.five_tuple.specs.Exports.{header_of}
 use Rattle.update_machine.proofs.Exports.{policies_keep}
-use Rattle.packet_laws.specs.Exports.{PacketFacts, facts_after, is_of_packet, what_is_known}
+use Rattle.packet_laws.specs.Exports.{PacketFacts, packet_facts_after, is_of_packet, what_is_known}
 use Rattle.packet_laws.proofs.Exports.{facts_grow}
 
 -- ---- the items that a switch's answer to a packet writes: they begin no step and bring no other
@@ -40,7 +40,7 @@ route_later i (Seek version partition) route = tt
 route_later i (Exit port) route = tt
 
 pub end_later : (at : Standing) (decision : Decision) (onward : Next)
-    → IsInStep (end_item at decision onward)
+    → IsInStep (log_end_item at decision onward)
 end_later at decision Next.Dropped = tt
 end_later at decision (Next.Out port) = tt
 end_later at decision (Next.Exit tunnel) = route_later at.packet tunnel.leg tunnel.route
@@ -48,21 +48,21 @@ end_later at decision (Next.Stuck cause) = tt
 
 pub decided_later : (number : ℕ) (at : Standing) (decision : Decision) (message : Option Message)
     (onward : Next)
-    → AreInStep (decided_items at decision (sent_from number (message_list message)) onward)
+    → AreInStep (log_decided_items at decision (sent_from number (log_message_list message)) onward)
 unfolding sent_from
 decided_later number at decision None onward = (tt, (end_later at decision onward, tt))
 decided_later number at decision (Some message) onward =
     (tt, (tt, (end_later at decision onward, tt)))
 
 pub answer_later : (number : ℕ) (at : Standing) (what : Answer)
-    → AreInStep (answer_items number at what)
+    → AreInStep (log_answer_items number at what)
 answer_later number at (answer.Decided decision cache onward) =
     decided_later number at decision (cache_message at.ingress cache) onward
 answer_later number at (answer.Seek tunnel) = (route_later at.packet tunnel.leg tunnel.route, tt)
 answer_later number at (answer.Stuck cause leg) = (tt, tt)
 
-pub arrived_later : (number : ℕ) (at : Standing) (t : Flight) (what : Arrival)
-    → AreInStep (arrived_items number at t.version t.rule what)
+pub arrived_later : (number : ℕ) (at : Standing) (t : Flight) (what : SwitchArrival)
+    → AreInStep (log_arrived_items number at t.version t.rule what)
 arrived_later number at t (answer.Out port) = (tt, tt)
 arrived_later number at t (answer.Answered what) = answer_later number at what
 
@@ -74,7 +74,7 @@ route_still i (Seek version partition) route = refl
 route_still i (Exit port) route = refl
 
 end_still : (at : Standing) (decision : Decision) (onward : Next)
-    → stays_on_way (end_item at decision onward ∷ []) ≡ false
+    → stays_on_way (log_end_item at decision onward ∷ []) ≡ false
 end_still at decision Next.Dropped = refl
 end_still at decision (Next.Out port) = refl
 end_still at decision (Next.Exit tunnel) = route_still at.packet tunnel.leg tunnel.route
@@ -82,13 +82,13 @@ end_still at decision (Next.Stuck cause) = refl
 
 decided_still : (number : ℕ) (at : Standing) (decision : Decision) (message : Option Message)
     (onward : Next) → stays_on_way
-    (decided_items at decision (sent_from number (message_list message)) onward) ≡ false
+    (log_decided_items at decision (sent_from number (log_message_list message)) onward) ≡ false
 unfolding sent_from
 decided_still number at decision None onward = end_still at decision onward
 decided_still number at decision (Some message) onward = end_still at decision onward
 
-pub arrived_still : (number : ℕ) (at : Standing) (t : Flight) (what : Arrival)
-    → stays_on_way (arrived_items number at t.version t.rule what) ≡ false
+pub arrived_still : (number : ℕ) (at : Standing) (t : Flight) (what : SwitchArrival)
+    → stays_on_way (log_arrived_items number at t.version t.rule what) ≡ false
 arrived_still number at t (answer.Out port) = refl
 arrived_still number at t (answer.Answered (answer.Decided decision cache onward)) =
     decided_still number at decision (cache_message at.ingress cache) onward
@@ -108,7 +108,7 @@ route_sends number i (Seek version partition) route = (tt, refl)
 route_sends number i (Exit port) route = (tt, refl)
 
 end_sends : (number : ℕ) (at : Standing) (decision : Decision) (onward : Next)
-    → SendNone number (end_item at decision onward ∷ [])
+    → SendNone number (log_end_item at decision onward ∷ [])
 end_sends number at decision Next.Dropped = (tt, refl)
 end_sends number at decision (Next.Out port) = (tt, refl)
 end_sends number at decision (Next.Exit tunnel) =
@@ -116,9 +116,9 @@ end_sends number at decision (Next.Exit tunnel) =
 end_sends number at decision (Next.Stuck cause) = (tt, refl)
 
 decided_sends : (number : ℕ) (at : Standing) (decision : Decision) (message : Option Message)
-    (onward : Next) → (let items : List Item = decided_items at decision
-    (sent_from number (message_list message)) onward in
-    SendFrom number items × (posts_in items ≡ map new_post (message_list message)))
+    (onward : Next) → (let items : List Item = log_decided_items at decision
+    (sent_from number (log_message_list message)) onward in
+    SendFrom number items × (posts_in items ≡ map new_post (log_message_list message)))
 unfolding sent_from
 decided_sends number at decision None onward = end_sends number at decision onward
 decided_sends number at decision (Some message) onward =
@@ -130,46 +130,46 @@ abbrev pub SendPosts : ℕ → List Item → List Post → Type 0
 SendPosts number items posts = SendFrom number items × (posts_in items ≡ posts)
 
 answer_sends : (number : ℕ) (at : Standing) (what : Answer)
-    → SendPosts number (answer_items number at what) (answer_posts at what)
+    → SendPosts number (log_answer_items number at what) (log_answer_posts at what)
 answer_sends number at (answer.Decided decision cache onward) =
     decided_sends number at decision (cache_message at.ingress cache) onward
 answer_sends number at (answer.Seek tunnel) = route_sends number at.packet tunnel.leg tunnel.route
 answer_sends number at (answer.Stuck cause leg) = (tt, refl)
 
 pub entered_sends : (number : ℕ) (at : Standing) (what : Option Answer)
-    → SendPosts number (entered_items number at what) (entered_posts at what)
+    → SendPosts number (log_entered_items number at what) (log_entered_posts at what)
 entered_sends number at None = (tt, refl)
 entered_sends number at (Some what) = answer_sends number at what
 
-arrived_sends : (number : ℕ) (at : Standing) (t : Flight) (what : Arrival)
-    → SendPosts number (arrived_items number at t.version t.rule what) (arrived_posts at what)
+arrived_sends : (number : ℕ) (at : Standing) (t : Flight) (what : SwitchArrival)
+    → SendPosts number (log_arrived_items number at t.version t.rule what) (log_arrived_posts at what)
 arrived_sends number at t (answer.Out port) = (tt, refl)
 arrived_sends number at t (answer.Answered what) = answer_sends number at what
 
 turned_sends : (number i here : ℕ) (found : Option ℕ) (end : HopEnd) (route : List ℕ)
     (rest : List Item) (posts : List Post) → SendPosts number rest posts
-    → SendPosts number (turned_items i here found end route ++ rest) posts
+    → SendPosts number (log_turned_items i here found end route ++ rest) posts
 turned_sends number i here None end route rest posts sends = sends
 turned_sends number i here (Some other) HopEnd.Arrive route rest posts sends = sends
 turned_sends number i here (Some other) (HopEnd.Move next) route rest posts sends = sends
 turned_sends number i here (Some other) (HopEnd.Stuck cause) route rest posts sends = sends
 
 ended_sends : (number : ℕ) (switch : SwitchValue) (near : ℕ) (ports : Ports) (t : Flight)
-    (end : HopEnd) → SendPosts number (ended_items number switch near ports t end)
-    (ended_posts switch near ports t end)
-unfolding arrival_items arrival_posts
+    (end : HopEnd) → SendPosts number (log_ended_items number switch near ports t end)
+    (log_ended_posts switch near ports t end)
+unfolding log_arrival_items log_arrival_posts
 ended_sends number switch near ports t HopEnd.Arrive = arrived_sends number
     (standing_at switch.number t) t (received switch (around near ports) t.tunnel)
 ended_sends number switch near ports t (HopEnd.Move other) = (tt, refl)
 ended_sends number switch near ports t (HopEnd.Stuck cause) = (tt, refl)
 
 pub hop_sends : (number : ℕ) (switch : SwitchValue) (near : ℕ) (ports : Ports) (t : Flight)
-    → SendFrom number (hop_written number switch near ports t)
-    × (posts_in (hop_written number switch near ports t) ≡ hop_posts switch near ports t)
+    → SendFrom number (log_hop_written number switch near ports t)
+    × (posts_in (log_hop_written number switch near ports t) ≡ log_hop_posts switch near ports t)
 hop_sends number switch near ports t = turned_sends number t.tunnel.packet switch.number
     (link_found_down near (next_switch t.tunnel)) (hop_answer switch near t.tunnel).end
     (hop_answer switch near t.tunnel).tunnel.route _ _ (ended_sends number (call_counted switch)
-    near ports (hopped_flight switch near t) (hop_answer switch near t.tunnel).end)
+    near ports (log_hopped_flight switch near t) (hop_answer switch near t.tunnel).end)
 
 -- ---- refined packet facts
 
@@ -177,7 +177,7 @@ hop_sends number switch near ports t = turned_sends number t.tunnel.packet switc
 abbrev pub facts_along : ℕ → List Item → List Item → PacketFacts → PacketFacts
 facts_along i before [] facts = facts
 facts_along i before (item ∷ items) facts = facts_along i (before ++ item ∷ []) items
-    (if is_of_packet i item then facts_after (retired_mark before) item facts else facts)
+    (if is_of_packet i item then packet_facts_after (retired_mark before) item facts else facts)
 
 pub facts_all : (i : ℕ) (before items : List Item)
     → what_is_known (before ++ items) i ≡ facts_along i before items (what_is_known before i)
@@ -260,7 +260,7 @@ pub unnamed_first : (i : ℕ) (before first items : List Item) (facts : PacketFa
     → facts_along i before (first ++ items) facts ≡ facts_along i (before ++ first) items facts
 unnamed_first i before [] items facts none = cc (append-nil before)
 unnamed_first i before (one ∷ first) items facts none = ap (λ b. facts_along i (before ++ one ∷ [])
-    (first ++ items) (if b then facts_after (retired_mark before) one facts else facts)) none.0
+    (first ++ items) (if b then packet_facts_after (retired_mark before) one facts else facts)) none.0
     ∙ unnamed_first i (before ++ one ∷ []) first items facts none.1
     ∙ ap (λ js. facts_along i js items facts) (append_assoc before (one ∷ []) first)
 
@@ -271,7 +271,7 @@ none_more i (one ∷ first) items none more = (none.0, none_more i first items n
 
 -- messages name no packet
 pub sends_unnamed : (i number : ℕ) (message : Option Message)
-    → NoneName i (sent_from number (message_list message))
+    → NoneName i (sent_from number (log_message_list message))
 unfolding sent_from
 sends_unnamed i number None = tt
 sends_unnamed i number (Some message) = (refl, tt)
@@ -282,7 +282,7 @@ route_other q i (Seek version partition) route other = other
 route_other q i (Exit port) route other = other
 
 end_other : (q : ℕ) (at : Standing) (decision : Decision) (onward : Next)
-    → (at.packet == q) ≡ false → is_of_packet q (end_item at decision onward) ≡ false
+    → (at.packet == q) ≡ false → is_of_packet q (log_end_item at decision onward) ≡ false
 end_other q at decision Next.Dropped other = other
 end_other q at decision (Next.Out port) other = other
 end_other q at decision (Next.Exit tunnel) other =
@@ -290,11 +290,11 @@ end_other q at decision (Next.Exit tunnel) other =
 end_other q at decision (Next.Stuck cause) other = other
 
 answer_other : (q number : ℕ) (at : Standing) (what : Answer) → (at.packet == q) ≡ false
-    → NoneName q (answer_items number at what)
+    → NoneName q (log_answer_items number at what)
 answer_other q number at (answer.Decided decision cache onward) other = (
   other,
-  none_more q (sent_from number (message_list (cache_message at.ingress cache)))
-      (end_item at decision onward ∷ []) (sends_unnamed q number (cache_message at.ingress cache))
+  none_more q (sent_from number (log_message_list (cache_message at.ingress cache)))
+      (log_end_item at decision onward ∷ []) (sends_unnamed q number (cache_message at.ingress cache))
       (end_other q at decision onward other, tt),
 )
 answer_other q number at (answer.Seek tunnel) other =
@@ -302,12 +302,12 @@ answer_other q number at (answer.Seek tunnel) other =
 answer_other q number at (answer.Stuck cause leg) other = (other, tt)
 
 pub entered_other : (q number : ℕ) (at : Standing) (what : Option Answer) → (at.packet == q) ≡ false
-    → NoneName q (entered_items number at what)
+    → NoneName q (log_entered_items number at what)
 entered_other q number at None other = (refl, tt)
 entered_other q number at (Some what) other = (other, answer_other q number at what other)
 
-pub arrived_other : (q number : ℕ) (at : Standing) (flight : Flight) (what : Arrival)
-    → (at.packet == q) ≡ false → NoneName q (arrived_items number at flight.version flight.rule
+pub arrived_other : (q number : ℕ) (at : Standing) (flight : Flight) (what : SwitchArrival)
+    → (at.packet == q) ≡ false → NoneName q (log_arrived_items number at flight.version flight.rule
     what)
 arrived_other q number at flight (answer.Out port) other = (other, tt)
 arrived_other q number at flight (answer.Answered what) other = answer_other q number at what other
@@ -349,26 +349,26 @@ by_port : (targets : Targets) (before : List Item) (at : Standing) (ingress : �
     (decision : Decision) (route : List ℕ) (port : ℕ) (facts : PacketFacts)
     → IsSeen at ingress facts → decision.action ≡ Action.Out port → (let tunnel : TunnelValue =
     tunnel_begun at.packet at.header ingress (Exit port) (targets (Exit port)) route at.down in
-    decided_flight decision (Next.Exit tunnel)
+    log_decided_flight decision (Next.Exit tunnel)
     ≡ flight_by targets at.packet (facts_along at.packet before
-    (end_item at decision (Next.Exit tunnel) ∷ []) (decided_facts decision facts)))
+    (log_end_item at decision (Next.Exit tunnel) ∷ []) (decided_facts decision facts)))
 by_port targets before at ingress decision route port facts seen acts =
     rw ((eq-eqb _ _ refl), acts, seen.on, seen.header, seen.came, seen.found) refl
 
 end_goes : (targets : Targets) (before : List Item) (at : Standing) (ingress : ℕ)
     (decision : Decision) (onward : Next) (facts : PacketFacts) → IsSeen at ingress facts
     → GoesOnward targets at ingress decision onward
-    → decided_flight decision onward ≡ flight_by targets at.packet
-    (facts_along at.packet before (end_item at decision onward ∷ []) (decided_facts decision facts))
+    → log_decided_flight decision onward ≡ flight_by targets at.packet
+    (facts_along at.packet before (log_end_item at decision onward ∷ []) (decided_facts decision facts))
 end_goes targets before at ingress decision Next.Dropped facts seen goes = rw (eq-eqb _ _ refl) refl
 end_goes targets before at ingress decision (Next.Out port) facts seen goes =
     rw (eq-eqb _ _ refl) refl
 end_goes targets before at ingress decision (Next.Stuck cause) facts seen goes =
     rw (eq-eqb _ _ refl) refl
 end_goes targets before at ingress decision (Next.Exit tunnel) facts seen goes =
-    let P : TunnelValue → Type 0 = λ t. decided_flight decision (Next.Exit t)
+    let P : TunnelValue → Type 0 = λ t. log_decided_flight decision (Next.Exit t)
     ≡ flight_by targets at.packet (facts_along at.packet before
-    (end_item at decision (Next.Exit t) ∷ []) (decided_facts decision facts)) in
+    (log_end_item at decision (Next.Exit t) ∷ []) (decided_facts decision facts)) in
     subst P (sym goes.2.is)
     (by_port targets before at ingress decision goes.2.route goes.0 facts seen goes.1)
 
@@ -376,12 +376,12 @@ end_goes targets before at ingress decision (Next.Exit tunnel) facts seen goes =
 pub decided_goes : (targets : Targets) (before sends : List Item) (at : Standing) (ingress : ℕ)
     (decision : Decision) (onward : Next) (facts : PacketFacts) → NoneName at.packet sends
     → IsSeen at ingress facts → GoesOnward targets at ingress decision onward
-    → decided_flight decision onward ≡ flight_by targets at.packet
-    (facts_along at.packet before (decided_items at decision sends onward) facts)
+    → log_decided_flight decision onward ≡ flight_by targets at.packet
+    (facts_along at.packet before (log_decided_items at decision sends onward) facts)
 decided_goes targets before sends at ingress decision onward facts none seen goes =
     let decided : Item = Item.Decided at.packet decision.version decision.rule decision.action
     decision.how in
-    let end : List Item = end_item at decision onward ∷ [] in
+    let end : List Item = log_end_item at decision onward ∷ [] in
     let said = ap (λ b. facts_along at.packet (before ++ decided ∷ []) (sends ++ end) (if b
     then decided_facts decision facts else facts)) (eq-eqb _ _ refl) ∙ unnamed_first at.packet
     (before ++ decided ∷ []) sends end (decided_facts decision facts) none in

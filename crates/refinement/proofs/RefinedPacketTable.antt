@@ -2,24 +2,24 @@
 use Rattle.std.proofs.Common.{[], ◌&&◌, ◌++◌, ◌+◌, ◌<◌, ◌==◌, ◌∙◌, ◌∷◌, ◌≡◌, ◌≤◌, ◌⊎◌, Bool, IsFalse, List, None, Option, Some, ap, arith, cond, eq-eqb, eqb-true, false, filter, get_or, if◌then◌else◌, inl, inr, length, map, refl, rules, suc, sym, true, ℕ}
 use Rattle.base.proofs.Exports.{any-filter_same, cases_lt, filter_agree, list_any, range_with_len, sum_by-cons}
 use Rattle.update_machine.specs.Exports.{Header, Item, NoneConcern, Packet, Ports, Setting, Step, count_of, is_at, is_packet, near, next_message, next_packet, packets_at, piece, retired_mark, standing, targets_of, travels, travels_at}
-use Rattle.packet_laws.specs.Exports.{IsUnknown, PacketFacts, facts_after, what_is_known}
+use Rattle.packet_laws.specs.Exports.{IsUnknownPacket, PacketFacts, packet_facts_after, what_is_known}
 use Rattle.packet_laws.proofs.Exports.{numbered, ways_of_all}
-use Rattle.refinement.specs.Exports.{BagsRefine, Comes, EntriesRefine, HopsRefine, IsOfNet, NetworkState, NoRows, RefineJournal, entry_at, flight_in, flight_of, switch_of}
+use Rattle.refinement.specs.Exports.{BagsRefine, Comes, EntriesRefine, HopsRefine, IsOfNet, NetworkState, NoRows, RefineJournal, refined_entry_at, flight_in, flight_of, switch_of}
 use Rattle.travelling.specs.Travelling.{Flight, Flights, flight, numbers_at, stands_at}
-use Rattle.travelling.proofs.SlotNumbers.{beyond, none_between}
-use Rattle.refinement.proofs.StepRefines.{Known, reached_known}
+use Rattle.travelling.proofs.TravellingSlots.{beyond, none_between}
+use Rattle.refinement.proofs.RefinedSteps.{Known, reached_known}
 use Rattle.refinement.proofs.RefinedFlights.{IsStanding, got, standing_by}
 use Rattle.refinement.proofs.RefinedRanges.{any_picked}
-use Rattle.refinement.proofs.HopPieces.{CanAsk, can_be_asked, hop_others, hop_own, hop_piece, looks_up_as, standing_of}
+use Rattle.refinement.proofs.RefinedHopPieces.{CanAsk, can_be_asked, hop_others, hop_own, hop_piece, looks_up_as, standing_of}
 use Rattle.refinement.proofs.RefinedPacketFacts.{NoneName, Targets, entered_sends, facts_along, flight_by, flight_now, same_targets, unnamed}
 use Rattle.five_tuple.specs.Exports.{IsHeader}
 use Rattle.switch_core.specs.Exports.{Answer, SwitchValue}
 use Rattle.tunnel.specs.Exports.{here}
-use Rattle.world_log.specs.Exports.{coming_in, entered_flight, entered_items}
-use Rattle.refinement.proofs.IncomingTie.{come_along}
-use Rattle.refinement.proofs.OnwardPackets.{ComesTo, come_goes, come_law, looking}
-use Rattle.refinement.proofs.PostedFrames.{are_apart, bag_begun, bag_delivered, bag_forgotten, bag_on, bag_sent}
-use Rattle.refinement.proofs.TakenLegs.{sees}
+use Rattle.world_log.specs.Exports.{log_coming_in, log_entered_flight, log_entered_items}
+use Rattle.refinement.proofs.RefinedIncomingTie.{come_along}
+use Rattle.refinement.proofs.RefinedOnwardPackets.{ComesTo, come_goes, come_law, looking}
+use Rattle.refinement.proofs.RefinedPostedFrames.{are_apart, bag_begun, bag_delivered, bag_forgotten, bag_on, bag_sent}
+use Rattle.refinement.proofs.RefinedTakenLegs.{sees}
 
 -- ---- numbers that pass a test
 
@@ -151,10 +151,10 @@ facts_lost i before (k ∷ packets) more facts none =
         → facts_along i before (Item.Lost k ∷ map Item.Lost packets ++ more) facts
         ≡ (if among i (k ∷ packets) then ended facts else facts)
     by_same true e rest = ap (λ b. facts_along i after (map Item.Lost packets ++ more) (if b
-        then facts_after (retired_mark before) (Item.Lost k) facts else facts)) e
+        then packet_facts_after (retired_mark before) (Item.Lost k) facts else facts)) e
         ∙ rest (ended facts) ∙ still (among i packets) ∙ sym (rw e refl)
     by_same false e rest = ap (λ b. facts_along i after (map Item.Lost packets ++ more) (if b
-        then facts_after (retired_mark before) (Item.Lost k) facts else facts)) e ∙ rest facts
+        then packet_facts_after (retired_mark before) (Item.Lost k) facts else facts)) e ∙ rest facts
         ∙ sym (rw e refl)
 
 -- a packet is gone where it is among them, behind items that don't name it
@@ -193,15 +193,15 @@ module _ (setting : Setting) (journal : List Item) (row s : ℕ) (header : Heade
   first = Item.Row row (Packet s header)
 
   abbrev answer : Option Answer
-  answer = entry_at setting journal ports s header
+  answer = refined_entry_at setting journal ports s header
 
   abbrev items : List Item
-  items = entered_items (next_message journal) (coming_in i header s) answer
+  items = log_entered_items (next_message journal) (log_coming_in i header s) answer
 
   knows : Known setting journal
   knows = reached_known setting journal of.sound of.reached
 
-  unknown : IsUnknown (what_is_known journal i)
+  unknown : IsUnknownPacket (what_is_known journal i)
   unknown = knows.kept.unknown i (omega arith)
 
   comes : ComesTo setting journal i s header w mask ports
@@ -219,17 +219,17 @@ module _ (setting : Setting) (journal : List Item) (row s : ℕ) (header : Heade
   piece_is = cc (come_law setting journal row i s taken header w mask ports comes)
 
   along : (q : ℕ) (b : Bool) → (q == i) ≡ b
-      → (if b then entered_flight answer else flight_in setting journal q)
+      → (if b then log_entered_flight answer else flight_in setting journal q)
       ≡ flight_in setting (journal ++ first ∷ items) q
   along q b is = come_along setting journal row (next_message journal) taken
-      (targets_of setting (looking journal row taken i s header)) (coming_in i header s) answer
+      (targets_of setting (looking journal row taken i s header)) (log_coming_in i header s) answer
       (flight_in setting journal q) q b knows is unknown unknown.found
       (come_goes setting journal row i s taken header w mask ports comes)
       (λ leg. same_targets setting (journal ++ first ∷ []) (Item.Entered i s header ∷ []) (refl, tt)
       leg ∙ same_targets setting journal (first ∷ []) (refl, tt) leg) (
         refl,
         (are_apart (next_message journal) (journal ++ first ∷ []) items
-            (entered_sends (next_message journal) (coming_in i header s) answer).0).policies,
+            (entered_sends (next_message journal) (log_coming_in i header s) answer).0).policies,
       ) refl
 
   come : Comes setting journal row s header ports

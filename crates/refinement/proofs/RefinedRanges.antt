@@ -1,7 +1,7 @@
 -- Numbers of a range that are picked by a test, and what is made of them.
 use Rattle.std.proofs.Common.{[], ◌+◌, ◌<◌, ◌∙◌, ◌∷◌, ◌≡◌, ◌≤◌, Bool, IsFalse, IsTrue, ap, arith, cond, false, length, subst, suc, take_while, true, zero, ℕ}
 use Rattle.base.proofs.Exports.{range_with_len, take_while-cons}
-pub use Rattle.control_laws.proofs.PickedNumbers.{any_picked}
+pub use Rattle.control_laws.proofs.ControlPickedNumbers.{any_picked}
 
 -- ---- ranges
 

@@ -1,24 +1,24 @@
 -- What a switch and the controller send again: what is written, and the parts after it.
 use Rattle.std.proofs.Common.{[], if◌then◌else◌, ◌++◌, ◌+◌, ◌<◌, ◌==◌, ◌∙◌, ◌∷◌, ◌≡◌, ◌≢◌, Bool, List, ap, arith, eqb-true, false, flat_map, get_or, length, map, refl, sym, true, ℕ}
 use Rattle.message_bag.specs.Exports.{Post as BagPost}
-use Rattle.refinement.specs.Exports.{AreWritten, IsBagOf, NetworkState, RefineJournal, acts_of_resend, switch_of}
-use Rattle.refinement.proofs.ControllerResends.{resends_nothing, resends_some}
+use Rattle.refinement.specs.Exports.{AreActsWritten, IsBagOf, NetworkState, RefineJournal, acts_of_resend, switch_of}
+use Rattle.refinement.proofs.RefinedControllerResends.{resends_nothing, resends_some}
 use Rattle.controller.specs.Exports.{ControllerValue, resend_acts}
 use Rattle.controller.specs.declared.sends.Act.{Act}
 use Rattle.controller.specs.declared.sends.Act.TheVariants.{Post}
 use Rattle.update_machine.specs.Exports.{Advert, Hello, Item, Message, Resend, Setting, advert_to, boot_of, held_adverts, is_up, near, piece, resent_by_switch, switches_in}
 use Rattle.ctrl_msg.specs.Exports.{to_controller}
 use Rattle.switch_core.specs.Exports.{SwitchValue}
-use Rattle.refinement.proofs.SwitchLinkChanges.{kept_is, links_refine}
+use Rattle.refinement.proofs.RefinedSwitchLinks.{kept_is, links_refine}
 use Rattle.update_machine.proofs.Exports.{near_stays}
-use Rattle.world_log.specs.Exports.{MayNote, act_items, act_posts, adverts_again}
+use Rattle.world_log.specs.Exports.{LogMayNote, log_act_items, log_act_posts, adverts_again}
 use Rattle.steps.specs.Exports.{IsStep}
 use Rattle.travelling.specs.Travelling.{Flights}
 use Rattle.refinement.proofs.RefinedActs.{may_note, refines_told, written_is}
-use Rattle.refinement.proofs.BagDeliveries.{nothing_happens}
-use Rattle.refinement.proofs.StepRefines.{WroteOne, links_stay, reached_known, up_stay}
-use Rattle.refinement.proofs.PostedFrames.{bag_on}
-use Rattle.refinement.proofs.NetworkSwitches.{switch_is, switch_known}
+use Rattle.refinement.proofs.RefinedBagDeliveries.{nothing_happens}
+use Rattle.refinement.proofs.RefinedSteps.{WroteOne, links_stay, reached_known, up_stay}
+use Rattle.refinement.proofs.RefinedPostedFrames.{bag_on}
+use Rattle.refinement.proofs.RefinedNetworkSwitches.{switch_is, switch_known}
 
 -- nothing is there to send, or something
 none_there : (acts : List Act) → (length acts == 0) ≡ true → acts ≡ []
@@ -118,7 +118,7 @@ module _ {setting : Setting} {journal : List Item} {state : NetworkState}
     bag_behind : IsBagOf rowed state.posts
     bag_behind = bag_on journal (Item.Row row (Resend s) ∷ []) state.posts (refl, tt) refines.bag
 
-    resent_so : AreWritten setting journal (Item.Row row (Resend s) ∷ [])
+    resent_so : AreActsWritten setting journal (Item.Row row (Resend s) ∷ [])
         (acts_of_resend setting rowed s state.controller) state.controller
         (piece setting journal row (Resend s))
     resent_so = resends_some setting journal row s state.controller
@@ -126,15 +126,15 @@ module _ {setting : Setting} {journal : List Item} {state : NetworkState}
         (switch_known refines s may) (λ e. some_there acts some (acts_are ∙ e))
 
     pub again_piece : piece setting journal row (Resend s)
-        ≡ Item.Row row (Resend s) ∷ act_items (length state.posts + 1) acts
+        ≡ Item.Row row (Resend s) ∷ log_act_items (length state.posts + 1) acts
     again_piece = resent_so.same ∙ ap (λ items. Item.Row row (Resend s) ∷ items)
         (written_is rowed (acts_of_resend setting rowed s state.controller)
-        ∙ ap (λ k. act_items k (acts_of_resend setting rowed s state.controller)) bag_behind.many
-        ∙ ap (act_items (length state.posts + 1)) (sym acts_are))
+        ∙ ap (λ k. log_act_items k (acts_of_resend setting rowed s state.controller)) bag_behind.many
+        ∙ ap (log_act_items (length state.posts + 1)) (sym acts_are))
 
     pub again_refines : RefineJournal setting (journal ++ Item.Row row (Resend s)
-        ∷ act_items (length state.posts + 1) acts)
-        (record state { posts = state.posts ++ act_posts acts })
+        ∷ log_act_items (length state.posts + 1) acts)
+        (record state { posts = state.posts ++ log_act_posts acts })
     again_refines = refines_told refines state row (Resend s) [] acts (record {
       may = may;
       piece_is = again_piece;
@@ -150,5 +150,5 @@ module _ {setting : Setting} {journal : List Item} {state : NetworkState}
       usable = links_stay refines (Item.Row row (Resend s) ∷ []) (refl, tt);
     })
 
-    pub again_may : length state.posts < 990_000 → MayNote state.posts acts
+    pub again_may : length state.posts < 990_000 → LogMayNote state.posts acts
     again_may = may_note refines row (Resend s) [] state.posts acts may again_piece refl

@@ -1,24 +1,24 @@
 -- The marks settle as the journal's rule says, and what is sent then is what the definition says.
 use Rattle.std.proofs.Common.{[], if◌then◌else◌, ◌&&◌, ◌++◌, ◌+◌, ◌-◌, ◌<◌, ◌==◌, ◌||◌, ◌∙◌, ◌∷◌, ◌≡◌, ◌≤◌, Bool, IsFalse, IsTrue, List, None, Option, Some, ap, append-nil, append_assoc, arith, eq-eqb, eqb-true, false, filter, is_some, length, map, nat_lt, not, refl, rules, slice_get, subst, sym, true, unwrap_or, ℕ}
 use Rattle.base.proofs.Exports.{each_always, each_map, fill_by_all, filter_made, get_or-map, length-map, list_all, list_all-map, list_any, map_twice, nat_tests, option_map_or, option_or, picked_same, range_with_len, slice_get-get_or}
-use Rattle.update_machine.specs.Exports.{Body, Collect, HaveCauses, Item, Message, OpenAt, Setting, Stamp, acked_stamp, controller_heard, current_items, current_mark, first_number, items_then, known_boot, least_number, next_current, next_message, next_retired, open_for, open_in, open_items, open_version, opened_at, opening_switches, retired_items, retired_mark, send_items, sent_from, settling, switches_of, to_switch, touched_by, version_count}
+use Rattle.update_machine.specs.Exports.{Body, Collect, HaveCauses, Item, Message, OpenAt, Setting, Stamp, acked_stamp, controller_heard, current_items, current_mark, first_open_number, journal_items_then, known_boot, least_number, next_current, next_message, next_retired, open_for, open_version_in, open_items, open_version, opened_at, opening_switches, retired_items, retired_mark, send_items, sent_from, settling, switches_of, to_switch, touched_by, version_count}
 use Rattle.update_machine.specs.Marks as machine
 use Rattle.update_machine.proofs.Exports.{have_append}
 use Rattle.control_laws.specs.Exports.{HasItemCause, MarksAreBounded}
 use Rattle.control_laws.proofs.Exports.{ReopensAlone, acked_same, acked_stamp_opened, behind, bounded, count_more, current_more, have_front, in_three, known_more, leaves_keep, member_of, member_parts, opened_at_more, over_more, retired_more, sends_leave, settling_have, stamp_same, told_more}
 use Rattle.version_update.specs.Marks as marks
-use Rattle.version_update.specs.Exports.{MarksValue, RisesTo, Settles, has_acked, is_joining, is_member, is_over, opens_at, record_of, unknown_switch}
+use Rattle.version_update.specs.Exports.{MarksValue, CurrentRisesTo, Settles, has_acked, is_joining, is_member, is_over, joining_opens_at, record_of, unknown_switch_record}
 use Rattle.version_update.specs.Record as known
 use Rattle.version_update.specs.declared.marks.Settled.{Settled}
 use Rattle.version_update.specs.declared.record.Phase.{Phase}
 use Rattle.version_update.specs.declared.record.Phase.TheVariants.{Joining, Member, Over}
 use Rattle.version_update.specs.declared.record.SwitchRecord.{SwitchRecord}
 use Rattle.controller.specs.Sends as acts
-use Rattle.controller.specs.Exports.{boot_recorded, posts_to, switches_where}
+use Rattle.controller.specs.Exports.{boot_recorded, controller_posts_to, switches_by_record}
 use Rattle.controller.specs.declared.sends.Act.{Act}
 use Rattle.controller.specs.declared.sends.Act.TheVariants.{Current, Post, Retired}
-use Rattle.refinement.specs.Exports.{AreMarksOf, IsKnown, item_of, written_items}
-use Rattle.refinement.proofs.KeptController.{current_on, known_on, marks_on, posted, retired_on, written_in_three}
+use Rattle.refinement.specs.Exports.{AreMarksOf, IsKnown, act_item_of, acts_written}
+use Rattle.refinement.proofs.RefinedKeptController.{current_on, known_on, marks_on, posted, retired_on, written_in_three}
 use Rattle.refinement.proofs.RefinedRanges.{any_picked, passing_is}
 use Rattle.ternary.specs.Exports.{WordValue}
 
@@ -26,7 +26,7 @@ use Rattle.ternary.specs.Exports.{WordValue}
 
 made : (value : MarksValue)
     → value.switches ≡ map (record_of value) (range_with_len 0 (length value.switches))
-made value = fill_by_all (record_of value) value.switches (length value.switches) unknown_switch refl
+made value = fill_by_all (record_of value) value.switches (length value.switches) unknown_switch_record refl
     (λ k below. refl)
 
 -- what is made of the members is the same
@@ -65,15 +65,15 @@ pub told_posted : (f : ℕ → Act) (g : ℕ → Message) (passes : SwitchRecord
     → length value.switches ≡ length setting.net.switches
     → ((s : ℕ) → s < length value.switches → passes (record_of value s) ≡ q s)
     → ((s : ℕ) → s < length value.switches → f s ≡ Post (g s))
-    → written_items journal (map f (switches_where passes value.switches))
+    → acts_written journal (map f (switches_by_record passes value.switches))
     ≡ send_items journal (map g (filter q (switches_of setting)))
 told_posted f g passes q setting journal value many tests makes =
     let p : ℕ → Bool = λ s. option_map_or passes (slice_get value.switches s) false in
-    ap (written_items journal)
+    ap (acts_written journal)
     (ap (λ n. map f (filter p (range_with_len 0 n))) many
     ∙ picked_same f (λ s. Post (g s)) p q 0 (length setting.net.switches)
     (λ s above below. let there : s < length value.switches = omega (arith, below, many) in
-    ap (λ o. option_map_or passes o false) (slice_get-get_or value.switches s unknown_switch there)
+    ap (λ o. option_map_or passes o false) (slice_get-get_or value.switches s unknown_switch_record there)
     ∙ tests s there)
     (λ s above below is. makes s (omega (arith, below, many)))
     ∙ sym (map_twice g Post (filter q (switches_of setting))))
@@ -93,7 +93,7 @@ leave_on setting journal value message switches leaves are = marks_on setting jo
 -- ---- current rises
 
 rises_same : (setting : Setting) (now : List Item) (before : MarksValue) (current : ℕ)
-    → AreMarksOf setting now before → RisesTo before current → current ≡ next_current setting now
+    → AreMarksOf setting now before → CurrentRisesTo before current → current ≡ next_current setting now
 unfolding next_current
 rises_same setting now before current are rises =
     let first = are.current in
@@ -120,7 +120,7 @@ adverts_over body journal s = to_switch s (body (known_boot journal s))
 abbrev risen_items : Setting → List Item → Item → (ℕ → Body) → Bool → List Item
 risen_items setting journal next body b = elim b [
   | false ↦ []
-  | true ↦ items_then (next ∷ []) (λ raised.
+  | true ↦ journal_items_then (next ∷ []) (λ raised.
       send_items raised (map (adverts_over body journal) (machine.members setting journal))) journal
 ]
 
@@ -128,18 +128,18 @@ risen_items setting journal next body b = elim b [
 rises_by : (setting : Setting) (journal : List Item) (after value risen : MarksValue) (act : Act)
     (body : ℕ → Body) → AreMarksOf setting journal value
     → SameBoots journal after (length value.switches)
-    → ((s : ℕ) → ReopensAlone (journal ++ item_of journal act ∷ []) (adverts_over body journal s))
-    → AreMarksOf setting (journal ++ item_of journal act ∷ []) risen
-    → (b : Bool) → (b ≡ false → AreMarksOf setting journal risen) → (written_items journal (if b
-    then act ∷ posts_to after body (switches_where (λ known. is_member known.phase) value.switches)
-    else []) ≡ risen_items setting journal (item_of journal act) body b)
-    × AreMarksOf setting (journal ++ risen_items setting journal (item_of journal act) body b) risen
+    → ((s : ℕ) → ReopensAlone (journal ++ act_item_of journal act ∷ []) (adverts_over body journal s))
+    → AreMarksOf setting (journal ++ act_item_of journal act ∷ []) risen
+    → (b : Bool) → (b ≡ false → AreMarksOf setting journal risen) → (acts_written journal (if b
+    then act ∷ controller_posts_to after body (switches_by_record (λ known. is_member known.phase) value.switches)
+    else []) ≡ risen_items setting journal (act_item_of journal act) body b)
+    × AreMarksOf setting (journal ++ risen_items setting journal (act_item_of journal act) body b) risen
 rises_by setting journal after value risen act body are boots leaves rises false stays = (
   refl,
   subst (λ js. AreMarksOf setting js risen) (sym (append-nil journal)) (stays refl),
 )
 rises_by setting journal after value risen act body are boots leaves rises true stays =
-    let next : Item = item_of journal act in
+    let next : Item = act_item_of journal act in
     let raised : List Item = journal ++ next ∷ [] in
     let message : ℕ → Message = adverts_over body journal in (
       ap (λ items. next ∷ items) (told_posted (λ s. acts.post_act s (body (boot_recorded after s)))
@@ -156,13 +156,13 @@ rises_on : (setting : Setting) (journal : List Item) (after value : MarksValue)
     (risen : ℕ → MarksValue) (act : ℕ → Act) (body : ℕ → ℕ → Body) (low high mark version : ℕ)
     → low ≡ mark → high ≡ version → AreMarksOf setting journal value
     → SameBoots journal after (length value.switches) → ((s : ℕ) → ReopensAlone
-    (journal ++ item_of journal (act version) ∷ []) (adverts_over (body version) journal s))
-    → AreMarksOf setting (journal ++ item_of journal (act version) ∷ []) (risen version)
+    (journal ++ act_item_of journal (act version) ∷ []) (adverts_over (body version) journal s))
+    → AreMarksOf setting (journal ++ act_item_of journal (act version) ∷ []) (risen version)
     → (nat_lt mark version ≡ false → AreMarksOf setting journal (risen version))
-    → (let items = risen_items setting journal (item_of journal (act version)) (body version)
+    → (let items = risen_items setting journal (act_item_of journal (act version)) (body version)
     (nat_lt mark version) in
-    (written_items journal (if nat_lt low high then act high ∷ posts_to after (body high)
-    (switches_where (λ known. is_member known.phase) value.switches) else []) ≡ items)
+    (acts_written journal (if nat_lt low high then act high ∷ controller_posts_to after (body high)
+    (switches_by_record (λ known. is_member known.phase) value.switches) else []) ≡ items)
     × AreMarksOf setting (journal ++ items) (risen high))
 rises_on setting journal after value risen act body low high mark version low_is high_is are boots
     leaves rises stays = rw (low_is, high_is) (rises_by setting journal after value (risen version)
@@ -173,12 +173,12 @@ raises_on : (setting : Setting) (now : List Item) (before after : MarksValue)
     → AreMarksOf setting now before → before.current ≤ after.current
     → after.current ≡ next_current setting now
     → SameBoots now after (length before.switches)
-    → (written_items now (acts.stamp_acts touched before after) ≡ current_items setting now)
+    → (acts_written now (acts.stamp_acts touched before after) ≡ current_items setting now)
     × AreMarksOf setting (now ++ current_items setting now)
     (record before { current = after.current })
 unfolding current_items
 raises_on setting now before after touched says are up is boots = subst
-    (λ words. (written_items now (acts.stamp_acts words before after) ≡ current_items setting now)
+    (λ words. (acts_written now (acts.stamp_acts words before after) ≡ current_items setting now)
     × AreMarksOf setting (now ++ current_items setting now)
     (record before { current = after.current })) (sym says) (rises_on setting now after before
     (λ v. record before { current = v }) Current (λ v boot. Stamp boot v (touched_by setting now v))
@@ -201,7 +201,7 @@ unfolding machine.is_member
 joining_parts journal s joins = grind arith
 
 opens_same : (journal : List Item) (s version : ℕ) (value : SwitchRecord)
-    → IsKnown journal s value → 1 ≤ version → opens_at version value
+    → IsKnown journal s value → 1 ≤ version → joining_opens_at version value
     ≡ (machine.is_joining journal s && machine.has_acked journal s version)
 opens_same journal s version value is low =
     cc (phase_joins value.phase, is.over, is.member, by_joining (machine.is_joining journal s) refl)
@@ -282,7 +282,7 @@ opened_many base journal n version s (t ∷ switches) same =
     messages : List Message
     messages = map (open_for base version) switches
 
-    opens : (b : Bool) → (t == s) ≡ b → first_number (if b then open_in (known_boot journal s)
+    opens : (b : Bool) → (t == s) ≡ b → first_open_number (if b then open_version_in (known_boot journal s)
         (OpenAt (known_boot base t) version) else []) ≡ some_if b version
     opens true e = cc (eq-eqb (known_boot base t) (known_boot journal s)
         (ap (known_boot base) (eqb-true t s e) ∙ sym (same s)))
@@ -293,9 +293,9 @@ opened_known : (one two : List Item) (s version : ℕ) (value : SwitchRecord) �
     → 1 ≤ version → SentStay one two → opened_at two s ≡ option_or (opened_at one s)
     (some_if (machine.is_joining one s && machine.has_acked one s version) version)
     → acked_stamp two s ≤ version → IsKnown two s (known.opened_record version value)
-opened_known one two s version value is low stay now most = by_opens (opens_at version value) refl
+opened_known one two s version value is low stay now most = by_opens (joining_opens_at version value) refl
   where
-    tests : opens_at version value ≡ (machine.is_joining one s && machine.has_acked one s version)
+    tests : joining_opens_at version value ≡ (machine.is_joining one s && machine.has_acked one s version)
     tests = opens_same one s version value is low
 
     joins : (b c : Bool) → IsTrue (b && c) → IsTrue b
@@ -305,7 +305,7 @@ opened_known one two s version value is low stay now most = by_opens (opens_at v
     acked : (v : ℕ) → machine.has_acked two s v ≡ machine.has_acked one s v
     acked v = acked_same two one s v stay.heard
 
-    by_opens : (b : Bool) → opens_at version value ≡ b → IsKnown two s (if b then record value
+    by_opens : (b : Bool) → joining_opens_at version value ≡ b → IsKnown two s (if b then record value
         { phase = Member; open_version = version; acked_stamp = version } else value)
     by_opens true e =
         let passes = sym tests ∙ e in
@@ -343,7 +343,7 @@ record_opened : (before after : MarksValue) (version s : ℕ)
     → record_of after s ≡ known.opened_record version (record_of before s)
 record_opened before after version s switches there =
     ap (λ xs. marks.record_of (record after { switches = xs }) s) switches
-    ∙ get_or-map (known.opened_record version) before.switches s unknown_switch unknown_switch there
+    ∙ get_or-map (known.opened_record version) before.switches s unknown_switch_record unknown_switch_record there
 
 opens_on : (setting : Setting) (one : List Item) (before after : MarksValue)
     → AreMarksOf setting one before → 1 ≤ before.current
@@ -351,13 +351,13 @@ opens_on : (setting : Setting) (one : List Item) (before after : MarksValue)
     → after.switches ≡ map (known.opened_record before.current) before.switches
     → SameBoots one after (length before.switches)
     → MarksAreBounded setting (one ++ open_items setting one)
-    → (written_items one (acts.open_acts before after) ≡ open_items setting one)
+    → (acts_written one (acts.open_acts before after) ≡ open_items setting one)
     × AreMarksOf setting (one ++ open_items setting one) (record after { retired = before.retired })
 unfolding open_items
 opens_on setting one before after are low count current switches boots bounds = (
   told_posted (λ s. acts.post_act s (OpenAt (boot_recorded after s) after.current))
-      (open_for one (current_mark one)) (opens_at after.current) test setting one before are.many
-      (λ s there. ap (λ v. opens_at v (record_of before s)) (current ∙ are.current) ∙ opens_same one
+      (open_for one (current_mark one)) (joining_opens_at after.current) test setting one before are.many
+      (λ s there. ap (λ v. joining_opens_at v (record_of before s)) (current ∙ are.current) ∙ opens_same one
       s (current_mark one) (record_of before s) (are.each s there) first)
       (λ s there. ap (λ boot. Post (to_switch s (OpenAt boot after.current))) (boots s there)
       ∙ ap (λ v. Post (open_for one v s)) (current ∙ are.current)),
@@ -410,7 +410,7 @@ retires_on : (setting : Setting) (two : List Item) (before after : MarksValue)
     → AreMarksOf setting two (record after { retired = before.retired })
     → after.retired ≡ next_retired setting two → retired_mark two ≤ next_retired setting two
     → SameBoots two after (length after.switches)
-    → (written_items two (acts.collect_acts before after) ≡ retired_items setting two)
+    → (acts_written two (acts.collect_acts before after) ≡ retired_items setting two)
     × AreMarksOf setting (two ++ retired_items setting two) after
 unfolding retired_items
 retires_on setting two before after are is least_is boots = rises_on setting two after
@@ -437,7 +437,7 @@ pub settled_boot : (before after : MarksValue) (answer : Settled) (s : ℕ)
     → boot_recorded after s ≡ boot_recorded before s
 settled_boot before after answer s is there =
     ap (λ value. value.boot) (record_opened before after after.current s is.switches there)
-    ∙ boot_opened (opens_at after.current (record_of before s)) after.current (record_of before s)
+    ∙ boot_opened (joining_opens_at after.current (record_of before s)) after.current (record_of before s)
 
 pub settling_caused : (setting : Setting) (now : List Item) → AreCaused setting now
     → AreCaused setting (now ++ settling setting now)
@@ -448,7 +448,7 @@ pub settles_so : (setting : Setting) (now : List Item) (before after : MarksValu
     (answer : Settled) (touched : List WordValue)
     → touched ≡ touched_by setting now after.current → AreCaused setting now
     → AreMarksOf setting now before → Settles before after answer
-    → (written_items now (acts.settling_acts touched before after) ≡ settling setting now)
+    → (acts_written now (acts.settling_acts touched before after) ≡ settling setting now)
     × AreMarksOf setting (now ++ settling setting now) after
 unfolding settling
 settles_so setting now before after answer touched says have are is = (
@@ -474,7 +474,7 @@ settles_so setting now before after answer touched says have are is = (
   boots : SameBoots now after (length before.switches)
   boots s there = settled_boot before after answer s is there ∙ (are.each s there).boot
 
-  raises : (written_items now (acts.stamp_acts touched before after) ≡ current_items setting now)
+  raises : (acts_written now (acts.stamp_acts touched before after) ≡ current_items setting now)
       × AreMarksOf setting one (record before { current = after.current })
   raises = raises_on setting now before after touched says are is.current.rises
       (rises_same setting now before after.current are is.current) boots
@@ -482,13 +482,13 @@ settles_so setting now before after answer touched says have are is = (
   same : (s : ℕ) → s < length before.switches → known_boot one s ≡ known_boot now s
   same s there = sym (raises.1.each s there).boot ∙ (are.each s there).boot
 
-  opens : (written_items one (acts.open_acts before after) ≡ open_items setting one)
+  opens : (acts_written one (acts.open_acts before after) ≡ open_items setting one)
       × AreMarksOf setting two (record after { retired = before.retired })
   opens = opens_on setting one (record before { current = after.current }) after raises.1 low
       is.count refl is.switches (λ s there. boots s there ∙ sym (same s there))
       (bounded setting two two_have)
 
-  retires : (written_items two (acts.collect_acts before after) ≡ retired_items setting two)
+  retires : (acts_written two (acts.collect_acts before after) ≡ retired_items setting two)
       × AreMarksOf setting (two ++ retired_items setting two) after
   retires = retires_on setting two before after opens.1
       (is.retired ∙ retires_same setting two (record after { retired = before.retired }) opens.1)

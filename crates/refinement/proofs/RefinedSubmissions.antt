@@ -1,20 +1,20 @@
 -- What the submission of a plan writes, and its refusals.
 use Rattle.std.proofs.Common.{[], if◌then◌else◌, ◌++◌, ◌+◌, ◌-◌, ◌==◌, ◌∙◌, ◌∷◌, ◌≡◌, ◌≢◌, IsOk, List, None, Option, Some, ap, arith, eq-eqb, map, ne_eqb, not, refl, subst, sym, ℕ}
 use Rattle.base.proofs.Exports.{filter}
-use Rattle.update_machine.specs.Exports.{Item, Setting, Step, Update, file_at, hosted_in, install_for, installs_to_all, items_then, known_boot, next_touched, piece, plan_at, policy_at, policy_in, settling, submitted_items, switches_of, touched_of, update_code, update_items, version_count, versions_from_current}
+use Rattle.update_machine.specs.Exports.{Item, Setting, Step, Update, setting_file_at, hosted_in_version, install_for, installs_to_all, journal_items_then, known_boot, next_touched, piece, plan_at, policy_at, policy_in, settling, submitted_items, switches_of, touched_of, update_code, update_items, version_count, versions_from_current}
 use Rattle.update_machine.specs.Marks as machine
 use Rattle.update_machine.proofs.Exports.{controller_keeps, have_append, next_is, next_touched_is, planned_code, policies_keep}
-use Rattle.control_laws.specs.Exports.{HasItemCause, SubmitsRightly}
+use Rattle.control_laws.specs.Exports.{HasItemCause, SubmissionHasCause}
 use Rattle.control_laws.proofs.Exports.{caused_numbered, current_more, have_front, in_two, submitted_have}
 use Rattle.version_update.specs.Exports.{is_over, with_version}
-use Rattle.controller.specs.Exports.{ControllerValue, KeptPlan, PlanValue, SubmitsPlan, boot_recorded, current_touched, install_act, next_kept, submit_acts, switches_where}
+use Rattle.controller.specs.Exports.{ControllerValue, KeptPlan, PlanValue, SubmitsPlan, boot_recorded, current_touched, install_act, next_kept_plan, submit_acts, switches_by_record}
 use Rattle.controller.specs.Sends as acts
 use Rattle.controller.specs.declared.sends.Act.{Act}
 use Rattle.controller.specs.declared.sends.Act.TheVariants.{Post}
-use Rattle.refinement.specs.Exports.{AreMarksOf, AreWritten, IsControllerOf, IsPlanOfNext, plan_to_keep, written_items}
-use Rattle.refinement.proofs.ControllerCalls.{are_written, behind_row, row_on}
-use Rattle.refinement.proofs.KeptController.{count_on, written_in_two}
-use Rattle.refinement.proofs.ControllerPlans.{controller_on, plans_on, plans_pushed, settles_with}
+use Rattle.refinement.specs.Exports.{AreMarksOf, AreActsWritten, IsControllerOf, IsPlanOfNext, plan_to_keep, acts_written}
+use Rattle.refinement.proofs.RefinedControllerCalls.{are_written, behind_row, row_on}
+use Rattle.refinement.proofs.RefinedKeptController.{count_on, written_in_two}
+use Rattle.refinement.proofs.RefinedControllerPlans.{controller_on, plans_on, plans_pushed, settles_with}
 use Rattle.refinement.proofs.RefinedSettling.{AreCaused, leave_on, told_posted}
 use Rattle.ternary.specs.Exports.{WordValue}
 
@@ -26,9 +26,9 @@ next_stays : (setting : Setting) (before : List Item) (row file : ℕ) (step : S
     ≡ next_touched setting before file
 next_stays setting before row file step =
     let keep = policies_keep before (Item.Row row step ∷ []) (refl, tt) in
-    ap (λ v. touched_of (file_at setting file)
+    ap (λ v. touched_of (setting_file_at setting file)
     (policy_in setting (before ++ Item.Row row step ∷ []) v)) keep.count
-    ∙ ap (touched_of (file_at setting file)) (keep.rows setting (version_count before))
+    ∙ ap (touched_of (setting_file_at setting file)) (keep.rows setting (version_count before))
 
 -- a row leaves the next version's plan
 next_on : (setting : Setting) (before : List Item) (row file : ℕ) (step : Step)
@@ -57,15 +57,15 @@ code_is setting journal file plan touched old of is =
 refused : (setting : Setting) (before : List Item) (row file code : ℕ) (old : ControllerValue)
     → AreCaused setting before → IsControllerOf setting before old
     → update_code setting (before ++ Item.Row row (Update file) ∷ []) file ≡ Some code
-    → AreWritten setting before (Item.Row row (Update file) ∷ Item.Refused file code ∷ []) [] old
+    → AreActsWritten setting before (Item.Row row (Update file) ∷ Item.Refused file code ∷ []) [] old
     (piece setting before row (Update file))
 unfolding piece update_items
 refused setting before row file code old have is coded =
     let items : List Item = Item.Row row (Update file) ∷ Item.Refused file code ∷ [] in
     let here : List Item = before ++ Item.Row row (Update file) ∷ [] in
-    subst (λ o. AreWritten setting before items [] old (Item.Row row (Update file) ∷ elim o [
+    subst (λ o. AreActsWritten setting before items [] old (Item.Row row (Update file) ∷ elim o [
       | Some code ↦ Item.Refused file code ∷ []
-      | None ↦ items_then
+      | None ↦ journal_items_then
           (Item.Submitted file (version_count here + 1) ∷ []) (submitted_items setting) here
     ])) (sym coded)
     (record {
@@ -78,7 +78,7 @@ pub too_many_live : (setting : Setting) (before : List Item)
     (row file : ℕ) (old : ControllerValue) (plan : PlanValue) (touched : List WordValue)
     → AreCaused setting before → IsControllerOf setting before old
     → IsPlanOfNext setting before file plan touched → old.marks.count - old.marks.retired ≡ 8
-    → AreWritten setting before (Item.Row row (Update file) ∷ Item.Refused file 16 ∷ []) [] old
+    → AreActsWritten setting before (Item.Row row (Update file) ∷ Item.Refused file 16 ∷ []) [] old
     (piece setting before row (Update file))
 too_many_live setting before row file old plan touched have is of live = refused setting before row
     file 16 old have is (code_is setting (before ++ Item.Row row (Update file) ∷ []) file plan
@@ -91,7 +91,7 @@ pub too_many_versions : (setting : Setting) (before : List Item) (row file : ℕ
     → AreCaused setting before → IsControllerOf setting before old
     → IsPlanOfNext setting before file plan touched
     → old.marks.count - old.marks.retired ≢ 8 → old.marks.count ≡ 64
-    → AreWritten setting before (Item.Row row (Update file) ∷ Item.Refused file 17 ∷ []) [] old
+    → AreActsWritten setting before (Item.Row row (Update file) ∷ Item.Refused file 17 ∷ []) [] old
     (piece setting before row (Update file))
 too_many_versions setting before row file old plan touched have is of live count = refused setting
     before row file 17 old have is (code_is setting (before ++ Item.Row row (Update file) ∷ []) file
@@ -106,7 +106,7 @@ module _ (setting : Setting) (before : List Item) (row file : ℕ) (old new : Co
     (plan : PlanValue) (touched : List WordValue) (have : AreCaused setting before)
     (is : IsControllerOf setting before old) (of : IsPlanOfNext setting before file plan touched)
     (live : old.marks.count - old.marks.retired ≢ 8) (few : old.marks.count ≢ 64)
-    (taken : SubmitsPlan old (next_kept old plan touched) new) where
+    (taken : SubmitsPlan old (next_kept_plan old plan touched) new) where
   abbrev here : List Item
   here = before ++ Item.Row row (Update file) ∷ []
 
@@ -117,7 +117,7 @@ module _ (setting : Setting) (before : List Item) (row file : ℕ) (old new : Co
   now = here ++ Item.Submitted file version ∷ []
 
   abbrev kept : KeptPlan
-  kept = next_kept old plan touched
+  kept = next_kept_plan old plan touched
 
   here_have : AreCaused setting here
   here_have = behind_row setting before row (Update file) have
@@ -131,7 +131,7 @@ module _ (setting : Setting) (before : List Item) (row file : ℕ) (old new : Co
   number : version ≡ version_count here + 1
   number = ap (λ k. k + 1) here_is.marks.count
 
-  cause : SubmitsRightly setting here file version
+  cause : SubmissionHasCause setting here file version
   cause = let count = here_is.marks.count in record {
     next = number;
     rows = plan.policy;
@@ -149,14 +149,14 @@ module _ (setting : Setting) (before : List Item) (row file : ℕ) (old new : Co
   now_marks = count_on setting here file version old.marks here_is.marks
 
   own : (policy_at setting now version ≡ plan.policy)
-      × (plan_at setting now version ≡ hosted_in (setting.plan plan.policy))
+      × (plan_at setting now version ≡ hosted_in_version (setting.plan plan.policy))
   own = next_is setting here file version plan.policy (caused_numbered setting here here_have)
       number here_of.policy
 
   kept_is : kept ≡ plan_to_keep setting now version
   kept_is = rw (
     own.0,
-    own.1 ∙ ap hosted_in of.hosted,
+    own.1 ∙ ap hosted_in_version of.hosted,
     next_touched_is setting here file version (caused_numbered setting here here_have) number
         ∙ sym here_of.touches,
   ) refl
@@ -166,8 +166,8 @@ module _ (setting : Setting) (before : List Item) (row file : ℕ) (old new : Co
       (sym now_marks.count ∙ number) (current_more here (Item.Submitted file version))
       (kept_is ∙ ap (plan_to_keep setting now) number) here_is.plans
 
-  installed : written_items now (map (λ s. install_act s (boot_recorded old.marks s) kept)
-      (switches_where (λ known. not (is_over known.phase)) old.marks.switches))
+  installed : acts_written now (map (λ s. install_act s (boot_recorded old.marks s) kept)
+      (switches_by_record (λ known. not (is_over known.phase)) old.marks.switches))
       ≡ installs_to_all setting now
   unfolding installs_to_all
   installed = told_posted (λ s. install_act s (boot_recorded old.marks s) kept)
@@ -193,7 +193,7 @@ module _ (setting : Setting) (before : List Item) (row file : ℕ) (old new : Co
       (have_append (HasItemCause setting) [] now (submitted_items setting now) now_have
       (submitted_have setting now)))
 
-  settled : (written_items one (acts.settling_acts (current_touched new) (with_version old.marks) new.marks)
+  settled : (acts_written one (acts.settling_acts (current_touched new) (with_version old.marks) new.marks)
       ≡ settling setting one) × IsControllerOf setting (one ++ settling setting one) new
   settled = settles_with setting one (with_version old.marks) (old.plans ++ kept ∷ []) new one_have
       one_marks
@@ -201,7 +201,7 @@ module _ (setting : Setting) (before : List Item) (row file : ℕ) (old new : Co
       (sym one_marks.count ∙ now_marks.count) (sym one_marks.current ∙ now_marks.current)
       now_plans) taken
 
-  behind_row_written : AreWritten setting before (Item.Row row (Update file)
+  behind_row_written : AreActsWritten setting before (Item.Row row (Update file)
       ∷ Item.Submitted file version ∷ []) (submit_acts old.marks kept new) new
       (Item.Row row (Update file) ∷ Item.Submitted file version ∷ submitted_items setting now)
   behind_row_written = are_written setting before (Item.Row row (Update file))
@@ -216,18 +216,18 @@ module _ (setting : Setting) (before : List Item) (row file : ℕ) (old new : Co
       (ne_eqb (old.marks.count - old.marks.retired) 8 live)
       ∙ ap (λ b. if b then Some 17 else None) (ne_eqb old.marks.count 64 few)
 
-  pub submits : AreWritten setting before
+  pub submits : AreActsWritten setting before
       (Item.Row row (Update file) ∷ Item.Submitted file (old.marks.count + 1) ∷ [])
       (submit_acts old.marks kept new) new (piece setting before row (Update file))
   unfolding piece update_items
   submits =
       let first : List Item = Item.Row row (Update file) ∷ Item.Submitted file version ∷ [] in
       let acts : List Act = submit_acts old.marks kept new in
-      subst (λ o. AreWritten setting before first acts new (Item.Row row (Update file) ∷ elim o [
+      subst (λ o. AreActsWritten setting before first acts new (Item.Row row (Update file) ∷ elim o [
         | Some code ↦ Item.Refused file code ∷ []
-        | None ↦ items_then
+        | None ↦ journal_items_then
             (Item.Submitted file (version_count here + 1) ∷ []) (submitted_items setting) here
       ])) (sym coded)
-      (subst (λ k. AreWritten setting before first acts new (Item.Row row (Update file)
-      ∷ items_then (Item.Submitted file k ∷ []) (submitted_items setting) here)) number
+      (subst (λ k. AreActsWritten setting before first acts new (Item.Row row (Update file)
+      ∷ journal_items_then (Item.Submitted file k ∷ []) (submitted_items setting) here)) number
       behind_row_written)

@@ -1,23 +1,23 @@
 -- A policy is submitted or refused: what is written then, and what the parts are behind it.
 use Rattle.std.proofs.Common.{[], ◌++◌, ◌+◌, ◌-◌, ◌<◌, ◌==◌, ◌∙◌, ◌∷◌, ◌≡◌, ◌≢◌, ◌≤◌, All, Err, List, None, Ok, Some, ap, append-nil, arith, cond, false, filter, get_or, if◌then◌else◌, length, map, refl, rules, slice_get, subst, sym, ℕ}
 use Rattle.base.proofs.Exports.{All-nil, get_or-map-range_with_len, length-map-range_with_len, nat_tests, range_with_len}
-use Rattle.refinement.specs.Exports.{AreWritten, IsBagOf, IsControllerOf, IsPlanOfNext, NetworkState, RefineJournal, flight_in, is_up_link, plan_to_keep, switch_begun, switch_of}
-use Rattle.refinement.proofs.ControllerResends.{items_leave}
+use Rattle.refinement.specs.Exports.{AreActsWritten, IsBagOf, IsControllerOf, IsPlanOfNext, NetworkState, RefineJournal, flight_in, is_up_link, plan_to_keep, switch_begun, switch_of}
+use Rattle.refinement.proofs.RefinedControllerResends.{items_leave}
 use Rattle.refinement.proofs.RefinedSubmissions.{submits, too_many_live, too_many_versions}
-use Rattle.controller.specs.Exports.{ControllerValue, PlanValue, SubmitsPlan, first_controller, newest_policy, next_kept, submit_acts}
+use Rattle.controller.specs.Exports.{ControllerValue, PlanValue, SubmitsPlan, first_controller, newest_policy, next_kept_plan, submit_acts}
 use Rattle.controller.specs.declared.sends.Act.{Act}
-use Rattle.update_machine.specs.Exports.{Inapplicable, IsSetting, Item, LinkRow, NamesOwnPort, Net, PoliciesKeep, PolicyFile, Row, Setting, Step, Update, Whole, apply_code, items_then, made_by, next_packet, piece, plan_at, plan_code, policy_at, policy_in, setting_of, submitted_items, touched_of, travels, update_code, update_items, version_count}
+use Rattle.update_machine.specs.Exports.{Inapplicable, IsSetting, Item, LinkRow, NamesOwnPort, Net, PoliciesKeep, PolicyFile, Row, Setting, Step, Update, Whole, apply_code, journal_items_then, made_by, next_packet, piece, plan_at, plan_code, policy_at, policy_in, setting_of, submitted_items, touched_of, travels, update_code, update_items, version_count}
 use Rattle.partition.specs.Plan.{Hosted, plan_of}
-use Rattle.policy_rules.specs.Exports.{GivesOnly, IsPolicyFile, NoPlan}
+use Rattle.policy_rules.specs.Exports.{PolicyFileGivesOnly, IsPolicyFile, NoPlan}
 use Rattle.steps.specs.Exports.{IsStep}
 use Rattle.update_machine.proofs.Exports.{first_version_is, next_by, policies_keep, setting_begun, start_laws, unapplied_code, unplanned_code}
-use Rattle.world_log.specs.Exports.{AreNear, MayNote, act_items, act_posts}
+use Rattle.world_log.specs.Exports.{AreNearMasks, LogMayNote, log_act_items, log_act_posts}
 use Rattle.refinement.proofs.RefinedActs.{may_note, refines_told, written_is}
-use Rattle.refinement.proofs.StepRefines.{grown, links_stay, reached_known, switches_stay, up_stay}
-use Rattle.refinement.proofs.ControllerPlans.{newest_in}
-use Rattle.refinement.proofs.PostedFrames.{bag_begun, bag_on}
+use Rattle.refinement.proofs.RefinedSteps.{grown, links_stay, reached_known, switches_stay, up_stay}
+use Rattle.refinement.proofs.RefinedControllerPlans.{newest_in}
+use Rattle.refinement.proofs.RefinedPostedFrames.{bag_begun, bag_on}
 use Rattle.ternary.specs.Exports.{WordValue}
-use Rattle.refinement.proofs.ControllerCalls.{begins}
+use Rattle.refinement.proofs.RefinedControllerCalls.{begins}
 use Rattle.net_file.specs.Exports.{IsNet, links_of}
 use Rattle.switch_core.specs.Exports.{SwitchValue}
 
@@ -86,7 +86,7 @@ refused_piece setting journal row file code is =
     let rowed : List Item = journal ++ Item.Row row (Update file) ∷ [] in
     ap (λ o. Item.Row row (Update file) ∷ elim o [
       | Some k ↦ Item.Refused file k ∷ []
-      | None ↦ items_then (Item.Submitted file (version_count rowed + 1) ∷ [])
+      | None ↦ journal_items_then (Item.Submitted file (version_count rowed + 1) ∷ [])
           (submitted_items setting) rowed
     ]) is
 
@@ -102,7 +102,7 @@ module _ {setting : Setting} {journal : List Item} {state : NetworkState}
   pub refused_refines : (code : ℕ) → piece setting journal row (Update file)
       ≡ Item.Row row (Update file) ∷ Item.Refused file code ∷ []
       → RefineJournal setting (grown journal row (Update file) (Item.Refused file code)) state
-  unfolding act_items act_posts
+  unfolding log_act_items log_act_posts
   refused_refines code is =
       let one : Item = Item.Refused file code in
       let controller = subst (λ more. IsControllerOf setting (journal ++ more) state.controller)
@@ -117,7 +117,7 @@ module _ {setting : Setting} {journal : List Item} {state : NetworkState}
       (of_next : IsPlanOfNext setting journal file plan touched)
       (live : state.controller.marks.count - state.controller.marks.retired ≢ 8)
       (versions : state.controller.marks.count ≢ 64)
-      (submitted : SubmitsPlan state.controller (next_kept state.controller plan touched) new)
+      (submitted : SubmitsPlan state.controller (next_kept_plan state.controller plan touched) new)
     where
       abbrev version : ℕ
       version = state.controller.marks.count + 1
@@ -126,31 +126,31 @@ module _ {setting : Setting} {journal : List Item} {state : NetworkState}
       one = Item.Submitted file version
 
       abbrev acts : List Act
-      acts = submit_acts state.controller.marks (next_kept state.controller plan touched) new
+      acts = submit_acts state.controller.marks (next_kept_plan state.controller plan touched) new
 
       bag_behind : IsBagOf (grown journal row (Update file) one) state.posts
       bag_behind = bag_on journal (first one) state.posts (refl, (refl, tt)) refines.bag
 
-      submits_so : AreWritten setting journal (first one) acts new
+      submits_so : AreActsWritten setting journal (first one) acts new
           (piece setting journal row (Update file))
       submits_so = submits setting journal row file state.controller new plan touched
           (reached_known setting journal refines.sound refines.reached).caused refines.controller
           of_next live versions submitted
 
       pub submitted_piece : piece setting journal row (Update file)
-          ≡ Item.Row row (Update file) ∷ one ∷ act_items (length state.posts + 1) acts
+          ≡ Item.Row row (Update file) ∷ one ∷ log_act_items (length state.posts + 1) acts
       submitted_piece =
           cc (submits_so.same, written_is (journal ++ first one) acts, bag_behind.many)
 
       pub submitted_refines : RefineJournal setting (journal ++ Item.Row row (Update file) ∷ one
-          ∷ act_items (length state.posts + 1) acts)
-          (record state { controller = new; posts = state.posts ++ act_posts acts })
+          ∷ log_act_items (length state.posts + 1) acts)
+          (record state { controller = new; posts = state.posts ++ log_act_posts acts })
       submitted_refines = refines_told refines (record state { controller = new }) row
           (Update file) (one ∷ []) acts
           (search (rules, submitted_piece, bag_behind, submits_so, switches_stay, links_stay, up_stay))
 
       -- and it may be written
-      pub submitted_may : length state.posts < 990_000 → MayNote state.posts acts
+      pub submitted_may : length state.posts < 990_000 → LogMayNote state.posts acts
       submitted_may = may_note refines row (Update file) (one ∷ []) state.posts acts may
           submitted_piece refl
 
@@ -213,10 +213,10 @@ all_up (link ∷ links) = cc (start_laws.links link.one link.two, all_up links)
 pub begun_refines : (net : Net) (files : List PolicyFile) (plan : PlanValue)
     (switches : List SwitchValue) (controller : ControllerValue) (near : List ℕ) → IsNet net
     → slice_get files 0 ≡ Some (Whole plan.policy) → All IsPolicyFile files
-    → All (GivesOnly (λ row. NamesOwnPort (setting_of net files) row.action)) files
+    → All (PolicyFileGivesOnly (λ row. NamesOwnPort (setting_of net files) row.action)) files
     → plan_of plan.policy net ≡ Ok plan.hosted
     → switches ≡ map (switch_begun net plan.hosted) (range_with_len 0 (length net.switches))
-    → controller ≡ first_controller (length net.switches) plan → AreNear net near
+    → controller ≡ first_controller (length net.switches) plan → AreNearMasks net near
     → RefineJournal (setting_of net files) [] (record {
       switches = switches;
       travelling = [];

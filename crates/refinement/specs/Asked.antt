@@ -2,8 +2,8 @@
 -- whatever steps were taken.
 use Rattle.std.specs.Prelude.{◌-◌, ◌<◌, ◌^◌, ◌≡◌, IsFalse, IsTrue, List, Some, length, ℕ}
 use Rattle.update_machine.specs.Exports.{Body, Header, Item, Leg, Setting, is_up, message_of, serves as serves_in, to_switch}
-use Rattle.switch_core.specs.Exports.{CanLookUp, IsAtAuthority, IsSoundBody, SwitchValue, serves, with_message}
-use Rattle.control_laws.specs.Exports.{EndsAt, NumbersFit, ServingHold, ServingIsKnown}
+use Rattle.switch_core.specs.Exports.{CanLookUp, IsAtAuthority, IsSoundBody, SwitchValue, serves, switch_with_message}
+use Rattle.control_laws.specs.Exports.{LegEndsAt, NumbersFit, ServingHoldVersions, ServingIsKnown}
 use Rattle.refinement.specs.Knowing.{TablesAreKnown}
 use Rattle.refinement.specs.SwitchOf.{switch_of}
 
@@ -16,7 +16,7 @@ pub record CanReceive (switch : SwitchValue) (header : Header) (leg : Leg) : Typ
 -- there is a next number for its own advert, now and after it hears any message
 pub record HasNextSeq (switch : SwitchValue) : Type 0 where
   pub now : switch.seq < 2 ^ 32 - 1
-  pub then : (n : ℕ) (body : Body) → (with_message switch n body).seq < 2 ^ 32 - 1
+  pub then : (n : ℕ) (body : Body) → (switch_with_message switch n body).seq < 2 ^ 32 - 1
 
 -- what `restart` requires of it
 pub record CanRestart (switch : SwitchValue) : Type 0 where
@@ -34,10 +34,10 @@ pub record RequirementsHold : Type 0 where
       NumbersFit setting journal → IsFalse (is_up journal s) →
       CanRestart (switch_of setting journal s)
   pub enter : (setting : Setting) (journal : List Item) (s : ℕ) →
-      ServingHold setting journal → s < length setting.net.switches →
+      ServingHoldVersions setting journal → s < length setting.net.switches →
       CanLookUp (switch_of setting journal s)
   pub arrive : (setting : Setting) (journal : List Item) (s : ℕ) (header : Header) (leg : Leg) →
-      TablesAreKnown setting journal → ServingIsKnown journal → ServingHold setting journal →
+      TablesAreKnown setting journal → ServingIsKnown journal → ServingHoldVersions setting journal →
       s < length setting.net.switches → IsTrue (serves_in journal s) →
-      EndsAt setting journal s header leg →
+      LegEndsAt setting journal s header leg →
       CanReceive (switch_of setting journal s) header leg

@@ -6,13 +6,13 @@ use Rattle.switch_core.specs.Exports.{call_counted}
 use Rattle.refinement.specs.SwitchOf.{switch_of}
 
 -- an item that begins no step
-abbrev pub NoRow : Item → Type 0
-NoRow (item.Row row step) = ⊥
-NoRow _ = ⊤
+abbrev pub BeginsNoStep : Item → Type 0
+BeginsNoStep (item.Row row step) = ⊥
+BeginsNoStep _ = ⊤
 
 abbrev pub NoRows : List Item → Type 0
 NoRows [] = ⊤
-NoRows (first ∷ items) = NoRow first × NoRows items
+NoRows (first ∷ items) = BeginsNoStep first × NoRows items
 
 -- an item that begins no step, and by which no packet enters or is closed
 abbrev pub IsInStep : Item → Type 0

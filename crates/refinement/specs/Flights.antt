@@ -1,6 +1,6 @@
 -- What a journal says of a packet on its way: where it is, and what is known of it.
 use Rattle.std.specs.Prelude.{if◌then◌else◌, List, None, Option, Some, option_map, unwrap_or, ℕ}
-use Rattle.update_machine.specs.Exports.{Exit, Item, Leg, Setting, decision_of, found_down, header_at, ingress_of, leg_of, route_in, route_place, targets_of, travels}
+use Rattle.update_machine.specs.Exports.{Exit, Item, Leg, Setting, decision_of, found_down, packet_header_at, ingress_of, leg_of, route_in, route_place, targets_of, travels}
 use Rattle.travelling.specs.Travelling.{Flight}
 use Rattle.tunnel.specs.Exports.{TunnelValue}
 
@@ -11,7 +11,7 @@ own_leg journal i = unwrap_or (leg_of journal i) (Exit 0)
 abbrev pub tunnel_of : Setting → List Item → ℕ → TunnelValue
 tunnel_of setting journal i = record {
   packet = i;
-  header = header_at journal i;
+  header = packet_header_at journal i;
   ingress = unwrap_or (ingress_of journal i) 0;
   leg = own_leg journal i;
   targets = targets_of setting journal (own_leg journal i);

@@ -1,9 +1,9 @@
 -- What a delivered message does to a switch, and what the switch does in reply.
 use Rattle.std.specs.Prelude.{[], ◌++◌, ◌∷◌, ◌≡◌, IsFalse, IsTrue, List, None, Some, ℕ}
-use Rattle.update_machine.specs.Exports.{Body, Deliver, Item, Setting, delivery_items, has_changed, is_message_to, items_then, link_changes, message_of, near, own_advert, send_items, to_switch}
+use Rattle.update_machine.specs.Exports.{Body, Deliver, Item, Setting, delivery_items, usable_links_changed, is_message_to, journal_items_then, link_changes, message_of, near, own_advert, send_items, to_switch}
 use Rattle.net_file.specs.Exports.{IsNet}
 use Rattle.journal.specs.declared.item.Item.TheVariants as item
-use Rattle.switch_core.specs.Exports.{next_advert, opening_stamp, replies, with_message}
+use Rattle.switch_core.specs.Exports.{next_advert, opening_stamp, replies, switch_with_message}
 use Rattle.control_laws.specs.Exports.{BodiesNameThere, StampsSayTouched}
 use Rattle.refinement.specs.Links.{relinked_switch}
 use Rattle.refinement.specs.SwitchOf.{switch_of}
@@ -16,37 +16,37 @@ pub record IsSentTo (setting : Setting) (before : List Item) (n s : ℕ) (body :
   pub touched : StampsSayTouched setting before
 
 -- the journal within the step that delivers the message
-abbrev pub within_delivery : List Item → ℕ → ℕ → List Item → List Item
-within_delivery before row n items = before ++ item.Row row (Deliver n) ∷ item.Delivered n ∷ items
+abbrev pub journal_within_delivery : List Item → ℕ → ℕ → List Item → List Item
+journal_within_delivery before row n items = before ++ item.Row row (Deliver n) ∷ item.Delivered n ∷ items
 
 -- it hears the message and stays closed or open as it was
 pub record HearsShut (setting : Setting) (before : List Item) (n s : ℕ) (body : Body) : Type 0 where
-  pub record_of : (row : ℕ) → switch_of setting (within_delivery before row n []) s
-      ≡ with_message (switch_of setting before s) n body
-  pub items : (row : ℕ) → delivery_items setting before n (within_delivery before row n [])
-      ≡ send_items (within_delivery before row n [])
+  pub record_of : (row : ℕ) → switch_of setting (journal_within_delivery before row n []) s
+      ≡ switch_with_message (switch_of setting before s) n body
+  pub items : (row : ℕ) → delivery_items setting before n (journal_within_delivery before row n [])
+      ≡ send_items (journal_within_delivery before row n [])
       (replies (switch_of setting before s) (near setting before s) body)
 
 -- it hears the message and opens with this stamp, so that its own links may change too
 pub record HearsOpening (setting : Setting) (before : List Item) (n s : ℕ) (body : Body)
     (stamp : ℕ) : Type 0 where
-  pub record_of : (row : ℕ) → let now = within_delivery before row n (item.Opened s stamp ∷ []) in
+  pub record_of : (row : ℕ) → let now = journal_within_delivery before row n (item.Opened s stamp ∷ []) in
       switch_of setting now s
-      ≡ relinked_switch setting before now s (with_message (switch_of setting before s) n body)
-  pub advert : (row : ℕ) → let now = within_delivery before row n (item.Opened s stamp ∷ []) in
-      IsTrue (has_changed setting before now s) →
+      ≡ relinked_switch setting before now s (switch_with_message (switch_of setting before s) n body)
+  pub advert : (row : ℕ) → let now = journal_within_delivery before row n (item.Opened s stamp ∷ []) in
+      IsTrue (usable_links_changed setting before now s) →
       own_advert setting now s
-      ≡ next_advert (with_message (switch_of setting before s) n body) (near setting now s)
-  pub items : (row : ℕ) → delivery_items setting before n (within_delivery before row n [])
-      ≡ items_then (item.Opened s stamp ∷ []) (link_changes setting before)
-      (within_delivery before row n [])
+      ≡ next_advert (switch_with_message (switch_of setting before s) n body) (near setting now s)
+  pub items : (row : ℕ) → delivery_items setting before n (journal_within_delivery before row n [])
+      ≡ journal_items_then (item.Opened s stamp ∷ []) (link_changes setting before)
+      (journal_within_delivery before row n [])
 
 pub record HearingRefines : Type 0 where
   -- after the delivery itself, which doesn't say yet that the switch opens
   pub heard_but_open : (setting : Setting) (before : List Item) (n s : ℕ) (body : Body) →
       IsSentTo setting before n s body →
       switch_of setting (before ++ item.Delivered n ∷ []) s
-      ≡ record (with_message (switch_of setting before s) n body) {
+      ≡ record (switch_with_message (switch_of setting before s) n body) {
         is_open = (switch_of setting before s).is_open;
       }
   -- the switch doesn't open, or opens with this stamp

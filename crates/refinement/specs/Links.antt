@@ -1,7 +1,7 @@
 -- What a change of its links does to a switch: it makes its next advert, which it keeps and sends,
 -- as a router in OSPF makes a new own advert when its links changed (RFC 2328, section 12.4).
 use Rattle.std.specs.Prelude.{[], if◌then◌else◌, ◌++◌, ◌∷◌, ◌≡◌, Bool, IsTrue, List, false, flat_map, map, true, ℕ}
-use Rattle.update_machine.specs.Exports.{Advert, Item, LinkDown, LinkUp, Message, NoneConcern, Setting, Step, advert_to, concerns_calls, concerns_known, concerns_switch, has_changed, held_adverts, messages_of, near, own_advert, send_items, switches_in}
+use Rattle.update_machine.specs.Exports.{Advert, Item, LinkDown, LinkUp, Message, NoneConcern, Setting, Step, advert_to, concerns_calls, concerns_known, concerns_switch, usable_links_changed, held_adverts, messages_of, near, own_advert, send_items, switches_in}
 use Rattle.base.specs.Exports.{has}
 use Rattle.journal.specs.declared.item.Item.TheVariants as item
 use Rattle.switch_core.specs.Exports.{SwitchValue, near_changed, next_advert}
@@ -15,7 +15,7 @@ link_step true one two = LinkUp one two
 link_step false one two = LinkDown one two
 
 -- the items are those of the step so far; none concerns the switch itself, or is a call of it
-pub record LeavesSwitch (s : ℕ) (before : List Item) (row : ℕ) (step : Step) (items : List Item)
+pub record RefinementLeavesSwitch (s : ℕ) (before : List Item) (row : ℕ) (step : Step) (items : List Item)
     : Type 0 where
   pub in_step : NoRows items
   pub apart : NoneConcern (concerns_switch s) before (item.Row row step ∷ items)
@@ -24,7 +24,7 @@ pub record LeavesSwitch (s : ℕ) (before : List Item) (row : ℕ) (step : Step)
 -- the switch after a step, before which it was this: it made its next advert if its links changed
 abbrev pub relinked_switch : Setting → List Item → List Item → ℕ → SwitchValue → SwitchValue
 relinked_switch setting before now s switch =
-    if has_changed setting before now s then near_changed switch (near setting now s) else switch
+    if usable_links_changed setting before now s then near_changed switch (near setting now s) else switch
 
 -- what it sends about these links, if it had those before: its own advert, and over a link that
 -- became usable all that it has
@@ -41,14 +41,14 @@ pub record LinksRefine : Type 0 where
       switch_of setting (before ++ items) s ≡ switch_of setting before s
   -- whatever a step does to links and to other switches
   pub relinked : (setting : Setting) (s : ℕ) (before : List Item) (row : ℕ) (step : Step)
-      (items : List Item) → LeavesSwitch s before row step items →
+      (items : List Item) → RefinementLeavesSwitch s before row step items →
       let now = before ++ item.Row row step ∷ items in
       switch_of setting now s ≡ relinked_switch setting before now s (switch_of setting before s)
   -- the advert that it sends, and all that it has
   pub advert : (setting : Setting) (s : ℕ) (before : List Item) (row : ℕ) (step : Step)
-      (items : List Item) → LeavesSwitch s before row step items →
+      (items : List Item) → RefinementLeavesSwitch s before row step items →
       let now = before ++ item.Row row step ∷ items in
-      IsTrue (has_changed setting before now s) →
+      IsTrue (usable_links_changed setting before now s) →
       own_advert setting now s ≡ next_advert (switch_of setting before s) (near setting now s)
   pub held : (setting : Setting) (journal : List Item) (s : ℕ) →
       held_adverts setting journal s ≡ all_held (switch_of setting journal s)

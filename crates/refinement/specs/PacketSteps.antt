@@ -1,16 +1,16 @@
 -- What a switch returns for a packet is what its step writes by the definitions over journals.
 use Rattle.std.specs.Prelude.{[], ◌++◌, ◌+◌, ◌<◌, ◌==◌, ◌∷◌, ◌≡◌, ◌≤◌, IsTrue, List, Option, Some, false, length, ℕ}
-use Rattle.message_bag.specs.Exports.{Post, new_post, with_delivered, with_forgotten}
+use Rattle.message_bag.specs.Exports.{Post, new_post, posts_with_delivered, posts_with_forgotten}
 use Rattle.update_machine.specs.Exports.{Header, Hop, IsReached, IsSetting, Item, Message, NoneConcern, Packet, Ports, Setting, concerns_messages, near, next_message, next_packet, piece}
 use Rattle.five_tuple.specs.Exports.{IsHeader}
 use Rattle.journal.specs.declared.item.Item.TheVariants as item
-use Rattle.net_file.specs.Exports.{AreOwners}
-use Rattle.switch_core.specs.Exports.{Answer, CanLookUp, IsAtAuthority, StandsAt, hop_answer, serves}
+use Rattle.net_file.specs.Exports.{ArePortOwners}
+use Rattle.switch_core.specs.Exports.{Answer, CanLookUp, IsAtAuthority, PacketStandsAt, hop_answer, serves}
 use Rattle.switch_core.specs.declared.tunnel_calls.HopEnd.TheVariants as hop
 use Rattle.refinement.specs.SwitchOf.{switch_of}
 use Rattle.travelling.specs.Travelling.{Flight}
 use Rattle.tunnel.specs.Exports.{here}
-use Rattle.world_log.specs.Exports.{coming_in, entered_flight, entered_items, entry, hop_flight, hop_written}
+use Rattle.world_log.specs.Exports.{log_coming_in, log_entered_flight, log_entered_items, entry, log_hop_flight, log_hop_written}
 use Rattle.refinement.specs.Bags.{IsBagOf}
 use Rattle.refinement.specs.Flights.{flight_in}
 
@@ -18,13 +18,13 @@ use Rattle.refinement.specs.Flights.{flight_in}
 pub record IsOfNet (setting : Setting) (journal : List Item) (ports : Ports) : Type 0 where
   pub sound : IsSetting setting
   pub reached : IsReached setting journal
-  pub owners : AreOwners setting.net.switches ports
+  pub owners : ArePortOwners setting.net.switches ports
 
 -- ---- a packet enters
 
 -- what the switch that the journal describes returns for the next packet
-abbrev pub entry_at : Setting → List Item → Ports → ℕ → Header → Option Answer
-entry_at setting journal ports s header =
+abbrev pub refined_entry_at : Setting → List Item → Ports → ℕ → Header → Option Answer
+refined_entry_at setting journal ports s header =
     entry (switch_of setting journal s) (near setting journal s) ports (next_packet journal) header
 
 -- the switch's call may be made, its result is what the step writes, and the packet is then where
@@ -33,10 +33,10 @@ pub record Comes (setting : Setting) (journal : List Item) (row s : ℕ) (header
     (ports : Ports) : Type 0 where
   pub may : CanLookUp (switch_of setting journal s)
   pub written : piece setting journal row (Packet s header)
-      ≡ item.Row row (Packet s header) ∷ entered_items (next_message journal)
-      (coming_in (next_packet journal) header s) (entry_at setting journal ports s header)
+      ≡ item.Row row (Packet s header) ∷ log_entered_items (next_message journal)
+      (log_coming_in (next_packet journal) header s) (refined_entry_at setting journal ports s header)
   pub goes : flight_in setting (journal ++ piece setting journal row (Packet s header))
-      (next_packet journal) ≡ entered_flight (entry_at setting journal ports s header)
+      (next_packet journal) ≡ log_entered_flight (refined_entry_at setting journal ports s header)
   pub others : (i : ℕ) → (i == next_packet journal) ≡ false
       → flight_in setting (journal ++ piece setting journal row (Packet s header)) i
       ≡ flight_in setting journal i
@@ -49,9 +49,9 @@ EntriesRefine = (setting : Setting) (journal : List Item) (row s : ℕ) (header 
 -- ---- a packet moves on
 
 -- what a hop requires of the switch where the packet is
-pub record MayHop (setting : Setting) (journal : List Item) (t : Flight) : Type 0 where
+pub record HopMayBeAsked (setting : Setting) (journal : List Item) (t : Flight) : Type 0 where
   pub there : here t.tunnel < length setting.net.switches
-  pub stands : StandsAt (switch_of setting journal (here t.tunnel)) t.tunnel.route t.tunnel.place
+  pub stands : PacketStandsAt (switch_of setting journal (here t.tunnel)) t.tunnel.route t.tunnel.place
   pub serving : IsTrue (serves (switch_of setting journal (here t.tunnel)))
   pub stamped : CanLookUp (switch_of setting journal (here t.tunnel))
   pub authority : (hop_answer (switch_of setting journal (here t.tunnel))
@@ -61,12 +61,12 @@ pub record MayHop (setting : Setting) (journal : List Item) (t : Flight) : Type 
 -- the same is true of the hop of a packet on its way, at the switch where it is
 pub record GoesOn (setting : Setting) (journal : List Item) (row i : ℕ) (t : Flight)
     (ports : Ports) : Type 0 where
-  pub may : MayHop setting journal t
+  pub may : HopMayBeAsked setting journal t
   pub written : piece setting journal row (Hop i)
-      ≡ item.Row row (Hop i) ∷ hop_written (next_message journal)
+      ≡ item.Row row (Hop i) ∷ log_hop_written (next_message journal)
       (switch_of setting journal (here t.tunnel)) (near setting journal (here t.tunnel)) ports t
   pub goes : flight_in setting (journal ++ piece setting journal row (Hop i)) i
-      ≡ hop_flight (switch_of setting journal (here t.tunnel))
+      ≡ log_hop_flight (switch_of setting journal (here t.tunnel))
       (near setting journal (here t.tunnel)) ports t
   pub others : (k : ℕ) → (i == k) ≡ false
       → flight_in setting (journal ++ piece setting journal row (Hop i)) k
@@ -87,9 +87,9 @@ pub record BagsRefine : Type 0 where
       → IsBagOf (before ++ item.Sent (length posts + 1) message ∷ [])
       (posts ++ new_post message ∷ [])
   pub delivered : (before : List Item) (posts : List Post) (n : ℕ) → n ≤ length posts
-      → IsBagOf before posts → IsBagOf (before ++ item.Delivered n ∷ []) (with_delivered posts n)
+      → IsBagOf before posts → IsBagOf (before ++ item.Delivered n ∷ []) (posts_with_delivered posts n)
   pub forgotten : (before : List Item) (posts : List Post) (n : ℕ) → n ≤ length posts
-      → IsBagOf before posts → IsBagOf (before ++ item.Forgotten n ∷ []) (with_forgotten posts n)
+      → IsBagOf before posts → IsBagOf (before ++ item.Forgotten n ∷ []) (posts_with_forgotten posts n)
   pub others : (before items : List Item) (posts : List Post)
       → NoneConcern concerns_messages before items → IsBagOf before posts
       → IsBagOf (before ++ items) posts

@@ -31,13 +31,13 @@ abbrev pub up_links : Setting → List Item → List LinkRow
 up_links setting journal = filter (is_up_link journal) setting.net.links
 
 -- the masks are those of the links that are up
-abbrev pub AreUp : Setting → List Item → List ℕ → Type 0
-AreUp setting journal links = (s : ℕ) → s < 64
+abbrev pub RefineUpLinks : Setting → List Item → List ℕ → Type 0
+RefineUpLinks setting journal links = (s : ℕ) → s < 64
     → slice_index links s ≡ links_of (up_links setting journal) s
 
 -- the masks are those of the usable links
-abbrev pub AreUsable : Setting → List Item → List ℕ → Type 0
-AreUsable setting journal near = (s : ℕ) → s < 64 → slice_index near s ≡ near_of setting journal s
+abbrev pub RefineUsableLinks : Setting → List Item → List ℕ → Type 0
+RefineUsableLinks setting journal near = (s : ℕ) → s < 64 → slice_index near s ≡ near_of setting journal s
 
 -- the journal is of steps of the network, and the switches, the packets on their way, the
 -- controller, the messages and the links are as it says
@@ -52,5 +52,5 @@ pub record RefineJournal (setting : Setting) (journal : List Item) (state : Netw
   pub counted : next_packet journal ≡ state.packets + 1
   pub controller : IsControllerOf setting journal state.controller
   pub bag : IsBagOf journal state.posts
-  pub up : AreUp setting journal state.links
-  pub usable : AreUsable setting journal state.near
+  pub up : RefineUpLinks setting journal state.links
+  pub usable : RefineUsableLinks setting journal state.near

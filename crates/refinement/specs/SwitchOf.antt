@@ -1,7 +1,7 @@
 -- What a journal says of a switch, as the record that the switch keeps.
 use Rattle.std.specs.Prelude.{[], if◌then◌else◌, ◌++◌, ◌==◌, ◌∷◌, List, None, Option, Some, filter, filter_map, fold, ℕ}
 use Rattle.base.specs.Exports.{list_any}
-use Rattle.update_machine.specs.Exports.{Body, Collect, Install, Item, Setting, Tables, adverts_known, boot_of, cache_of, greatest_number, handled_count, heard, holds_version, is_in_first_boot, is_up, own_seq, serves, stamp_of, tables_at}
+use Rattle.update_machine.specs.Exports.{Body, Collect, Install, Item, Setting, Tables, adverts_known, boot_of, cache_of, greatest_stamp_number, handled_count, heard, holds_version, is_in_first_boot, is_up, own_seq, serves, stamp_of, tables_at}
 use Rattle.switch_core.specs.Exports.{SwitchValue}
 
 -- the version up to which a body tells the switch to drop tables; the switch keeps the greatest
@@ -39,7 +39,7 @@ switch_of setting journal s = record {
   is_up = is_up journal s;
   is_open = serves journal s;
   stamp = stamp_of journal s;
-  collected = greatest_number (filter_map collect_in (heard journal s));
+  collected = greatest_stamp_number (filter_map collect_in (heard journal s));
   tables = tables_kept setting journal s;
   cache = cache_of setting journal s;
   database = adverts_known setting journal s;

@@ -5,7 +5,7 @@ ghost use Rattle.version_update.specs.Record.{after_over};
 ghost use Rattle.ctrl_msg.specs.Kinds.{to_controller};
 ghost use Rattle.ctrl_msg.specs.declared.message.Body.{Body};
 ghost use Rattle.ctrl_msg.specs.declared.message.Message.{Message};
-ghost use Rattle.controller.specs.Exports.{ControllerValue, NamesThere, PlanValue, SettlesWith, SubmitsPlan, current_touched, first_controller, hear_acts, marks_after, newest_policy, next_kept, resend_acts, settling_acts, submit_acts};
+ghost use Rattle.controller.specs.Exports.{ControllerValue, ReplyNamesExist, PlanValue, SettlesWith, SubmitsPlan, current_touched, first_controller, hear_acts, marks_after, newest_policy, next_kept_plan, resend_acts, settling_acts, submit_acts};
 ghost use Rattle.controller.specs.declared.sends.Act.{Act};
 ghost use Rattle.controller.specs.declared.sends.Act.TheVariants.{Post};
 ghost use Rattle.ternary.specs.Word.{WordValue};
@@ -13,7 +13,7 @@ ghost use Rattle.steps.specs.declared.step.Step.TheVariants.{Confirm, Deliver, R
 ghost use Rattle.journal.specs.declared.item.Item.TheVariants.{Row, Delivered, Nothing, OverNow, Refused, Submitted};
 ghost use Rattle.update_machine.specs.Exports.{HaveCauses, IsReached, IsSetting, Item, NoneConcern, Setting, Step, concerns_controller, is_deliverable, is_up, message_of, piece, policy_in, resent_by_controller, send_items, version_count};
 ghost use Rattle.control_laws.specs.Exports.{BodiesNameThere, HasItemCause, asks_controller};
-ghost use Rattle.refinement.specs.Exports.{AreMarksOf, AreSpelled, AreWritten, BagsRefine, EntriesRefine, HopsRefine, IsControllerOf, IsPlanOfNext, plan_to_keep, acts_of_resend, written_items};
+ghost use Rattle.refinement.specs.Exports.{AreMarksOf, AreMessagesSpelled, AreActsWritten, BagsRefine, EntriesRefine, HopsRefine, IsControllerOf, IsPlanOfNext, plan_to_keep, acts_of_resend, acts_written};
 
 /// A new controller is as the empty journal says, if its plan is that of version 1.
 pub fn controllers_begin()
@@ -29,23 +29,23 @@ pub fn controllers_submit()
         (old new : ControllerValue) (plan : PlanValue) (touched : List WordValue)
         → HaveCauses (HasItemCause setting) [] before → IsControllerOf setting before old
         → IsPlanOfNext setting before file plan touched → old.marks.count - old.marks.retired ≢ 8
-        → old.marks.count ≢ 64 → SubmitsPlan old (next_kept old plan touched) new
-        → AreWritten setting before
+        → old.marks.count ≢ 64 → SubmitsPlan old (next_kept_plan old plan touched) new
+        → AreActsWritten setting before
         (Row row (Update file) ∷ Submitted file (old.marks.count + 1) ∷ [])
-        (submit_acts old.marks (next_kept old plan touched) new) new
+        (submit_acts old.marks (next_kept_plan old plan touched) new) new
         (piece setting before row (Update file)) }
     ensures live { (setting : Setting) (before : List Item) (row file : ℕ)
         (old : ControllerValue) (plan : PlanValue) (touched : List WordValue)
         → HaveCauses (HasItemCause setting) [] before → IsControllerOf setting before old
         → IsPlanOfNext setting before file plan touched → old.marks.count - old.marks.retired ≡ 8
-        → AreWritten setting before (Row row (Update file) ∷ Refused file 16 ∷ []) [] old
+        → AreActsWritten setting before (Row row (Update file) ∷ Refused file 16 ∷ []) [] old
         (piece setting before row (Update file)) }
     ensures versions { (setting : Setting) (before : List Item) (row file : ℕ)
         (old : ControllerValue) (plan : PlanValue) (touched : List WordValue)
         → HaveCauses (HasItemCause setting) [] before → IsControllerOf setting before old
         → IsPlanOfNext setting before file plan touched → old.marks.count - old.marks.retired ≢ 8
         → old.marks.count ≡ 64
-        → AreWritten setting before (Row row (Update file) ∷ Refused file 17 ∷ []) [] old
+        → AreActsWritten setting before (Row row (Update file) ∷ Refused file 17 ∷ []) [] old
         (piece setting before row (Update file)) }
     ensures newest { (setting : Setting) (before : List Item) (controller : ControllerValue)
         → IsSetting setting → HaveCauses (HasItemCause setting) [] before
@@ -60,14 +60,14 @@ pub fn controllers_hear()
         (old new : ControllerValue)
         → HaveCauses (HasItemCause setting) [] before → IsControllerOf setting before old
         → IsTrue (is_deliverable before number)
-        → message_of before number ≡ Some (to_controller body) → NamesThere body old.marks
+        → message_of before number ≡ Some (to_controller body) → ReplyNamesExist body old.marks
         → SettlesWith (marks_after body old.marks) old.plans new
-        → AreWritten setting before (Row row (Deliver number) ∷ Delivered number ∷ [])
+        → AreActsWritten setting before (Row row (Deliver number) ∷ Delivered number ∷ [])
         (hear_acts body old.marks new) new (piece setting before row (Deliver number)) }
     ensures there { (setting : Setting) (journal : List Item) (number : ℕ) (body : Body)
         (marks : MarksValue) → BodiesNameThere setting journal
         → AreMarksOf setting journal marks
-        → message_of journal number ≡ Some (to_controller body) → NamesThere body marks }
+        → message_of journal number ≡ Some (to_controller body) → ReplyNamesExist body marks }
 {}
 
 /// What the controller does when a switch is confirmed as down is what that step writes.
@@ -76,7 +76,7 @@ pub fn controllers_confirm()
         → HaveCauses (HasItemCause setting) [] before → IsControllerOf setting before old
         → IsFalse (is_up before s) → s < length old.marks.switches
         → SettlesWith (at_switch s after_over old.marks) old.plans new
-        → AreWritten setting before (Row row (Confirm s) ∷ OverNow s ∷ [])
+        → AreActsWritten setting before (Row row (Confirm s) ∷ OverNow s ∷ [])
         (settling_acts (current_touched new) (at_switch s after_over old.marks) new.marks) new
         (piece setting before row (Confirm s)) }
 {}
@@ -92,13 +92,13 @@ pub fn controllers_resend()
         (controller : ControllerValue) → HaveCauses (HasItemCause setting) [] before
         → IsControllerOf setting before controller → s < length controller.marks.switches
         → acts_of_resend setting (before ++ Row row (Resend s) ∷ []) s controller ≡ []
-        → AreWritten setting before (Row row (Resend s) ∷ Nothing ∷ []) [] controller
+        → AreActsWritten setting before (Row row (Resend s) ∷ Nothing ∷ []) [] controller
         (piece setting before row (Resend s)) }
     ensures some { (setting : Setting) (before : List Item) (row s : ℕ)
         (controller : ControllerValue) → HaveCauses (HasItemCause setting) [] before
         → IsControllerOf setting before controller → s < length controller.marks.switches
         → acts_of_resend setting (before ++ Row row (Resend s) ∷ []) s controller ≢ []
-        → AreWritten setting before (Row row (Resend s) ∷ [])
+        → AreActsWritten setting before (Row row (Resend s) ∷ [])
         (acts_of_resend setting (before ++ Row row (Resend s) ∷ []) s controller) controller
         (piece setting before row (Resend s)) }
 {}
@@ -120,11 +120,11 @@ pub fn others_leave_controllers()
 /// The acts of a list write their items in order, and messages as acts write that they are sent.
 pub fn acts_write_in_turn()
     ensures parts { (journal : List Item) (first later : List Act)
-        → written_items journal (first ++ later)
-        ≡ written_items journal first ++ written_items (journal ++ written_items journal first)
+        → acts_written journal (first ++ later)
+        ≡ acts_written journal first ++ acts_written (journal ++ acts_written journal first)
         later }
     ensures messages { (messages : List Message) (journal : List Item)
-        → written_items journal (map Post messages) ≡ send_items journal messages }
+        → acts_written journal (map Post messages) ≡ send_items journal messages }
 {}
 
 /// A packet enters at a switch that is as the journal says: the call may be made, and its result
@@ -150,5 +150,5 @@ pub fn messages_are_kept()
 /// its receiver suits its body: so it has an encoding, which is short enough for frames.
 pub fn messages_have_spellings()
     ensures { (setting : Setting) (journal : List Item) → IsSetting setting
-        → IsReached setting journal → AreSpelled journal }
+        → IsReached setting journal → AreMessagesSpelled journal }
 {}

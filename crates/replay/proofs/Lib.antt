@@ -1,7 +1,7 @@
-mod AskedStep
-pub mod EventPlays
-mod BoardKept
-mod SmallNumbers
-mod EventStepping
+mod ReplayAskedStep
+pub mod ReplayEventPlays
+mod ReplayBoard
+mod ReplaySmallNumbers
+mod ReplayEventStepping
 mod ReplayedWorld
-mod PlanInForce
+mod ReplayPlanInForce

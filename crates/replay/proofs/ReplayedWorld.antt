@@ -2,16 +2,16 @@
 use Rattle.std.proofs.Common.{◌≤◌, arith, ℕ}
 use Rattle.steps.specs.Exports.{max_events}
 use Rattle.update_machine.specs.Exports.{IsReached, next_packet}
-use Rattle.world.specs.Exports.{RefinesJournal, WorldValue, setting_at, state_at}
+use Rattle.world.specs.Exports.{RefinesJournal, WorldValue, world_setting_at, state_at}
 use Rattle.refinement.specs.Exports.{RefineJournal}
 
 pub tie_of : (world : WorldValue) → RefinesJournal world
-    → RefineJournal (setting_at world) world.journal (state_at world)
+    → RefineJournal (world_setting_at world) world.journal (state_at world)
 tie_of world refines = refines
 
 -- its journal is of steps of the network
 pub reached_of : (world : WorldValue) → RefinesJournal world
-    → IsReached (setting_at world) world.journal
+    → IsReached (world_setting_at world) world.journal
 reached_of world refines = (tie_of world refines).reached
 
 -- few packets entered, so that another one may

@@ -15,24 +15,24 @@ abbrev pub left_in : List Item → PortLeavings
 left_in items = flat_map left_by items
 
 -- if the old board is the one after some leavings, the new one is the one after these and more
-abbrev pub StayOn : PortLeavings → BoardValue Seen → BoardValue Seen → Type 0
-StayOn more old new =
+abbrev pub MetersStayOn : PortLeavings → BoardValue Seen → BoardValue Seen → Type 0
+MetersStayOn more old new =
     (ports : ℕ) (left : PortLeavings) (meters : List Seen) → old ≡ board_after ports left meters
     → new ≡ board_after ports (left ++ more) meters
 
 -- the new board is the one after what left between the one journal and the other, whatever the
 -- meters of the old one recorded before
-pub record KeepUp (before after : List Item) (old new : BoardValue Seen) : Type 0 where
+pub record MetersKeepUp (before after : List Item) (old new : BoardValue Seen) : Type 0 where
   pub more : PortLeavings
   pub left : left_in after ≡ left_in before ++ more
-  pub stay : StayOn more old new
+  pub stay : MetersStayOn more old new
 
 -- the new board keeps up with the longer journal, except for a part at its end
 pub record KeepUpWithin (before after : List Item) (old new : BoardValue Seen) : Type 0 where
   pub whole : List Item
   pub written : List Item
   pub longer : after ≡ whole ++ written
-  pub kept : KeepUp before whole old new
+  pub kept : MetersKeepUp before whole old new
 
 -- the meters that stay when the packets of this journal have left
 abbrev pub kept_by : Net → List Item → List Seen → List Seen

@@ -2,7 +2,7 @@
 use Rattle.std.specs.Prelude.{[], ◌++◌, ◌∷◌, ◌≡◌, Bool, Err, List, None, Option, Result, Some, false, true, ℕ, ⊤}
 use Rattle.controller.specs.declared.plan_error.PlanError.{PlanError}
 use Rattle.controller.specs.declared.plan_error.PlanError.TheVariants as why
-use Rattle.update_machine.specs.Exports.{AreFirstStepsOf, AreStepsOf, Drain, Event, Flush, HaveRoom, IsFull, Item, One, Setting, Step, StepOfRow, after_steps, next_delivery, next_hop}
+use Rattle.update_machine.specs.Exports.{AreFirstStepsOf, AreStepsOf, Drain, Event, Flush, JournalsHaveRoom, IsFull, Item, One, Setting, Step, StepOfRow, journal_after_steps, next_delivery, next_hop}
 use Rattle.partition.specs.Plan.{Hosted}
 use Rattle.policy_rules.specs.Hosted as no_plan
 use Rattle.world.specs.Exports.{comes_in}
@@ -18,28 +18,28 @@ next_step Flush is_begun journal = next_delivery journal
 next_step Drain is_begun journal = next_hop journal
 
 -- how many packets enter or are closed in the steps of an event
-abbrev pub brought_in : Event → ℕ
-brought_in (One step) = comes_in step
-brought_in _ = 0
+abbrev pub brought_in_by_event : Event → ℕ
+brought_in_by_event (One step) = comes_in step
+brought_in_by_event _ = 0
 
 -- after this journal, the event of the row took all its steps, each of which began with room
-pub record Happens (setting : Setting) (row : ℕ) (event : Event) (before after : List Item)
+pub record EventHappens (setting : Setting) (row : ℕ) (event : Event) (before after : List Item)
     : Type 0 where
   pub steps : List StepOfRow
   pub all : AreStepsOf setting row event before steps
-  pub room : HaveRoom setting before steps
-  pub written : after ≡ after_steps setting before steps
+  pub room : JournalsHaveRoom setting before steps
+  pub written : after ≡ journal_after_steps setting before steps
 
 -- after this journal, the event of the row took the steps that began with room; it has a next one,
 -- which isn't taken because the journal is full
-pub record StopsWithin (setting : Setting) (row : ℕ) (event : Event) (before after : List Item)
+pub record EventStopsWithin (setting : Setting) (row : ℕ) (event : Event) (before after : List Item)
     : Type 0 where
   pub steps : List StepOfRow
   pub next : StepOfRow
   pub first : AreFirstStepsOf setting row event before (steps ++ next ∷ [])
   pub of_row : next.row ≡ row
-  pub room : HaveRoom setting before steps
-  pub written : after ≡ after_steps setting before steps
+  pub room : JournalsHaveRoom setting before steps
+  pub written : after ≡ journal_after_steps setting before steps
   pub full : IsFull after
 
 -- after this journal, the event of the row took its first steps, the last of them perhaps in part
@@ -50,14 +50,14 @@ pub record BeginsEvent (setting : Setting) (row : ℕ) (event : Event) (before a
   pub written : List Item
   pub grown : after ≡ before ++ written
   pub lacking : List Item
-  pub whole : after_steps setting before steps ≡ after ++ lacking
+  pub whole : journal_after_steps setting before steps ≡ after ++ lacking
 
 -- ---- refusals
 
 -- the error for why there is no plan; out of memory is an error of its own
-abbrev pub error_of : PlanError → ReplayError
-error_of why.NoMemory = replayed.NoMemory
-error_of error = replayed.Plan error
+abbrev pub replay_error_of : PlanError → ReplayError
+replay_error_of why.NoMemory = replayed.NoMemory
+replay_error_of error = replayed.Plan error
 
 -- the error says why the first policy has no plan, or that memory ran out
 abbrev pub IsPlanRefusal : Result (List Hosted) NoPlan → ReplayError → Type 0

@@ -1,5 +1,5 @@
 ghost use Rattle.std.specs.Prelude.{◌≡◌};
-ghost use Rattle.replay.specs.Playing.{error_of};
+ghost use Rattle.replay.specs.Playing.{replay_error_of};
 ghost use Rattle.replay.specs.declared.error.ReplayError.TheVariants.{NoMemory};
 
 use std::alloc::AllocError;
@@ -17,7 +17,7 @@ pub enum ReplayError {
 }
 
 impl From<PlanError> for ReplayError {
-    ghost from_gives = { λ error e. e ≡ error_of error };
+    ghost from_gives = { λ error e. e ≡ replay_error_of error };
 
     fn from(error: PlanError) -> Self {
         match error {

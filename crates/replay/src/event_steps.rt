@@ -2,12 +2,12 @@ ghost use Rattle.std.specs.Prelude.{◌≡◌, ◌+◌, ◌≤◌, false, length
 ghost use Rattle.meters.specs.Gone.{seen_board};
 ghost use Rattle.steps.specs.Steps.{IsEvent};
 ghost use Rattle.steps.specs.Limits.{max_events};
-ghost use Rattle.world.specs.NoStep.{no_step};
-ghost use Rattle.replay.specs.Leavings.{KeepUp, KeepUpWithin};
-ghost use Rattle.replay.specs.Playing.{BeginsEvent, Happens, StopsWithin, brought_in, next_step};
-ghost use Rattle.world.specs.State.{setting_at};
+ghost use Rattle.world.specs.NoStep.{no_world_step};
+ghost use Rattle.replay.specs.Leavings.{MetersKeepUp, KeepUpWithin};
+ghost use Rattle.replay.specs.Playing.{BeginsEvent, EventHappens, EventStopsWithin, brought_in_by_event, next_step};
+ghost use Rattle.world.specs.State.{world_setting_at};
 
-use crate::noting::note_left;
+use crate::noting::note_left_packets;
 use meters::{Board, Meter};
 use packet_laws::{deliveries_rise, drains_end};
 use steps::{Event, Step};
@@ -22,7 +22,7 @@ use world::{StepError, World};
 /// `Full` if a step would begin with a full journal; then the journal has the steps before it, and
 /// the world isn't spent. Otherwise only out of memory; then the journal has the first steps of
 /// the event and perhaps a part of the next one.
-pub fn take_steps<M: Meter>(
+pub fn take_event_steps<M: Meter>(
     world: &mut World,
     board: &mut Board<M>,
     row: u32,
@@ -31,21 +31,21 @@ pub fn take_steps<M: Meter>(
     requires able { world.old.is_spent ≡ false }
     requires few { world.old.packets ≤ max_events }
     requires may { IsEvent world.old.net (length world.old.files) event.now }
-    ensures setting { setting_at world.new ≡ setting_at world.old }
+    ensures setting { world_setting_at world.new ≡ world_setting_at world.old }
     ensures able { OnOk result (world.new.is_spent ≡ false) }
-    ensures able_full { IsErrOf result no_step → world.new.is_spent ≡ false }
+    ensures able_full { IsErrOf result no_world_step → world.new.is_spent ≡ false }
     ensures packets { OnOk result (world.new.packets
-        ≡ world.old.packets + brought_in event.now) }
-    ensures packets_full { IsErrOf result no_step → world.new.packets ≡ world.old.packets }
-    ensures happens { OnOk result (Happens (setting_at world.old) row event.now world.old.journal
+        ≡ world.old.packets + brought_in_by_event event.now) }
+    ensures packets_full { IsErrOf result no_world_step → world.new.packets ≡ world.old.packets }
+    ensures happens { OnOk result (EventHappens (world_setting_at world.old) row event.now world.old.journal
         world.new.journal) }
-    ensures stops { IsErrOf result no_step → StopsWithin (setting_at world.old) row event.now
+    ensures stops { IsErrOf result no_world_step → EventStopsWithin (world_setting_at world.old) row event.now
         world.old.journal world.new.journal }
-    ensures part { OnErr result (BeginsEvent (setting_at world.old) row event.now world.old.journal
+    ensures part { OnErr result (BeginsEvent (world_setting_at world.old) row event.now world.old.journal
         world.new.journal) }
-    ensures kept { OnOk result (KeepUp world.old.journal world.new.journal
+    ensures kept { OnOk result (MetersKeepUp world.old.journal world.new.journal
         (seen_board M.seen board.old) (seen_board M.seen board.new)) }
-    ensures kept_full { IsErrOf result no_step → KeepUp world.old.journal world.new.journal
+    ensures kept_full { IsErrOf result no_world_step → MetersKeepUp world.old.journal world.new.journal
         (seen_board M.seen board.old) (seen_board M.seen board.new) }
     ensures kept_part { OnErr result (world.new.is_spent ≡ true → KeepUpWithin world.old.journal
         world.new.journal (seen_board M.seen board.old) (seen_board M.seen board.new)) }
@@ -57,7 +57,7 @@ pub fn take_steps<M: Meter>(
         world.refines();
         let before = world.journal().items().len();
         world.step(row, &next)?;
-        note_left(board, &world.journal().items()[before..])?;
+        note_left_packets(board, &world.journal().items()[before..])?;
         is_begun = true;
     }
     Ok(())

@@ -26,7 +26,7 @@ mod noting;
 mod playing;
 
 pub use error::ReplayError;
-pub use event_steps::take_steps;
+pub use event_steps::take_event_steps;
 pub use journal::{Item, Journal};
 pub use journal_reports::quiet;
 pub use journal_text::{text, write_text};

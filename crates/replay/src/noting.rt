@@ -1,7 +1,7 @@
 //! Packets that left are recorded by the meters of their ports.
 ghost use Rattle.std.specs.Prelude.{OnOk};
 ghost use Rattle.meters.specs.Gone.{seen_board};
-ghost use Rattle.replay.specs.Leavings.{StayOn, left_in};
+ghost use Rattle.replay.specs.Leavings.{MetersStayOn, left_in};
 
 use journal::Item;
 use meters::{Board, Meter};
@@ -11,9 +11,9 @@ use std::alloc::AllocError;
 ///
 /// # Errors
 /// Only out of memory, in the board or in a meter.
-pub fn note_left<M: Meter>(board: &mut Board<M>, items: &[Item]) -> Result<(), AllocError>
+pub fn note_left_packets<M: Meter>(board: &mut Board<M>, items: &[Item]) -> Result<(), AllocError>
     ensures { OnOk result
-        (StayOn (left_in items.now) (seen_board M.seen board.old) (seen_board M.seen board.new)) }
+        (MetersStayOn (left_in items.now) (seen_board M.seen board.old) (seen_board M.seen board.new)) }
 {
     for item in items {
         if let Item::Left { port, leaving, .. } = item {

@@ -4,18 +4,18 @@ ghost use Rattle.meters.specs.Meters.{kept_meters};
 ghost use Rattle.net_file.specs.Exports.{IsNet, port_mask};
 ghost use Rattle.packet_laws.specs.Exports.{HeldOnTheWay};
 ghost use Rattle.partition.specs.Plan.{plan_of};
-ghost use Rattle.policy_rules.specs.Exports.{GivesOnly, IsPolicyFile};
+ghost use Rattle.policy_rules.specs.Exports.{PolicyFileGivesOnly, IsPolicyFile};
 ghost use Rattle.steps.specs.Steps.{IsEvent};
 ghost use Rattle.steps.specs.Limits.{max_events};
 ghost use Rattle.update_machine.specs.Exports.{IsPlay, NamesOwnPort, setting_of};
 ghost use Rattle.world.specs.Files.{first_policy};
-ghost use Rattle.world.specs.State.{IsBegun, setting_at};
+ghost use Rattle.world.specs.State.{IsWorldBegun, world_setting_at};
 ghost use Rattle.replay.specs.InForce.{IsPlanInForce};
 ghost use Rattle.replay.specs.Leavings.{left_in};
 ghost use Rattle.replay.specs.Playing.{IsPlanRefusal};
 
 use crate::error::ReplayError;
-use crate::event_steps::take_steps;
+use crate::event_steps::take_event_steps;
 use crate::in_force::plan_in_force;
 use base::Failure;
 use controller::Plan;
@@ -62,7 +62,7 @@ pub fn replay<M: Meter>(
     requires net { IsNet net.now }
     requires first { IsSome (first_policy files.items) }
     requires sound { All IsPolicyFile files.items }
-    requires ports { All (GivesOnly (λ row. NamesOwnPort (setting_of net.now files.items)
+    requires ports { All (PolicyFileGivesOnly (λ row. NamesOwnPort (setting_of net.now files.items)
         row.action)) files.items }
     requires events { All (IsEvent net.now (length files.items)) events.now }
     requires few { length events.now ≤ max_events }
@@ -100,18 +100,18 @@ pub fn play<M: Meter>(
     meters: Vec<M>,
     ports: u64,
 ) -> Result<Played<M>, AllocError>
-    requires begun { IsBegun (setting_at world) world }
+    requires begun { IsWorldBegun (world_setting_at world) world }
     requires events { All (IsEvent world.net (length world.files)) events.now }
     requires few { length events.now ≤ max_events }
     ensures play { IfOk result (λ played.
-        IsPlay (setting_at world) events.now played.journal played.full) }
-    ensures held { IfOk result (λ played. HeldOnTheWay (setting_at world) played.journal) }
+        IsPlay (world_setting_at world) events.now played.journal played.full) }
+    ensures held { IfOk result (λ played. HeldOnTheWay (world_setting_at world) played.journal) }
     ensures kept { IfOk result (λ played. map M.seen played.meters.items
         ≡ kept_meters ports (left_in played.journal) (map M.seen meters.items)) }
     ensures gone { IfOk result (λ played. played.gone
         ≡ gone_records ports (left_in played.journal) (map M.seen meters.items)) }
     ensures plan { IfOk result (λ played.
-        IsPlanInForce (setting_at world) played.journal played.plan) }
+        IsPlanInForce (world_setting_at world) played.journal played.plan) }
 {
     world.refines();
     plays_held_on_the_way();
@@ -120,7 +120,7 @@ pub fn play<M: Meter>(
     let mut row = 0u32;
     for event in events {
         row += 1;
-        match take_steps(&mut world, &mut board, row, event) {
+        match take_event_steps(&mut world, &mut board, row, event) {
             Ok(()) => {}
             Err(Failure::Refused(Full)) => {
                 let plan = plan_in_force(&world)?;

@@ -1,7 +1,7 @@
-pub mod EventFields
-pub mod RowsInTurn
-pub mod HeaderFields
-pub mod SoundEvents
-pub mod KindKeywords
-pub mod CaseNetworks
-pub mod LoadCases
+pub mod ScheduleEventFields
+pub mod ScheduleRowsInTurn
+pub mod ScheduleHeaderFields
+pub mod ScheduleSoundEvents
+pub mod ScheduleKeywords
+pub mod LoadCaseNetworks
+pub mod LoadCaseDraws

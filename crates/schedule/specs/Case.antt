@@ -3,7 +3,7 @@
 -- are drawn from a linear congruential generator, whose state starts at the number.
 use Rattle.std.specs.Prelude.{[], if◌then◌else◌, ◌%◌, ◌*◌, ◌++◌, ◌+◌, ◌/◌, ◌==◌, ◌^◌, ◌||◌, ◌∷◌, ◌≤◌, All, IsTrue, List, is_some, length, map, suc, zero, ℕ, ⊤}
 use Rattle.base.specs.Exports.{range_with_len}
-use Rattle.five_tuple.specs.Exports.{block_round, header_of}
+use Rattle.five_tuple.specs.Exports.{address_block_round, header_of}
 use Rattle.five_tuple.specs.declared.header.Header.{Header}
 use Rattle.five_tuple.specs.declared.matching.Proto.TheVariants.{Is}
 use Rattle.schedule.specs.declared.case.Case.{Case}
@@ -27,9 +27,9 @@ unfoldable pub next_drawn : ℕ → ℕ
 next_drawn x = (x * 1103515245 + 12345) % 2147483648
 
 -- the state after this many draws
-abbrev pub state_after : ℕ → ℕ → ℕ
-state_after zero x = x
-state_after (suc n) x = state_after n (next_drawn x)
+abbrev pub draw_state_after : ℕ → ℕ → ℕ
+draw_state_after zero x = x
+draw_state_after (suc n) x = draw_state_after n (next_drawn x)
 
 -- the number below m of the draw that led to this state
 abbrev pub draw_below : ℕ → ℕ → ℕ
@@ -42,20 +42,20 @@ abbrev pub room_of : ℕ → ℕ
 room_of i = if i == 1 || i == 5 then 8192 else 0
 
 -- the switch `ni` has the port i
-abbrev pub switch_row : ℕ → SwitchRow
-switch_row i = record { name = 110 ∷ (48 + i) ∷ []; ports = 2 ^ i; room = room_of i }
+abbrev pub case_switch_row : ℕ → SwitchRow
+case_switch_row i = record { name = 110 ∷ (48 + i) ∷ []; ports = 2 ^ i; room = room_of i }
 
-abbrev pub link_row : ℕ → ℕ → LinkRow
-link_row one two = record { one = one; two = two }
+abbrev pub case_link_row : ℕ → ℕ → LinkRow
+case_link_row one two = record { one = one; two = two }
 
 -- a ring, and n0-n4 and n2-n6 across it
 abbrev pub load_links : List LinkRow
-load_links = link_row 0 1 ∷ link_row 1 2 ∷ link_row 2 3 ∷ link_row 3 4 ∷ link_row 4 5 ∷ link_row 5 6
-    ∷ link_row 6 7 ∷ link_row 0 7 ∷ link_row 0 4 ∷ link_row 2 6 ∷ []
+load_links = case_link_row 0 1 ∷ case_link_row 1 2 ∷ case_link_row 2 3 ∷ case_link_row 3 4 ∷ case_link_row 4 5 ∷ case_link_row 5 6
+    ∷ case_link_row 6 7 ∷ case_link_row 0 7 ∷ case_link_row 0 4 ∷ case_link_row 2 6 ∷ []
 
 abbrev pub load_net : Net
 load_net = record {
-  switches = map switch_row (range_with_len 0 8);
+  switches = map case_switch_row (range_with_len 0 8);
   links = load_links;
   leaf_rules = 32;
   backups = 1;
@@ -71,30 +71,30 @@ address_of_bytes a b c d = a * 2 ^ 24 + b * 2 ^ 16 + c * 2 ^ 8 + d
 abbrev pub drop_draw : ℕ → ℕ
 drop_draw x = draw_below 4 (next_drawn x)
 
-abbrev pub action_at : ℕ → Action
-action_at x = if drop_draw x == 0 then Drop else Out (draw_below 8 (state_after 2 x))
+abbrev pub case_action_at : ℕ → Action
+case_action_at x = if drop_draw x == 0 then Drop else Out (draw_below 8 (draw_state_after 2 x))
 
-abbrev pub action_ends : ℕ → ℕ
-action_ends x = if drop_draw x == 0 then next_drawn x else state_after 2 x
+abbrev pub case_action_ends : ℕ → ℕ
+case_action_ends x = if drop_draw x == 0 then next_drawn x else draw_state_after 2 x
 
 -- the row of this priority, that is drawn from the state x
 abbrev pub row_at : ℕ → ℕ → Row
 row_at priority x = record {
   priority = priority;
-  src = block_round (address_of_bytes 10 (draw_below 4 (state_after 1 x))
-      (draw_below 256 (state_after 2 x)) 0) 24;
-  dst = block_round (address_of_bytes 10 (draw_below 4 (state_after 3 x)) 0 0) 16;
+  src = address_block_round (address_of_bytes 10 (draw_below 4 (draw_state_after 1 x))
+      (draw_below 256 (draw_state_after 2 x)) 0) 24;
+  dst = address_block_round (address_of_bytes 10 (draw_below 4 (draw_state_after 3 x)) 0 0) 16;
   sport = record { low = 0; high = 65535 };
   dport = record {
-    low = draw_below 1024 (state_after 4 x);
-    high = draw_below 1024 (state_after 4 x);
+    low = draw_below 1024 (draw_state_after 4 x);
+    high = draw_below 1024 (draw_state_after 4 x);
   };
   proto = Is 6;
-  action = action_at (state_after 4 x);
+  action = case_action_at (draw_state_after 4 x);
 }
 
 abbrev pub row_ends : ℕ → ℕ
-row_ends x = action_ends (state_after 4 x)
+row_ends x = case_action_ends (draw_state_after 4 x)
 
 -- this many rows, whose priorities are their places from 1, and the state after them
 abbrev pub rows_drawn : ℕ → ℕ → List Row × ℕ
@@ -105,17 +105,17 @@ rows_drawn (suc k) x =
 
 -- ---- the schedule
 
-abbrev pub address_at : ℕ → ℕ
-address_at x = address_of_bytes 10 (draw_below 4 (state_after 1 x))
-    (draw_below 256 (state_after 2 x)) (draw_below 256 (state_after 3 x))
+abbrev pub case_address_at : ℕ → ℕ
+case_address_at x = address_of_bytes 10 (draw_below 4 (draw_state_after 1 x))
+    (draw_below 256 (draw_state_after 2 x)) (draw_below 256 (draw_state_after 3 x))
 
 -- the header that is drawn from the state x
 abbrev pub header_drawn : ℕ → Header
 header_drawn x = header_of (record {
-  src = address_at x;
-  dst = address_at (state_after 3 x);
-  sport = 1024 + draw_below 30000 (state_after 7 x);
-  dport = draw_below 1024 (state_after 8 x);
+  src = case_address_at x;
+  dst = case_address_at (draw_state_after 3 x);
+  sport = 1024 + draw_below 30000 (draw_state_after 7 x);
+  dport = draw_below 1024 (draw_state_after 8 x);
   proto = 6;
 })
 
@@ -124,15 +124,15 @@ abbrev pub packet_drawn : ℕ → Step
 packet_drawn x = step.Packet (draw_below 8 (next_drawn x)) (header_drawn (next_drawn x))
 
 -- a packet enters at a switch and is drained, and then what was sent is delivered
-abbrev pub group_at : ℕ → List Event
-group_at x = One (packet_drawn x) ∷ Drain ∷ Flush ∷ []
+abbrev pub case_group_at : ℕ → List Event
+case_group_at x = One (packet_drawn x) ∷ Drain ∷ Flush ∷ []
 
 -- this many groups, and the state after them
-abbrev pub groups_from : ℕ → ℕ → List Event × ℕ
-groups_from zero x = ([], x)
-groups_from (suc k) x =
-    let before = groups_from k x in
-    (before.0 ++ group_at before.1, state_after 9 before.1)
+abbrev pub case_groups_from : ℕ → ℕ → List Event × ℕ
+case_groups_from zero x = ([], x)
+case_groups_from (suc k) x =
+    let before = case_groups_from k x in
+    (before.0 ++ case_group_at before.1, draw_state_after 9 before.1)
 
 -- the second policy becomes the newest, and then the link n0-n1 fails
 abbrev pub change_events : List Event
@@ -150,8 +150,8 @@ abbrev pub load_case : ℕ → LoadCase
 load_case n =
     let first = rows_drawn n n in
     let second = rows_drawn n first.1 in
-    let early = groups_from (2 * n) second.1 in
-    let late = groups_from (2 * n) early.1 in
+    let early = case_groups_from (2 * n) second.1 in
+    let late = case_groups_from (2 * n) early.1 in
     record {
       net = load_net;
       policies = first.0 ∷ second.0 ∷ [];
@@ -164,13 +164,13 @@ case_seen made =
     record { net = made.net; policies = made.policies.items; events = made.events.items }
 
 -- the action names a port that a switch has, if it names one
-abbrev pub NamesPort : Net → Action → Type 0
-NamesPort net Drop = ⊤
-NamesPort net (Out port) = IsTrue (is_some (owner_of net.switches port))
+abbrev pub CaseNamesPort : Net → Action → Type 0
+CaseNamesPort net Drop = ⊤
+CaseNamesPort net (Out port) = IsTrue (is_some (owner_of net.switches port))
 
 -- the network is sound, the policies name only its ports, and the events may happen on it
-pub record IsPlayable (load : LoadCase) : Type 0 where
+pub record IsPlayableCase (load : LoadCase) : Type 0 where
   pub net : IsNet load.net
-  pub ports : All (All (λ row. NamesPort load.net row.action)) load.policies
+  pub ports : All (All (λ row. CaseNamesPort load.net row.action)) load.policies
   pub may : All (IsEvent load.net (length load.policies)) load.events
   pub few : length load.events ≤ max_events

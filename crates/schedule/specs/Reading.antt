@@ -11,15 +11,15 @@ use Rattle.schedule.specs.declared.error.ScheduleRefusal.{ScheduleRefusal}
 use Rattle.schedule.specs.declared.error.ScheduleRefusal.TheVariants as why
 
 -- why the row of this number is refused, if it is: it states no event, or is past row 100,000
-abbrev pub refusal_in : Net → ℕ → ℕ → List (List ℕ) → Option ScheduleRefusal
-refusal_in net files row fields =
+abbrev pub schedule_refusal_in : Net → ℕ → ℕ → List (List ℕ) → Option ScheduleRefusal
+schedule_refusal_in net files row fields =
     if nat_lt max_events row then Some why.TooManyRows else result_err (event_of net files fields)
 
 -- the same with the row's number
 abbrev pub refused_row : Net → ℕ → ℕ × List (List ℕ) → Option (InRow ScheduleRefusal)
 refused_row net files row =
     option_map (λ refusal. record { refusal = refusal; row = row.0 })
-    (refusal_in net files row.0 row.1)
+    (schedule_refusal_in net files row.0 row.1)
 
 -- the refusals of all these rows, the first of which has this number
 abbrev pub refusals_from : Net → ℕ → ℕ → List (List (List ℕ)) → List (InRow ScheduleRefusal)
@@ -27,14 +27,14 @@ refusals_from net files first records =
     filter_map (refused_row net files) (enumerate_from first records)
 
 -- the events of the records that state one
-abbrev pub events_in : Net → ℕ → List (List (List ℕ)) → List Event
-events_in net files records = filter_map (λ fields. result_ok (event_of net files fields)) records
+abbrev pub schedule_events_in : Net → ℕ → List (List (List ℕ)) → List Event
+schedule_events_in net files records = filter_map (λ fields. result_ok (event_of net files fields)) records
 
 -- the events that the records state, one each; or the first refusal
 abbrev pub events_of : Net → ℕ → List (List (List ℕ)) → Result (List Event) (InRow ScheduleRefusal)
 events_of net files records =
     option_map_or Err (slice_get (refusals_from net files 1 records) 0)
-    (Ok (events_in net files records))
+    (Ok (schedule_events_in net files records))
 
 abbrev pub no_schedule_heading : Result (List Event) (InRow ScheduleRefusal)
 no_schedule_heading = Err (record { refusal = why.Header; row = 0 })

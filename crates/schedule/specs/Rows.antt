@@ -3,7 +3,7 @@
 use Rattle.std.specs.Prelude.{[], ◌∷◌, Err, List, Ok, Result, codes, nat_le, ok_or, option_map, ℕ}
 use Rattle.five_tuple.specs.Exports.{header_of, number_up_to, packet_fields_of}
 use Rattle.five_tuple.specs.declared.header.Header.{Header}
-use Rattle.net_file.specs.Exports.{are_linked, require, switch_number, with_value}
+use Rattle.net_file.specs.Exports.{are_linked, require_net_value, switch_number, with_toml_value}
 use Rattle.net_file.specs.declared.net.LinkRow.{LinkRow}
 use Rattle.net_file.specs.declared.net.Net.{Net}
 use Rattle.steps.specs.Exports.{max_number}
@@ -26,21 +26,21 @@ abbrev pub switch_in : Net → List ℕ → Result ℕ ScheduleRefusal
 switch_in net name = ok_or (switch_number net.switches name) why.Switch
 
 -- the number of a packet, a message or a cache place, at most 999,999,999
-abbrev pub number_read : List ℕ → Result ℕ ScheduleRefusal
-number_read text = ok_or (number_up_to max_number text) why.Number
+abbrev pub row_number_read : List ℕ → Result ℕ ScheduleRefusal
+row_number_read text = ok_or (number_up_to max_number text) why.Number
 
 -- the number of a policy file, from 1
-abbrev pub file_in : ℕ → List ℕ → Result ℕ ScheduleRefusal
-file_in files text =
-    with_value (ok_or (number_up_to files text) why.File) (λ file.
-    require (nat_le 1 file) why.File (Ok file))
+abbrev pub row_file_in : ℕ → List ℕ → Result ℕ ScheduleRefusal
+row_file_in files text =
+    with_toml_value (ok_or (number_up_to files text) why.File) (λ file.
+    require_net_value (nat_le 1 file) why.File (Ok file))
 
 -- the link between the switches of these names
-abbrev pub link_in : Net → List ℕ → List ℕ → Result LinkRow ScheduleRefusal
-link_in net one two =
-    with_value (switch_in net one) (λ one.
-    with_value (switch_in net two) (λ two.
-    require (are_linked net.links one two) why.NoLink (Ok (record { one = one; two = two }))))
+abbrev pub row_link_in : Net → List ℕ → List ℕ → Result LinkRow ScheduleRefusal
+row_link_in net one two =
+    with_toml_value (switch_in net one) (λ one.
+    with_toml_value (switch_in net two) (λ two.
+    require_net_value (are_linked net.links one two) why.NoLink (Ok (record { one = one; two = two }))))
 
 -- two addresses, two ports and a protocol, none of them `any`
 abbrev pub header_read : List ℕ → List ℕ → List ℕ → List ℕ → List ℕ → Result Header ScheduleRefusal
@@ -50,42 +50,42 @@ header_read src dst sport dport proto =
 -- ---- rows
 
 -- the event of a kind and of the fields after it
-abbrev pub event_with : Net → ℕ → Kind → List (List ℕ) → Result Event ScheduleRefusal
-event_with net files kind.Packet (switch ∷ src ∷ dst ∷ sport ∷ dport ∷ proto ∷ []) =
-    with_value (switch_in net switch) (λ switch. with_value (header_read src dst sport dport proto)
+abbrev pub row_event_with : Net → ℕ → Kind → List (List ℕ) → Result Event ScheduleRefusal
+row_event_with net files kind.Packet (switch ∷ src ∷ dst ∷ sport ∷ dport ∷ proto ∷ []) =
+    with_toml_value (switch_in net switch) (λ switch. with_toml_value (header_read src dst sport dport proto)
     (λ header. Ok (One (step.Packet switch header))))
-event_with net files kind.Hop (packet ∷ []) =
-    with_value (number_read packet) (λ packet. Ok (One (step.Hop packet)))
-event_with net files kind.Lose (packet ∷ []) =
-    with_value (number_read packet) (λ packet. Ok (One (step.Lose packet)))
-event_with net files kind.Deliver (message ∷ []) =
-    with_value (number_read message) (λ message. Ok (One (step.Deliver message)))
-event_with net files kind.Forget (message ∷ []) =
-    with_value (number_read message) (λ message. Ok (One (step.Forget message)))
-event_with net files kind.Expire (switch ∷ place ∷ []) =
-    with_value (switch_in net switch) (λ switch.
-    with_value (number_read place) (λ place. Ok (One (step.Expire switch place))))
-event_with net files kind.Update (file ∷ []) =
-    with_value (file_in files file) (λ file. Ok (One (step.Update file)))
-event_with net files kind.LinkDown (one ∷ two ∷ []) =
-    with_value (link_in net one two) (λ link. Ok (One (step.LinkDown link.one link.two)))
-event_with net files kind.LinkUp (one ∷ two ∷ []) =
-    with_value (link_in net one two) (λ link. Ok (One (step.LinkUp link.one link.two)))
-event_with net files kind.Crash (switch ∷ []) =
-    with_value (switch_in net switch) (λ switch. Ok (One (step.Crash switch)))
-event_with net files kind.Restart (switch ∷ []) =
-    with_value (switch_in net switch) (λ switch. Ok (One (step.Restart switch)))
-event_with net files kind.Confirm (switch ∷ []) =
-    with_value (switch_in net switch) (λ switch. Ok (One (step.Confirm switch)))
-event_with net files kind.Resend (switch ∷ []) =
-    with_value (switch_in net switch) (λ switch. Ok (One (step.Resend switch)))
-event_with net files kind.Flush [] = Ok Flush
-event_with net files kind.Drain [] = Ok Drain
-event_with net files kind fields = Err why.Width
+row_event_with net files kind.Hop (packet ∷ []) =
+    with_toml_value (row_number_read packet) (λ packet. Ok (One (step.Hop packet)))
+row_event_with net files kind.Lose (packet ∷ []) =
+    with_toml_value (row_number_read packet) (λ packet. Ok (One (step.Lose packet)))
+row_event_with net files kind.Deliver (message ∷ []) =
+    with_toml_value (row_number_read message) (λ message. Ok (One (step.Deliver message)))
+row_event_with net files kind.Forget (message ∷ []) =
+    with_toml_value (row_number_read message) (λ message. Ok (One (step.Forget message)))
+row_event_with net files kind.Expire (switch ∷ place ∷ []) =
+    with_toml_value (switch_in net switch) (λ switch.
+    with_toml_value (row_number_read place) (λ place. Ok (One (step.Expire switch place))))
+row_event_with net files kind.Update (file ∷ []) =
+    with_toml_value (row_file_in files file) (λ file. Ok (One (step.Update file)))
+row_event_with net files kind.LinkDown (one ∷ two ∷ []) =
+    with_toml_value (row_link_in net one two) (λ link. Ok (One (step.LinkDown link.one link.two)))
+row_event_with net files kind.LinkUp (one ∷ two ∷ []) =
+    with_toml_value (row_link_in net one two) (λ link. Ok (One (step.LinkUp link.one link.two)))
+row_event_with net files kind.Crash (switch ∷ []) =
+    with_toml_value (switch_in net switch) (λ switch. Ok (One (step.Crash switch)))
+row_event_with net files kind.Restart (switch ∷ []) =
+    with_toml_value (switch_in net switch) (λ switch. Ok (One (step.Restart switch)))
+row_event_with net files kind.Confirm (switch ∷ []) =
+    with_toml_value (switch_in net switch) (λ switch. Ok (One (step.Confirm switch)))
+row_event_with net files kind.Resend (switch ∷ []) =
+    with_toml_value (switch_in net switch) (λ switch. Ok (One (step.Resend switch)))
+row_event_with net files kind.Flush [] = Ok Flush
+row_event_with net files kind.Drain [] = Ok Drain
+row_event_with net files kind fields = Err why.Width
 
 -- the event that a record states, or why it states none: first the kind, then the width, then the
 -- fields from left to right
 abbrev pub event_of : Net → ℕ → List (List ℕ) → Result Event ScheduleRefusal
 event_of net files [] = Err why.Kind
 event_of net files (keyword ∷ fields) =
-    with_value (ok_or (kind_of keyword) why.Kind) (λ kind. event_with net files kind fields)
+    with_toml_value (ok_or (kind_of keyword) why.Kind) (λ kind. row_event_with net files kind fields)

@@ -1,11 +1,11 @@
 ghost use Rattle.std.specs.Prelude.{◌≡◌, ◌≤◌, All, IfOk};
-ghost use Rattle.schedule.specs.Case.{IsPlayable, case_seen, load_case};
+ghost use Rattle.schedule.specs.Case.{IsPlayableCase, case_seen, load_case};
 ghost use Rattle.policy_rules.specs.Policy.{IsPolicy};
 
 use crate::case_events::events;
 use crate::case_net::net;
 use crate::case_policies::policy;
-use crate::draws::Draws;
+use crate::draws::CaseDraws;
 use net_file::Net;
 use policy_rules::Policy;
 use std::alloc::{AllocError, Global};
@@ -28,7 +28,7 @@ pub struct Case {
 pub fn load_case(alloc: Global, n: u32) -> Result<Case, AllocError>
     requires { (1 ≤ n) × (n ≤ 1000) }
     ensures case { IfOk result (λ case. case_seen case ≡ load_case n) }
-    ensures playable { IfOk result (λ case. IsPlayable (case_seen case)) }
+    ensures playable { IfOk result (λ case. IsPlayableCase (case_seen case)) }
     ensures policies { IfOk result (λ case. All IsPolicy case.policies.items) }
 {
     let case = draw_case(alloc, n)?;
@@ -41,7 +41,7 @@ fn draw_case(alloc: Global, n: u32) -> Result<Case, AllocError>
     ensures policies { IfOk result (λ case. All IsPolicy case.policies.items) }
 {
     let net = net(alloc)?;
-    let mut draws = Draws { state: n };
+    let mut draws = CaseDraws { state: n };
     let first = policy(alloc, &mut draws, n)?;
     let second = policy(alloc, &mut draws, n)?;
     let events = events(alloc, &mut draws, 2 * n)?;

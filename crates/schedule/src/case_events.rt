@@ -1,7 +1,7 @@
 ghost use Rattle.std.specs.Prelude.{◌≡◌, ◌++◌, ◌<◌, ◌^◌, IfOk, OnOk};
-ghost use Rattle.schedule.specs.Case.{address_at, state_after, change_events, groups_from, header_drawn, packet_drawn};
+ghost use Rattle.schedule.specs.Case.{case_address_at, draw_state_after, change_events, case_groups_from, header_drawn, packet_drawn};
 
-use crate::draws::{Draws, address};
+use crate::draws::{CaseDraws, address};
 use five_tuple::{Fields, Header};
 use std::alloc::{AllocError, Global};
 use steps::{Event, Step};
@@ -10,27 +10,31 @@ use steps::{Event, Step};
 ///
 /// # Errors
 /// Only out of memory.
-pub fn events(alloc: Global, draws: &mut Draws, half: u32) -> Result<Vec<Event>, AllocError>
+pub fn events(alloc: Global, draws: &mut CaseDraws, half: u32) -> Result<Vec<Event>, AllocError>
     ensures { IfOk result (λ events.
-        let early = groups_from half draws.old.state in
-        events.items ≡ early.0 ++ change_events ++ (groups_from half early.1).0) }
+        let early = case_groups_from half draws.old.state in
+        events.items ≡ early.0 ++ change_events ++ (case_groups_from half early.1).0) }
 {
     let mut events = Vec::new(alloc);
-    push_groups(&mut events, draws, half)?;
+    push_packet_groups(&mut events, draws, half)?;
     events.push(Event::One(Step::Update { file: 2 }))?;
     events.push(Event::Flush)?;
     events.push(Event::One(Step::LinkDown { one: 0, two: 1 }))?;
     events.push(Event::Flush)?;
-    push_groups(&mut events, draws, half)?;
+    push_packet_groups(&mut events, draws, half)?;
     Ok(events)
 }
 
 // Adds this many packets, each drained before the next one enters.
-#[tactic(auto, using(crate::proofs::LoadCases::groups_more))]
-fn push_groups(events: &mut Vec<Event>, draws: &mut Draws, count: u32) -> Result<(), AllocError>
+#[tactic(auto, using(crate::proofs::LoadCaseDraws::groups_more))]
+fn push_packet_groups(
+    events: &mut Vec<Event>,
+    draws: &mut CaseDraws,
+    count: u32,
+) -> Result<(), AllocError>
     ensures { OnOk result (
-        (events.new.items ≡ events.old.items ++ (groups_from count draws.old.state).0)
-        × (draws.new.state ≡ (groups_from count draws.old.state).1)) }
+        (events.new.items ≡ events.old.items ++ (case_groups_from count draws.old.state).0)
+        × (draws.new.state ≡ (case_groups_from count draws.old.state).1)) }
 {
     for _k in 0..count {
         let packet = draw_packet(draws);
@@ -41,18 +45,18 @@ fn push_groups(events: &mut Vec<Event>, draws: &mut Draws, count: u32) -> Result
     Ok(())
 }
 
-fn draw_packet(draws: &mut Draws) -> Step
+fn draw_packet(draws: &mut CaseDraws) -> Step
     ensures packet { result ≡ packet_drawn draws.old.state }
-    ensures state { draws.new.state ≡ state_after 9 draws.old.state }
+    ensures state { draws.new.state ≡ draw_state_after 9 draws.old.state }
 {
     let switch = draws.below(8);
     let header = draw_header(draws);
     Step::Packet { switch, header }
 }
 
-fn draw_header(draws: &mut Draws) -> Header
+fn draw_header(draws: &mut CaseDraws) -> Header
     ensures header { result ≡ header_drawn draws.old.state }
-    ensures state { draws.new.state ≡ state_after 8 draws.old.state }
+    ensures state { draws.new.state ≡ draw_state_after 8 draws.old.state }
 {
     let src = draw_address(draws);
     let dst = draw_address(draws);
@@ -67,9 +71,9 @@ fn draw_header(draws: &mut Draws) -> Header
     })
 }
 
-fn draw_address(draws: &mut Draws) -> u32
-    ensures address { result ≡ address_at draws.old.state }
-    ensures state { draws.new.state ≡ state_after 3 draws.old.state }
+fn draw_address(draws: &mut CaseDraws) -> u32
+    ensures address { result ≡ case_address_at draws.old.state }
+    ensures state { draws.new.state ≡ draw_state_after 3 draws.old.state }
     ensures fits { result < 2 ^ 32 }
 {
     let b = draws.below(4);

@@ -1,5 +1,5 @@
 ghost use Rattle.std.specs.Prelude.{◌≡◌, ◌<◌, IfOk};
-ghost use Rattle.schedule.specs.Case.{load_links, load_net, switch_row};
+ghost use Rattle.schedule.specs.Case.{load_links, load_net, case_switch_row};
 ghost use Rattle.net_file.specs.Net.{IsNet};
 
 use net_file::{LinkRow, Links, Name, Net, SwitchRow, Switches};
@@ -17,7 +17,7 @@ pub fn net(alloc: Global) -> Result<Net, AllocError>
     Ok(net)
 }
 
-#[tactic(auto, using(crate::proofs::CaseNetworks::switches_more))]
+#[tactic(auto, using(crate::proofs::LoadCaseNetworks::switches_more))]
 fn ring(alloc: Global) -> Result<Net, AllocError>
     ensures { IfOk result (λ net. net ≡ load_net) }
 {
@@ -37,7 +37,7 @@ fn ring(alloc: Global) -> Result<Net, AllocError>
 // The switch `ni`, which has the port i.
 fn switch(alloc: Global, i: u32) -> Result<SwitchRow, AllocError>
     requires { i < 8 }
-    ensures { IfOk result (λ row. row ≡ switch_row i) }
+    ensures { IfOk result (λ row. row ≡ case_switch_row i) }
 {
     let bytes = [b'n', b'0' + i as u8];
     let is_authority = i == 1 || i == 5;

@@ -1,8 +1,8 @@
 ghost use Rattle.std.specs.Prelude.{◌≡◌, IfOk};
-ghost use Rattle.schedule.specs.Case.{action_at, action_ends, row_at, row_ends, rows_drawn};
+ghost use Rattle.schedule.specs.Case.{case_action_at, case_action_ends, row_at, row_ends, rows_drawn};
 ghost use Rattle.policy_rules.specs.Policy.{IsPolicy};
 
-use crate::draws::{Draws, address};
+use crate::draws::{CaseDraws, address};
 use base::Failure;
 use five_tuple::{PortRange, Prefix, Proto};
 use policy_rules::{Action, Policy, Row};
@@ -12,7 +12,7 @@ use std::alloc::{AllocError, Global};
 ///
 /// # Errors
 /// Only out of memory.
-pub fn policy(alloc: Global, draws: &mut Draws, rows: u32) -> Result<Policy, AllocError>
+pub fn policy(alloc: Global, draws: &mut CaseDraws, rows: u32) -> Result<Policy, AllocError>
     ensures drawn { IfOk result (λ policy.
         (policy ≡ (rows_drawn rows draws.old.state).0)
         × (draws.new.state ≡ (rows_drawn rows draws.old.state).1)) }
@@ -26,8 +26,8 @@ pub fn policy(alloc: Global, draws: &mut Draws, rows: u32) -> Result<Policy, All
     }
 }
 
-#[tactic(auto, using(crate::proofs::LoadCases::rows_more))]
-fn draw_rows(alloc: Global, draws: &mut Draws, count: u32) -> Result<Vec<Row>, AllocError>
+#[tactic(auto, using(crate::proofs::LoadCaseDraws::rows_more))]
+fn draw_rows(alloc: Global, draws: &mut CaseDraws, count: u32) -> Result<Vec<Row>, AllocError>
     ensures { IfOk result (λ rows.
         (rows.items ≡ (rows_drawn count draws.old.state).0)
         × (draws.new.state ≡ (rows_drawn count draws.old.state).1)) }
@@ -39,7 +39,7 @@ fn draw_rows(alloc: Global, draws: &mut Draws, count: u32) -> Result<Vec<Row>, A
     Ok(rows)
 }
 
-fn draw_row(draws: &mut Draws, priority: u32) -> Row
+fn draw_row(draws: &mut CaseDraws, priority: u32) -> Row
     ensures row { result ≡ row_at priority draws.old.state }
     ensures state { draws.new.state ≡ row_ends draws.old.state }
 {
@@ -65,9 +65,9 @@ fn draw_row(draws: &mut Draws, priority: u32) -> Row
     }
 }
 
-fn draw_action(draws: &mut Draws) -> Action
-    ensures action { result ≡ action_at draws.old.state }
-    ensures state { draws.new.state ≡ action_ends draws.old.state }
+fn draw_action(draws: &mut CaseDraws) -> Action
+    ensures action { result ≡ case_action_at draws.old.state }
+    ensures state { draws.new.state ≡ case_action_ends draws.old.state }
 {
     if draws.below(4) == 0 {
         Action::Drop

@@ -3,11 +3,11 @@ ghost use Rattle.schedule.specs.Case.{address_of_bytes, draw_below, next_drawn};
 
 /// A linear congruential generator, with its state.
 #[derive(Clone, Copy)]
-pub struct Draws {
+pub struct CaseDraws {
     pub state: u32,
 }
 
-impl Draws {
+impl CaseDraws {
     /// The next number below `limit`.
     #[tactic(auto, unfolding(crate::specs::Case::next_drawn))]
     pub fn below(&mut self, limit: u32) -> u32

@@ -66,7 +66,7 @@ impl Kind {
 }
 
 // The first of these kinds whose keyword the text is.
-fn first_named(kinds: &[Kind], text: &[u8]) -> Option<Kind>
+fn first_named_kind(kinds: &[Kind], text: &[u8]) -> Option<Kind>
     ensures { result ≡ find (λ kind. bytes_eq (keyword_of kind) text.now) kinds.now }
 {
     kinds
@@ -82,7 +82,7 @@ pub fn read_kind(text: &[u8]) -> Option<Kind>
 {
     match named(text) {
         Some(kind) => Some(kind),
-        None => first_named(&KINDS, text),
+        None => first_named_kind(&KINDS, text),
     }
 }
 

@@ -3,24 +3,24 @@ ghost use Rattle.csv.specs.Records.{fields_of};
 ghost use Rattle.csv_records.specs.Texts.{is_heading};
 ghost use Rattle.net_file.specs.Net.{IsNet};
 ghost use Rattle.net_file.specs.Joins.{are_linked};
-ghost use Rattle.schedule.specs.Rows.{event_of, event_with, file_in, header_read, link_in, number_read, schedule_heading, switch_in};
+ghost use Rattle.schedule.specs.Rows.{event_of, row_event_with, row_file_in, header_read, row_link_in, row_number_read, schedule_heading, switch_in};
 
 use crate::error::ScheduleRefusal;
 use crate::kind::{Kind, read_kind};
-use csv_records::{ByteRecord, field, has_text};
+use csv_records::{ByteRecord, csv_field_has_text, field};
 use five_tuple::{Header, read_fields};
 use net_file::{LinkRow, Net};
 use steps::{Event, MAX_NUMBER, Step};
 
 /// Whether the record is the heading.
-#[tactic(auto, using(crate::proofs::EventFields::heading))]
+#[tactic(auto, using(crate::proofs::ScheduleEventFields::heading))]
 pub fn is_heading(fields: &ByteRecord) -> bool
     ensures { result ≡ is_heading schedule_heading (fields_of fields.now) }
 {
     if fields.len() != 2 {
         return false;
     }
-    has_text(fields, 0, "event") && has_text(fields, 1, "arguments")
+    csv_field_has_text(fields, 0, "event") && csv_field_has_text(fields, 1, "arguments")
 }
 
 // The switch that the text names.
@@ -33,7 +33,7 @@ fn read_switch(net: &Net, text: &[u8]) -> Result<u32, ScheduleRefusal>
 
 // The packet, message or place that the text names.
 fn read_number(text: &[u8]) -> Result<u32, ScheduleRefusal>
-    ensures { result ≡ number_read text.now }
+    ensures { result ≡ row_number_read text.now }
 {
     match five_tuple::read_number(text, u64::from(MAX_NUMBER)) {
         Some(number) => Ok(number as u32),
@@ -43,7 +43,7 @@ fn read_number(text: &[u8]) -> Result<u32, ScheduleRefusal>
 
 // The policy file that the text names.
 fn read_file(files: u32, text: &[u8]) -> Result<u32, ScheduleRefusal>
-    ensures { result ≡ file_in files text.now }
+    ensures { result ≡ row_file_in files text.now }
 {
     let file = five_tuple::read_number(text, u64::from(files)).ok_or(ScheduleRefusal::File)?;
     if file == 0 {
@@ -62,7 +62,7 @@ fn are_linked(net: &Net, one: u32, two: u32) -> bool
 // The link between the switches that the texts name.
 fn read_link(net: &Net, one: &[u8], two: &[u8]) -> Result<LinkRow, ScheduleRefusal>
     requires { IsNet net.now }
-    ensures { result ≡ link_in net.now one.now two.now }
+    ensures { result ≡ row_link_in net.now one.now two.now }
 {
     let one = read_switch(net, one)?;
     let two = read_switch(net, two)?;
@@ -89,8 +89,8 @@ fn read_header(
 }
 
 // The event of a kind, if no fields follow it.
-fn read_keyword(net: &Net, files: u32, kind: Kind) -> Result<Event, ScheduleRefusal>
-    ensures { result ≡ event_with net.now files kind [] }
+fn read_keyword_event(net: &Net, files: u32, kind: Kind) -> Result<Event, ScheduleRefusal>
+    ensures { result ≡ row_event_with net.now files kind [] }
 {
     match kind {
         Kind::Flush => Ok(Event::Flush),
@@ -100,9 +100,14 @@ fn read_keyword(net: &Net, files: u32, kind: Kind) -> Result<Event, ScheduleRefu
 }
 
 // The step of a kind and one field after it.
-fn read_one(net: &Net, files: u32, kind: Kind, text: &[u8]) -> Result<Event, ScheduleRefusal>
+fn read_one_field_step(
+    net: &Net,
+    files: u32,
+    kind: Kind,
+    text: &[u8],
+) -> Result<Event, ScheduleRefusal>
     requires { IsNet net.now }
-    ensures { result ≡ event_with net.now files kind (text.now ∷ []) }
+    ensures { result ≡ row_event_with net.now files kind (text.now ∷ []) }
 {
     let step = match kind {
         Kind::Hop => Step::Hop {
@@ -138,7 +143,7 @@ fn read_one(net: &Net, files: u32, kind: Kind, text: &[u8]) -> Result<Event, Sch
 }
 
 // The step of a kind and two fields after it.
-fn read_two(
+fn read_two_field_step(
     net: &Net,
     files: u32,
     kind: Kind,
@@ -146,7 +151,7 @@ fn read_two(
     two: &[u8],
 ) -> Result<Event, ScheduleRefusal>
     requires { IsNet net.now }
-    ensures { result ≡ event_with net.now files kind (one.now ∷ two.now ∷ []) }
+    ensures { result ≡ row_event_with net.now files kind (one.now ∷ two.now ∷ []) }
 {
     let step = match kind {
         Kind::Expire => {
@@ -168,8 +173,8 @@ fn read_two(
 }
 
 // The step of a kind and the six fields after it.
-#[tactic(auto, using(crate::proofs::EventFields::six_behind))]
-fn read_six(
+#[tactic(auto, using(crate::proofs::ScheduleEventFields::six_behind))]
+fn read_six_field_step(
     net: &Net,
     files: u32,
     kind: Kind,
@@ -177,7 +182,7 @@ fn read_six(
 ) -> Result<Event, ScheduleRefusal>
     requires net { IsNet net.now }
     requires seven { length (fields_of fields.now) ≡ 7 }
-    ensures { result ≡ event_with net.now files kind (drop 1 (fields_of fields.now)) }
+    ensures { result ≡ row_event_with net.now files kind (drop 1 (fields_of fields.now)) }
 {
     if kind != Kind::Packet {
         return Err(ScheduleRefusal::Width);
@@ -197,17 +202,17 @@ fn read_six(
 ///
 /// # Errors
 /// The first refusal: the kind, then the number of fields, then the fields from left to right.
-#[tactic(auto, using(crate::proofs::EventFields::counted))]
+#[tactic(auto, using(crate::proofs::ScheduleEventFields::counted))]
 pub fn read_event(fields: &ByteRecord, net: &Net, files: u32) -> Result<Event, ScheduleRefusal>
     requires { IsNet net.now }
     ensures { result ≡ event_of net.now files (fields_of fields.now) }
 {
     let kind = read_kind(field(fields, 0)).ok_or(ScheduleRefusal::Kind)?;
     match fields.len() {
-        1 => read_keyword(net, files, kind),
-        2 => read_one(net, files, kind, field(fields, 1)),
-        3 => read_two(net, files, kind, field(fields, 1), field(fields, 2)),
-        7 => read_six(net, files, kind, fields),
+        1 => read_keyword_event(net, files, kind),
+        2 => read_one_field_step(net, files, kind, field(fields, 1)),
+        3 => read_two_field_step(net, files, kind, field(fields, 1), field(fields, 2)),
+        7 => read_six_field_step(net, files, kind, fields),
         _ => Err(ScheduleRefusal::Width),
     }
 }

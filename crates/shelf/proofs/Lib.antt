@@ -1,3 +1,3 @@
-mod BlockWrites
-mod FileLookups
-mod PieceWrites
+mod SinkBlockWrites
+mod ShelfFileLookups
+mod SinkPieceWrites

@@ -14,18 +14,18 @@ abbrev pub script_of : List ℕ → CallScript
 script_of failing = record { failing = failing; calls = 0; faults = 0 }
 
 -- the number of the next call is one of those that are to fail
-abbrev pub FailsNext : CallScript → Type 0
-FailsNext script = Contains script.failing (next_count script.calls)
+abbrev pub ScriptFailsNext : CallScript → Type 0
+ScriptFailsNext script = Contains script.failing (next_count script.calls)
 
 -- after one more call, which was a fault or not
-abbrev pub after_call : CallScript → Bool → CallScript
-after_call script fault = record {
+abbrev pub script_after_call : CallScript → Bool → CallScript
+script_after_call script fault = record {
   failing = script.failing;
   calls = next_count script.calls;
   faults = if fault then next_count script.faults else script.faults;
 }
 
 -- this many more, or the greatest value
-abbrev pub counted_up : ℕ → ℕ → ℕ
-counted_up zero n = n
-counted_up (suc many) n = next_count (counted_up many n)
+abbrev pub faults_counted_up : ℕ → ℕ → ℕ
+faults_counted_up zero n = n
+faults_counted_up (suc many) n = next_count (faults_counted_up many n)

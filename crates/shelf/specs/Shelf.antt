@@ -3,7 +3,7 @@ use Rattle.std.specs.Prelude.{◌<◌, ◌≡◌, ◌≤◌, Bool, Err, IsSomeAn
 use Rattle.std.specs.Global.{Global}
 use Rattle.shelf.specs.declared.source.ShelfError.{ShelfError}
 use Rattle.shelf.specs.declared.source.ShelfError.TheVariants.{Failed, NoMemory}
-use Rattle.shelf.specs.Scripts.{CallScript, counted_up}
+use Rattle.shelf.specs.Scripts.{CallScript, faults_counted_up}
 
 -- files by name: the bytes of each name, and those of the file
 abbrev pub Files : Type 0
@@ -18,7 +18,7 @@ pub record ShelfState : Type 0 where
 
 -- there were at most this many reads
 abbrev pub ReadsAtMost : ℕ → ℕ → ℕ → Type 0
-ReadsAtMost most before now = (n : ℕ) × (n ≤ most) × (now ≡ counted_up n before)
+ReadsAtMost most before now = (n : ℕ) × (n ≤ most) × (now ≡ faults_counted_up n before)
 
 -- a shelf after at most this many reads: the same files, and no lower count of faults
 pub record IsAfterReads (most : ℕ) (old new : ShelfState) : Type 0 where
@@ -35,12 +35,12 @@ abbrev pub file_named : Files → List ℕ → Option (List ℕ)
 file_named files name = option_map (λ file. file.1) (find (λ file. bytes_eq file.0 name) files)
 
 -- the file of this name has this content, of at most this many bytes
-abbrev pub HasFile : Files → List ℕ → ℕ → List ℕ → Type 0
-HasFile files name limit content = (file_named files name ≡ Some content) × (length content ≤ limit)
+abbrev pub ShelfHasFile : Files → List ℕ → ℕ → List ℕ → Type 0
+ShelfHasFile files name limit content = (file_named files name ≡ Some content) × (length content ≤ limit)
 
 -- there is no file of this name
-abbrev pub LacksFile : Files → List ℕ → Type 0
-LacksFile files name = file_named files name ≡ None
+abbrev pub ShelfLacksFile : Files → List ℕ → Type 0
+ShelfLacksFile files name = file_named files name ≡ None
 
 -- the file of this name has more bytes
 abbrev pub HasLongerFile : Files → List ℕ → ℕ → Type 0
@@ -59,10 +59,10 @@ is_read_fault (Err Failed) = true
 is_read_fault _ = false
 
 -- the result is an error other than out of memory
-abbrev pub is_refusal : {T : Type 0} → Result T ShelfError → Bool
-is_refusal (Ok content) = false
-is_refusal (Err NoMemory) = false
-is_refusal _ = true
+abbrev pub is_shelf_refusal : {T : Type 0} → Result T ShelfError → Bool
+is_shelf_refusal (Ok content) = false
+is_shelf_refusal (Err NoMemory) = false
+is_shelf_refusal _ = true
 
 -- files, with the calls that are to fail
 pub record ScriptedFiles : Type 0 where

@@ -7,8 +7,8 @@ abbrev pub next_count : ℕ → ℕ
 next_count n = min (n + 1) (2 ^ 64 - 1)
 
 -- the count rose, or is at its greatest value
-abbrev pub Rose : ℕ → ℕ → Type 0
-Rose before now = next_count before ≤ now
+abbrev pub FaultsRose : ℕ → ℕ → Type 0
+FaultsRose before now = next_count before ≤ now
 
 -- what contracts see of each sink: its bytes, if they are known, and how often it failed
 pub record SinkState : Type 0 where
@@ -16,10 +16,10 @@ pub record SinkState : Type 0 where
   pub faults : ℕ
 
 -- what is known of a sink that gained a piece: its bytes, if they were known, and the piece
-abbrev pub with_gained : Option (List ℕ) → List ℕ → Option (List ℕ)
-with_gained None piece = None
-with_gained (Some bytes) piece = Some (bytes ++ piece)
+abbrev pub sink_with_gained : Option (List ℕ) → List ℕ → Option (List ℕ)
+sink_with_gained None piece = None
+sink_with_gained (Some bytes) piece = Some (bytes ++ piece)
 
 -- the sink gained some of these bytes from the front, and not all
-abbrev pub GainedPart : Option (List ℕ) → List ℕ → Option (List ℕ) → Type 0
-GainedPart old bytes new = (n : ℕ) × (n < length bytes) × (new ≡ with_gained old (take n bytes))
+abbrev pub SinkGainedPart : Option (List ℕ) → List ℕ → Option (List ℕ) → Type 0
+SinkGainedPart old bytes new = (n : ℕ) × (n < length bytes) × (new ≡ sink_with_gained old (take n bytes))

@@ -4,20 +4,20 @@ use Rattle.std.proofs.Common.{ap, append_assoc}
 use Rattle.shelf.specs.declared.output.SinkError.{SinkError}
 use Rattle.shelf.specs.declared.output.SinkError.TheVariants.{Failed, NoMemory}
 use Rattle.shelf.specs.Scripts.{CallScript}
-use Rattle.shelf.specs.Sink.{SinkState, with_gained, GainedPart, Rose}
+use Rattle.shelf.specs.Sink.{SinkState, sink_with_gained, SinkGainedPart, FaultsRose}
 
 -- gaining two pieces is gaining both as one
 pub gained-gained : (before : Option (List ℕ)) (first next : List ℕ)
-    → with_gained (with_gained before first) next ≡ with_gained before (first ++ next)
+    → sink_with_gained (sink_with_gained before first) next ≡ sink_with_gained before (first ++ next)
 gained-gained None first next = refl
 gained-gained (Some bytes) first next = ap Some (append_assoc bytes first next)
 
 -- the first bytes of a text are written, and the others wait in a block
-pub record IsGathered (text : List ℕ) (before now : Option (List ℕ)) (waiting : List ℕ)
+pub record IsBlockGathered (text : List ℕ) (before now : Option (List ℕ)) (waiting : List ℕ)
     : Type 0 where
   pub written : ℕ
   pub within : written ≤ length text
-  pub gained : now ≡ with_gained before (take written text)
+  pub gained : now ≡ sink_with_gained before (take written text)
   pub waits : waiting ≡ drop written text
 
 -- a sink after a write of these bytes: it gained all of them if the write succeeded, otherwise a
@@ -25,11 +25,11 @@ pub record IsGathered (text : List ℕ) (before now : Option (List ℕ)) (waitin
 -- again after a fault
 pub record IsAfterWrite (bytes : List ℕ) (takes_memory : Bool) (old new : SinkState)
     (result : Result (⊤) SinkError) : Type 0 where
-  pub whole : OnOk result (new.bytes ≡ with_gained old.bytes bytes)
-  pub part : OnErr result (GainedPart old.bytes bytes new.bytes)
+  pub whole : OnOk result (new.bytes ≡ sink_with_gained old.bytes bytes)
+  pub part : OnErr result (SinkGainedPart old.bytes bytes new.bytes)
   pub faults : old.faults ≤ new.faults
   pub calm : result ≢ Err Failed → new.faults ≡ old.faults
-  pub failed : IsErrOf result Failed → Rose old.faults new.faults
+  pub failed : IsErrOf result Failed → FaultsRose old.faults new.faults
   pub no_memory : IsErrOf result NoMemory → IsTrue takes_memory
 
 -- the result is a fault, or an Ok of nothing for a piece that has bytes

@@ -22,9 +22,9 @@ pub record ReaderState : Type 0 where
 
 -- the content grew by all that a reader had left, if that is known, or by this many first bytes of
 -- it; a read that failed or ran out of memory says nothing about it
-abbrev pub HasFront : {E : Type 0} → Option (List ℕ) → ℕ → (before now : List ℕ) → Result (⊤) E → Type 0
-HasFront known most before now (Ok done) = IfSome known (λ left. now ≡ before ++ take most left)
-HasFront known most before now (Err error) = ⊤
+abbrev pub ReaderHasFront : {E : Type 0} → Option (List ℕ) → ℕ → (before now : List ℕ) → Result (⊤) E → Type 0
+ReaderHasFront known most before now (Ok done) = IfSome known (λ left. now ≡ before ++ take most left)
+ReaderHasFront known most before now (Err error) = ⊤
 
 -- the count of faults after an error: each is one, unless its kind is out of memory
 abbrev pub fault_of_kind : ErrorKind → ℕ → ℕ
@@ -46,7 +46,7 @@ IsReadOf known limit (Err cause) = ⊤
 
 -- the bytes that a writer has, if they are known, grew by the first of a piece: by as many as an
 -- Ok says, and on an error by some or by none
-abbrev pub GainsFront : {E : Type 0} → List ℕ → Result ℕ E → (before now : Option (List ℕ)) → Type 0
-GainsFront piece (Ok taken) before now = Appends before now (take taken piece)
-GainsFront piece (Err error) before now =
+abbrev pub WriterGainsFront : {E : Type 0} → List ℕ → Result ℕ E → (before now : Option (List ℕ)) → Type 0
+WriterGainsFront piece (Ok taken) before now = Appends before now (take taken piece)
+WriterGainsFront piece (Err error) before now =
     (n : ℕ) × (n ≤ length piece) × Appends before now (take n piece)

@@ -37,7 +37,7 @@ impl CalmShelf {
 }
 
 impl Shelf for CalmShelf {
-    ghost use Rattle.shelf.specs.Shelf.{HasFile, LacksFile, HasLongerFile, is_read_fault};
+    ghost use Rattle.shelf.specs.Shelf.{ShelfHasFile, ShelfLacksFile, HasLongerFile, is_read_fault};
 
     ghost state = { λ s. record { files = Some s.files; faults = 0; reads = s.reads } };
 
@@ -45,8 +45,8 @@ impl Shelf for CalmShelf {
         ensures no_fault { is_read_fault result ≡ false }
         ensures after { self.new ≡ record self.old { reads = next_count self.old.reads } }
         ensures content { IfOk result (λ content.
-            HasFile self.old.files name.now limit content.items) }
-        ensures missing { IsErrOf result ShelfError.Missing ↔ LacksFile self.old.files name.now }
+            ShelfHasFile self.old.files name.now limit content.items) }
+        ensures missing { IsErrOf result ShelfError.Missing ↔ ShelfLacksFile self.old.files name.now }
         ensures too_long { IsErrOf result ShelfError.TooLong
             ↔ HasLongerFile self.old.files name.now limit }
     {

@@ -26,5 +26,5 @@ pub use calm::{CalmShelf, CalmSink};
 pub use output::{Sink, SinkError, write_whole};
 pub use scripted::{MemShelf, MemSink};
 pub use source::{Shelf, ShelfError};
-pub use streams::{CountedReader, Reader, read_up_to, write_through};
+pub use streams::{CountedReader, Reader, read_stream_up_to, write_stream_through};
 pub use system::{DiskShelf, StdSink};

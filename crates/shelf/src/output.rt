@@ -1,6 +1,6 @@
 //! The sink of bytes, and a write of many bytes to it.
 ghost use Rattle.std.specs.Prelude.{◌≡◌, ◌≢◌, ◌≤◌, ◌<◌, Bool, IsTrue, [], length, take, IfOk, IsOk, OnErr, IsErrOf};
-ghost use Rattle.shelf.specs.Sink.{SinkState, with_gained, Rose};
+ghost use Rattle.shelf.specs.Sink.{SinkState, sink_with_gained, FaultsRose};
 ghost use Rattle.shelf.specs.declared.output.SinkError.TheVariants.{NoMemory};
 ghost use Rattle.shelf.specs.SinkWrites.{IsAfterWrite};
 
@@ -39,12 +39,12 @@ pub trait Sink {
         requires short { length piece.now ≤ 65536 }
         ensures within { IfOk result (λ taken. taken ≤ length piece.now) }
         ensures taken { IfOk result (λ taken.
-            (state self.new).bytes ≡ with_gained (state self.old).bytes (take taken piece.now)) }
+            (state self.new).bytes ≡ sink_with_gained (state self.old).bytes (take taken piece.now)) }
         ensures nothing_taken { OnErr result ((state self.new).bytes ≡ (state self.old).bytes) }
 
         ensures faults { (state self.old).faults ≤ (state self.new).faults }
         ensures failed { IsErrOf result SinkError.Failed
-            → Rose (state self.old).faults (state self.new).faults }
+            → FaultsRose (state self.old).faults (state self.new).faults }
         ensures no_memory { IsErrOf result SinkError.NoMemory → IsTrue takes_memory }
 
         // A call that doesn't fail, and accepts some of a piece that has bytes, counts no fault.
@@ -53,7 +53,7 @@ pub trait Sink {
 
         // A call that accepts nothing of a piece that has bytes counts a fault, too.
         ensures stuck { result ≡ Ok 0 → 0 < length piece.now
-            → Rose (state self.old).faults (state self.new).faults };
+            → FaultsRose (state self.old).faults (state self.new).faults };
 }
 
 /// The most bytes that are given to one write.

@@ -1,7 +1,7 @@
 //! Files and bytes in memory, with calls that are made to fail.
 ghost use Rattle.std.specs.Prelude.{◌≡◌, ◌≤◌, ◌↔◌, ◌++◌, IsTrue, IfOk, OnErr, IsErrOf, Some, [], true, length, min, take};
 ghost use Rattle.shelf.specs.Sink.{next_count};
-ghost use Rattle.shelf.specs.Scripts.{script_of, FailsNext, after_call};
+ghost use Rattle.shelf.specs.Scripts.{script_of, ScriptFailsNext, script_after_call};
 
 use crate::output::{Sink, SinkError};
 use crate::source::{HeldFiles, Shelf, ShelfError};
@@ -10,13 +10,13 @@ use std::marker::Model;
 
 /// Which calls are to fail, how many there were, and how many faults.
 #[derive(Drop)]
-struct Script {
+struct FaultScript {
     failing: Vec<u64>,
     calls: u64,
     faults: u64,
 }
 
-impl Model for Script {
+impl Model for FaultScript {
     ghost use Rattle.shelf.specs.Scripts.{CallScript};
 
     ghost Value = { CallScript };
@@ -24,11 +24,11 @@ impl Model for Script {
     ghost view = { λ s. record { failing = s.failing.items; calls = s.calls; faults = s.faults } };
 }
 
-impl Script {
+impl FaultScript {
     fn new(failing: Vec<u64>) -> Self
         ensures { result ≡ script_of failing.items }
     {
-        Script {
+        FaultScript {
             failing,
             calls: 0,
             faults: 0,
@@ -37,8 +37,8 @@ impl Script {
 
     /// Counts a call, and returns whether it fails; if it does, the count of faults rises.
     fn begin_call(&mut self) -> bool
-        ensures fails { IsTrue result ↔ FailsNext self.old }
-        ensures after { self.new ≡ after_call self.old result }
+        ensures fails { IsTrue result ↔ ScriptFailsNext self.old }
+        ensures after { self.new ≡ script_after_call self.old result }
         ensures counts { self.old.faults ≤ self.new.faults }
     {
         self.calls = self.calls.saturating_add(1);
@@ -64,7 +64,7 @@ impl Script {
 #[derive(Drop)]
 pub struct MemShelf {
     files: HeldFiles,
-    script: Script,
+    script: FaultScript,
 }
 
 impl Model for MemShelf {
@@ -87,13 +87,13 @@ impl MemShelf {
     {
         MemShelf {
             files: HeldFiles::new(alloc, files),
-            script: Script::new(failing),
+            script: FaultScript::new(failing),
         }
     }
 }
 
 impl Shelf for MemShelf {
-    ghost use Rattle.shelf.specs.Shelf.{is_read_fault, HasFile, LacksFile, HasLongerFile, IsNoFault};
+    ghost use Rattle.shelf.specs.Shelf.{is_read_fault, ShelfHasFile, ShelfLacksFile, HasLongerFile, IsNoFault};
 
     ghost state = { λ s. record {
       files = Some s.files;
@@ -102,15 +102,15 @@ impl Shelf for MemShelf {
     } };
 
     fn read(&mut self, name: &str, limit: u64) -> Result<Vec<u8>, ShelfError>
-        ensures fails { IsErrOf result ShelfError.Failed ↔ FailsNext self.old.script }
+        ensures fails { IsErrOf result ShelfError.Failed ↔ ScriptFailsNext self.old.script }
         ensures after { self.new
-            ≡ record self.old { script = after_call self.old.script (is_read_fault result) } }
+            ≡ record self.old { script = script_after_call self.old.script (is_read_fault result) } }
         ensures faults { self.old.script.faults ≤ self.new.script.faults }
 
         ensures content { IfOk result (λ content.
-            HasFile self.old.files name.now limit content.items) }
+            ShelfHasFile self.old.files name.now limit content.items) }
         ensures missing { IsNoFault result
-            → (IsErrOf result ShelfError.Missing ↔ LacksFile self.old.files name.now) }
+            → (IsErrOf result ShelfError.Missing ↔ ShelfLacksFile self.old.files name.now) }
         ensures too_long { IsNoFault result
             → (IsErrOf result ShelfError.TooLong ↔ HasLongerFile self.old.files name.now limit) }
     {
@@ -129,7 +129,7 @@ impl Shelf for MemShelf {
 pub struct MemSink {
     bytes: Vec<u8>,
     most: u64,
-    script: Script,
+    script: FaultScript,
 }
 
 impl Model for MemSink {
@@ -148,7 +148,7 @@ impl MemSink {
         MemSink {
             bytes: Vec::new(alloc),
             most,
-            script: Script::new(failing),
+            script: FaultScript::new(failing),
         }
     }
 
@@ -168,14 +168,14 @@ impl Sink for MemSink {
     ghost takes_memory = { true };
 
     fn write(&mut self, piece: &[u8]) -> Result<u64, SinkError>
-        ensures fails { IsErrOf result SinkError.Failed ↔ FailsNext self.old.script }
+        ensures fails { IsErrOf result SinkError.Failed ↔ ScriptFailsNext self.old.script }
         ensures most { IfOk result (λ taken. taken ≡ min self.old.most (length piece.now)) }
         ensures ok { IfOk result (λ taken.
             self.new.bytes ≡ self.old.bytes ++ take taken piece.now) }
         ensures err { OnErr result (self.new.bytes ≡ self.old.bytes) }
         ensures same_most { self.new.most ≡ self.old.most }
         ensures after { self.new.script
-            ≡ after_call self.old.script (is_write_fault piece.now result) }
+            ≡ script_after_call self.old.script (is_write_fault piece.now result) }
 
         ensures faults { self.old.script.faults ≤ self.new.script.faults }
     {

@@ -2,13 +2,13 @@
 ghost use Rattle.std.specs.Prelude.{◌≡◌, ◌≤◌, ◌↔◌, IfOk, IsErrOf, false, find, length, string_bytes};
 ghost use Rattle.std.specs.Option.{ForSome, ForNone, option_copied};
 ghost use Rattle.std.specs.Str.{bytes_eq};
-ghost use Rattle.shelf.specs.Sink.{Rose, next_count};
-ghost use Rattle.shelf.specs.Shelf.{ShelfState, HasFile, LacksFile, HasLongerFile, IsNoFault, file_named, files_of, is_read_fault, is_refusal};
+ghost use Rattle.shelf.specs.Sink.{FaultsRose, next_count};
+ghost use Rattle.shelf.specs.Shelf.{ShelfState, ShelfHasFile, ShelfLacksFile, HasLongerFile, IsNoFault, file_named, files_of, is_read_fault, is_shelf_refusal};
 ghost use Rattle.shelf.specs.Streams.{cause_by_kind};
 ghost use Rattle.shelf.specs.declared.source.ShelfError.TheVariants.{Missing, NoMemory};
 ghost use Rattle.std.specs.IoError.{error_kind};
 
-use crate::streams::read_up_to;
+use crate::streams::read_stream_up_to;
 use std::alloc::{AllocError, Global};
 use std::io;
 use std::io::ErrorKind;
@@ -72,11 +72,11 @@ pub trait Shelf {
         ensures reads { (state self.new).reads ≡ next_count (state self.old).reads }
         ensures faults { (state self.old).faults ≤ (state self.new).faults }
         ensures failed { IsErrOf result ShelfError.Failed
-            → Rose (state self.old).faults (state self.new).faults }
+            → FaultsRose (state self.old).faults (state self.new).faults }
 
         // A call that succeeds or runs out of memory counts no fault; if the files are known, only
         // a failed call does.
-        ensures calm { is_refusal result ≡ false
+        ensures calm { is_shelf_refusal result ≡ false
             → (state self.new).faults ≡ (state self.old).faults }
         ensures calm_known { ForSome (state self.old).files (λ _.
             is_read_fault result ≡ false → (state self.new).faults ≡ (state self.old).faults) }
@@ -86,9 +86,9 @@ pub trait Shelf {
         // If the files are known, they decide the content, `Missing` and `TooLong`.
         ensures content { IfOk result (λ content.
             ForSome (state self.old).files (λ files.
-            HasFile files name.now limit content.items)) }
+            ShelfHasFile files name.now limit content.items)) }
         ensures missing { ForSome (state self.old).files (λ files.
-            IsNoFault result → (IsErrOf result ShelfError.Missing ↔ LacksFile files name.now)) }
+            IsNoFault result → (IsErrOf result ShelfError.Missing ↔ ShelfLacksFile files name.now)) }
         ensures too_long { ForSome (state self.old).files (λ files.
             IsNoFault result
             → (IsErrOf result ShelfError.TooLong ↔ HasLongerFile files name.now limit)) }
@@ -96,10 +96,10 @@ pub trait Shelf {
         // If they aren't known, `Missing` and `TooLong` count as faults.
         ensures missing_unknown { ForNone (state self.old).files
             (IsErrOf result ShelfError.Missing
-            → Rose (state self.old).faults (state self.new).faults) }
+            → FaultsRose (state self.old).faults (state self.new).faults) }
         ensures too_long_unknown { ForNone (state self.old).files
             (IsErrOf result ShelfError.TooLong
-            → Rose (state self.old).faults (state self.new).faults) };
+            → FaultsRose (state self.old).faults (state self.new).faults) };
 }
 
 /// Files in memory, of which the first of a name counts. Contracts see the names and the contents.
@@ -118,7 +118,7 @@ impl Model for HeldFiles {
 }
 
 /// The first of these files with this name.
-fn find_named<'a>(files: &'a [(String, Vec<u8>)], name: &str) -> Option<&'a (String, Vec<u8>)>
+fn find_shelf_file<'a>(files: &'a [(String, Vec<u8>)], name: &str) -> Option<&'a (String, Vec<u8>)>
     ensures { option_copied result
         ≡ find (λ file. bytes_eq (string_bytes file.0) name.now) files.now }
 {
@@ -126,11 +126,11 @@ fn find_named<'a>(files: &'a [(String, Vec<u8>)], name: &str) -> Option<&'a (Str
 }
 
 /// The content of the first of these files with this name.
-#[tactic(auto, using(crate::proofs::FileLookups::file_named_kept))]
+#[tactic(auto, using(crate::proofs::ShelfFileLookups::file_named_kept))]
 fn content_of<'a>(files: &'a [(String, Vec<u8>)], name: &str) -> Option<&'a [u8]>
     ensures { option_copied result ≡ file_named (files_of files.now) name.now }
 {
-    match find_named(files, name) {
+    match find_shelf_file(files, name) {
         Some(file) => Some(&file.1),
         None => None,
     }
@@ -147,8 +147,8 @@ impl HeldFiles {
     /// A copy of the file; an error if there is none, if it is too long, or out of memory.
     pub(crate) fn copy(&self, name: &str, limit: u64) -> Result<Vec<u8>, ShelfError>
         ensures no_fault { is_read_fault result ≡ false }
-        ensures content { IfOk result (λ content. HasFile self.now name.now limit content.items) }
-        ensures missing { IsErrOf result ShelfError.Missing ↔ LacksFile self.now name.now }
+        ensures content { IfOk result (λ content. ShelfHasFile self.now name.now limit content.items) }
+        ensures missing { IsErrOf result ShelfError.Missing ↔ ShelfLacksFile self.now name.now }
         ensures too_long { IsErrOf result ShelfError.TooLong
             ↔ HasLongerFile self.now name.now limit }
     {
@@ -157,6 +157,6 @@ impl HeldFiles {
         if content.len() as u64 > limit {
             return Err(ShelfError::TooLong);
         }
-        read_up_to(self.alloc, &mut content, limit)
+        read_stream_up_to(self.alloc, &mut content, limit)
     }
 }

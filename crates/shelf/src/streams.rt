@@ -8,7 +8,7 @@ ghost use Rattle.std.specs.Io.KnownBytes.{Keeps, WriteAppends};
 ghost use Rattle.std.specs.IoError.{error_kind};
 ghost use Rattle.shelf.specs.Sink.{next_count};
 ghost use Rattle.shelf.specs.Shelf.{is_read_fault};
-ghost use Rattle.shelf.specs.Streams.{GainsFront, HasFront, IsReadOf, ReaderState, counted_fault};
+ghost use Rattle.shelf.specs.Streams.{WriterGainsFront, ReaderHasFront, IsReadOf, ReaderState, counted_fault};
 
 use crate::source::ShelfError;
 use std::alloc::Global;
@@ -27,7 +27,7 @@ pub trait Reader {
     /// Out of memory, or another error, which counts as a fault. Then the content may have
     /// some of the bytes.
     fn read_front(&mut self, most: u64, content: &mut Vec<u8>) -> io::Result<()>
-        ensures front { HasFront (state self.old).left most content.old.items content.new.items result }
+        ensures front { ReaderHasFront (state self.old).left most content.old.items content.new.items result }
         ensures faults { (state self.new).faults
             ≡ counted_fault (state self.old).faults result };
 }
@@ -100,7 +100,7 @@ impl<R: Read + Drop> Reader for CountedReader<R> {
 /// # Errors
 /// `TooLong` if the reader has more left. An error of the reader by its kind
 /// (`ShelfError::by_kind`): `NoMemory`, or `Failed`, exactly if the reader's count of faults rose.
-pub fn read_up_to<R: Reader>(
+pub fn read_stream_up_to<R: Reader>(
     alloc: Global,
     reader: &mut R,
     limit: u64,
@@ -122,18 +122,18 @@ pub fn read_up_to<R: Reader>(
 /// Writes some of the piece from its front, returns how many bytes, and flushes the stream, so
 /// that a fault of the device is noticed. If the flush fails, the stream has some of the piece. A
 /// call that a signal interrupts is tried again.
-pub fn write_through<W: Write>(stream: &mut W, piece: &[u8]) -> io::Result<usize>
+pub fn write_stream_through<W: Write>(stream: &mut W, piece: &[u8]) -> io::Result<usize>
     ensures within { IfOk result (λ taken. taken ≤ length piece.now) }
-    ensures gains { GainsFront piece.now result (W.contents stream.old) (W.contents stream.new) }
+    ensures gains { WriterGainsFront piece.now result (W.contents stream.old) (W.contents stream.new) }
     ensures not_interrupted { IfErr result (λ error. error_kind error ≢ ErrorKind.Interrupted) }
 {
-    let taken = write_front(stream, piece)?;
+    let taken = write_stream_front(stream, piece)?;
     flush(stream)?;
     Ok(taken)
 }
 
 // Writes some of the piece from its front. The tries are counted, so that they end.
-fn write_front<W: Write>(stream: &mut W, piece: &[u8]) -> io::Result<usize>
+fn write_stream_front<W: Write>(stream: &mut W, piece: &[u8]) -> io::Result<usize>
     ensures within { IfOk result (λ taken. taken ≤ length piece.now) }
     ensures appends { WriteAppends (W.contents stream.old) (W.contents stream.new)
         result piece.now }

@@ -1,13 +1,13 @@
 //! The edge: files, standard output and standard error of the system.
 //!
 //! Contracts know neither what is in a file nor what reaches a stream of the system. With readers
-//! and writers of known bytes it is proved what `read_up_to` returns and what a `StdSink` accepts.
+//! and writers of known bytes it is proved what `read_stream_up_to` returns and what a `StdSink` accepts.
 ghost use Rattle.std.specs.Prelude.{◌≡◌, ◌≤◌, None, false, length, IfOk, ◌≢◌, if◌then◌else◌};
 ghost use Rattle.shelf.specs.Sink.{next_count};
 
 use crate::output::{Sink, SinkError};
 use crate::source::{Shelf, ShelfError};
-use crate::streams::{CountedReader, read_up_to, write_through};
+use crate::streams::{CountedReader, read_stream_up_to, write_stream_through};
 use std::fs::File;
 use std::io::Write;
 use std::marker::Model;
@@ -50,18 +50,18 @@ impl<R: Files + AllocGlobal + Drop> DiskShelf<R> {
         ensures { IfOk result (λ content. length content.items ≤ limit) }
     {
         let file = File::open(&self.system, name).map_err(|error| ShelfError::of_open(&error))?;
-        read_up_to(self.system.alloc(), &mut CountedReader::new(file), limit)
+        read_stream_up_to(self.system.alloc(), &mut CountedReader::new(file), limit)
     }
 }
 
 impl<R: Files + AllocGlobal + Drop> Shelf for DiskShelf<R> {
-    ghost use Rattle.shelf.specs.Shelf.{is_refusal};
+    ghost use Rattle.shelf.specs.Shelf.{is_shelf_refusal};
 
     ghost state = { λ s. record { files = None; faults = s.faults; reads = s.reads } };
 
     fn read(&mut self, name: &str, limit: u64) -> Result<Vec<u8>, ShelfError>
         ensures after { self.new ≡ record {
-          faults = (if is_refusal result then next_count self.old.faults else self.old.faults);
+          faults = (if is_shelf_refusal result then next_count self.old.faults else self.old.faults);
           reads = next_count self.old.reads;
         } }
         ensures faults { self.old.faults ≤ self.new.faults }
@@ -110,7 +110,7 @@ impl<W: Write + Drop> StdSink<W> {
 
 impl<W: Write + Drop> Sink for StdSink<W> {
     ghost use Rattle.shelf.specs.SinkWrites.{is_write_fault};
-    ghost use Rattle.shelf.specs.Streams.{GainsFront};
+    ghost use Rattle.shelf.specs.Streams.{WriterGainsFront};
 
     ghost state = { λ s. record { bytes = None; faults = s.faults } };
 
@@ -119,12 +119,12 @@ impl<W: Write + Drop> Sink for StdSink<W> {
     fn write(&mut self, piece: &[u8]) -> Result<u64, SinkError>
         ensures within { IfOk result (λ taken. taken ≤ length piece.now) }
         ensures no_memory { result ≢ Err SinkError.NoMemory }
-        ensures gains { GainsFront piece.now result self.old.bytes self.new.bytes }
+        ensures gains { WriterGainsFront piece.now result self.old.bytes self.new.bytes }
         ensures after { self.new.faults ≡ (if is_write_fault piece.now result
             then next_count self.old.faults else self.old.faults) }
         ensures faults { self.old.faults ≤ self.new.faults }
     {
-        match write_through(&mut self.stream, piece) {
+        match write_stream_through(&mut self.stream, piece) {
             Ok(taken) if taken > 0 || piece.is_empty() => Ok(taken as u64),
             Ok(_) => {
                 self.faults = self.faults.saturating_add(1);

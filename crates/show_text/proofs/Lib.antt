@@ -1,2 +1,2 @@
-pub mod RowLemmas
-pub mod LineSizes
+pub mod PlanTextRows
+pub mod PlanTextLengths

@@ -1,7 +1,7 @@
 -- The texts of plans and of tables, one fact a line.
 use Rattle.std.specs.Prelude.{[], ◌++◌, ◌∷◌, List, codes, decimal, flat_map, length, ℕ}
 use Rattle.base.specs.Exports.{enumerate_from}
-use Rattle.net_file.specs.Exports.{name_of, names_text}
+use Rattle.net_file.specs.Exports.{switch_name_of, names_text}
 use Rattle.net_file.specs.declared.net.Net.{Net}
 use Rattle.partition.specs.Plan.{Hosted}
 use Rattle.policy_rules.specs.Exports.{action_text, rule_text, word_total}
@@ -17,17 +17,17 @@ abbrev pub with_line_feed : List ℕ → List ℕ
 with_line_feed text = text ++ 10 ∷ []
 
 -- the names of the targets, each after a blank
-abbrev pub targets_text : Net → List ℕ → List ℕ
-targets_text net targets = codes " targets" ++ names_text net targets
+abbrev pub plan_targets_text : Net → List ℕ → List ℕ
+plan_targets_text net targets = codes " targets" ++ names_text net targets
 
-abbrev pub region_text : ℕ → WordValue → List ℕ
-region_text number region =
+abbrev pub plan_region_text : ℕ → WordValue → List ℕ
+plan_region_text number region =
     codes "part " ++ decimal number ++ codes " region " ++ word_text region
 
 -- a partition with the number of its rules
-abbrev pub part_text : Partition → List ℕ
-part_text part =
-    region_text part.number part.region ++ codes " rules " ++ decimal (length part.rules)
+abbrev pub plan_part_text : Partition → List ℕ
+plan_part_text part =
+    plan_region_text part.number part.region ++ codes " rules " ++ decimal (length part.rules)
 
 abbrev pub rule_text_of : Rule → List ℕ
 rule_text_of rule =
@@ -42,7 +42,7 @@ rule_lines rules = flat_map (λ rule. with_line_feed (rule_text_of rule)) rules
 -- a partition with its targets, and its rules
 abbrev pub hosted_lines : Net → Hosted → List ℕ
 hosted_lines net hosted =
-    with_line_feed (part_text hosted.0 ++ targets_text net hosted.1) ++ rule_lines hosted.0.rules
+    with_line_feed (plan_part_text hosted.0 ++ plan_targets_text net hosted.1) ++ rule_lines hosted.0.rules
 
 -- a plan of a policy: how many words its rows have, how many partitions there are, and each of them
 abbrev pub compile_text : List Row → List Hosted → Net → List ℕ
@@ -54,28 +54,28 @@ compile_text rows plan net =
 -- ---- the tables of a switch
 
 -- one of its own partitions, and its rules
-abbrev pub own_lines : Partition → List ℕ
-own_lines part = with_line_feed (part_text part) ++ rule_lines part.rules
+abbrev pub own_part_lines : Partition → List ℕ
+own_part_lines part = with_line_feed (plan_part_text part) ++ rule_lines part.rules
 
 -- the partition rule of a region
-abbrev pub row_line : Net → ℕ × PartRow → List ℕ
-row_line net (number, row) =
-    with_line_feed (region_text number row.region ++ targets_text net row.targets)
+abbrev pub table_row_line : Net → ℕ × PartRow → List ℕ
+table_row_line net (number, row) =
+    with_line_feed (plan_region_text number row.region ++ plan_targets_text net row.targets)
 
 -- the switch's own partitions
-unfoldable pub authority_text : List Partition → List ℕ
-authority_text parts = with_line_feed (codes "authority " ++ decimal (length parts)) ++ flat_map own_lines
+unfoldable pub own_parts_text : List Partition → List ℕ
+own_parts_text parts = with_line_feed (codes "authority " ++ decimal (length parts)) ++ flat_map own_part_lines
     parts
 
 -- the partition rules of all regions
 unfoldable pub regions_text : Net → List PartRow → List ℕ
 regions_text net rows =
     with_line_feed (codes "partitions " ++ decimal (length rows))
-    ++ flat_map (row_line net) (enumerate_from 0 rows)
+    ++ flat_map (table_row_line net) (enumerate_from 0 rows)
 
 -- the switch and the version, its own partitions, and the partition rules of all regions
 abbrev pub table_text : ℕ → Tables → Net → List ℕ
 table_text s tables net =
-    with_line_feed (codes "switch " ++ name_of net s ++ codes " version " ++ decimal tables.version)
-    ++ authority_text tables.auth
+    with_line_feed (codes "switch " ++ switch_name_of net s ++ codes " version " ++ decimal tables.version)
+    ++ own_parts_text tables.auth
     ++ regions_text net tables.parts

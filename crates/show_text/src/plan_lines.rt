@@ -1,5 +1,5 @@
 ghost use Rattle.std.specs.Prelude.{◌≡◌, ◌≤◌, ◌<◌, ◌^◌, ◌++◌, OnOk, length};
-ghost use Rattle.show_text.specs.Text.{with_line_feed, part_text, region_text, rule_lines, rule_text_of, targets_text};
+ghost use Rattle.show_text.specs.Text.{with_line_feed, plan_part_text, plan_region_text, rule_lines, rule_text_of, plan_targets_text};
 ghost use Rattle.lines.specs.Pushes.{line_with};
 
 use lines::{Line, push_action, push_names, push_rule, push_word};
@@ -10,8 +10,8 @@ use ternary::Word;
 
 /// Adds the start of a partition's line: its number and its region.
 #[tactic(auto, using(lines::proofs::CallerLemmas::pushed_append))]
-pub fn push_region(entry: &mut Line, number: u64, region: &Word)
-    ensures { entry.new ≡ line_with entry.old (region_text number region.now) }
+pub fn show_region(entry: &mut Line, number: u64, region: &Word)
+    ensures { entry.new ≡ line_with entry.old (plan_region_text number region.now) }
 {
     entry.push("part ");
     entry.push_number(number);
@@ -21,19 +21,19 @@ pub fn push_region(entry: &mut Line, number: u64, region: &Word)
 
 /// Adds a partition with the number of its rules.
 #[tactic(auto, using(lines::proofs::CallerLemmas::pushed_append))]
-pub fn push_part(entry: &mut Line, part: &Partition)
-    ensures text { entry.new ≡ line_with entry.old (part_text part.now) }
+pub fn show_part(entry: &mut Line, part: &Partition)
+    ensures text { entry.new ≡ line_with entry.old (plan_part_text part.now) }
     ensures of_type { (part.now.number < 2 ^ 64) × (length part.now.rules < 2 ^ 64) }
 {
-    push_region(entry, u64::from(part.number), &part.region);
+    show_region(entry, u64::from(part.number), &part.region);
     entry.push(" rules ");
     entry.push_number(part.rules.items().len() as u64);
 }
 
 /// Adds the names of targets, each after a blank.
 #[tactic(auto, using(lines::proofs::CallerLemmas::pushed_append))]
-pub fn push_targets(entry: &mut Line, net: &Net, targets: &Targets)
-    ensures text { entry.new ≡ line_with entry.old (targets_text net.now targets.now) }
+pub fn show_targets(entry: &mut Line, net: &Net, targets: &Targets)
+    ensures text { entry.new ≡ line_with entry.old (plan_targets_text net.now targets.now) }
     ensures few { length targets.now ≤ 4 }
 {
     entry.push(" targets");
@@ -41,7 +41,7 @@ pub fn push_targets(entry: &mut Line, net: &Net, targets: &Targets)
 }
 
 // Sets the line to that of a rule.
-fn set_rule(entry: &mut Line, rule: &Rule)
+fn show_rule_line(entry: &mut Line, rule: &Rule)
     ensures { entry.new ≡ with_line_feed (rule_text_of rule.now) }
 {
     entry.clear();
@@ -57,11 +57,11 @@ fn set_rule(entry: &mut Line, rule: &Rule)
 }
 
 /// Appends the lines of rules to the text; fails only out of memory.
-pub fn add_rules(text: &mut Vec<u8>, entry: &mut Line, rules: &[Rule]) -> Result<(), AllocError>
+pub fn show_rules(text: &mut Vec<u8>, entry: &mut Line, rules: &[Rule]) -> Result<(), AllocError>
     ensures { OnOk result (text.new.items ≡ text.old.items ++ rule_lines rules.now) }
 {
     for rule in rules {
-        set_rule(entry, rule);
+        show_rule_line(entry, rule);
         text.extend_from_slice(entry.bytes())?;
     }
     Ok(())

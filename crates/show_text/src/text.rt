@@ -1,14 +1,14 @@
 ghost use Rattle.std.specs.Prelude.{◌≡◌, ◌≤◌, ◌++◌, IfOk, OnOk, codes, decimal, length};
 ghost use Rattle.std.specs.List.{flat_map, enumerate_from};
-ghost use Rattle.net_file.specs.Net.{IsNet, name_of};
+ghost use Rattle.net_file.specs.Net.{IsNet, switch_name_of};
 ghost use Rattle.switch_table.specs.Tables.{tables_of};
-ghost use Rattle.show_text.specs.Text.{compile_text, with_line_feed, own_lines, part_text, hosted_lines, row_line, table_text, targets_text};
+ghost use Rattle.show_text.specs.Text.{compile_text, with_line_feed, own_part_lines, plan_part_text, hosted_lines, table_row_line, table_text, plan_targets_text};
 
-use crate::plan_lines::{add_rules, push_part, push_region, push_targets};
+use crate::plan_lines::{show_part, show_region, show_rules, show_targets};
 use controller::{Plan, tables_of};
 use lines::{Line, push_name};
-use net_file::{Net, name_laws};
-use policy_rules::{Partition, Targets, count_words};
+use net_file::{Net, switch_name_laws};
+use policy_rules::{Partition, Targets, count_match_words};
 use std::alloc::{AllocError, Global};
 use switch_table::{PartRow, Tables};
 
@@ -27,11 +27,11 @@ pub fn compile_text(alloc: Global, plan: &Plan, net: &Net) -> Result<Vec<u8>, Al
 {
     let mut text = Vec::new(alloc);
     let mut entry = Line::new();
-    let words = count_words(plan.policy()) as u64;
+    let words = count_match_words(plan.policy()) as u64;
     let hosted = plan.hosted();
     add_count(&mut text, &mut entry, "words ", words)?;
     add_count(&mut text, &mut entry, "partitions ", hosted.len() as u64)?;
-    add_hosted(&mut text, &mut entry, net, hosted)?;
+    show_hosted(&mut text, &mut entry, net, hosted)?;
     Ok(text)
 }
 
@@ -49,32 +49,32 @@ pub fn table_text(alloc: Global, plan: &Plan, net: &Net, s: u32) -> Result<Vec<u
     text_of_tables(alloc, net, s, &tables)
 }
 
-#[tactic(auto, unfolding(crate::specs::Text::authority_text, crate::specs::Text::regions_text))]
+#[tactic(auto, unfolding(crate::specs::Text::own_parts_text, crate::specs::Text::regions_text))]
 fn text_of_tables(alloc: Global, net: &Net, s: u32, tables: &Tables) -> Result<Vec<u8>, AllocError>
     requires { IsNet net.now }
     ensures { IfOk result (λ bytes. bytes.items ≡ table_text s tables.now net.now) }
 {
     let mut text = Vec::new(alloc);
     let mut entry = Line::new();
-    set_switch(&mut entry, net, s, tables.version);
+    show_switch_line(&mut entry, net, s, tables.version);
     text.extend_from_slice(entry.bytes())?;
     let own = tables.auth.items();
     add_count(&mut text, &mut entry, "authority ", own.len() as u64)?;
-    add_own(&mut text, &mut entry, own)?;
+    show_own_parts(&mut text, &mut entry, own)?;
     let rows = tables.parts.items();
     add_count(&mut text, &mut entry, "partitions ", rows.len() as u64)?;
-    add_rows(&mut text, &mut entry, net, rows)?;
+    show_table_rows(&mut text, &mut entry, net, rows)?;
     Ok(text)
 }
 
 // Sets the line to that of a switch and a version.
-#[tactic(auto, using(lines::proofs::CallerLemmas::pushed_append, lines::proofs::CallerLemmas::pushed_whole, crate::proofs::LineSizes::switch_fits))]
-fn set_switch(entry: &mut Line, net: &Net, s: u32, version: u32)
+#[tactic(auto, using(lines::proofs::CallerLemmas::pushed_append, lines::proofs::CallerLemmas::pushed_whole, crate::proofs::PlanTextLengths::switch_fits))]
+fn show_switch_line(entry: &mut Line, net: &Net, s: u32, version: u32)
     requires { IsNet net.now }
     ensures { entry.new
-        ≡ with_line_feed (codes "switch " ++ name_of net.now s ++ codes " version " ++ decimal version) }
+        ≡ with_line_feed (codes "switch " ++ switch_name_of net.now s ++ codes " version " ++ decimal version) }
 {
-    name_laws();
+    switch_name_laws();
     entry.clear();
     entry.push("switch ");
     push_name(entry, net, s);
@@ -84,8 +84,8 @@ fn set_switch(entry: &mut Line, net: &Net, s: u32, version: u32)
 }
 
 // Sets the line to that of a number after its title.
-#[tactic(auto, using(lines::proofs::CallerLemmas::pushed_append, lines::proofs::CallerLemmas::pushed_whole, crate::proofs::LineSizes::count_fits))]
-fn set_count(entry: &mut Line, title: &str, count: u64)
+#[tactic(auto, using(lines::proofs::CallerLemmas::pushed_append, lines::proofs::CallerLemmas::pushed_whole, crate::proofs::PlanTextLengths::count_fits))]
+fn show_count_line(entry: &mut Line, title: &str, count: u64)
     requires { length title.now ≤ 100 }
     ensures { entry.new ≡ with_line_feed (title.now ++ decimal count) }
 {
@@ -104,24 +104,24 @@ fn add_count(
     requires { length title.now ≤ 100 }
     ensures { OnOk result (text.new.items ≡ text.old.items ++ with_line_feed (title.now ++ decimal count)) }
 {
-    set_count(entry, title, count);
+    show_count_line(entry, title, count);
     text.extend_from_slice(entry.bytes())
 }
 
 // Sets the line to that of a partition with its targets.
-#[tactic(auto, using(lines::proofs::CallerLemmas::pushed_append, lines::proofs::CallerLemmas::pushed_whole, crate::proofs::LineSizes::hosted_fits))]
-fn set_hosted(entry: &mut Line, net: &Net, part: &Partition, targets: &Targets)
+#[tactic(auto, using(lines::proofs::CallerLemmas::pushed_append, lines::proofs::CallerLemmas::pushed_whole, crate::proofs::PlanTextLengths::hosted_fits))]
+fn show_hosted_line(entry: &mut Line, net: &Net, part: &Partition, targets: &Targets)
     requires { IsNet net.now }
-    ensures { entry.new ≡ with_line_feed (part_text part.now ++ targets_text net.now targets.now) }
+    ensures { entry.new ≡ with_line_feed (plan_part_text part.now ++ plan_targets_text net.now targets.now) }
 {
-    name_laws();
+    switch_name_laws();
     entry.clear();
-    push_part(entry, part);
-    push_targets(entry, net, targets);
+    show_part(entry, part);
+    show_targets(entry, net, targets);
     entry.push("\n");
 }
 
-fn add_hosted(
+fn show_hosted(
     text: &mut Vec<u8>,
     entry: &mut Line,
     net: &Net,
@@ -132,48 +132,52 @@ fn add_hosted(
         ≡ text.old.items ++ flat_map (hosted_lines net.now) hosted.now) }
 {
     for (part, targets) in hosted {
-        set_hosted(entry, net, part, targets);
+        show_hosted_line(entry, net, part, targets);
         text.extend_from_slice(entry.bytes())?;
-        add_rules(text, entry, part.rules.items())?;
+        show_rules(text, entry, part.rules.items())?;
     }
     Ok(())
 }
 
 // Sets the line to that of a partition.
-#[tactic(auto, using(lines::proofs::CallerLemmas::pushed_append, lines::proofs::CallerLemmas::pushed_whole, crate::proofs::LineSizes::part_fits))]
-fn set_part(entry: &mut Line, part: &Partition)
-    ensures { entry.new ≡ with_line_feed (part_text part.now) }
+#[tactic(auto, using(lines::proofs::CallerLemmas::pushed_append, lines::proofs::CallerLemmas::pushed_whole, crate::proofs::PlanTextLengths::part_fits))]
+fn show_part_line(entry: &mut Line, part: &Partition)
+    ensures { entry.new ≡ with_line_feed (plan_part_text part.now) }
 {
     entry.clear();
-    push_part(entry, part);
+    show_part(entry, part);
     entry.push("\n");
 }
 
-fn add_own(text: &mut Vec<u8>, entry: &mut Line, parts: &[Partition]) -> Result<(), AllocError>
-    ensures { OnOk result (text.new.items ≡ text.old.items ++ flat_map own_lines parts.now) }
+fn show_own_parts(
+    text: &mut Vec<u8>,
+    entry: &mut Line,
+    parts: &[Partition],
+) -> Result<(), AllocError>
+    ensures { OnOk result (text.new.items ≡ text.old.items ++ flat_map own_part_lines parts.now) }
 {
     for part in parts {
-        set_part(entry, part);
+        show_part_line(entry, part);
         text.extend_from_slice(entry.bytes())?;
-        add_rules(text, entry, part.rules.items())?;
+        show_rules(text, entry, part.rules.items())?;
     }
     Ok(())
 }
 
 // Sets the line to that of the partition rule of a region.
-#[tactic(auto, using(lines::proofs::CallerLemmas::pushed_append, lines::proofs::CallerLemmas::pushed_whole, crate::proofs::LineSizes::row_fits))]
-fn set_row(entry: &mut Line, net: &Net, number: u64, row: &PartRow)
+#[tactic(auto, using(lines::proofs::CallerLemmas::pushed_append, lines::proofs::CallerLemmas::pushed_whole, crate::proofs::PlanTextLengths::row_fits))]
+fn show_table_row_line(entry: &mut Line, net: &Net, number: u64, row: &PartRow)
     requires { IsNet net.now }
-    ensures { entry.new ≡ row_line net.now (number, row.now) }
+    ensures { entry.new ≡ table_row_line net.now (number, row.now) }
 {
-    name_laws();
+    switch_name_laws();
     entry.clear();
-    push_region(entry, number, &row.region);
-    push_targets(entry, net, &row.targets);
+    show_region(entry, number, &row.region);
+    show_targets(entry, net, &row.targets);
     entry.push("\n");
 }
 
-fn add_rows(
+fn show_table_rows(
     text: &mut Vec<u8>,
     entry: &mut Line,
     net: &Net,
@@ -181,10 +185,10 @@ fn add_rows(
 ) -> Result<(), AllocError>
     requires { IsNet net.now }
     ensures { OnOk result (text.new.items
-        ≡ text.old.items ++ flat_map (row_line net.now) (enumerate_from 0 rows.now)) }
+        ≡ text.old.items ++ flat_map (table_row_line net.now) (enumerate_from 0 rows.now)) }
 {
     for (number, row) in rows.iter().enumerate() {
-        set_row(entry, net, number as u64, row);
+        show_table_row_line(entry, net, number as u64, row);
         text.extend_from_slice(entry.bytes())?;
     }
     Ok(())

@@ -7,16 +7,16 @@ use Rattle.policy_rules.specs.declared.packet.Leg.TheVariants.{Seek, Exit}
 use Rattle.policy_rules.specs.declared.rules.Partition.{Partition}
 use Rattle.tunnel.specs.Exports.{TunnelValue}
 use Rattle.switch_table.specs.declared.tables.Tables.{Tables}
-use Rattle.switch_core.specs.Exports.{Answer, Answered, IsArriving, IsAtAuthority, IsDecidedIn, IsEntry, IsFirstHit, IsRightAnswer, Site, SwitchValue, admitted, arrival_of, arrive_answer, arrived_on, arrived_with, decided_in, enter_answer, entered_with, entry_of, held_tables, holds_version, looked_up, no_part, own_part, packet_of, part_numbered, place_of_first, received, serves}
-use Rattle.switch_core.specs.declared.tunnel_calls.Arrived.TheVariants as arrival
+use Rattle.switch_core.specs.Exports.{Answer, Answered, IsArrivingAtSwitch, IsAtAuthority, IsDecidedIn, IsEntry, IsFirstHit, IsRightAnswer, SwitchSite, SwitchValue, admitted, switch_arrival_of, arrive_answer, arrived_on_leg, arrived_with, decided_in_own_part, enter_answer, entered_with, entry_of, held_tables, holds_version, looked_up, no_part, own_part, packet_of, part_numbered, place_of_first, received, serves}
+use Rattle.switch_core.specs.declared.tunnel_calls.Arrived.TheVariants as log_arrival
 use Rattle.switch_core.specs.declared.tunnel_calls.Entered.TheVariants as entry
 use Rattle.switch_core.specs.declared.tunnel_calls.Packet.{Packet}
-use Rattle.switch_core.proofs.LookupAnswers.{hit_in, lookup_is, sound_held, version_held}
-use Rattle.switch_core.proofs.OwnTables.{own_hit}
+use Rattle.switch_core.proofs.SwitchLookupAnswers.{hit_in, lookup_is, sound_held, version_held}
+use Rattle.switch_core.proofs.SwitchOwnLookups.{own_hit}
 
 -- ---- a packet enters
 
-pub entry_by : (s : SwitchValue) (site : Site) (packet : Packet) (test : Bool) →
+pub entry_by : (s : SwitchValue) (site : SwitchSite) (packet : Packet) (test : Bool) →
     serves s ≡ test → admitted s site packet ≡ cond test (Some (looked_up s site packet)) None
 unfolding admitted
 entry_by s site packet test is = ap (λ (b : Bool). cond b (Some (looked_up s site packet)) None) is
@@ -25,7 +25,7 @@ entry_by s site packet test is = ap (λ (b : Bool). cond b (Some (looked_up s si
 not_closed : (answer : Answer) → entered_with answer ≡ entry.Closed → ⊥
 not_closed answer is = search rules
 
-pub entry_is : (s : SwitchValue) (site : Site) (packet : Packet) →
+pub entry_is : (s : SwitchValue) (site : SwitchSite) (packet : Packet) →
     IsEntry s site packet (enter_answer s site packet)
 unfolding admitted
 entry_is s site packet = record {
@@ -43,22 +43,22 @@ entry_is s site packet = record {
 
 -- ---- a packet is at the end of its route
 
-pub arrive_out : (s : SwitchValue) (site : Site) (t : TunnelValue) (port : ℕ) →
-    t.leg ≡ Exit port → arrive_answer s site t ≡ arrival.Out port
+pub arrive_out : (s : SwitchValue) (site : SwitchSite) (t : TunnelValue) (port : ℕ) →
+    t.leg ≡ Exit port → arrive_answer s site t ≡ log_arrival.Out port
 unfolding received
-arrive_out s site t port leg = ap (λ leg. arrival_of (arrived_on s site (packet_of t) leg)) leg
+arrive_out s site t port leg = ap (λ leg. switch_arrival_of (arrived_on_leg s site (packet_of t) leg)) leg
 
 -- by the tables of the leg's version, if they are held
-arrived_by : (s : SwitchValue) (site : Site) (t : TunnelValue) (version partition : ℕ)
+arrived_by : (s : SwitchValue) (site : SwitchSite) (t : TunnelValue) (version partition : ℕ)
     (held : Option Tables) → t.leg ≡ Seek version partition → held_tables s version ≡ held
-    → received s site t ≡ Answered (option_map_or (decided_in s site (packet_of t) partition) held
+    → received s site t ≡ Answered (option_map_or (decided_in_own_part s site (packet_of t) partition) held
     (looked_up s site (packet_of t)))
 unfolding received
 arrived_by s site t version partition held leg is = cc (leg, is)
 
 -- the first hit of the leg's partition
 hit_on : (s : SwitchValue) (t : TunnelValue) (version partition : ℕ) (tables : Tables) →
-    IsArriving s t → t.leg ≡ Seek version partition → held_tables s version ≡ Some tables →
+    IsArrivingAtSwitch s t → t.leg ≡ Seek version partition → held_tables s version ≡ Some tables →
     IsSomeAnd (own_part tables partition) (λ part. IsFirstHit t.header part
     (place_of_first t.header (part_numbered tables partition)))
 hit_on s t version partition tables arriving leg held = by_part (own_part tables partition) refl
@@ -74,17 +74,17 @@ hit_on s t version partition tables arriving leg held = by_part (own_part tables
         (sound_held s version tables arriving.ready.switch held) arriving.ready.is_header is inside
     by_part None is inside = absurd inside
 
-pub arrive_held : (s : SwitchValue) (site : Site) (t : TunnelValue) (version partition : ℕ)
+pub arrive_held : (s : SwitchValue) (site : SwitchSite) (t : TunnelValue) (version partition : ℕ)
     (tables : Tables) →
-    IsArriving s t → t.leg ≡ Seek version partition → held_tables s version ≡ Some tables →
+    IsArrivingAtSwitch s t → t.leg ≡ Seek version partition → held_tables s version ≡ Some tables →
     (answer : Answer) × (arrive_answer s site t ≡ arrived_with answer)
     × IsDecidedIn s site (packet_of t) version tables partition answer
-unfolding decided_in
+unfolding decided_in_own_part
 arrive_held s site t version partition tables arriving leg held = (
-  decided_in s site (packet_of t) partition tables,
-  ap arrival_of (arrived_by s site t version partition (Some tables) leg held),
+  decided_in_own_part s site (packet_of t) partition tables,
+  ap switch_arrival_of (arrived_by s site t version partition (Some tables) leg held),
   subst (λ (v : ℕ). IsDecidedIn s site (packet_of t) v tables partition
-      (decided_in s site (packet_of t) partition tables)) (version_held s version tables held)
+      (decided_in_own_part s site (packet_of t) partition tables)) (version_held s version tables held)
       (hit_in s site (packet_of t) tables.version tables partition _
       (hit_on s t version partition tables arriving leg held)).0,
 )
@@ -92,13 +92,13 @@ arrive_held s site t version partition tables arriving leg held = (
 pub none_held : (o : Option Tables) → is_some o ≡ false → o ≡ None
 none_held o is = search rules
 
-pub arrive_anew : (s : SwitchValue) (site : Site) (t : TunnelValue) (version partition : ℕ) →
-    IsArriving s t → t.leg ≡ Seek version partition → IsFalse (holds_version s version) →
+pub arrive_anew : (s : SwitchValue) (site : SwitchSite) (t : TunnelValue) (version partition : ℕ) →
+    IsArrivingAtSwitch s t → t.leg ≡ Seek version partition → IsFalse (holds_version s version) →
     (answer : Answer) × (arrive_answer s site t ≡ arrived_with answer)
     × IsRightAnswer s site (packet_of t) answer
 arrive_anew s site t version partition arriving leg gone = (
   looked_up s site (packet_of t),
-  ap arrival_of (arrived_by s site t version partition None leg
+  ap switch_arrival_of (arrived_by s site t version partition None leg
       (none_held (held_tables s version) gone)),
   lookup_is s site (packet_of t) arriving.ready,
 )

@@ -2,13 +2,13 @@
 use Rattle.std.proofs.Common.{[], ◌&&◌, ◌+◌, ◌<◌, ◌↔◌, ◌∙◌, ◌∷◌, ◌≡◌, Bool, IsFalse, IsTrue, List, MatchOption, None, Option, Some, ap, get_or-set_same, inl, inr, length-set, refl, slice_get, slice_index, sym, true, ℕ, rules}
 use Rattle.base.proofs.Exports.{get_or_from_slice_get, get_or_past, has-zero}
 use Rattle.policy_rules.specs.declared.packet.Cause.{Cause}
-use Rattle.failover.proofs.KnownLinkRows.{has_known}
+use Rattle.failover.proofs.FailoverKnownLinks.{has_known}
 use Rattle.failover.proofs.RouteSearch.{known_route_is_route}
 use Rattle.failover.specs.Exports.{IsPath, IsRoute, is_link, known_links, named_links, route_of}
 use Rattle.base.specs.Exports.{has}
 use Rattle.failover.specs.declared.advert.Advert.{Advert}
-use Rattle.tunnel.specs.Exports.{TunnelValue, here, marked_down, next, on_route, route_from_here}
-use Rattle.switch_core.specs.Exports.{IsSamePacket, Moved, StandsAt, SwitchValue, cause_of, down_with, hop_answer, hopped_to, link_found_down, move_answer, moved_along, rerouted_here, route_around}
+use Rattle.tunnel.specs.Exports.{TunnelValue, here, tunnel_marked_down, next, on_route, route_from_here}
+use Rattle.switch_core.specs.Exports.{IsSamePacket, Moved, PacketStandsAt, SwitchValue, cause_of, found_down_with, hop_answer, hopped_to, link_found_down, move_answer, moved_along_route, rerouted_here, route_around}
 use Rattle.switch_core.specs.declared.tunnel_calls.HopEnd.TheVariants.{Arrive, Move, Stuck}
 
 -- ---- a link that is found down
@@ -33,15 +33,15 @@ hop_moves s near t other is usable = cc (is, usable)
 -- along the way around a link
 pub hop_around : (s : SwitchValue) (near : ℕ) (t : TunnelValue) (other : ℕ) (way : Option (List ℕ))
     → link_found_down near (next t) ≡ Some other → route_around s near t other ≡ way
-    → hop_answer s near t ≡ moved_along s near (marked_down t other) way
+    → hop_answer s near t ≡ moved_along_route s near (tunnel_marked_down t other) way
 unfolding hop_answer rerouted_here
 hop_around s near t other way found is = cc (found, is)
 
 pub hop_stuck : (s : SwitchValue) (near : ℕ) (t : TunnelValue) (other : ℕ) →
     link_found_down near (next t) ≡ Some other → route_around s near t other ≡ None →
     hop_answer s near t ≡ record {
-      end = Stuck (cause_of s near (down_with t other) t.leg t.targets);
-      tunnel = record t { down = down_with t other };
+      end = Stuck (cause_of s near (found_down_with t other) t.leg t.targets);
+      tunnel = record t { down = found_down_with t other };
     }
 hop_stuck s near t other found none = hop_around s near t other None found none
 
@@ -49,11 +49,11 @@ hop_stuck s near t other found none = hop_around s near t other None found none
 abbrev pub IsTurned : SwitchValue → ℕ → TunnelValue → ℕ → List ℕ → Option ℕ → Type 0
 IsTurned s near t other way second = MatchOption second (hop_answer s near t ≡ record {
   end = Arrive;
-  tunnel = record t { route = way; place = 0; down = down_with t other };
+  tunnel = record t { route = way; place = 0; down = found_down_with t other };
 })
     (λ second. hop_answer s near t ≡ record {
       end = Move second;
-      tunnel = record t { route = way; place = 1; down = down_with t other };
+      tunnel = record t { route = way; place = 1; down = found_down_with t other };
     })
 
 pub hop_turns : (s : SwitchValue) (near : ℕ) (t : TunnelValue) (other : ℕ) (way : List ℕ) →
@@ -63,7 +63,7 @@ hop_turns s near t other way found some =
     by_second (slice_get way 1) (hop_around s near t other (Some way) found some)
   where
     by_second : (second : Option ℕ) →
-        hop_answer s near t ≡ move_answer (on_route (marked_down t other) way) second →
+        hop_answer s near t ≡ move_answer (on_route (tunnel_marked_down t other) way) second →
         IsTurned s near t other way second
     by_second None is = is
     by_second (Some second) is = is
@@ -78,17 +78,17 @@ same_but t route place down = refl
 -- what is true of each move, and where a packet is stuck, is true of a hop
 each_hop : (s : SwitchValue) (near : ℕ) (t : TunnelValue) (P : Moved → Type 0) →
     ((on : TunnelValue) → IsSamePacket t on → P (move_answer on (next on))) →
-    ((other : ℕ) (cause : Cause) → P (record { end = Stuck cause; tunnel = marked_down t other })) →
+    ((other : ℕ) (cause : Cause) → P (record { end = Stuck cause; tunnel = tunnel_marked_down t other })) →
     P (hop_answer s near t)
 unfolding hop_answer rerouted_here
 each_hop s near t P moves stuck = by_found (link_found_down near (next t)) where
-  by_way : (other : ℕ) (way : Option (List ℕ)) → P (moved_along s near (marked_down t other) way)
+  by_way : (other : ℕ) (way : Option (List ℕ)) → P (moved_along_route s near (tunnel_marked_down t other) way)
   by_way other None = stuck other _
-  by_way other (Some way) = moves (on_route (marked_down t other) way) (same_but t way 0 _)
+  by_way other (Some way) = moves (on_route (tunnel_marked_down t other) way) (same_but t way 0 _)
 
   by_found : (found : Option ℕ) → P (hopped_to s near t found)
   by_found None = moves t (same_but t t.route t.place t.down)
-  by_found (Some other) = by_way other (route_from_here (marked_down t other) s.database near)
+  by_found (Some other) = by_way other (route_from_here (tunnel_marked_down t other) s.database near)
 
 pub hop_stands : (s : SwitchValue) (near : ℕ) (t : TunnelValue) (other : ℕ) →
     (hop_answer s near t).end ≡ Move other → here (hop_answer s near t).tunnel ≡ other
@@ -186,8 +186,8 @@ unfolding IsPath
 path_begins links from target way path = search rules
 
 -- a packet that is here and arrives is still here
-pub hop_stays : (s : SwitchValue) (near : ℕ) (t : TunnelValue) → StandsAt s t.route t.place →
+pub hop_stays : (s : SwitchValue) (near : ℕ) (t : TunnelValue) → PacketStandsAt s t.route t.place →
     (hop_answer s near t).end ≡ Arrive →
-    StandsAt s (hop_answer s near t).tunnel.route (hop_answer s near t).tunnel.place
+    PacketStandsAt s (hop_answer s near t).tunnel.route (hop_answer s near t).tunnel.place
 unfolding hop_answer rerouted_here
 hop_stays s near t stands = search (rules, way_leads, path_begins, get_or_from_slice_get)

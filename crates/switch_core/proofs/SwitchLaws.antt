@@ -3,7 +3,7 @@ use Rattle.std.proofs.Common.{[], ◌<◌, ◌↔◌, ◌≡◌, ◌≤◌, All,
 use Rattle.base.proofs.Exports.{AllPass-from_list_all, list_all-from_AllPass, nat_tests}
 use Rattle.failover.specs.declared.advert.Advert.{Advert}
 use Rattle.failover.specs.Exports.{first_adverts, is_isolated, route_of}
-use Rattle.failover.proofs.HeldAdverts.{held-first}
+use Rattle.failover.proofs.FailoverHeldAdverts.{held-first}
 use Rattle.policy_rules.specs.declared.packet.Leg.{Leg}
 use Rattle.policy_rules.specs.declared.packet.Cause.TheVariants.{NoAuthority}
 use Rattle.ctrl_msg.specs.declared.message.Body.{Body}
@@ -11,7 +11,7 @@ use Rattle.ctrl_msg.specs.declared.message.Body.TheVariants.{Install, OpenAt, St
 use Rattle.switch_table.specs.Exports.{CacheValue}
 use Rattle.switch_table.specs.declared.tables.Tables.{Tables}
 use Rattle.switch_core.specs.declared.tunnel_calls.Packet.{Packet}
-use Rattle.switch_core.specs.Exports.{HasOwnUpTo, IsHeard, SwitchValue, after_body, are_isolated, cause_of, collected_to, is_seek, obeys, raised_to, set_out, stamped_with, with_heard, with_installed, with_message}
+use Rattle.switch_core.specs.Exports.{HasOwnUpTo, IsHeard, SwitchValue, switch_after_body, are_isolated, cause_of, collected_to, is_seek, obeys, stamp_raised_to, set_out, stamped_with, switch_with_heard, with_installed, switch_with_message}
 use Rattle.ternary.specs.Exports.{WordValue}
 
 -- ---- packets
@@ -58,8 +58,8 @@ either : (s one other : SwitchValue) (test : Bool) → IsHeard s one → IsHeard
 either s one other test left right = search rules
 
 raised_heard : (s : SwitchValue) (is_open : Bool) (version : ℕ) →
-    IsHeard s (record (raised_to s version) { is_open = is_open })
-unfolding raised_to
+    IsHeard s (record (stamp_raised_to s version) { is_open = is_open })
+unfolding stamp_raised_to
 raised_heard s is_open version = search (rules, nat_tests)
 
 stamped_heard : (s : SwitchValue) (version : ℕ) (touched : List WordValue) →
@@ -67,8 +67,8 @@ stamped_heard : (s : SwitchValue) (version : ℕ) (touched : List WordValue) →
 unfolding stamped_with
 stamped_heard s version touched = search (rules, nat_tests)
 
-heard_body : (s : SwitchValue) (number : ℕ) (body : Body) → IsHeard s (after_body s number body)
-unfolding with_installed collected_to with_heard
+heard_body : (s : SwitchValue) (number : ℕ) (body : Body) → IsHeard s (switch_after_body s number body)
+unfolding with_installed collected_to switch_with_heard
 heard_body s number (Install boot tables) = search rules
 heard_body s number (OpenAt boot version) = raised_heard s true version
 heard_body s number (Stamp boot version touched) = stamped_heard s version touched
@@ -77,11 +77,11 @@ heard_body s number (CacheRule version word rule action) = search rules
 heard_body s number (Advertise advert) = search rules
 heard_body s number _ = same s
 
-pub heard_keeps : (s : SwitchValue) (number : ℕ) (body : Body) → IsHeard s (with_message s number body)
-unfolding with_message
+pub heard_keeps : (s : SwitchValue) (number : ℕ) (body : Body) → IsHeard s (switch_with_message s number body)
+unfolding switch_with_message
 heard_keeps s number body = either s _ _ (obeys s body) (heard_body s number body) (same s)
 
 pub not_obeyed : (s : SwitchValue) (number : ℕ) (body : Body) → obeys s body ≡ false →
-    with_message s number body ≡ s
-unfolding with_message
+    switch_with_message s number body ≡ s
+unfolding switch_with_message
 not_obeyed s number body other = rw other refl

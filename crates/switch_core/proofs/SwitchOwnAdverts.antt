@@ -2,9 +2,9 @@
 use Rattle.std.proofs.Common.{◌&&◌, ◌+◌, ◌<◌, ◌==◌, ◌||◌, ◌≡◌, ◌≢◌, Bool, List, None, Option, Some, arith, false, get_or-set_same, inl, inr, length-set, nat_lt, set, true, ℕ, rules}
 use Rattle.base.proofs.Exports.{cases_lt, get_or-replicate, get_or_past, nat_tests}
 use Rattle.failover.specs.declared.advert.Advert.{Advert}
-use Rattle.failover.specs.Exports.{after_hearing, held_advert, is_news, no_adverts}
-use Rattle.failover.proofs.HeldAdverts.{held_others}
-use Rattle.failover.proofs.NewestAdvert.{not_newer}
+use Rattle.failover.specs.Exports.{adverts_after_hearing, held_advert, is_news, no_adverts}
+use Rattle.failover.proofs.FailoverHeldAdverts.{held_others}
+use Rattle.failover.proofs.FailoverNewestAdvert.{not_newer}
 use Rattle.switch_core.specs.Exports.{HasOwnUpTo, SwitchValue, is_news_here, own_advert}
 
 -- ---- by the numbers alone
@@ -45,7 +45,7 @@ own_next adverts number boot seq up advert is =
 -- an advert of another switch leaves it as it is
 pub own_others : (adverts : List (Option Advert)) (advert : Advert) (number boot seq : ℕ) →
     number ≢ advert.origin → HasOwnUpTo adverts number boot seq →
-    HasOwnUpTo (after_hearing adverts advert) number boot seq
+    HasOwnUpTo (adverts_after_hearing adverts advert) number boot seq
 own_others adverts advert number boot seq other own held_one is = search (rules, held_others)
 
 -- news is of another switch

@@ -28,12 +28,12 @@ use Rattle.ctrl_msg.specs.declared.message.Body.{Body}
 use Rattle.ctrl_msg.specs.declared.message.Body.TheVariants.{CacheRule}
 use Rattle.switch_core.specs.Answering.{IsAtAuthority, admitted, arrive_answer, enter_answer, looked_up, packet_of}
 use Rattle.switch_core.specs.Deciding.{IsFirstHit, by_entry, by_rule, own_part}
-use Rattle.switch_core.specs.Ends.{Site, cause_of, next_of}
-use Rattle.switch_core.specs.Moving.{Moved, StandsAt, link_found_down, hop_answer}
+use Rattle.switch_core.specs.Ends.{SwitchSite, cause_of, next_of}
+use Rattle.switch_core.specs.Moving.{Moved, PacketStandsAt, link_found_down, hop_answer}
 use Rattle.switch_core.specs.State.{IsSwitch, SwitchValue, held_tables, holds_version, serves, stamp_tables}
 use Rattle.switch_core.specs.Answers.{Answer, Decided, Seek, Stuck, arrived_with, entered_with}
 use Rattle.switch_core.specs.declared.tunnel_calls.Arrived.{Arrived}
-use Rattle.switch_core.specs.declared.tunnel_calls.Arrived.TheVariants as arrival
+use Rattle.switch_core.specs.declared.tunnel_calls.Arrived.TheVariants as log_arrival
 use Rattle.switch_core.specs.declared.deciding.Decision.{Decision}
 use Rattle.switch_core.specs.declared.tunnel_calls.Entered.{Entered}
 use Rattle.switch_core.specs.declared.tunnel_calls.Entered.TheVariants as entry
@@ -53,7 +53,7 @@ pub record IsReady (s : SwitchValue) (header : Header) : Type 0 where
 
 -- the switch is ready, and the packet is at the end of its route there: on a leg of a version that
 -- the switch has, the leg's partition is one of its own, and has the header
-pub record IsArriving (s : SwitchValue) (t : TunnelValue) : Type 0 where
+pub record IsArrivingAtSwitch (s : SwitchValue) (t : TunnelValue) : Type 0 where
   pub ready : IsReady s t.header
   pub authority : IsAtAuthority s t.header t.leg
 
@@ -105,22 +105,22 @@ rule_to_cache {tables} {header} version own =
 
 -- one of these rules decides, by tables of a version, and is sent to the cache of the switch where
 -- the packet entered, unless that is this one
-abbrev pub decided_by : (s : SwitchValue) → Site → (packet : Packet) → ℕ →
+abbrev pub decided_by_switch : (s : SwitchValue) → SwitchSite → (packet : Packet) → ℕ →
     {tables : Tables} → OwnRule tables packet.header → Answer
-decided_by s site packet version own =
+decided_by_switch s site packet version own =
     Decided (by_rule s.number version own.part.number own.rule)
     (if packet.ingress == s.number then None else Some (rule_to_cache version own))
     (next_of s site packet own.rule.action)
 
 -- the partition of this number decides by its first rule to hold the header
-pub record IsDecidedIn (s : SwitchValue) (site : Site) (packet : Packet)
+pub record IsDecidedIn (s : SwitchValue) (site : SwitchSite) (packet : Packet)
     (version : ℕ) (tables : Tables) (partition : ℕ) (answer : Answer) : Type 0 where
   pub own : OwnRule tables packet.header
   pub numbered : own.part.number ≡ partition
-  pub answered : answer ≡ decided_by s site packet version own
+  pub answered : answer ≡ decided_by_switch s site packet version own
 
 -- a switch that is ready looks a packet up under its stamp
-pub record IsRightAnswer (s : SwitchValue) (site : Site) (packet : Packet)
+pub record IsRightAnswer (s : SwitchValue) (site : SwitchSite) (packet : Packet)
     (answer : Answer) : Type 0 where
   -- a cached rule decides with its version, its rule and its action
   pub cached : (entry : CacheEntry) → lookup_by_stamp s packet.header ≡ Cached entry →
@@ -141,16 +141,16 @@ pub record IsRightAnswer (s : SwitchValue) (site : Site) (packet : Packet)
 
 -- the result of a lookup is in the relation, and nothing else is
 pub record LookupLaws : Type 0 where
-  pub is : (s : SwitchValue) (site : Site) (packet : Packet) →
+  pub is : (s : SwitchValue) (site : SwitchSite) (packet : Packet) →
       IsReady s packet.header →
       IsRightAnswer s site packet (looked_up s site packet)
-  pub only : (s : SwitchValue) (site : Site) (packet : Packet)
+  pub only : (s : SwitchValue) (site : SwitchSite) (packet : Packet)
       (answer : Answer) → IsReady s packet.header → IsRightAnswer s site packet answer →
       answer ≡ looked_up s site packet
 
 -- ---- a packet enters
 
-pub record IsEntry (s : SwitchValue) (site : Site) (packet : Packet)
+pub record IsEntry (s : SwitchValue) (site : SwitchSite) (packet : Packet)
     (enter_answer : Entered) : Type 0 where
   -- closed exactly if the switch doesn't serve
   pub closed : (enter_answer ≡ entry.Closed) ↔ IsFalse (serves s)
@@ -161,15 +161,15 @@ pub record IsEntry (s : SwitchValue) (site : Site) (packet : Packet)
 
 -- the result of `enter` is in the relation, and nothing else is
 pub record EnterLaws : Type 0 where
-  pub is : (s : SwitchValue) (site : Site) (packet : Packet) →
+  pub is : (s : SwitchValue) (site : SwitchSite) (packet : Packet) →
       IsEntry s site packet (enter_answer s site packet)
-  pub only : (s : SwitchValue) (site : Site) (packet : Packet)
+  pub only : (s : SwitchValue) (site : SwitchSite) (packet : Packet)
       (answer : Entered) → (IsTrue (serves s) → IsReady s packet.header) →
       IsEntry s site packet answer → answer ≡ enter_answer s site packet
 
 -- ---- a packet was decided
 
-pub record IsNextOf (s : SwitchValue) (site : Site) (packet : Packet) (action : Action)
+pub record IsNextOf (s : SwitchValue) (site : SwitchSite) (packet : Packet) (action : Action)
     (way : Next) : Type 0 where
   -- dropped exactly if the action is to drop it
   pub dropped : (way ≡ goes.Dropped) ↔ (action ≡ Drop)
@@ -187,36 +187,36 @@ pub record IsNextOf (s : SwitchValue) (site : Site) (packet : Packet) (action : 
 
 -- where a decided packet moves is in the relation, and nothing else is
 pub record ExitLaws : Type 0 where
-  pub is : (s : SwitchValue) (site : Site) (packet : Packet) (action : Action) →
+  pub is : (s : SwitchValue) (site : SwitchSite) (packet : Packet) (action : Action) →
       IsNextOf s site packet action (next_of s site packet action)
-  pub only : (s : SwitchValue) (site : Site) (packet : Packet) (action : Action)
+  pub only : (s : SwitchValue) (site : SwitchSite) (packet : Packet) (action : Action)
       (way : Next) → IsNextOf s site packet action way → way ≡ next_of s site packet action
 
 -- ---- a packet arrives
 
-pub record IsArrival (s : SwitchValue) (site : Site) (t : TunnelValue)
+pub record IsSwitchArrival (s : SwitchValue) (site : SwitchSite) (t : TunnelValue)
     (arrive_answer : Arrived) : Type 0 where
   -- at the end of its way to a port it leaves by that port
-  pub out : (port : ℕ) → t.leg ≡ ExitLeg port → arrive_answer ≡ arrival.Out port
+  pub out : (port : ℕ) → t.leg ≡ ExitLeg port → arrive_answer ≡ log_arrival.Out port
   -- on a leg of a version that the switch has it is decided by that version: by the first rule of
   -- the leg's partition to hold the header
   pub decided : (version partition : ℕ) (tables : Tables) →
-      IsArriving s t → t.leg ≡ SeekLeg version partition → held_tables s version ≡ Some tables →
+      IsArrivingAtSwitch s t → t.leg ≡ SeekLeg version partition → held_tables s version ≡ Some tables →
       (answer : Answer) × (arrive_answer ≡ arrived_with answer)
       × IsDecidedIn s site (packet_of t) version tables partition answer
   -- if the switch doesn't have the leg's version, it is looked up again under the stamp, as if it
   -- entered here with the links that it found down
   pub anew : (version partition : ℕ) →
-      IsArriving s t → t.leg ≡ SeekLeg version partition → IsFalse (holds_version s version) →
+      IsArrivingAtSwitch s t → t.leg ≡ SeekLeg version partition → IsFalse (holds_version s version) →
       (answer : Answer) × (arrive_answer ≡ arrived_with answer)
       × IsRightAnswer s site (packet_of t) answer
 
 -- the result of `arrive` is in the relation, and nothing else is
 pub record ArriveLaws : Type 0 where
-  pub is : (s : SwitchValue) (site : Site) (t : TunnelValue) →
-      IsArrival s site t (arrive_answer s site t)
-  pub only : (s : SwitchValue) (site : Site) (t : TunnelValue)
-      (answer : Arrived) → IsArriving s t → IsArrival s site t answer →
+  pub is : (s : SwitchValue) (site : SwitchSite) (t : TunnelValue) →
+      IsSwitchArrival s site t (arrive_answer s site t)
+  pub only : (s : SwitchValue) (site : SwitchSite) (t : TunnelValue)
+      (answer : Arrived) → IsArrivingAtSwitch s t → IsSwitchArrival s site t answer →
       answer ≡ arrive_answer s site t
 
 -- ---- where decisions come from
@@ -227,7 +227,7 @@ is_by_authority _ = false
 
 -- by a cached rule of the stamp's version, or by one of the switch's own rules by the tables of
 -- the decision's version; and the packet moves on as the decision's action says
-pub record IsDecision (s : SwitchValue) (site : Site) (packet : Packet)
+pub record IsDecision (s : SwitchValue) (site : SwitchSite) (packet : Packet)
     (decision : Decision) (cache : Option Body) (way : Next) : Type 0 where
   pub source : IsByCache s packet.header decision ⊎ IsByOwnRule s packet.header decision
   pub onward : way ≡ next_of s site packet decision.action
@@ -241,14 +241,14 @@ pub record IsDecision (s : SwitchValue) (site : Site) (packet : Packet)
 
 pub record DecisionLaws : Type 0 where
   -- this is true of every decision of a packet that enters or arrives
-  pub on_entry : (s : SwitchValue) (site : Site) (packet : Packet)
+  pub on_entry : (s : SwitchValue) (site : SwitchSite) (packet : Packet)
       (decision : Decision) (way : Next) → IsReady s packet.header →
       enter_answer s site packet ≡ entry.Decided decision way →
       (cache : Option Body) × (admitted s site packet ≡ Some (Decided decision cache way))
       × IsDecision s site packet decision cache way
-  pub on_arrival : (s : SwitchValue) (site : Site) (t : TunnelValue)
-      (decision : Decision) (cache : Option Body) (way : Next) → IsArriving s t →
-      arrive_answer s site t ≡ arrival.Decided decision cache way →
+  pub on_arrival : (s : SwitchValue) (site : SwitchSite) (t : TunnelValue)
+      (decision : Decision) (cache : Option Body) (way : Next) → IsArrivingAtSwitch s t →
+      arrive_answer s site t ≡ log_arrival.Decided decision cache way →
       IsDecision s site (packet_of t) decision cache way
   -- by the tables of a plan, the switch's own rules decide as the plan's policy does
   pub as_policy : (s : SwitchValue) (header : Header) (decision : Decision) (rows : List Row)
@@ -265,12 +265,12 @@ IsSamePacket before after =
     after ≡ record before { route = after.route; place = after.place; down = after.down }
 
 -- the links that a packet found down, with the one to this other switch
-abbrev pub down_with : TunnelValue → ℕ → List ℕ
-down_with t other = with_link t.down (here t) other
+abbrev pub found_down_with : TunnelValue → ℕ → List ℕ
+found_down_with t other = with_link t.down (here t) other
 
 -- its new route around these links
 abbrev pub route_around : SwitchValue → ℕ → TunnelValue → ℕ → Option (List ℕ)
-route_around s near t other = route_of s.database (here t) t.targets near (down_with t other)
+route_around s near t other = route_of s.database (here t) t.targets near (found_down_with t other)
 
 pub record IsHop (s : SwitchValue) (near : ℕ) (t : TunnelValue) (after : Moved) : Type 0 where
   -- a link is found down exactly if it leads to the next switch of the route and isn't usable
@@ -285,8 +285,8 @@ pub record IsHop (s : SwitchValue) (near : ℕ) (t : TunnelValue) (after : Moved
   pub stuck : (other : ℕ) → link_found_down near (next t) ≡ Some other →
       route_around s near t other ≡ None →
       after ≡ record {
-        end = hop.Stuck (cause_of s near (down_with t other) t.leg t.targets);
-        tunnel = record t { down = down_with t other };
+        end = hop.Stuck (cause_of s near (found_down_with t other) t.leg t.targets);
+        tunnel = record t { down = found_down_with t other };
       }
   -- otherwise it takes that route: it has arrived if the route ends here, and otherwise moves to
   -- its second switch
@@ -295,18 +295,18 @@ pub record IsHop (s : SwitchValue) (near : ℕ) (t : TunnelValue) (after : Moved
       MatchOption (slice_get way 1)
       (after ≡ record {
         end = hop.Arrive;
-        tunnel = record t { route = way; place = 0; down = down_with t other };
+        tunnel = record t { route = way; place = 0; down = found_down_with t other };
       })
       (λ second. after ≡ record {
         end = hop.Move second;
-        tunnel = record t { route = way; place = 1; down = down_with t other };
+        tunnel = record t { route = way; place = 1; down = found_down_with t other };
       })
   -- so a packet that moved is at that switch, to which a usable link leads, and one that arrived
   -- is still at this switch, at the end of its route
   pub stands : (other : ℕ) → after.end ≡ hop.Move other → here after.tunnel ≡ other
   pub usable : (other : ℕ) → after.end ≡ hop.Move other → IsTrue (has near other)
-  pub stays : StandsAt s t.route t.place → after.end ≡ hop.Arrive →
-      StandsAt s after.tunnel.route after.tunnel.place
+  pub stays : PacketStandsAt s t.route t.place → after.end ≡ hop.Arrive →
+      PacketStandsAt s after.tunnel.route after.tunnel.place
   pub ends : after.end ≡ hop.Arrive → next after.tunnel ≡ None
   pub same_packet : IsSamePacket t after.tunnel
 

@@ -20,9 +20,9 @@ pub data Answer : Type 0 where
   Stuck : Cause → Leg → Answer
 
 -- the result for a packet at the end of its route: it leaves by this port, or is answered as above
-pub data Arrival : Type 0 where
-  Out : ℕ → Arrival
-  Answered : Answer → Arrival
+pub data SwitchArrival : Type 0 where
+  Out : ℕ → SwitchArrival
+  Answered : Answer → SwitchArrival
 
 -- as `enter` returns it, if the switch serves
 abbrev pub entered_with : Answer → Entered
@@ -40,6 +40,6 @@ arrived_with (Decided decision cache way) = arrived.Decided decision cache way
 arrived_with (Seek tunnel) = arrived.Seek tunnel
 arrived_with (Stuck cause leg) = arrived.Stuck cause leg
 
-abbrev pub arrival_of : Arrival → Arrived
-arrival_of (Out port) = arrived.Out port
-arrival_of (Answered answer) = arrived_with answer
+abbrev pub switch_arrival_of : SwitchArrival → Arrived
+switch_arrival_of (Out port) = arrived.Out port
+switch_arrival_of (Answered answer) = arrived_with answer

@@ -35,8 +35,8 @@ own_part tables number = find (λ part. part.number == number) tables.auth
 abbrev pub part_numbered : Tables → ℕ → Partition
 part_numbered tables number = unwrap_or (own_part tables number) no_part
 
-abbrev pub rule_in : Partition → ℕ → Rule
-rule_in part place = slice_index_or part.rules place no_rule
+abbrev pub own_rule_in : Partition → ℕ → Rule
+own_rule_in part place = slice_index_or part.rules place no_rule
 
 -- the place of its first rule that holds the header
 abbrev pub place_of_first : Header → Partition → ℕ
@@ -74,8 +74,8 @@ IsFound tables header (ByAuthority partition place) =
 IsFound tables header _ = ⊤
 
 -- a packet as it is looked up
-abbrev pub packet_with : ℕ → Header → ℕ → List ℕ → Packet
-packet_with number header ingress down = record {
+abbrev pub packet_to_look_up : ℕ → Header → ℕ → List ℕ → Packet
+packet_to_look_up number header ingress down = record {
   number = number;
   header = header;
   ingress = ingress;
@@ -85,6 +85,6 @@ packet_with number header ingress down = record {
 -- the cache rule of a decision by the rule at a place: none for a packet that entered here
 unfoldable pub rule_for_cache : ℕ → Packet → ℕ → Partition → ℕ → Option Body
 rule_for_cache switch packet version part place =
-    let rule = rule_in part place in
+    let rule = own_rule_in part place in
     let word = widen (number_of packet.header) part.region part.rules place in
     if packet.ingress == switch then None else Some (CacheRule version word rule.rule rule.action)

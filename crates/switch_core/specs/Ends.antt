@@ -15,21 +15,21 @@ use Rattle.tunnel.specs.Exports.{TunnelValue, tunnel_begun}
 use Rattle.switch_core.specs.declared.tunnel_calls.Next.{Next}
 use Rattle.switch_core.specs.declared.tunnel_calls.Next.TheVariants.{Dropped, Out, Exit, Stuck}
 use Rattle.switch_core.specs.declared.tunnel_calls.Packet.{Packet}
-use Rattle.switch_core.specs.declared.site.Site as given
+use Rattle.switch_core.specs.declared.site.SwitchSite as given
 use Rattle.switch_core.specs.State.{SwitchValue}
 
 -- what a switch gets with a packet: a mask of the switches to which it has a usable link, and which
 -- switch has each port
-pub record Site : Type 0 where
+pub record SwitchSite : Type 0 where
   pub near : ℕ
   pub ports : Ports
 
-abbrev pub around : ℕ → Ports → Site
+abbrev pub around : ℕ → Ports → SwitchSite
 around near ports = record { near = near; ports = ports }
 
 -- the same, from the value of the code
-abbrev pub site_of : given.Site → Site
-site_of site = around site.near site.ports.now
+abbrev pub switch_site_of : given.SwitchSite → SwitchSite
+switch_site_of site = around site.near site.ports.now
 
 -- ---- the cause rule
 
@@ -56,19 +56,19 @@ set_out s near packet leg targets =
 
 -- ---- the exit rule
 
-abbrev pub exit_by : Result TunnelValue Cause → Next
-exit_by (Ok tunnel) = Exit tunnel
-exit_by (Err cause) = Stuck cause
+abbrev pub exit_by_switch : Result TunnelValue Cause → Next
+exit_by_switch (Ok tunnel) = Exit tunnel
+exit_by_switch (Err cause) = Stuck cause
 
 -- out by a port, if its switch is this one; otherwise to its switch. No route leads to a port that
 -- no switch has
-unfoldable pub leave_by : SwitchValue → ℕ → Packet → ℕ → Option ℕ → Next
-leave_by s near packet port None = Stuck NoRoute
-leave_by s near packet port (Some owner) = if owner == s.number
+unfoldable pub leave_by_switch : SwitchValue → ℕ → Packet → ℕ → Option ℕ → Next
+leave_by_switch s near packet port None = Stuck NoRoute
+leave_by_switch s near packet port (Some owner) = if owner == s.number
     then Out port
-    else exit_by (set_out s near packet (ExitLeg port) (owner ∷ []))
+    else exit_by_switch (set_out s near packet (ExitLeg port) (owner ∷ []))
 
 -- where a packet moves that this action decides
-unfoldable pub next_of : SwitchValue → Site → Packet → Action → Next
+unfoldable pub next_of : SwitchValue → SwitchSite → Packet → Action → Next
 next_of s site packet Drop = Dropped
-next_of s site packet (OutBy port) = leave_by s site.near packet port (port_owner site.ports port)
+next_of s site packet (OutBy port) = leave_by_switch s site.near packet port (port_owner site.ports port)

@@ -4,9 +4,9 @@ use Rattle.ctrl_msg.specs.declared.message.Body.{Body}
 use Rattle.ctrl_msg.specs.declared.message.Body.TheVariants.{CacheRule}
 use Rattle.ternary.specs.Exports.{WordValue}
 use Rattle.switch_core.specs.Answering.{seek_by}
-use Rattle.switch_core.specs.Ends.{Site, next_of, set_out}
+use Rattle.switch_core.specs.Ends.{SwitchSite, next_of, set_out}
 use Rattle.switch_core.specs.State.{SwitchValue}
-use Rattle.switch_core.specs.Answers.{Arrival}
+use Rattle.switch_core.specs.Answers.{SwitchArrival}
 use Rattle.switch_core.specs.Answers as answer
 use Rattle.switch_core.specs.declared.deciding.Decision.{Decision}
 use Rattle.switch_core.specs.declared.tunnel_calls.Packet.{Packet}
@@ -14,21 +14,21 @@ use Rattle.switch_core.specs.declared.forwarding.Forwarding.{Forwarding}
 use Rattle.switch_core.specs.declared.forwarding.Forwarding.TheVariants.{Out, Decided, Seek}
 
 -- the decision's rule with this word, for a cache
-abbrev pub cached_by : Decision → Option WordValue → Option Body
-cached_by decision word =
+abbrev pub rule_cached_by : Decision → Option WordValue → Option Body
+rule_cached_by decision word =
     option_map (λ word. CacheRule decision.version word decision.rule decision.action) word
 
 -- the result, with the route that is to be taken
-abbrev pub answer_of : SwitchValue → Site → Packet → Forwarding → Arrival
+abbrev pub answer_of : SwitchValue → SwitchSite → Packet → Forwarding → SwitchArrival
 answer_of s site packet (Out port) = answer.Out port
 answer_of s site packet (Decided decision word) =
-    answer.Answered (answer.Decided decision (cached_by decision word)
+    answer.Answered (answer.Decided decision (rule_cached_by decision word)
     (next_of s site packet decision.action))
 answer_of s site packet (Seek leg targets) =
     answer.Answered (seek_by leg (set_out s site.near packet leg targets))
 
 -- the result for a packet that enters
-abbrev pub admitted_as : SwitchValue → Site → Packet → Option Forwarding → Option Arrival
+abbrev pub admitted_as : SwitchValue → SwitchSite → Packet → Option Forwarding → Option SwitchArrival
 admitted_as s site packet forwarding = option_map (answer_of s site packet) forwarding
 
 -- the forwarding is one that a lookup returns: it is not out by a port

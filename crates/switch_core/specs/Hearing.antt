@@ -3,7 +3,7 @@
 -- SIGCOMM 2012); adverts are flooded as in OSPF (RFC 2328, section 13).
 use Rattle.std.specs.Prelude.{[], if◌then◌else◌, ◌&&◌, ◌++◌, ◌==◌, ◌||◌, ◌∷◌, Bool, List, None, Option, Some, filter, map, max, nat_le, nat_lt, not, true, ℕ, ⊤}
 use Rattle.base.specs.Exports.{has, option_map_or, switches}
-use Rattle.failover.specs.Exports.{after_hearing, is_news}
+use Rattle.failover.specs.Exports.{adverts_after_hearing, is_news}
 use Rattle.failover.specs.declared.advert.Advert.{Advert}
 use Rattle.switch_table.specs.Exports.{AreSoundTables, after_accept, after_carry, after_raise}
 use Rattle.switch_table.specs.declared.cache.CacheEntry.{CacheEntry}
@@ -37,8 +37,8 @@ with_installed s tables =
     else record s { tables = s.tables ++ tables ∷ [] }
 
 -- its stamp is at least this version; if it rises, the cache is raised to it
-unfoldable pub raised_to : SwitchValue → ℕ → SwitchValue
-raised_to s version = if nat_lt s.stamp version
+unfoldable pub stamp_raised_to : SwitchValue → ℕ → SwitchValue
+stamp_raised_to s version = if nat_lt s.stamp version
     then record s { stamp = version; cache = after_raise version s.cache } else s
 
 -- its stamp is at least this version; if it rises, the cached rules are carried to it, except
@@ -48,7 +48,7 @@ stamped_with s version touched = if nat_lt s.stamp version
     then record s { stamp = version; cache = after_carry version touched s.cache } else s
 
 abbrev pub opened_with : SwitchValue → ℕ → SwitchValue
-opened_with s version = record (raised_to s version) { is_open = true }
+opened_with s version = record (stamp_raised_to s version) { is_open = true }
 
 -- its collect mark is at least this version, and the tables up to the mark are dropped
 unfoldable pub collected_to : SwitchValue → ℕ → SwitchValue
@@ -58,35 +58,35 @@ collected_to s version = let mark = max s.collected version in record s {
 }
 
 -- the entry is added to the cache
-abbrev pub with_learnt : SwitchValue → CacheEntry → SwitchValue
-with_learnt s entry = record s { cache = after_accept s.stamp entry s.cache }
+abbrev pub switch_with_learnt : SwitchValue → CacheEntry → SwitchValue
+switch_with_learnt s entry = record s { cache = after_accept s.stamp entry s.cache }
 
 -- the advert is of another switch, and the database has none of that switch or this one is newer
 unfoldable pub is_news_here : SwitchValue → Advert → Bool
 is_news_here s advert = not (advert.origin == s.number) && is_news s.database advert
 
-unfoldable pub with_heard : SwitchValue → Advert → SwitchValue
-with_heard s advert = if is_news_here s advert
-    then record s { database = after_hearing s.database advert } else s
+unfoldable pub switch_with_heard : SwitchValue → Advert → SwitchValue
+switch_with_heard s advert = if is_news_here s advert
+    then record s { database = adverts_after_hearing s.database advert } else s
 
 -- the switch after it obeyed the message of this number
-abbrev pub after_body : SwitchValue → ℕ → Body → SwitchValue
-after_body s number (Install boot tables) = with_installed s tables
-after_body s number (OpenAt boot version) = opened_with s version
-after_body s number (Stamp boot version touched) = stamped_with s version touched
-after_body s number (Collect boot version) = collected_to s version
-after_body s number (CacheRule version word rule action) = with_learnt s (record {
+abbrev pub switch_after_body : SwitchValue → ℕ → Body → SwitchValue
+switch_after_body s number (Install boot tables) = with_installed s tables
+switch_after_body s number (OpenAt boot version) = opened_with s version
+switch_after_body s number (Stamp boot version touched) = stamped_with s version touched
+switch_after_body s number (Collect boot version) = collected_to s version
+switch_after_body s number (CacheRule version word rule action) = switch_with_learnt s (record {
   version = version;
   word = word;
   rule = rule;
   action = action;
   message = number;
 })
-after_body s number (Advertise advert) = with_heard s advert
-after_body s number _ = s
+switch_after_body s number (Advertise advert) = switch_with_heard s advert
+switch_after_body s number _ = s
 
-unfoldable pub with_message : SwitchValue → ℕ → Body → SwitchValue
-with_message s number body = if obeys s body then after_body s number body else s
+unfoldable pub switch_with_message : SwitchValue → ℕ → Body → SwitchValue
+switch_with_message s number body = if obeys s body then switch_after_body s number body else s
 
 -- ---- what it sends
 

@@ -1,7 +1,7 @@
 -- The laws of one switch: `switch_laws` of the crate ensures the record.
 use Rattle.std.specs.Prelude.{if◌then◌else◌, ◌&&◌, ◌<◌, ◌==◌, ◌↔◌, ◌≡◌, ◌≤◌, All, IsErr, IsTrue, List, None, Some, false, max, nat_lt, ℕ}
 use Rattle.base.specs.Exports.{option_or}
-use Rattle.failover.specs.Exports.{after_hearing, first_adverts, is_isolated, route_of}
+use Rattle.failover.specs.Exports.{adverts_after_hearing, first_adverts, is_isolated, route_of}
 use Rattle.failover.specs.declared.advert.Advert.{Advert}
 use Rattle.policy_rules.specs.declared.packet.Leg.{Leg}
 use Rattle.policy_rules.specs.declared.packet.Cause.TheVariants.{NoAuthority}
@@ -9,7 +9,7 @@ use Rattle.ctrl_msg.specs.declared.message.Body.{Body}
 use Rattle.switch_table.specs.declared.tables.Tables.{Tables}
 use Rattle.switch_core.specs.declared.tunnel_calls.Packet.{Packet}
 use Rattle.switch_core.specs.Ends.{cause_of, is_seek, set_out}
-use Rattle.switch_core.specs.Hearing.{collected_to, with_message, with_heard, with_installed, obeys, raised_to, stamped_with}
+use Rattle.switch_core.specs.Hearing.{collected_to, switch_with_message, switch_with_heard, with_installed, obeys, stamp_raised_to, stamped_with}
 use Rattle.switch_core.specs.State.{HasOwnUpTo, SwitchValue, held_tables}
 use Rattle.ternary.specs.Exports.{WordValue}
 
@@ -40,9 +40,9 @@ pub record SwitchLaws : Type 0 where
       (IsTrue (is_seek leg)
       × All (λ target. IsTrue (is_isolated s.database s.number target near down)) targets)
   pub after_message : (s : SwitchValue) (number : ℕ) (body : Body) →
-      IsHeard s (with_message s number body)
+      IsHeard s (switch_with_message s number body)
   pub not_obeyed : (s : SwitchValue) (number : ℕ) (body : Body) → obeys s body ≡ false →
-      with_message s number body ≡ s
+      switch_with_message s number body ≡ s
   -- tables that arrive are kept, unless the switch has those of their version or its collect mark
   -- is at least that
   pub after_install : (s : SwitchValue) (tables : Tables) (version : ℕ) →
@@ -54,10 +54,10 @@ pub record SwitchLaws : Type 0 where
       held_tables (collected_to s mark) version
       ≡ (if nat_lt (max s.collected mark) version then held_tables s version else None)
   pub after_rise : (s : SwitchValue) (version : ℕ) →
-      (raised_to s version).stamp ≡ max s.stamp version
+      (stamp_raised_to s version).stamp ≡ max s.stamp version
   pub after_stamp : (s : SwitchValue) (version : ℕ) (touched : List WordValue) →
       (stamped_with s version touched).stamp ≡ max s.stamp version
   -- adverts of others are heard, and its own are ignored
   pub after_advert : (s : SwitchValue) (advert : Advert) →
-      (with_heard s advert).database
-      ≡ (if advert.origin == s.number then s.database else after_hearing s.database advert)
+      (switch_with_heard s advert).database
+      ≡ (if advert.origin == s.number then s.database else adverts_after_hearing s.database advert)

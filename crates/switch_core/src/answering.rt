@@ -2,9 +2,9 @@ ghost use Rattle.std.specs.Prelude.{◌≡◌, ◌+◌, ℕ, List, None, IsSomeA
 ghost use Rattle.policy_rules.specs.Hosted.{is_in};
 ghost use Rattle.policy_rules.specs.declared.packet.Leg.TheVariants.{Seek as SeekLeg};
 ghost use Rattle.switch_core.specs.Answers.{Answered};
-ghost use Rattle.switch_core.specs.Exports.{CanLookUp, IsAtAuthority, IsFirstHit, IsFound, IsUncached, Site as SiteValue, StandsAt, admitted, admitted_as, answer_by, answer_of, arrived_on, call_counted, decided_at, decided_in, holds_version, incoming_packet, looked_up, own_part, packet_with, serves};
+ghost use Rattle.switch_core.specs.Exports.{CanLookUp, IsAtAuthority, IsFirstHit, IsFound, IsSwitchUncached, SwitchSite as SiteValue, PacketStandsAt, admitted, admitted_as, answer_by, answer_of, arrived_on_leg, call_counted, decided_at_switch, decided_in_own_part, holds_version, incoming_packet, looked_up, own_part, packet_to_look_up, serves};
 
-use crate::deciding::{Decision, cache_word, own_part, rule_in};
+use crate::deciding::{Decision, cache_word, own_part, own_rule_in};
 use crate::forwarding::Forwarding;
 use crate::kept::KeptTables;
 use crate::packet::Arriving;
@@ -23,7 +23,7 @@ impl Switch {
             admitted_as self.new site (incoming_packet self.old number h.now) result
             ≡ option_map Answered (admitted self.old site (incoming_packet self.old number h.now)) }
         ensures uncached { (site : SiteValue) (number : ℕ) →
-            IsUncached (admitted self.old site (incoming_packet self.old number h.now)) }
+            IsSwitchUncached (admitted self.old site (incoming_packet self.old number h.now)) }
         ensures after { self.new ≡ call_counted self.old }
     {
         if !self.serves() {
@@ -42,14 +42,14 @@ impl Switch {
     pub fn receive(&mut self, t: Arriving) -> Forwarding
         requires serving { IsTrue (serves self.old) }
         requires stamped { CanLookUp self.old }
-        requires here { StandsAt self.old t.route.now t.place }
+        requires here { PacketStandsAt self.old t.route.now t.place }
         requires last { slice_get t.route.now (t.place + 1) ≡ None }
         requires authority { IsAtAuthority self.old t.header.now t.leg }
         ensures answer { (site : SiteValue) (number : ℕ) (down : List ℕ) →
             answer_of self.new site
-            (packet_with number t.entry.header.now t.entry.ingress down) result
-            ≡ arrived_on self.old site
-            (packet_with number t.entry.header.now t.entry.ingress down) t.entry.leg }
+            (packet_to_look_up number t.entry.header.now t.entry.ingress down) result
+            ≡ arrived_on_leg self.old site
+            (packet_to_look_up number t.entry.header.now t.entry.ingress down) t.entry.leg }
         ensures after { self.new ≡ call_counted self.old }
     {
         match t.leg {
@@ -70,9 +70,9 @@ impl Switch {
         requires stamped { IsTrue (holds_version self.now self.now.stamp) }
         requires authority { IsAtAuthority self.now h.now (SeekLeg version partition) }
         ensures { (site : SiteValue) (number : ℕ) (down : List ℕ) →
-            answer_of self.now site (packet_with number h.now ingress down) result
-            ≡ arrived_on self.now site
-            (packet_with number h.now ingress down) (SeekLeg version partition) }
+            answer_of self.now site (packet_to_look_up number h.now ingress down) result
+            ≡ arrived_on_leg self.now site
+            (packet_to_look_up number h.now ingress down) (SeekLeg version partition) }
     {
         match self.held_tables(version) {
             Some(tables) => self.decide_in(h, ingress, partition, tables),
@@ -85,8 +85,8 @@ impl Switch {
     fn look_up(&self, h: &Header, ingress: u32) -> Forwarding
         requires { IsTrue (holds_version self.now self.now.stamp) }
         ensures { (site : SiteValue) (number : ℕ) (down : List ℕ) →
-            answer_of self.now site (packet_with number h.now ingress down) result
-            ≡ Answered (looked_up self.now site (packet_with number h.now ingress down)) }
+            answer_of self.now site (packet_to_look_up number h.now ingress down) result
+            ≡ Answered (looked_up self.now site (packet_to_look_up number h.now ingress down)) }
     {
         let finder = self.stamp_tables().finder();
         // For the proof: the contract of `number` says that the header is below its bound.
@@ -100,9 +100,9 @@ impl Switch {
     fn by_found(&self, h: &Header, ingress: u32, tables: &Tables, found: &Found) -> Forwarding
         requires { IsFound tables.now h.now found.now }
         ensures { (site : SiteValue) (number : ℕ) (down : List ℕ) →
-            answer_of self.now site (packet_with number h.now ingress down) result
+            answer_of self.now site (packet_to_look_up number h.now ingress down) result
             ≡ Answered (answer_by self.now site
-            (packet_with number h.now ingress down) tables.now found.now) }
+            (packet_to_look_up number h.now ingress down) tables.now found.now) }
     {
         match found {
             Found::Cached(entry) => Forwarding::Decided {
@@ -124,14 +124,14 @@ impl Switch {
     }
 
     // Decides by the partition of this number in these tables.
-    #[tactic(auto, unfolding(crate::specs::Answering::decided_in))]
+    #[tactic(auto, unfolding(crate::specs::Answering::decided_in_own_part))]
     fn decide_in(&self, h: &Header, ingress: u32, partition: u32, tables: &KeptTables) -> Forwarding
         requires { IsSomeAnd (own_part tables.now partition)
             (λ part. IsTrue (is_in h.now part)) }
         ensures { (site : SiteValue) (number : ℕ) (down : List ℕ) →
-            answer_of self.now site (packet_with number h.now ingress down) result
-            ≡ Answered (decided_in self.now site
-            (packet_with number h.now ingress down) partition tables.now) }
+            answer_of self.now site (packet_to_look_up number h.now ingress down) result
+            ≡ Answered (decided_in_own_part self.now site
+            (packet_to_look_up number h.now ingress down) partition tables.now) }
     {
         let place = tables.first_place(partition, h);
         let tables = tables.finder().tables();
@@ -141,7 +141,7 @@ impl Switch {
 
     // Decides by the rule at this place of the partition.
     #[inline(always)]
-    #[tactic(auto, unfolding(crate::specs::Answering::decided_at))]
+    #[tactic(auto, unfolding(crate::specs::Answering::decided_at_switch))]
     fn decide_at(
         &self,
         h: &Header,
@@ -152,11 +152,11 @@ impl Switch {
     ) -> Forwarding
         requires { IsFirstHit h.now part.now place }
         ensures { (site : SiteValue) (number : ℕ) (down : List ℕ) →
-            answer_of self.now site (packet_with number h.now ingress down) result
-            ≡ Answered (decided_at self.now site
-            (packet_with number h.now ingress down) version part.now place) }
+            answer_of self.now site (packet_to_look_up number h.now ingress down) result
+            ≡ Answered (decided_at_switch self.now site
+            (packet_to_look_up number h.now ingress down) version part.now place) }
     {
-        let rule = rule_in(part, place);
+        let rule = own_rule_in(part, place);
         Forwarding::Decided {
             decision: Decision::by_rule(self.number, version, part.number, rule),
             word: cache_word(self.number, h, ingress, part, place),

@@ -1,7 +1,7 @@
 ghost use Rattle.std.specs.Prelude.{◌≡◌, ◌<◌, ℕ, List, length};
 ghost use Rattle.std.specs.Option.{option_copied};
-ghost use Rattle.switch_core.specs.Deciding.{IsFirstHit, by_entry, by_rule, rule_for_cache, own_part, packet_with, rule_in};
-ghost use Rattle.switch_core.specs.Forwarding.{cached_by};
+ghost use Rattle.switch_core.specs.Deciding.{IsFirstHit, by_entry, by_rule, rule_for_cache, own_part, packet_to_look_up, own_rule_in};
+ghost use Rattle.switch_core.specs.Forwarding.{rule_cached_by};
 
 use cache_maker::widen;
 use five_tuple::Header;
@@ -57,9 +57,9 @@ pub fn own_part(tables: &Tables, number: u32) -> Option<&Partition>
 }
 
 /// The rule at a place.
-pub fn rule_in(part: &Partition, place: u32) -> &Rule
+pub fn own_rule_in(part: &Partition, place: u32) -> &Rule
     requires { place < length part.now.rules }
-    ensures { result.now ≡ rule_in part.now place }
+    ensures { result.now ≡ own_rule_in part.now place }
 {
     &part.rules.items()[place as usize]
 }
@@ -76,8 +76,8 @@ pub fn cache_word(
 ) -> Option<Word>
     requires { IsFirstHit header.now part.now place }
     ensures { (number version : ℕ) (down : List ℕ) →
-        cached_by (by_rule switch version part.now.number (rule_in part.now place)) result
-        ≡ rule_for_cache switch (packet_with number header.now ingress down) version part.now place }
+        rule_cached_by (by_rule switch version part.now.number (own_rule_in part.now place)) result
+        ≡ rule_for_cache switch (packet_to_look_up number header.now ingress down) version part.now place }
 {
     if ingress == switch {
         return None;

@@ -2,7 +2,7 @@ ghost use Rattle.std.specs.Prelude.{◌≡◌, ◌<◌, [], ◌∷◌, OnErr, On
 ghost use Rattle.switch_table.specs.Tables.{AreSoundTables};
 ghost use Rattle.ctrl_msg.specs.declared.message.Body.TheVariants.{Advertise};
 ghost use Rattle.ctrl_msg.specs.Kinds.{to_controller};
-ghost use Rattle.switch_core.specs.Hearing.{IsSoundBody, collected_to, flood, with_message, with_heard, with_installed, is_news_here, with_learnt, obeys, opening_stamp, opened_with, opened_by, raised_to, replies, replies_to, stamped_with};
+ghost use Rattle.switch_core.specs.Hearing.{IsSoundBody, collected_to, flood, switch_with_message, switch_with_heard, with_installed, is_news_here, switch_with_learnt, obeys, opening_stamp, opened_with, opened_by, stamp_raised_to, replies, replies_to, stamped_with};
 
 use crate::kept::KeptTables;
 use crate::switch::Switch;
@@ -32,10 +32,10 @@ impl Switch {
     ///
     /// # Errors
     /// Only out of memory; then nothing changes, as if the message hadn't been delivered.
-    #[tactic(auto, unfolding(crate::specs::Hearing::with_message, crate::specs::Hearing::replies, crate::specs::Hearing::opening_stamp))]
+    #[tactic(auto, unfolding(crate::specs::Hearing::switch_with_message, crate::specs::Hearing::replies, crate::specs::Hearing::opening_stamp))]
     pub fn hear(&mut self, number: u32, body: &Body, near: u64) -> Result<Heard, AllocError>
         requires { IsSoundBody body.now }
-        ensures after { OnOk result (self.new ≡ with_message self.old number body.now) }
+        ensures after { OnOk result (self.new ≡ switch_with_message self.old number body.now) }
         ensures replies { IfOk result (λ h. h.replies ≡ replies self.old near body.now) }
         ensures opened { IfOk result (λ h. h.opened ≡ opening_stamp self.old body.now) }
         ensures err { OnErr result (self.new ≡ self.old) }
@@ -94,7 +94,7 @@ impl Switch {
         ensures { IfOk result (λ list. list ≡ replies_to self.now near body.now) }
     {
         match body {
-            Body::Install { tables, .. } => one_reply(
+            Body::Install { tables, .. } => one_switch_reply(
                 alloc,
                 to_controller(Body::Installed {
                     switch: self.number,
@@ -102,7 +102,7 @@ impl Switch {
                     version: tables.tables().version,
                 }),
             ),
-            Body::Stamp { version, .. } => one_reply(
+            Body::Stamp { version, .. } => one_switch_reply(
                 alloc,
                 to_controller(Body::Stamped {
                     switch: self.number,
@@ -163,9 +163,9 @@ impl Switch {
     }
 
     // Stamps with at least this version from now on, and raises the cache to it if the stamp rises.
-    #[tactic(auto, unfolding(crate::specs::Hearing::raised_to))]
+    #[tactic(auto, unfolding(crate::specs::Hearing::stamp_raised_to))]
     fn raise(&mut self, version: u32)
-        ensures { self.new ≡ raised_to self.old version }
+        ensures { self.new ≡ stamp_raised_to self.old version }
     {
         if self.stamp < version {
             self.stamp = version;
@@ -185,16 +185,16 @@ impl Switch {
 
     // Adds a rule to the cache.
     fn learn(&mut self, entry: CacheEntry) -> Result<(), AllocError>
-        ensures after { OnOk result (self.new ≡ with_learnt self.old entry) }
+        ensures after { OnOk result (self.new ≡ switch_with_learnt self.old entry) }
         ensures err { OnErr result (self.new ≡ self.old) }
     {
         self.cache.accept(self.stamp, entry)
     }
 
     // Keeps an advert of another switch, if it is news.
-    #[tactic(auto, unfolding(crate::specs::Hearing::with_heard))]
+    #[tactic(auto, unfolding(crate::specs::Hearing::switch_with_heard))]
     fn inform(&mut self, advert: &Advert)
-        ensures { self.new ≡ with_heard self.old advert.now }
+        ensures { self.new ≡ switch_with_heard self.old advert.now }
     {
         if self.is_news(advert) {
             self.database.hear(advert);
@@ -221,7 +221,7 @@ fn to_controller(body: Body) -> Message
 }
 
 // Only this message.
-fn one_reply(alloc: Global, message: Message) -> Result<Replies, AllocError>
+fn one_switch_reply(alloc: Global, message: Message) -> Result<Replies, AllocError>
     ensures { IfOk result (λ replies. replies ≡ message ∷ []) }
 {
     let mut replies = Replies::new(alloc);
@@ -230,7 +230,7 @@ fn one_reply(alloc: Global, message: Message) -> Result<Replies, AllocError>
 }
 
 // The advert for each neighbour, ascending.
-#[tactic(auto, using(crate::proofs::NeighbourBodies::told_none, crate::proofs::NeighbourBodies::adverts_near, crate::proofs::NeighbourBodies::told_far))]
+#[tactic(auto, using(crate::proofs::SwitchNeighbourBodies::told_none, crate::proofs::SwitchNeighbourBodies::adverts_near, crate::proofs::SwitchNeighbourBodies::told_far))]
 fn flood(alloc: Global, near: u64, advert: &Advert) -> Result<Replies, AllocError>
     ensures { IfOk result (λ list. list ≡ flood near (Advertise advert.now)) }
 {

@@ -45,6 +45,6 @@ pub use laws::{
 };
 pub use packet::{Arriving, Onward};
 pub use policy_rules::{Cause, How};
-pub use site::Site;
+pub use site::SwitchSite;
 pub use switch::Switch;
 pub use tunnel_calls::{Arrived, Entered, Hop, HopEnd, Next};

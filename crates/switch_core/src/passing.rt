@@ -1,7 +1,7 @@
 ghost use Rattle.std.specs.Prelude.{◌≡◌, ◌≢◌, ◌+◌, ◌<◌, ℕ, IsTrue, slice_get};
 ghost use Rattle.failover.specs.RouteList.{IsRouteList};
 ghost use Rattle.switch_core.specs.declared.packet.Onward.TheVariants.{LinkDown};
-ghost use Rattle.switch_core.specs.Exports.{StandsAt, call_counted, onward_to, serves};
+ghost use Rattle.switch_core.specs.Exports.{PacketStandsAt, call_counted, onward_by_switch, serves};
 
 use crate::packet::Onward;
 use crate::switch::Switch;
@@ -15,8 +15,8 @@ impl Switch {
     /// `near` has a bit for each switch to which there is a usable link.
     pub fn pass(&mut self, route: &Route, place: u32, near: u64) -> Onward
         requires serving { IsTrue (serves self.old) }
-        requires here { StandsAt self.old route.now place }
-        ensures onward { result ≡ onward_to near (slice_get route.now (place + 1)) }
+        requires here { PacketStandsAt self.old route.now place }
+        ensures onward { result ≡ onward_by_switch near (slice_get route.now (place + 1)) }
         ensures other { (other : ℕ) → result ≡ LinkDown other
             → (other ≢ self.old.number) × (other < 64) }
         ensures after { self.new ≡ call_counted self.old }

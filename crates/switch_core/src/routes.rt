@@ -1,6 +1,6 @@
 ghost use Rattle.std.specs.Prelude.{◌≡◌, ◌∷◌, [], All, IfOk, IfSome, Some, unwrap_or};
 ghost use Rattle.std.specs.Option.{option_copied};
-ghost use Rattle.failover.specs.Exports.{after_hearing, is_news, no_adverts, no_links, route_of};
+ghost use Rattle.failover.specs.Exports.{adverts_after_hearing, is_news, no_adverts, no_links, route_of};
 ghost use Rattle.switch_core.specs.Routes.{IsRouteBy};
 
 use base::Shared;
@@ -63,7 +63,7 @@ impl Routes {
     /// Keeps the advert if it is news, as `Database::hear` does, and drops the kept routes.
     pub fn hear(&mut self, advert: &Advert) -> bool
         ensures news { result ≡ is_news self.old advert.now }
-        ensures after { self.new ≡ after_hearing self.old advert.now }
+        ensures after { self.new ≡ adverts_after_hearing self.old advert.now }
     {
         self.kept.clear();
         self.database.hear(advert)

@@ -5,12 +5,12 @@ ghost use Rattle.std.specs.Prelude.{◌≡◌, ◌∷◌, [], IsTrue, None};
 ghost use Rattle.policy_rules.specs.declared.packet.Leg.TheVariants.{Exit as ExitLeg};
 ghost use Rattle.tunnel.specs.Moves.{next};
 ghost use Rattle.switch_core.specs.Answers.{Answered};
-ghost use Rattle.switch_core.specs.Exports.{Answer, CanLookUp, IsAtAuthority, IsByLookup, IsUncached, StandsAt, admitted, answer_of, around, arrival_of, arrive_answer, cached_by, call_counted, enter_answer, entered_with, exit_by, hop_answer, incoming_packet, link_found_down, next_of, packet_of, rerouted_here, serves, set_out, site_of};
+ghost use Rattle.switch_core.specs.Exports.{Answer, CanLookUp, IsAtAuthority, IsByLookup, IsSwitchUncached, PacketStandsAt, admitted, answer_of, around, switch_arrival_of, arrive_answer, rule_cached_by, call_counted, enter_answer, entered_with, exit_by_switch, hop_answer, incoming_packet, link_found_down, next_of, packet_of, rerouted_here, serves, set_out, switch_site_of};
 
 use crate::deciding::Decision;
 use crate::forwarding::Forwarding;
 use crate::packet::{Arriving, Onward};
-use crate::site::Site;
+use crate::site::SwitchSite;
 use crate::switch::Switch;
 use ctrl_msg::Body;
 use failover::DownSet;
@@ -104,7 +104,7 @@ impl Switch {
         ensures answer { result
             ≡ enter_answer self.old (around near ports.now)
             (incoming_packet self.old packet h.now) }
-        ensures uncached { IsUncached
+        ensures uncached { IsSwitchUncached
             (admitted self.old (around near ports.now) (incoming_packet self.old packet h.now)) }
         ensures after { self.new ≡ call_counted self.old }
     {
@@ -116,7 +116,7 @@ impl Switch {
         };
         match self.admit(h) {
             None => Entered::Closed,
-            Some(forwarding) => self.answer_entry(Site { near, ports }, &packet, forwarding),
+            Some(forwarding) => self.answer_entry(SwitchSite { near, ports }, &packet, forwarding),
         }
     }
 
@@ -129,7 +129,7 @@ impl Switch {
     pub fn arrive(&mut self, t: &Tunnel, near: u64, ports: &Ports) -> Arrived
         requires serving { IsTrue (serves self.old) }
         requires stamped { CanLookUp self.old }
-        requires here { StandsAt self.old t.now.route t.now.place }
+        requires here { PacketStandsAt self.old t.now.route t.now.place }
         requires last { next t.now ≡ None }
         requires authority { IsAtAuthority self.old t.now.header t.now.leg }
         ensures answer { result ≡ arrive_answer self.old (around near ports.now) t.now }
@@ -142,7 +142,7 @@ impl Switch {
             route: &t.route,
             place: t.place,
         });
-        self.answer_arrival(Site { near, ports }, &carried(t), forwarding)
+        self.answer_arrival(SwitchSite { near, ports }, &carried(t), forwarding)
     }
 
     /// A packet that is here moves on. At the end of its route it arrives: it stays here. If the
@@ -153,7 +153,7 @@ impl Switch {
     #[tactic(auto, unfolding(crate::specs::Moving::hop_answer))]
     pub fn hop(&mut self, t: &mut Tunnel, near: u64) -> Hop
         requires serving { IsTrue (serves self.old) }
-        requires here { StandsAt self.old t.old.route t.old.place }
+        requires here { PacketStandsAt self.old t.old.route t.old.place }
         ensures found { result.found ≡ link_found_down near (next t.old) }
         ensures end { result.end ≡ (hop_answer self.old near t.old).end }
         ensures tunnel { t.new ≡ (hop_answer self.old near t.old).tunnel }
@@ -200,10 +200,10 @@ impl Switch {
     }
 
     /// The result for a packet that enters, with this forwarding.
-    fn answer_entry(&self, site: Site, packet: &Packet, forwarding: Forwarding) -> Entered
+    fn answer_entry(&self, site: SwitchSite, packet: &Packet, forwarding: Forwarding) -> Entered
         requires { IsByLookup forwarding }
         ensures { (answer : Answer)
-            → answer_of self.now (site_of site.entry) packet.now forwarding ≡ Answered answer
+            → answer_of self.now (switch_site_of site.entry) packet.now forwarding ≡ Answered answer
             → result ≡ entered_with answer }
     {
         match forwarding {
@@ -222,15 +222,15 @@ impl Switch {
     }
 
     /// The result for a packet at the end of its route, with this forwarding.
-    fn answer_arrival(&self, site: Site, packet: &Packet, forwarding: Forwarding) -> Arrived
+    fn answer_arrival(&self, site: SwitchSite, packet: &Packet, forwarding: Forwarding) -> Arrived
         ensures { result
-            ≡ arrival_of (answer_of self.now (site_of site.entry) packet.now forwarding) }
+            ≡ switch_arrival_of (answer_of self.now (switch_site_of site.entry) packet.now forwarding) }
     {
         match forwarding {
             Forwarding::Out(port) => Arrived::Out(port),
             Forwarding::Decided { decision, word } => Arrived::Decided {
                 decision,
-                cache: cached_by(&decision, word),
+                cache: rule_cached_by(&decision, word),
                 next: self.next(site, packet, decision.action),
             },
             Forwarding::Seek { leg, targets } => match self.set_out(
@@ -243,9 +243,9 @@ impl Switch {
     }
 
     // Where a packet moves that this action decides.
-    #[tactic(auto, unfolding(crate::specs::Ends::next_of, crate::specs::Ends::leave_by))]
-    fn next(&self, site: Site, packet: &Packet, action: Action) -> Next
-        ensures { result ≡ next_of self.now (site_of site.entry) packet.now action }
+    #[tactic(auto, unfolding(crate::specs::Ends::next_of, crate::specs::Ends::leave_by_switch))]
+    fn next(&self, site: SwitchSite, packet: &Packet, action: Action) -> Next
+        ensures { result ≡ next_of self.now (switch_site_of site.entry) packet.now action }
     {
         match action {
             Action::Drop => Next::Dropped,
@@ -259,7 +259,7 @@ impl Switch {
 
     // To the switch of its port.
     fn exit(&self, near: u64, packet: &Packet, port: u32, owner: u32) -> Next
-        ensures { result ≡ exit_by (set_out self.now near packet.now (ExitLeg port) (owner ∷ [])) }
+        ensures { result ≡ exit_by_switch (set_out self.now near packet.now (ExitLeg port) (owner ∷ [])) }
     {
         let targets = Targets::new(&[owner]).unwrap();
         match self.set_out(near, packet, Leg::Exit { port }, &targets) {
@@ -311,8 +311,8 @@ fn carried(t: &Tunnel) -> Packet
 }
 
 // The rule for a cache, if there is a word.
-fn cached_by(decision: &Decision, word: Option<Word>) -> Option<Body>
-    ensures { result ≡ cached_by decision.now word }
+fn rule_cached_by(decision: &Decision, word: Option<Word>) -> Option<Body>
+    ensures { result ≡ rule_cached_by decision.now word }
 {
     match word {
         None => None,

@@ -1,9 +1,9 @@
 -- What each call keeps of a cache.
 use Rattle.std.proofs.Common.{[], ◌++◌, ◌+◌, ◌<◌, ◌∷◌, ◌≡◌, ◌≤◌, List, ap, arith, drop, false, inl, inr, le-ltb, length, length-append, lt-ltb, nat_lt, refl, remove, suc, zero, ℕ, rules}
 use Rattle.base.proofs.Exports.{AllPairs-filter, all_pairs_remove, cases_lt, count_by-le-length, length-filter, length-remove, list_any}
-use Rattle.switch_table.specs.Exports.{CacheValue, HaveDistinctKeys, IsCache, after_accept, after_clear, after_expire, after_raise, newest_entries, same_key}
+use Rattle.switch_table.specs.Exports.{CacheValue, HaveDistinctKeys, IsCache, after_accept, after_clear, after_expire, after_raise, newest_cache_entries, same_key}
 use Rattle.switch_table.specs.declared.cache.CacheEntry.{CacheEntry}
-use Rattle.switch_table.proofs.PairLemmas.{none_distinct, push_distinct, rest_distinct}
+use Rattle.switch_table.proofs.CachePairs.{none_distinct, push_distinct, rest_distinct}
 
 pub cache_begun : (capacity : ℕ) → IsCache (record { entries = []; capacity = capacity })
 cache_begun capacity = record { distinct = none_distinct; few = omega arith }
@@ -39,7 +39,7 @@ length-rest entries most few = search rules
 
 newest_is : (capacity : ℕ) (entries : List CacheEntry) → HaveDistinctKeys entries →
     length entries ≤ capacity + 1 →
-    IsCache (record { entries = newest_entries capacity entries; capacity = capacity })
+    IsCache (record { entries = newest_cache_entries capacity entries; capacity = capacity })
 newest_is capacity entries pairs few = search (rules, lt-ltb, rest_distinct, length-rest, le-ltb)
 
 pub cache_accepted : (stamp : ℕ) (entry : CacheEntry) (cache : CacheValue) → IsCache cache →

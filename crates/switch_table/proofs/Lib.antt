@@ -1,11 +1,11 @@
-mod OverLemmas
-mod SlotKeyLemmas
-mod SlotPushLemmas
-mod LiveLemmas
+mod CacheCarryShift
+mod CacheSlotKeys
+mod CacheSlotPushes
+mod CacheLiveCounts
 mod FirstCacheHits
-mod SlotHitLemmas
-mod SlotRemoveLemmas
-pub mod PairLemmas
+mod CacheSlotHits
+mod CacheSlotRemovals
+pub mod CachePairs
 pub mod CacheLemmas
-pub mod CarryLemmas
-pub mod TableLemmas
+pub mod CacheCarryLemmas
+pub mod SwitchTableLemmas

@@ -18,8 +18,8 @@ abbrev pub HaveDistinctKeys : List CacheEntry → Type 0
 HaveDistinctKeys entries = AllPairs (λ a b. IsFalse (same_key a b)) entries
 
 -- if there are more than this many, the first one is evicted
-abbrev pub newest_entries : ℕ → List CacheEntry → List CacheEntry
-newest_entries capacity entries = if nat_lt capacity (length entries) then drop 1 entries
+abbrev pub newest_cache_entries : ℕ → List CacheEntry → List CacheEntry
+newest_cache_entries capacity entries = if nat_lt capacity (length entries) then drop 1 entries
     else entries
 
 -- an entry is added last; one of a version below the stamp, or of an existing key, changes nothing
@@ -27,7 +27,7 @@ abbrev pub after_accept : ℕ → CacheEntry → CacheValue → CacheValue
 after_accept stamp entry cache =
     if nat_lt entry.version stamp || list_any (same_key entry) cache.entries
     then cache
-    else record cache { entries = newest_entries cache.capacity (cache.entries ++ entry ∷ []) }
+    else record cache { entries = newest_cache_entries cache.capacity (cache.entries ++ entry ∷ []) }
 
 -- the entry at a place is removed
 abbrev pub after_expire : ℕ → CacheValue → CacheValue

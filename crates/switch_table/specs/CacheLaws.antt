@@ -2,7 +2,7 @@
 use Rattle.std.specs.Prelude.{[], ◌+◌, ◌≡◌, ◌≤◌, ◌⊎◌, All, Any, Contains, IsFalse, List, ℕ}
 use Rattle.ternary.specs.Exports.{WordValue}
 use Rattle.switch_table.specs.Cache.{CacheValue, IsCache, after_accept, after_expire, after_raise, after_clear}
-use Rattle.switch_table.specs.Carried.{after_carry, all_touched, meets_any, under}
+use Rattle.switch_table.specs.Carried.{after_carry, all_touched, meets_any_touched, under}
 use Rattle.switch_table.specs.declared.cache.CacheEntry.{CacheEntry}
 
 -- after any calls, a cache that began empty has distinct keys and no more entries than its capacity
@@ -24,7 +24,7 @@ pub record WasCarried (version : ℕ) (touched : List WordValue) (cache : CacheV
   pub old : CacheEntry
   pub there : Contains cache.entries old
   pub before : old.version + 1 ≡ version
-  pub apart : IsFalse (meets_any touched old.word)
+  pub apart : IsFalse (meets_any_touched touched old.word)
   pub is : entry ≡ under version old
 
 pub record CarryLaws : Type 0 where
@@ -32,7 +32,7 @@ pub record CarryLaws : Type 0 where
   -- version: the same entry or, if one of its word came before the change did, that one
   pub untouched : (version : ℕ) (touched : List WordValue) (cache : CacheValue)
       (entry : CacheEntry) → Contains cache.entries entry → entry.version + 1 ≡ version →
-      IsFalse (meets_any touched entry.word) →
+      IsFalse (meets_any_touched touched entry.word) →
       Any (λ kept. (kept.version ≡ version) × (kept.word ≡ entry.word))
       (after_carry version touched cache).entries
   -- each entry was there before, or was carried

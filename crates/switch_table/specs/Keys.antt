@@ -2,23 +2,23 @@
 use Rattle.std.specs.Prelude.{◌&&◌, ◌+◌, ◌-◌, ◌==◌, Bool, List, bit_and, map, not, ℕ}
 use Rattle.base.specs.Exports.{IsDistinct, keys_of, list_any}
 use Rattle.ternary.specs.Exports.{WordValue, word_eq}
-use Rattle.switch_table.specs.Carried.{meets_any}
+use Rattle.switch_table.specs.Carried.{meets_any_touched}
 use Rattle.switch_table.specs.declared.cache.CacheEntry.{CacheEntry}
 use Rattle.switch_table.specs.declared.key.CacheKey.{CacheKey}
-use Rattle.switch_table.specs.declared.key.Learnt.{Learnt}
+use Rattle.switch_table.specs.declared.key.LearntEntry.{LearntEntry}
 
 abbrev pub Pair : Type 0
-Pair = CacheKey × Learnt
+Pair = CacheKey × LearntEntry
 
 -- the key of an entry, if this much is added to its version
-abbrev pub key_of : ℕ → CacheEntry → CacheKey
-key_of shift entry = record { number = entry.version + shift; word = entry.word }
+abbrev pub cache_key_of : ℕ → CacheEntry → CacheKey
+cache_key_of shift entry = record { number = entry.version + shift; word = entry.word }
 
-abbrev pub learnt_of : CacheEntry → Learnt
-learnt_of entry = record { rule = entry.rule; action = entry.action; message = entry.message }
+abbrev pub cache_learnt_of : CacheEntry → LearntEntry
+cache_learnt_of entry = record { rule = entry.rule; action = entry.action; message = entry.message }
 
 abbrev pub pair_of : ℕ → CacheEntry → Pair
-pair_of shift entry = (key_of shift entry, learnt_of entry)
+pair_of shift entry = (cache_key_of shift entry, cache_learnt_of entry)
 
 -- the entry of a pair, if this much was added to its version
 abbrev pub kept_entry : ℕ → Pair → CacheEntry
@@ -40,21 +40,21 @@ equal_keys a b = (a.number == b.number) && word_eq a.word b.word
 abbrev pub HaveOwnKeys : List Pair → Type 0
 HaveOwnKeys pairs = IsDistinct equal_keys (keys_of pairs)
 
-abbrev pub has_key : CacheKey → List Pair → Bool
-has_key key pairs = list_any (λ pair. equal_keys key pair.0) pairs
+abbrev pub cache_has_key : CacheKey → List Pair → Bool
+cache_has_key key pairs = list_any (λ pair. equal_keys key pair.0) pairs
 
 -- the key of this number whose word has this one's mask and holds the header
-abbrev pub key_under : ℕ → ℕ → WordValue → CacheKey
-key_under number header mask = record {
+abbrev pub cache_key_under : ℕ → ℕ → WordValue → CacheKey
+cache_key_under number header mask = record {
   number = number;
   word = record { value = bit_and header mask.mask; mask = mask.mask };
 }
 
 -- the key is that of this number and header under one of these masks
-abbrev pub is_hit : ℕ → ℕ → List WordValue → CacheKey → Bool
-is_hit number header masks key =
-    list_any (λ mask. equal_keys (key_under number header mask) key) masks
+abbrev pub is_cache_hit : ℕ → ℕ → List WordValue → CacheKey → Bool
+is_cache_hit number header masks key =
+    list_any (λ mask. equal_keys (cache_key_under number header mask) key) masks
 
 -- the key has this number, and its word meets no touched word
 abbrev pub is_carried_key : ℕ → List WordValue → CacheKey → Bool
-is_carried_key number touched key = (key.number == number) && not (meets_any touched key.word)
+is_carried_key number touched key = (key.number == number) && not (meets_any_touched touched key.word)

@@ -5,12 +5,12 @@ use Rattle.std.specs.Prelude.{[], if◌then◌else◌, ◌<◌, ◌^◌, ◌≡�
 use Rattle.base.specs.Exports.{option_map_or}
 use Rattle.five_tuple.specs.Exports.{IsHeader, number_of}
 use Rattle.five_tuple.specs.declared.header.Header.{Header}
-use Rattle.policy_rules.specs.Exports.{AreSoundPartitions, LastCovers, hit_of_rule, is_held, is_in, scan}
+use Rattle.policy_rules.specs.Exports.{AreSoundPartitions, LastRuleCovers, hit_of_rule, is_held, is_in, scan}
 use Rattle.policy_rules.specs.declared.policy.Row.{Row}
 use Rattle.policy_rules.specs.declared.rules.Partition.{Partition}
 use Rattle.policy_rules.specs.declared.rules.Rule.{Rule}
 use Rattle.switch_table.specs.Cache.{first_entry}
-use Rattle.switch_table.specs.Tables.{AreSoundTables, DecidesAll, Hosted, has_target, part_of, row_has, tables_of}
+use Rattle.switch_table.specs.Tables.{AreSoundTables, PartitionDecidesAll, Hosted, has_target, part_of, part_row_has, tables_of}
 use Rattle.switch_table.specs.declared.cache.CacheEntry.{CacheEntry}
 use Rattle.switch_table.specs.declared.tables.PartRow.{PartRow}
 use Rattle.switch_table.specs.declared.tables.Tables.{Tables}
@@ -25,8 +25,8 @@ authority_of header part =
 -- the row that holds the header: its place, and its targets
 abbrev pub redirect_of : Header → List PartRow → Found
 redirect_of header rows =
-    Redirect (unwrap_or (position (row_has header) rows) 0)
-    (option_map_or (λ row. row.targets) (find (row_has header) rows) [])
+    Redirect (unwrap_or (position (part_row_has header) rows) 0)
+    (option_map_or (λ row. row.targets) (find (part_row_has header) rows) [])
 
 -- what the tables say about the header
 abbrev pub table_lookup : Tables → Header → Found
@@ -54,18 +54,18 @@ plan_lookup plan switch header =
     option_map (lookup_in switch header) (find (λ hosted. is_in header (part_of hosted)) plan)
 
 -- the rule at a place of the partition of a number
-abbrev pub rule_at : List Partition → ℕ → ℕ → Option Rule
-rule_at parts partition place =
+abbrev pub table_rule_at : List Partition → ℕ → ℕ → Option Rule
+table_rule_at parts partition place =
     option_and_then (λ part. slice_get part.rules place) (slice_get parts partition)
 
 -- an authority rule decides the header as the policy's first match does
 abbrev pub FindsFirstMatch : List Row → List Partition → Header → Found → Type 0
 FindsFirstMatch rows parts header (Authority partition place) =
-    option_map hit_of_rule (rule_at parts partition place) ≡ Some (scan rows header)
+    option_map hit_of_rule (table_rule_at parts partition place) ≡ Some (scan rows header)
 FindsFirstMatch rows parts header _ = ⊥
 
 -- there are targets, and the tables of each of them decide the header
-pub record AllDecide (rows : List Row) (plan : List Hosted) (version : ℕ) (header : Header)
+pub record AllTablesDecide (rows : List Row) (plan : List Hosted) (version : ℕ) (header : Header)
     (targets : List ℕ) : Type 0 where
   pub some : 0 < length targets
   pub each : All (λ switch. FindsFirstMatch rows (map part_of plan) header
@@ -74,15 +74,15 @@ pub record AllDecide (rows : List Row) (plan : List Hosted) (version : ℕ) (hea
 -- the tables decide the header, or send it to targets that all do
 abbrev pub LeadsToFirstMatch : List Row → List Hosted → ℕ → Header → Found → Type 0
 LeadsToFirstMatch rows plan version header (Redirect partition targets) =
-    AllDecide rows plan version header targets
+    AllTablesDecide rows plan version header targets
 LeadsToFirstMatch rows plan version header found = FindsFirstMatch rows (map part_of plan) header found
 
 pub record TablesLaws : Type 0 where
   -- the authority rules of sound tables decide each header of their regions
-  pub decided : (tables : Tables) → AreSoundTables tables → All DecidesAll tables.auth
+  pub decided : (tables : Tables) → AreSoundTables tables → All PartitionDecidesAll tables.auth
   -- tables of a plan of sound partitions, whose last rules cover their regions, are sound ..
   pub sound : (rows : List Row) (plan : List Hosted) (version switch : ℕ)
-      → AreSoundPartitions rows (map part_of plan) → All LastCovers (map part_of plan)
+      → AreSoundPartitions rows (map part_of plan) → All LastRuleCovers (map part_of plan)
       → length plan < 2 ^ 32 → All (λ hosted. length hosted.0.rules < 2 ^ 32) plan
       → AreSoundTables (tables_of plan version switch)
   -- .. and lead each header to the policy's first match, at each switch and at each target

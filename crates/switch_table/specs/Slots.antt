@@ -1,7 +1,7 @@
 -- Pairs of a cache among dead ones: the slots of a map.
 use Rattle.std.specs.Prelude.{[], if◌then◌else◌, ◌+◌, ◌-◌, ◌<◌, ◌^◌, ◌∷◌, ◌≡◌, ◌≤◌, ◌⊎◌, All, Bool, IsFalse, List, None, Option, Some, false, filter_map, length, map, suc, take, ℕ, ⊤}
 use Rattle.switch_table.specs.Keys.{Pair}
-use Rattle.switch_table.specs.Live.{AreCounts}
+use Rattle.switch_table.specs.Live.{AreLiveCounts}
 use Rattle.switch_table.specs.declared.key.CacheKey.{CacheKey}
 use Rattle.switch_table.specs.declared.key.Slot.{Slot}
 use Rattle.switch_table.specs.declared.live.LiveCounts.{LiveCounts}
@@ -19,12 +19,12 @@ live_pairs slots = filter_map live_pair slots
 abbrev pub is_live : SlotPair → Bool
 is_live slot = slot.1.is_live
 
-abbrev pub flags_of : List SlotPair → List Bool
-flags_of slots = map is_live slots
+abbrev pub live_flags_of : List SlotPair → List Bool
+live_flags_of slots = map is_live slots
 
 -- the slot after it is removed: dead
-abbrev pub killed : SlotPair → SlotPair
-killed slot = (slot.0, record slot.1 { is_live = false })
+abbrev pub killed_slot : SlotPair → SlotPair
+killed_slot slot = (slot.0, record slot.1 { is_live = false })
 
 -- the key is made of a version and a shift; that of a dead slot may be made of its place instead
 abbrev pub IsNamed : ℕ → SlotPair → Type 0
@@ -40,5 +40,5 @@ AreNamed place (slot ∷ slots) = IsNamed place slot × AreNamed (suc place) slo
 pub record AreSlots (live : LiveCounts) (first : ℕ) (slots : List SlotPair) : Type 0 where
   pub within : first ≤ length slots
   pub dead : All (λ slot. IsFalse (is_live slot)) (take first slots)
-  pub counted : AreCounts live (flags_of slots)
+  pub counted : AreLiveCounts live (live_flags_of slots)
   pub named : AreNamed 0 slots

@@ -3,10 +3,10 @@ ghost use Rattle.std.specs.List.{list_any};
 ghost use Rattle.switch_table.specs.Cache.{IsCache, after_accept, after_expire, after_raise, after_clear, first_entry, same_key};
 ghost use Rattle.switch_table.specs.CacheLaws.{CacheLaws, CarryLaws};
 ghost use Rattle.switch_table.specs.Carried.{after_carry, carried_entry};
-ghost use Rattle.switch_table.specs.Keys.{kept_entry, key_of, learnt_of, pair_of};
+ghost use Rattle.switch_table.specs.Keys.{kept_entry, cache_key_of, cache_learnt_of, pair_of};
 
 use crate::items::CacheItems;
-use crate::key::{CacheKey, Learnt};
+use crate::key::{CacheKey, LearntEntry};
 use crate::masks::Masks;
 use crate::slots::Slots;
 use crate::touched::Touched;
@@ -32,7 +32,7 @@ impl CacheEntry {
     /// The entry's key in a cache that adds this shift to versions.
     pub(crate) fn key(&self, shift: u64) -> CacheKey
         requires { shift ≤ 2 ^ 32 }
-        ensures key { result ≡ key_of shift self.now }
+        ensures key { result ≡ cache_key_of shift self.now }
         ensures fits { result.number < 2 ^ 33 }
     {
         CacheKey {
@@ -42,10 +42,10 @@ impl CacheEntry {
     }
 
     /// What it says besides its key.
-    pub(crate) fn learnt(&self) -> Learnt
-        ensures { result ≡ learnt_of self.now }
+    pub(crate) fn learnt(&self) -> LearntEntry
+        ensures { result ≡ cache_learnt_of self.now }
     {
-        Learnt {
+        LearntEntry {
             rule: self.rule,
             action: self.action,
             message: self.message,
@@ -53,7 +53,7 @@ impl CacheEntry {
     }
 
     /// The entry of this key in a cache that adds this shift to versions.
-    pub(crate) fn of(key: &CacheKey, learnt: &Learnt, shift: u64) -> CacheEntry
+    pub(crate) fn of(key: &CacheKey, learnt: &LearntEntry, shift: u64) -> CacheEntry
         requires { (shift ≤ key.now.number) × (key.now.number < shift + 2 ^ 32) }
         ensures { result ≡ kept_entry shift (key.now, learnt.now) }
     {
@@ -124,7 +124,7 @@ impl Cache {
     ///
     /// # Errors
     /// Only out of memory; then nothing changes.
-    #[tactic(auto, using(crate::proofs::PairLemmas::has_key_of_entry))]
+    #[tactic(auto, using(crate::proofs::CachePairs::has_key_of_entry))]
     pub fn accept(&mut self, stamp: u32, entry: CacheEntry) -> Result<(), AllocError>
         ensures ok { OnOk result (self.new ≡ after_accept stamp entry self.old) }
         ensures err { OnErr result (self.new ≡ self.old) }
@@ -144,7 +144,7 @@ impl Cache {
 
     /// Removes the entry at this place, from 0, and returns the number of its message; `None` if
     /// there is none.
-    #[tactic(auto, using(crate::proofs::PairLemmas::entries_removed))]
+    #[tactic(auto, using(crate::proofs::CachePairs::entries_removed))]
     pub fn expire(&mut self, k: u32) -> Option<u32>
         ensures message { result
             ≡ option_map (λ entry. entry.message) (slice_get self.old.entries k) }

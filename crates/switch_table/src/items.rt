@@ -1,10 +1,10 @@
 ghost use Rattle.std.specs.Prelude.{◌≡◌};
 ghost use Rattle.switch_table.specs.Keys.{kept_entries};
-ghost use Rattle.switch_table.specs.Pairs.{HaveVersions};
+ghost use Rattle.switch_table.specs.Pairs.{KeysHaveVersions};
 ghost use Rattle.switch_table.specs.Slots.{live_pairs};
 
 use crate::cache::CacheEntry;
-use crate::key::{CacheKey, Learnt, Slot};
+use crate::key::{CacheKey, LearntEntry, Slot};
 use indexmap::map::Iter;
 use std::marker::Model;
 
@@ -35,13 +35,13 @@ impl<'a> SlotItems<'a> {
 impl Iterator for SlotItems<'_> {
     ghost use Rattle.std.specs.Iterator.{YieldsFirst, item_count};
 
-    type Item = (CacheKey, Learnt);
+    type Item = (CacheKey, LearntEntry);
 
     ghost next_gives = { YieldsFirst (λ s. s) };
 
     ghost remaining = { item_count (λ s. s) };
 
-    fn next(&mut self) -> Option<(CacheKey, Learnt)> {
+    fn next(&mut self) -> Option<(CacheKey, LearntEntry)> {
         while let Some((key, slot)) = self.slots.next() {
             if slot.is_live {
                 return Some((*key, slot.learnt));
@@ -61,20 +61,20 @@ pub struct CacheItems<'a> {
 impl<'a> Model for CacheItems<'a> {
     ghost use Rattle.std.specs.Prelude.{List};
     ghost use Rattle.switch_table.specs.Keys.{kept_entries};
-    ghost use Rattle.switch_table.specs.Pairs.{HaveVersions};
+    ghost use Rattle.switch_table.specs.Pairs.{KeysHaveVersions};
     ghost use Rattle.switch_table.specs.declared.cache.CacheEntry.{CacheEntry};
 
     ghost Value = { List CacheEntry };
 
     ghost view = { λ i. kept_entries i.shift i.slots };
 
-    ghost invariant = { λ i. HaveVersions i.shift i.slots };
+    ghost invariant = { λ i. KeysHaveVersions i.shift i.slots };
 }
 
 impl<'a> CacheItems<'a> {
     /// The entries of these slots, whose keys have this shift added to the versions.
     pub(crate) fn new(slots: SlotItems<'a>, shift: u64) -> CacheItems<'a>
-        requires { HaveVersions shift slots }
+        requires { KeysHaveVersions shift slots }
         ensures { result ≡ kept_entries shift slots.entry }
     {
         CacheItems { slots, shift }

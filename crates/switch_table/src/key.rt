@@ -13,7 +13,7 @@ pub struct CacheKey {
 
 /// What a cache entry says besides its key.
 #[derive(Clone, Copy)]
-pub struct Learnt {
+pub struct LearntEntry {
     pub rule: Option<u32>,
     pub action: Action,
     pub message: u32,
@@ -22,6 +22,6 @@ pub struct Learnt {
 /// A slot of a map of entries: what was learnt, and whether the entry is still in the cache.
 #[derive(Clone, Copy)]
 pub struct Slot {
-    pub learnt: Learnt,
+    pub learnt: LearntEntry,
     pub is_live: bool,
 }

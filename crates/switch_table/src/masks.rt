@@ -62,7 +62,7 @@ impl Masks {
         let mut words = Vec::new(alloc);
         for entry in entries {
             note(&mut words, &entry.word)?;
-            if !are_few(words.len(), count) {
+            if !are_few_masks(words.len(), count) {
                 return Ok(Masks::unknown(alloc, count));
             }
         }
@@ -98,7 +98,7 @@ impl Masks {
             return Ok(());
         }
         note(&mut self.words, word)?;
-        if !are_few(self.words.len(), count) {
+        if !are_few_masks(self.words.len(), count) {
             self.are_known = false;
             self.wait = count.max(LEAST_WAIT);
         }
@@ -109,7 +109,7 @@ impl Masks {
     pub fn few(&self, count: usize) -> Option<&[Word]>
         ensures { IfSome result (λ words. self.now ≡ Some words.now) }
     {
-        if self.are_known && are_few(self.words.len(), count) {
+        if self.are_known && are_few_masks(self.words.len(), count) {
             Some(&self.words)
         } else {
             None
@@ -118,7 +118,7 @@ impl Masks {
 }
 
 // Whether one lookup for each mask is less work than a test of each entry, if there are this many.
-fn are_few(masks: usize, entries: usize) -> bool {
+fn are_few_masks(masks: usize, entries: usize) -> bool {
     masks <= MAX_FEW.min(entries / 64)
 }
 

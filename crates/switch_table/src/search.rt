@@ -1,7 +1,7 @@
 ghost use Rattle.std.specs.Prelude.{◌≡◌, ◌^◌, ◌<◌, length, find, position, count_by};
 ghost use Rattle.std.specs.Option.{option_copied};
 ghost use Rattle.ternary.specs.Word.{holds};
-ghost use Rattle.switch_table.specs.Tables.{AreSoundTables, row_has};
+ghost use Rattle.switch_table.specs.Tables.{AreSoundTables, part_row_has};
 ghost use Rattle.switch_table.specs.Lookup.{TablesLaws, authority_of, redirect_of, lookup_of};
 
 use crate::cache::{Cache, CacheEntry};
@@ -58,18 +58,18 @@ fn authority(part: &Partition, header: &Header) -> Found
 
 // Redirects to the targets of the row whose region holds the header.
 fn redirect(rows: &[PartRow], header: &Header) -> Found
-    requires one { count_by (row_has header.now) rows.now ≡ 1 }
+    requires one { count_by (part_row_has header.now) rows.now ≡ 1 }
     requires few { length rows.now < 2 ^ 32 }
     ensures { result ≡ redirect_of header.now rows.now }
 {
-    let place = row_place(rows, header.number()).unwrap();
+    let place = part_row_place(rows, header.number()).unwrap();
     Found::Redirect {
         partition: place as u32,
         targets: rows[place].targets,
     }
 }
 
-fn row_place(rows: &[PartRow], number: u128) -> Option<usize>
+fn part_row_place(rows: &[PartRow], number: u128) -> Option<usize>
     ensures { result ≡ position (λ row. holds row.region number) rows.now }
 {
     rows.iter().position(|row| row.region.holds(number))

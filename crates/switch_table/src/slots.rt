@@ -1,13 +1,13 @@
 ghost use Rattle.std.specs.Prelude.{ℕ, ◌≡◌, ◌<◌, ◌≤◌, ◌^◌, ◌++◌, ◌∷◌, ◌&&◌, [], false, List, None, Some, OnOk, OnErr, IsFalse, drop, length, find, filter, map, option_map, set, remove, nat_le, slice_get};
 ghost use Rattle.indexmap.specs.IndexMap.{IsUnique, get};
 ghost use Rattle.std.specs.List.{position_or_len};
-ghost use Rattle.switch_table.specs.Keys.{HaveOwnKeys, equal_keys, has_key, is_hit, is_carried_key, key_under};
+ghost use Rattle.switch_table.specs.Keys.{HaveOwnKeys, equal_keys, cache_has_key, is_cache_hit, is_carried_key, cache_key_under};
 ghost use Rattle.switch_table.specs.declared.live.LiveCounts.{LiveCounts};
-ghost use Rattle.switch_table.specs.Live.{AreCounts, IsNthSet, count_set};
-ghost use Rattle.switch_table.specs.Slots.{AreNamed, AreSlots, SlotPair, flags_of, is_live, killed, live_pairs};
+ghost use Rattle.switch_table.specs.Live.{AreLiveCounts, IsNthSet, live_count_set};
+ghost use Rattle.switch_table.specs.Slots.{AreNamed, AreSlots, SlotPair, live_flags_of, is_live, killed_slot, live_pairs};
 
 use crate::items::SlotItems;
-use crate::key::{CacheKey, Learnt, Slot};
+use crate::key::{CacheKey, LearntEntry, Slot};
 use crate::live::{BLOCK, LiveCounts};
 use crate::touched::Touched;
 use indexmap::IndexMap;
@@ -72,7 +72,7 @@ impl Slots {
 
     /// Whether a live slot has this key.
     pub fn contains(&self, key: &CacheKey) -> bool
-        ensures { result ≡ has_key key.now self.now }
+        ensures { result ≡ cache_has_key key.now self.now }
     {
         match self.map.get_index_of(key) {
             Some(place) => self.map[place].is_live,
@@ -84,14 +84,14 @@ impl Slots {
     ///
     /// # Errors
     /// Only out of memory; then nothing changes.
-    pub fn push(&mut self, key: CacheKey, learnt: Learnt) -> Result<(), AllocError>
+    pub fn push(&mut self, key: CacheKey, learnt: LearntEntry) -> Result<(), AllocError>
         requires fits { key.number < 2 ^ 33 }
-        requires absent { IsFalse (has_key key self.old) }
+        requires absent { IsFalse (cache_has_key key self.old) }
         ensures ok { OnOk result (self.new ≡ self.old ++ (key, learnt) ∷ []) }
         ensures err { OnErr result (self.new ≡ self.old) }
     {
         let place = self.map.len();
-        release_key(&mut self.map, &key)?;
+        release_slot_key(&mut self.map, &key)?;
         self.live.make_room(place + 1)?;
         let slot = Slot {
             learnt,
@@ -103,14 +103,14 @@ impl Slots {
     }
 
     /// Removes the pair at this place and returns it; `None` if there is none.
-    pub fn remove(&mut self, place: usize) -> Option<(CacheKey, Learnt)>
+    pub fn remove(&mut self, place: usize) -> Option<(CacheKey, LearntEntry)>
         ensures pair { result ≡ slice_get self.old place }
         ensures rest { self.new ≡ remove self.old place }
     {
         if place >= self.len() {
             return None;
         }
-        let at = place_of_live(&self.map, &self.live, self.first, place);
+        let at = place_of_live_slot(&self.map, &self.live, self.first, place);
         let pair = pair_at(&self.map, at);
         kill(&mut self.map, at);
         self.live.take(at);
@@ -119,7 +119,7 @@ impl Slots {
         }
         if self.map.len() - self.live.all() > self.live.all() + MAX_DEAD {
             self.first = 0;
-            sweep(&mut self.map, &mut self.live);
+            sweep_dead_slots(&mut self.map, &mut self.live);
         }
         pair
     }
@@ -154,12 +154,17 @@ impl Slots {
     }
 
     /// The first pair whose key has this number and, under one of the masks, the header's bits.
-    pub fn first_hit(&self, number: u64, header: u128, masks: &[Word]) -> Option<(CacheKey, Learnt)>
-        ensures { result ≡ find (λ pair. is_hit number header masks.now pair.0) self.now }
+    pub fn first_hit(
+        &self,
+        number: u64,
+        header: u128,
+        masks: &[Word],
+    ) -> Option<(CacheKey, LearntEntry)>
+        ensures { result ≡ find (λ pair. is_cache_hit number header masks.now pair.0) self.now }
     {
         let mut least = self.map.len();
         for mask in masks {
-            least = least.min(place_under(&self.map, number, header, mask));
+            least = least.min(slot_place_under(&self.map, number, header, mask));
         }
         pair_at(&self.map, least)
     }
@@ -176,7 +181,7 @@ fn from_first(map: &IndexMap<CacheKey, Slot>, first: usize) -> Slice<'_, CacheKe
 }
 
 // The key of the slot at this place, and what is in it.
-fn pair_at(map: &IndexMap<CacheKey, Slot>, place: usize) -> Option<(CacheKey, Learnt)>
+fn pair_at(map: &IndexMap<CacheKey, Slot>, place: usize) -> Option<(CacheKey, LearntEntry)>
     ensures { result ≡ option_map (λ slot. (slot.0, slot.1.learnt))
         (slice_get map.now.entries place) }
 {
@@ -186,8 +191,8 @@ fn pair_at(map: &IndexMap<CacheKey, Slot>, place: usize) -> Option<(CacheKey, Le
 
 // The place of the live slot whose key has this number and the bits of the header under this mask,
 // or the number of slots.
-fn place_under(map: &IndexMap<CacheKey, Slot>, number: u64, header: u128, mask: &Word) -> usize
-    ensures { result ≡ position_or_len (λ slot. equal_keys (key_under number header mask.now) slot.0
+fn slot_place_under(map: &IndexMap<CacheKey, Slot>, number: u64, header: u128, mask: &Word) -> usize
+    ensures { result ≡ position_or_len (λ slot. equal_keys (cache_key_under number header mask.now) slot.0
         && is_live slot) map.now.entries }
 {
     let bits = mask.mask();
@@ -200,15 +205,15 @@ fn place_under(map: &IndexMap<CacheKey, Slot>, number: u64, header: u128, mask: 
 }
 
 // The place of the live slot with this many live ones before it. All slots before `first` are dead.
-fn place_of_live(
+fn place_of_live_slot(
     map: &IndexMap<CacheKey, Slot>,
     live: &LiveCounts,
     first: usize,
     before: usize,
 ) -> usize
     requires slots { AreSlots live.now first map.now.entries }
-    requires some { before < count_set (flags_of map.now.entries) }
-    ensures { IsNthSet before result (flags_of map.now.entries) }
+    requires some { before < live_count_set (live_flags_of map.now.entries) }
+    ensures { IsNthSet before result (live_flags_of map.now.entries) }
 {
     let slots = map.as_slice();
     let (start, left) = if before == 0 {
@@ -218,14 +223,14 @@ fn place_of_live(
         (block * BLOCK, left)
     };
     let (_, rest) = slots.split_at(start);
-    start + nth_live(rest.values().as_slice(), left)
+    start + nth_live_slot(rest.values().as_slice(), left)
 }
 
 // The same in a list of slots; the length of the list if there is none.
-fn nth_live(slots: &[Slot], before: usize) -> usize
+fn nth_live_slot(slots: &[Slot], before: usize) -> usize
     ensures within { result ≤ length slots.now }
     ensures found { let flags = map (λ slot. slot.is_live) slots.now in
-        before < count_set flags → IsNthSet before result flags }
+        before < live_count_set flags → IsNthSet before result flags }
 {
     let mut left = before;
     for (place, slot) in slots.iter().enumerate() {
@@ -242,7 +247,7 @@ fn nth_live(slots: &[Slot], before: usize) -> usize
 // Makes the slot at this place dead.
 fn kill(map: &mut IndexMap<CacheKey, Slot>, place: usize)
     ensures { (slot : SlotPair) → slice_get map.old.entries place ≡ Some slot →
-        map.new.entries ≡ set map.old.entries place (killed slot) }
+        map.new.entries ≡ set map.old.entries place (killed_slot slot) }
 {
     if let Some(slot) = map.get_index_mut(place) {
         slot.is_live = false;
@@ -250,32 +255,32 @@ fn kill(map: &mut IndexMap<CacheKey, Slot>, place: usize)
 }
 
 // Makes sure that no slot has this key, which no live one has.
-fn release_key(map: &mut IndexMap<CacheKey, Slot>, key: &CacheKey) -> Result<(), AllocError>
+fn release_slot_key(map: &mut IndexMap<CacheKey, Slot>, key: &CacheKey) -> Result<(), AllocError>
     requires named { AreNamed 0 map.old.entries }
     requires few { length map.old.entries < 2 ^ 63 }
     requires fits { key.now.number < 2 ^ 33 }
-    requires absent { IsFalse (has_key key.now (live_pairs map.old.entries)) }
+    requires absent { IsFalse (cache_has_key key.now (live_pairs map.old.entries)) }
     ensures slots { (live : LiveCounts) (first : ℕ) → AreSlots live first map.old.entries →
         AreSlots live first map.new.entries }
     ensures pairs { live_pairs map.new.entries ≡ live_pairs map.old.entries }
-    ensures flags { flags_of map.new.entries ≡ flags_of map.old.entries }
+    ensures flags { live_flags_of map.new.entries ≡ live_flags_of map.old.entries }
     ensures gone { OnOk result (get equal_keys map.new key.now ≡ None) }
 {
     let Some(dead) = map.get_index_of(key) else {
         return Ok(());
     };
-    vacate(map, dead)
+    vacate_slot(map, dead)
 }
 
 // Gives the dead slot at this place a key made of the place, which no version and shift make.
-fn vacate(map: &mut IndexMap<CacheKey, Slot>, place: usize) -> Result<(), AllocError>
-    requires dead { slice_get (flags_of map.old.entries) place ≡ Some false }
+fn vacate_slot(map: &mut IndexMap<CacheKey, Slot>, place: usize) -> Result<(), AllocError>
+    requires dead { slice_get (live_flags_of map.old.entries) place ≡ Some false }
     requires named { AreNamed 0 map.old.entries }
     requires few { length map.old.entries < 2 ^ 63 }
     requires old { (pair : SlotPair) → slice_get map.old.entries place ≡ Some pair →
         pair.0.number < 2 ^ 33 }
     ensures pairs { live_pairs map.new.entries ≡ live_pairs map.old.entries }
-    ensures flags { flags_of map.new.entries ≡ flags_of map.old.entries }
+    ensures flags { live_flags_of map.new.entries ≡ live_flags_of map.old.entries }
     ensures named { AreNamed 0 map.new.entries }
     ensures gone { OnOk result ((pair : SlotPair) →
         slice_get map.old.entries place ≡ Some pair → get equal_keys map.new pair.0 ≡ None) }
@@ -291,10 +296,10 @@ fn vacate(map: &mut IndexMap<CacheKey, Slot>, place: usize) -> Result<(), AllocE
 }
 
 // Removes the dead slots.
-fn sweep(map: &mut IndexMap<CacheKey, Slot>, live: &mut LiveCounts)
-    requires { AreCounts live.old (flags_of map.old.entries) }
+fn sweep_dead_slots(map: &mut IndexMap<CacheKey, Slot>, live: &mut LiveCounts)
+    requires { AreLiveCounts live.old (live_flags_of map.old.entries) }
     ensures slots { map.new.entries ≡ filter is_live map.old.entries }
-    ensures counts { AreCounts live.new (flags_of map.new.entries) }
+    ensures counts { AreLiveCounts live.new (live_flags_of map.new.entries) }
 {
     map.retain(|_, slot| slot.is_live);
     live.fill(map.len());

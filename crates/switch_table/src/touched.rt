@@ -1,5 +1,5 @@
 ghost use Rattle.std.specs.Prelude.{◌≡◌, ◌≤◌, ◌<◌, ◌↔◌, length, vec_len, IfSome, IsNone};
-ghost use Rattle.switch_table.specs.Carried.{all_touched, meets_any};
+ghost use Rattle.switch_table.specs.Carried.{all_touched, meets_any_touched};
 
 use std::alloc::AllocError;
 use std::marker::Model;
@@ -25,13 +25,13 @@ enum Listed {
 impl Model for Touched {
     ghost use Rattle.std.specs.Prelude.{◌≤◌, List, length};
     ghost use Rattle.ternary.specs.Word.{WordValue};
-    ghost use Rattle.switch_table.specs.Listed.{listed_words};
+    ghost use Rattle.switch_table.specs.Listed.{touched_list_words};
 
     ghost Value = { List WordValue };
 
-    ghost view = { λ t. listed_words t.listed };
+    ghost view = { λ t. touched_list_words t.listed };
 
-    ghost invariant = { λ t. length (listed_words t.listed) ≤ 16 };
+    ghost invariant = { λ t. length (touched_list_words t.listed) ≤ 16 };
 }
 
 impl Touched {
@@ -70,7 +70,7 @@ impl Touched {
 
     /// Whether the word meets one of these.
     pub fn meets(&self, word: &Word) -> bool
-        ensures { result ≡ meets_any self.now word.now }
+        ensures { result ≡ meets_any_touched self.now word.now }
     {
         self.words().iter().any(|one| word.meets(one))
     }

@@ -1,1 +1,1 @@
-pub mod TestTables
+pub mod SwitchTestTables

@@ -1,5 +1,5 @@
-pub mod TreeBitMasks
-pub mod LookupLemmas
-pub mod NodeLemmas
-pub mod FinderLemmas
-pub mod RuleTreeLemmas
+pub mod TableTreeMasks
+pub mod TableTreeLookup
+pub mod TableTreeNodes
+pub mod TableTreeFinder
+pub mod TableTreeRules

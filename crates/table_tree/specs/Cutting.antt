@@ -5,7 +5,7 @@ use Rattle.ternary.specs.Exports.{WordValue}
 use Rattle.cut_tree.specs.Exports.{IsFreeBit}
 
 -- of the bits of n, k is the lowest
-pub record IsLowest (n k : ℕ) : Type 0 where
+pub record IsLowestBit (n k : ℕ) : Type 0 where
   pub set : bit_at n k ≡ 1
   pub below : (j : ℕ) → j < k → bit_at n j ≡ 0
 
@@ -16,5 +16,5 @@ pub record IsLeastFree (region : WordValue) (passes : ℕ → Bool) (bit : ℕ) 
   pub least : (other : ℕ) → IsFreeBit region other → IsTrue (passes other) → bit ≤ other
 
 -- none of the region's free bits passes
-abbrev pub NoneFree : WordValue → (ℕ → Bool) → Type 0
-NoneFree region passes = (bit : ℕ) → IsFreeBit region bit → IsFalse (passes bit)
+abbrev pub NoneFixesFreeBit : WordValue → (ℕ → Bool) → Type 0
+NoneFixesFreeBit region passes = (bit : ℕ) → IsFreeBit region bit → IsFalse (passes bit)

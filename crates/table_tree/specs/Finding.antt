@@ -7,8 +7,8 @@ use Rattle.switch_table.specs.Exports.{AreSoundTables}
 use Rattle.switch_table.specs.declared.tables.PartRow.{PartRow}
 use Rattle.switch_table.specs.declared.tables.Tables.{Tables}
 use Rattle.policy_rules.specs.declared.rules.Partition.{Partition}
-use Rattle.table_tree.specs.Cutting.{NoneFree}
-use Rattle.table_tree.specs.Regions.{AreRegions, IsCutBit, candidates_of_side, some_fix, candidates_of}
+use Rattle.table_tree.specs.Cutting.{NoneFixesFreeBit}
+use Rattle.table_tree.specs.Regions.{AreTreeRegions, IsCutBit, candidates_of_side, some_region_fixes, candidates_of}
 use Rattle.table_tree.specs.Ruling.{part_tree, seen_tree}
 use Rattle.table_tree.specs.LookupTrees.{LookupTree, Leaf, Sides, lookup_tree_of}
 use Rattle.table_tree.specs.declared.rule_tree.RuleTree.{RuleTree}
@@ -21,13 +21,13 @@ abbrev pub candidate_shape_of : BitTree ℕ → LookupTree ℕ
 candidate_shape_of tree = lookup_tree_of (λ place. place) tree
 
 -- one region is left, and this is its place
-pub record IsEnd (candidates : List Candidate) (place : ℕ) : Type 0 where
+pub record IsTreeEnd (candidates : List Candidate) (place : ℕ) : Type 0 where
   pub one : length candidates ≡ 1
   pub there : All (λ candidate. candidate.place ≡ place) candidates
 
 -- the tree of these regions within a region: more than one are separated at their cut bit
 abbrev pub IsCandidateTreeOf : List Candidate → WordValue → LookupTree ℕ → Type 0
-IsCandidateTreeOf candidates region (Leaf place) = IsEnd candidates place
+IsCandidateTreeOf candidates region (Leaf place) = IsTreeEnd candidates place
 IsCandidateTreeOf candidates region (Sides bit low high) =
     (1 < length candidates) × IsCutBit candidates region bit
     × IsCandidateTreeOf (candidates_of_side candidates region bit false) (fix_of region bit false)
@@ -36,13 +36,13 @@ IsCandidateTreeOf candidates region (Sides bit low high) =
     high
 
 -- none or several regions are left, and none of them fixes a free bit
-pub record IsStuck (candidates : List Candidate) (region : WordValue) : Type 0 where
+pub record IsTreeStuck (candidates : List Candidate) (region : WordValue) : Type 0 where
   pub not_one : length candidates ≢ 1
-  pub none : NoneFree region (some_fix candidates)
+  pub none : NoneFixesFreeBit region (some_region_fixes candidates)
 
 -- a tree that is built in the same way from regions of any kind, some of which can't be separated
 abbrev pub IsGrownShape : List Candidate → WordValue → LookupTree ℕ → Type 0
-IsGrownShape candidates region (Leaf place) = IsEnd candidates place ⊎ IsStuck candidates region
+IsGrownShape candidates region (Leaf place) = IsTreeEnd candidates place ⊎ IsTreeStuck candidates region
 IsGrownShape candidates region (Sides bit low high) =
     (length candidates ≢ 1) × IsCutBit candidates region bit
     × IsGrownShape (candidates_of_side candidates region bit false) (fix_of region bit false) low
@@ -54,7 +54,7 @@ IsFinderTree rows tree = IsCandidateTreeOf (candidates_of rows) any_word tree
 
 -- the trees that are built from these partition rules and authority partitions
 pub record AreTreesOf (rows : List PartRow) (parts : List Partition) (trees : Trees) : Type 0 where
-  pub words : AreRegions (candidates_of rows)
+  pub words : AreTreeRegions (candidates_of rows)
   pub tree : IsGrownShape (candidates_of rows) any_word (candidate_shape_of trees.tree)
   pub rules : map seen_tree trees.rule_trees.items ≡ map part_tree parts
 

@@ -3,7 +3,7 @@ use Rattle.std.specs.Prelude.{[], ◌+◌, ◌<◌, ◌^◌, ◌∷◌, ◌≤�
 use Rattle.std.specs.List.{list_all, list_any}
 use Rattle.ternary.specs.Exports.{IsWord, WordValue, fix_of, holds, is_fixed_of, meets}
 use Rattle.switch_table.specs.declared.tables.PartRow.{PartRow}
-use Rattle.table_tree.specs.Cutting.{IsLeastFree, NoneFree}
+use Rattle.table_tree.specs.Cutting.{IsLeastFree, NoneFixesFreeBit}
 use Rattle.table_tree.specs.declared.node.Candidate.{Candidate}
 
 -- the regions of the rows, with places from this one on
@@ -29,29 +29,29 @@ candidates_of_side candidates region bit one = filter (candidate_meets (fix_of r
     candidates
 
 -- every one of the regions fixes the bit
-abbrev pub all_fix : List Candidate → ℕ → Bool
-all_fix candidates bit = list_all (λ candidate. is_fixed_of candidate.region bit) candidates
+abbrev pub all_regions_fix : List Candidate → ℕ → Bool
+all_regions_fix candidates bit = list_all (λ candidate. is_fixed_of candidate.region bit) candidates
 
 -- some region fixes the bit
-abbrev pub some_fix : List Candidate → ℕ → Bool
-some_fix candidates bit = list_any (λ candidate. is_fixed_of candidate.region bit) candidates
+abbrev pub some_region_fixes : List Candidate → ℕ → Bool
+some_region_fixes candidates bit = list_any (λ candidate. is_fixed_of candidate.region bit) candidates
 
 -- of the bits that are free in the region, the least one that every one of the candidates fixes,
 -- or, if there is none, the least one that some candidate fixes
 abbrev pub IsCutBit : List Candidate → WordValue → ℕ → Type 0
 IsCutBit candidates region bit =
-    IsLeastFree region (all_fix candidates) bit
-    ⊎ (NoneFree region (all_fix candidates) × IsLeastFree region (some_fix candidates) bit)
+    IsLeastFree region (all_regions_fix candidates) bit
+    ⊎ (NoneFixesFreeBit region (all_regions_fix candidates) × IsLeastFree region (some_region_fixes candidates) bit)
 
 -- the regions of the candidates are words
-abbrev pub AreRegions : List Candidate → Type 0
-AreRegions candidates = All (λ candidate. IsWord candidate.region) candidates
+abbrev pub AreTreeRegions : List Candidate → Type 0
+AreTreeRegions candidates = All (λ candidate. IsWord candidate.region) candidates
 
 -- what is true of the regions that meet a region of the header space: no header is in two of them,
 -- and each header of that region is in one
 pub record AreNodeCandidates (candidates : List Candidate) (region : WordValue) : Type 0 where
   pub whole : IsWord region
-  pub words : AreRegions candidates
+  pub words : AreTreeRegions candidates
   pub meet : All (λ candidate. IsTrue (candidate_meets region candidate)) candidates
   pub one : (number : ℕ) → number < 2 ^ 104 → count_by (has_number number) candidates ≤ 1
   pub held : (number : ℕ) → number < 2 ^ 104 → IsTrue (holds region number)

@@ -6,7 +6,7 @@ use Rattle.std.specs.Option.{option_map_or}
 use Rattle.ternary.specs.Exports.{WordValue, fix_of, holds}
 use Rattle.policy_rules.specs.declared.rules.Partition.{Partition}
 use Rattle.policy_rules.specs.declared.rules.Rule.{Rule}
-use Rattle.cut_tree.specs.Exports.{least_below, narrow, side_of}
+use Rattle.cut_tree.specs.Exports.{least_below, narrow, side_of_cut}
 use Rattle.cut_tree.specs.declared.choice.Cost.{Cost}
 use Rattle.std.specs.Global.{Global}
 use Rattle.table_tree.specs.LookupTrees.{LookupTree, Leaf, Sides, lookup_tree_of}
@@ -35,14 +35,14 @@ abbrev pub is_worth_cutting : ℕ → Cost → Bool
 is_worth_cutting count cost = nat_lt 16 count && nat_lt cost.larger count
     && nat_le (4 * cost.sum) (5 * count)
 
-abbrev pub if_pays : ℕ → Option Cost → Option Cost
-if_pays count None = None
-if_pays count (Some cost) = if is_worth_cutting count cost then Some cost else None
+abbrev pub if_cut_pays : ℕ → Option Cost → Option Cost
+if_cut_pays count None = None
+if_cut_pays count (Some cost) = if is_worth_cutting count cost then Some cost else None
 
 -- with this many cuts left, the cut of the node that costs least, if it pays
 abbrev pub paying_cut : ℕ → List Rule → WordValue → Option Cost
 paying_cut zero rules region = None
-paying_cut (suc cuts) rules region = if_pays (length rules) (least_below 104 rules region)
+paying_cut (suc cuts) rules region = if_cut_pays (length rules) (least_below 104 rules region)
 
 -- the places of these rules, if there is no cut; otherwise both sides, built by this function
 abbrev pub tree_by_cut : (List Rule → WordValue → LookupTree (List ℕ)) → List Rule → WordValue
@@ -50,8 +50,8 @@ abbrev pub tree_by_cut : (List Rule → WordValue → LookupTree (List ℕ)) →
 tree_by_cut grow rules region None = Leaf (map (λ (rule : Rule). rule.rank) rules)
 tree_by_cut grow rules region (Some cost) =
     Sides cost.bit
-    (grow (side_of rules region cost.bit false) (fix_of region cost.bit false))
-    (grow (side_of rules region cost.bit true) (fix_of region cost.bit true))
+    (grow (side_of_cut rules region cost.bit false) (fix_of region cost.bit false))
+    (grow (side_of_cut rules region cost.bit true) (fix_of region cost.bit true))
 
 -- the tree of the rules of a region, with at most this many cuts on a path
 unfoldable pub rule_tree_within : ℕ → List Rule → WordValue → LookupTree (List ℕ)

@@ -111,7 +111,7 @@ impl Finder {
     {
         // For the proof: the contract of `number` says that it is a header.
         let _ = header.number();
-        match own_place(self.tables.auth.items(), partition) {
+        match own_part_place(self.tables.auth.items(), partition) {
             Some(own) => self.first_at(own, header),
             None => None,
         }
@@ -135,7 +135,7 @@ impl Finder {
         ensures { result ≡ table_lookup self.now.tables header.now }
     {
         let place = *self.trees.tree.end_of(header.number());
-        match own_place(self.tables.auth.items(), place) {
+        match own_part_place(self.tables.auth.items(), place) {
             Some(own) => Found::Authority {
                 partition: place,
                 rule: self.first_at(own, header).unwrap_or(0) as u32,
@@ -149,7 +149,7 @@ impl Finder {
 }
 
 // The place of the partition of this number; `None` if there is none.
-fn own_place(parts: &[Partition], number: u32) -> Option<usize>
+fn own_part_place(parts: &[Partition], number: u32) -> Option<usize>
     ensures { result ≡ position (λ part. part.number == number) parts.now }
 {
     parts.iter().position(|part| part.number == number)

@@ -1,7 +1,7 @@
 ghost use Rattle.std.specs.Prelude.{◌≡◌, ◌^◌, ◌<◌, IfOk, filter, length};
 ghost use Rattle.ternary.specs.Meets.{any_word, fix_of, meets};
 ghost use Rattle.cut_tree.specs.Cuts.{IsFreeBit};
-ghost use Rattle.table_tree.specs.Regions.{AreRegions, candidate_meets, candidates_of_side, candidates_of};
+ghost use Rattle.table_tree.specs.Regions.{AreTreeRegions, candidate_meets, candidates_of_side, candidates_of};
 
 use std::alloc::{AllocError, Global};
 use switch_table::PartRow;
@@ -30,7 +30,7 @@ impl PartNode {
         requires { length rows.now < 2 ^ 32 }
         ensures candidates { IfOk result (λ node. node.candidates.items ≡ candidates_of rows.now) }
         ensures region { IfOk result (λ node. node.region ≡ any_word) }
-        ensures words { IfOk result (λ node. AreRegions node.candidates.items) }
+        ensures words { IfOk result (λ node. AreTreeRegions node.candidates.items) }
     {
         let candidates = numbered(alloc, rows)?;
         Ok(PartNode {
@@ -60,7 +60,7 @@ impl PartNode {
 fn numbered(alloc: Global, rows: &[PartRow]) -> Result<Vec<Candidate>, AllocError>
     requires { length rows.now < 2 ^ 32 }
     ensures candidates { IfOk result (λ candidates. candidates.items ≡ candidates_of rows.now) }
-    ensures words { IfOk result (λ candidates. AreRegions candidates.items) }
+    ensures words { IfOk result (λ candidates. AreTreeRegions candidates.items) }
 {
     let mut candidates = Vec::with_capacity(alloc, rows.len())?;
     for row in rows {
@@ -76,7 +76,7 @@ fn numbered(alloc: Global, rows: &[PartRow]) -> Result<Vec<Candidate>, AllocErro
 }
 
 // The candidates whose regions meet this one.
-#[tactic(auto, using(crate::proofs::NodeLemmas::kept_same))]
+#[tactic(auto, using(crate::proofs::TableTreeNodes::kept_same))]
 fn meeting(
     alloc: Global,
     candidates: &[Candidate],

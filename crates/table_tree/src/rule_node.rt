@@ -20,7 +20,7 @@ pub fn grow(alloc: Global, node: Node, cuts: u32) -> Result<BitTree<Vec<u32>>, A
         rule_shape tree ≡ rule_tree_within cuts node.rules.items node.region) }
 {
     let Some(cost) = paying_cut(&node, cuts) else {
-        let places = places_of(alloc, &node.rules)?;
+        let places = rule_places_of(alloc, &node.rules)?;
         return Ok(BitTree::End(places));
     };
     let low = node.half(alloc, cost.bit, false)?;
@@ -37,7 +37,7 @@ pub fn grow(alloc: Global, node: Node, cuts: u32) -> Result<BitTree<Vec<u32>>, A
 }
 
 // The least cut of the node, if any cuts are left and this one pays.
-#[tactic(auto, using(crate::proofs::RuleTreeLemmas::none_left, crate::proofs::RuleTreeLemmas::few_stay, crate::proofs::RuleTreeLemmas::large_stays, crate::proofs::RuleTreeLemmas::spread_stays, crate::proofs::RuleTreeLemmas::cut_pays))]
+#[tactic(auto, using(crate::proofs::TableTreeRules::none_left, crate::proofs::TableTreeRules::few_stay, crate::proofs::TableTreeRules::large_stays, crate::proofs::TableTreeRules::spread_stays, crate::proofs::TableTreeRules::cut_pays))]
 fn paying_cut(node: &Node, cuts: u32) -> Option<Cost>
     ensures cut { result ≡ paying_cut cuts node.now.rules.items node.now.region }
     ensures free { IfSome result (λ cost. IsFreeBit node.now.region cost.bit) }
@@ -61,7 +61,7 @@ fn paying_cut(node: &Node, cuts: u32) -> Option<Cost>
 }
 
 // The places that the rules have as their ranks.
-fn places_of(alloc: Global, rules: &[Rule]) -> Result<Vec<u32>, AllocError>
+fn rule_places_of(alloc: Global, rules: &[Rule]) -> Result<Vec<u32>, AllocError>
     ensures { IfOk result (λ places. places.items ≡ map (λ (rule : Rule). rule.rank) rules.now) }
 {
     let mut places = Vec::with_capacity(alloc, rules.len())?;

@@ -3,7 +3,7 @@ ghost use Rattle.std.specs.Option.{option_copied};
 ghost use Rattle.five_tuple.specs.Header.{number_of};
 ghost use Rattle.ternary.specs.Word.{holds};
 ghost use Rattle.policy_rules.specs.Rules.{is_held};
-ghost use Rattle.cut_tree.specs.Nodes.{AreWords};
+ghost use Rattle.cut_tree.specs.Nodes.{AreRuleWords};
 ghost use Rattle.table_tree.specs.Ruling.{is_held_at, ranked_by_place, rule_shape, rule_tree};
 
 use crate::bit_tree::BitTree;
@@ -70,11 +70,13 @@ impl RuleTree {
 fn first_of<'a>(places: &'a [u32], rules: &[Rule], number: u128) -> Option<&'a u32>
     ensures { option_copied result ≡ find (is_held_at rules.now number) places.now }
 {
-    places.iter().find(|place| holds_at(rules, **place, number))
+    places
+        .iter()
+        .find(|place| rule_holds_at(rules, **place, number))
 }
 
 // Whether there is a rule at the place that holds the number.
-fn holds_at(rules: &[Rule], place: u32, number: u128) -> bool
+fn rule_holds_at(rules: &[Rule], place: u32, number: u128) -> bool
     ensures { result ≡ is_held_at rules.now number place }
 {
     match rules.get(place as usize) {
@@ -87,7 +89,7 @@ fn holds_at(rules: &[Rule], place: u32, number: u128) -> bool
 fn ranked(alloc: Global, rules: &[Rule]) -> Result<Vec<Rule>, AllocError>
     requires { length rules.now < 2 ^ 32 }
     ensures rules { IfOk result (λ ranked. ranked.items ≡ ranked_by_place 0 rules.now) }
-    ensures words { IfOk result (λ ranked. AreWords ranked.items) }
+    ensures words { IfOk result (λ ranked. AreRuleWords ranked.items) }
 {
     let mut ranked = Vec::with_capacity(alloc, rules.len())?;
     for rule in rules {

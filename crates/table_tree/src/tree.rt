@@ -2,7 +2,7 @@ ghost use Rattle.std.specs.Prelude.{IfOk};
 ghost use Rattle.table_tree.specs.Finding.{IsGrownShape, candidate_shape_of};
 
 use crate::bit_tree::{BitTree, HeaderBit};
-use crate::bits::cut_bit;
+use crate::bits::tree_cut_bit;
 use crate::node::PartNode;
 use std::alloc::{AllocError, Global};
 
@@ -11,7 +11,7 @@ use std::alloc::{AllocError, Global};
 ///
 /// # Errors
 /// Only out of memory.
-#[tactic(auto, using(crate::proofs::NodeLemmas::half_smaller, crate::proofs::FinderLemmas::end_is))]
+#[tactic(auto, using(crate::proofs::TableTreeNodes::half_smaller, crate::proofs::TableTreeFinder::end_is))]
 pub fn grow(alloc: Global, node: PartNode) -> Result<BitTree<u32>, AllocError>
     ensures { IfOk result (λ tree. IsGrownShape node.candidates.items node.region
         (candidate_shape_of tree)) }
@@ -20,7 +20,7 @@ pub fn grow(alloc: Global, node: PartNode) -> Result<BitTree<u32>, AllocError>
         let place = node.candidates[0].place;
         return Ok(BitTree::End(place));
     }
-    let Some(bit) = cut_bit(&node.candidates, &node.region) else {
+    let Some(bit) = tree_cut_bit(&node.candidates, &node.region) else {
         return Ok(BitTree::End(0));
     };
     let low = node.half(alloc, bit, false)?;

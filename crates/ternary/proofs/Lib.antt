@@ -1,6 +1,6 @@
-mod BitLemmas
-mod WordLemmas
-mod FreedBits
-mod FreeBits
-mod HexDigits
+mod TernaryBits
+mod TernaryWords
+mod TernaryFreedBits
+mod TernaryFreeBits
+mod TernaryHexDigits
 pub mod CallerLemmas

@@ -4,7 +4,7 @@ use Rattle.std.specs.Int.{bit_at, from_bool}
 use Rattle.std.specs.List.Sorted.{IsStrictlyIncreasing}
 use Rattle.ternary.specs.Word.{WordValue, holds}
 use Rattle.ternary.specs.WordBits.{IsWord}
-use Rattle.ternary.specs.Meets.{AgreesOnMask, AgreesOnBoth, IsFixedIn, IsMeet, any_word, exact_word, meets, meet_of, covers_of, with_bit, is_fixed_of, admits, agrees_at, includes_at, fix_of, free_of, free_bits, word_eq}
+use Rattle.ternary.specs.Meets.{AgreesOnMask, AgreesOnBoth, IsFixedIn, IsMeet, any_word, exact_word, meets, meet_of, covers_of, with_bit, is_fixed_of, word_admits, words_agree_at, word_includes_at, fix_of, free_of, free_bits, word_eq}
 
 pub record HoldsLaws : Type 0 where
   -- the test is agreement, bit by bit
@@ -91,11 +91,11 @@ pub record FixLaws : Type 0 where
       → is_fixed_of (fix_of w k one) j ≡ is_fixed_of w j
   -- the bit of a header that w holds; whether w meets or covers a half of r
   pub admits_bit : (w : WordValue) (k : ℕ) (one : Bool) (h : ℕ) → IsTrue (holds w h)
-      → bit_at h k ≡ from_bool one → IsTrue (admits w k one)
+      → bit_at h k ≡ from_bool one → IsTrue (word_admits w k one)
   pub meets_half : (w r : WordValue) (k : ℕ) (one : Bool) → IsFalse (is_fixed_of r k)
-      → meets w (fix_of r k one) ≡ (meets w r && admits w k one)
+      → meets w (fix_of r k one) ≡ (meets w r && word_admits w k one)
   pub covers_half : (w r : WordValue) (k : ℕ) (one : Bool)
-      → covers_of w (fix_of r k one) ≡ (covers_of (free_of w k) r && admits w k one)
+      → covers_of w (fix_of r k one) ≡ (covers_of (free_of w k) r && word_admits w k one)
 
 pub record FreeLaws : Type 0 where
   -- the freed word holds what the word holds with the bit set to 0 or to 1
@@ -114,14 +114,14 @@ pub record FreeLaws : Type 0 where
   pub restored : (w : WordValue) (k : ℕ) (one : Bool) → IsWord w → IsTrue (is_fixed_of w k)
       → bit_at w.value k ≡ from_bool one → fix_of (free_of w k) k one ≡ w
   -- one bit is tested apart from the others
-  pub meets_bit : (a b : WordValue) (k : ℕ) → meets a b ≡ (meets (free_of a k) b && agrees_at a b k)
+  pub meets_bit : (a b : WordValue) (k : ℕ) → meets a b ≡ (meets (free_of a k) b && words_agree_at a b k)
   pub covers_bit : (a b : WordValue) (k : ℕ)
-      → covers_of a b ≡ (covers_of (free_of a k) b && includes_at a b k)
+      → covers_of a b ≡ (covers_of (free_of a k) b && word_includes_at a b k)
   -- a freed bit no longer matters
   pub meets_others : (a b : WordValue) (k : ℕ)
-      → IsTrue (meets (free_of a k) b) ↔ ((j : ℕ) → j ≢ k → IsTrue (agrees_at a b j))
+      → IsTrue (meets (free_of a k) b) ↔ ((j : ℕ) → j ≢ k → IsTrue (words_agree_at a b j))
   pub covers_others : (a b : WordValue) (k : ℕ)
-      → IsTrue (covers_of (free_of a k) b) ↔ ((j : ℕ) → j ≢ k → IsTrue (includes_at a b j))
+      → IsTrue (covers_of (free_of a k) b) ↔ ((j : ℕ) → j ≢ k → IsTrue (word_includes_at a b j))
   pub meets_freed : (a b : WordValue) (k : ℕ)
       → meets (free_of a k) b ≡ meets (free_of a k) (free_of b k)
   pub covers_freed : (a b : WordValue) (k : ℕ)

@@ -2,19 +2,19 @@
 use Rattle.std.specs.Prelude.{if◌then◌else◌, ◌&&◌, ◌*◌, ◌-◌, ◌<◌, ◌==◌, ◌^◌, ◌||◌, ◌≡◌, Bool, IsTrue, List, None, Option, Some, bit_and, bit_or, filter, not, ℕ}
 use Rattle.std.specs.Int.{bit_at, from_bool}
 use Rattle.std.specs.List.{range_with_len}
-use Rattle.ternary.specs.Word.{WordValue, fixed_value, holds}
+use Rattle.ternary.specs.Word.{WordValue, word_fixed_value, holds}
 
 -- h and the value agree on each bit of the mask
 abbrev pub AgreesOnMask : WordValue → ℕ → Type 0
 AgreesOnMask w h = (k : ℕ) → bit_at w.mask k ≡ 1 → bit_at h k ≡ bit_at w.value k
 
 -- a holds each header that b holds
-abbrev pub Includes : WordValue → WordValue → Type 0
-Includes a b = (h : ℕ) → h < 2 ^ 104 → IsTrue (holds b h) → IsTrue (holds a h)
+abbrev pub WordIncludes : WordValue → WordValue → Type 0
+WordIncludes a b = (h : ℕ) → h < 2 ^ 104 → IsTrue (holds b h) → IsTrue (holds a h)
 
 -- no header is in both
-abbrev pub AreDisjoint : WordValue → WordValue → Type 0
-AreDisjoint a b = (h : ℕ) → h < 2 ^ 104 → IsTrue (holds a h) → IsTrue (holds b h) → ⊥
+abbrev pub AreDisjointWords : WordValue → WordValue → Type 0
+AreDisjointWords a b = (h : ℕ) → h < 2 ^ 104 → IsTrue (holds a h) → IsTrue (holds b h) → ⊥
 
 -- m holds exactly what both hold
 abbrev pub IsMeet : WordValue → WordValue → WordValue → Type 0
@@ -49,7 +49,7 @@ meets a b = let common = bit_and a.mask b.mask in bit_and a.value common == bit_
 -- the fixed bits of both
 abbrev pub meeting_word : WordValue → WordValue → WordValue
 meeting_word a b = record {
-  value = bit_or (fixed_value a) (fixed_value b);
+  value = bit_or (word_fixed_value a) (word_fixed_value b);
   mask = bit_or a.mask b.mask;
 }
 
@@ -59,7 +59,7 @@ meet_of a b = if meets a b then Some (meeting_word a b) else None
 
 -- each fixed bit of a is fixed in b, and to the same
 unfoldable pub covers_of : WordValue → WordValue → Bool
-covers_of a b = (bit_and a.mask b.mask == a.mask) && (bit_and b.value a.mask == fixed_value a)
+covers_of a b = (bit_and a.mask b.mask == a.mask) && (bit_and b.value a.mask == word_fixed_value a)
 
 -- n with its bit k set to 0
 abbrev pub without_bit : ℕ → ℕ → ℕ
@@ -74,8 +74,8 @@ unfoldable pub is_fixed_of : WordValue → ℕ → Bool
 is_fixed_of w k = bit_at w.mask k == 1
 
 -- bit k is free, or fixed to this
-unfoldable pub admits : WordValue → ℕ → Bool → Bool
-admits w k one = not (is_fixed_of w k) || (bit_at w.value k == from_bool one)
+unfoldable pub word_admits : WordValue → ℕ → Bool → Bool
+word_admits w k one = not (is_fixed_of w k) || (bit_at w.value k == from_bool one)
 
 -- bit k fixed to 1 or 0: a half of w, if the bit was free
 unfoldable pub fix_of : WordValue → ℕ → Bool → WordValue
@@ -86,12 +86,12 @@ unfoldable pub free_of : WordValue → ℕ → WordValue
 free_of w k = record { value = without_bit w.value k; mask = without_bit w.mask k }
 
 -- bit k is not fixed in both to different values
-unfoldable pub agrees_at : WordValue → WordValue → ℕ → Bool
-agrees_at a b k = not (is_fixed_of a k && is_fixed_of b k) || (bit_at a.value k == bit_at b.value k)
+unfoldable pub words_agree_at : WordValue → WordValue → ℕ → Bool
+words_agree_at a b k = not (is_fixed_of a k && is_fixed_of b k) || (bit_at a.value k == bit_at b.value k)
 
 -- if a fixes bit k, b fixes it to the same
-unfoldable pub includes_at : WordValue → WordValue → ℕ → Bool
-includes_at a b k =
+unfoldable pub word_includes_at : WordValue → WordValue → ℕ → Bool
+word_includes_at a b k =
     not (is_fixed_of a k) || (is_fixed_of b k && (bit_at b.value k == bit_at a.value k))
 
 -- of the 104 bits, those that are free, ascending

@@ -10,14 +10,14 @@ pub record WordValue : Type 0 where
   pub mask : ℕ
 
 -- the value, read only on the bits of the mask
-abbrev pub fixed_value : WordValue → ℕ
-fixed_value w = bit_and w.value w.mask
+abbrev pub word_fixed_value : WordValue → ℕ
+word_fixed_value w = bit_and w.value w.mask
 
 -- ---- headers of a word
 
 -- the word holds h: h agrees with the value on each bit of the mask
 unfoldable pub holds : WordValue → ℕ → Bool
-holds w h = bit_and h w.mask == fixed_value w
+holds w h = bit_and h w.mask == word_fixed_value w
 
 -- ---- the printed form
 

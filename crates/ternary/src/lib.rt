@@ -5,7 +5,7 @@
 //! that a word holds, and allocates nothing. The laws, functions with an empty body, ensure what is
 //! true of all words, for proofs in which no call runs. `word_eq` compares words as keys of a map.
 //!
-//! A caller, which imports `IfSome` and `IsNone` from std, `AreDisjoint` and `IsMeet` from
+//! A caller, which imports `IfSome` and `IsNone` from std, `AreDisjointWords` and `IsMeet` from
 //! `specs/Meets.antt`:
 //!
 //! ```rust

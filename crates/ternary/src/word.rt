@@ -2,7 +2,7 @@ ghost use Rattle.std.specs.Prelude.{◌≡◌, ◌≢◌, ◌^◌, ◌<◌, ◌�
 ghost use Rattle.std.specs.Int.{bit_at, from_bool};
 ghost use Rattle.ternary.specs.Word.{WordValue, holds, word_text};
 ghost use Rattle.ternary.specs.WordBits.{IsWord};
-ghost use Rattle.ternary.specs.Meets.{AgreesOnMask, Includes, AreDisjoint, IsMeet, any_word, exact_word, meet_of, meets, covers_of, with_bit, is_fixed_of, fix_of, free_of};
+ghost use Rattle.ternary.specs.Meets.{AgreesOnMask, WordIncludes, AreDisjointWords, IsMeet, any_word, exact_word, meet_of, meets, covers_of, with_bit, is_fixed_of, fix_of, free_of};
 
 use std::fmt;
 use std::marker::Model;
@@ -103,7 +103,7 @@ impl Word {
     pub fn meet(&self, other: &Word) -> Option<Word>
         ensures pair { result ≡ meet_of self.now other.now }
         ensures both { IfSome result (λ m. IsMeet self.now other.now m × IsWord m) }
-        ensures none { IsNone result ↔ AreDisjoint self.now other.now }
+        ensures none { IsNone result ↔ AreDisjointWords self.now other.now }
         ensures words { IsWord self.now × IsWord other.now }
     {
         let common = self.mask & other.mask;
@@ -121,7 +121,7 @@ impl Word {
     #[tactic(auto, unfolding(crate::specs::Meets::covers_of))]
     pub fn covers(&self, other: &Word) -> bool
         ensures test { result ≡ covers_of self.now other.now }
-        ensures inclusion { IsTrue result ↔ Includes self.now other.now }
+        ensures inclusion { IsTrue result ↔ WordIncludes self.now other.now }
         ensures words { IsWord self.now × IsWord other.now }
     {
         self.mask & other.mask == self.mask && other.value & self.mask == self.value

@@ -9,15 +9,15 @@ use Rattle.trace_audit.specs.Told as told
 
 -- ---- what lines say
 
-abbrev pub with_told : Option Told → List Told → List Told
-with_told None more = more
-with_told (Some first) more = first ∷ more
+abbrev pub with_trace_told : Option Told → List Told → List Told
+with_trace_told None more = more
+with_trace_told (Some first) more = first ∷ more
 
 -- what these lines say, in order; each good line says one thing
-abbrev pub all_told : List TraceLine → List Told
-all_told [] = []
-all_told (Whole text ∷ lines) = with_told (told_of text) (all_told lines)
-all_told (Open text ∷ lines) = all_told lines
+abbrev pub all_trace_told : List TraceLine → List Told
+all_trace_told [] = []
+all_trace_told (Whole text ∷ lines) = with_trace_told (told_of text) (all_trace_told lines)
+all_trace_told (Open text ∷ lines) = all_trace_told lines
 
 -- ---- versions
 
@@ -43,7 +43,7 @@ RetiresUpTo mark (told.Retired version) = version ≤ mark
 RetiresUpTo mark _ = ⊤
 
 -- the mark after these lines: the greatest version that they retire, or 0
-pub record IsMark (ts : List Told) (mark : ℕ) : Type 0 where
+pub record IsTraceMark (ts : List Told) (mark : ℕ) : Type 0 where
   pub greatest : All (RetiresUpTo mark) ts
   pub retired : (mark ≡ 0) ⊎ Contains ts (told.Retired mark)
 
@@ -66,21 +66,21 @@ DecidesOther packet (told.Decided other version rule action) = other ≢ packet
 DecidesOther packet _ = ⊤
 
 -- the last row is a packet's, with this header, and no packet entered since
-pub record IsWaiting (ts : List Told) (header : Header) : Type 0 where
+pub record IsTraceWaiting (ts : List Told) (header : Header) : Type 0 where
   pub before : List Told
   pub after : List Told
   pub row : ts ≡ before ++ told.Row (Some header) ∷ after
   pub last : All IsBetween after
 
 -- the packet entered once, after its own row with this header, under this mark
-pub record HasEntered (ts : List Told) (packet : ℕ) (header : Header) (mark : ℕ) : Type 0 where
+pub record TraceHasEntered (ts : List Told) (packet : ℕ) (header : Header) (mark : ℕ) : Type 0 where
   pub before : List Told
   pub after : List Told
   pub entry : ts ≡ before ++ told.Entered packet ∷ after
   pub none_before : All (EntersOther packet) before
   pub none_after : All (EntersOther packet) after
-  pub own_row : IsWaiting before header
-  pub own_mark : IsMark before mark
+  pub own_row : IsTraceWaiting before header
+  pub own_mark : IsTraceMark before mark
 
 -- the packet got one decision, with this action: the first match of its header under one version
 -- that was submitted before, and is above the mark at its entry
@@ -96,7 +96,7 @@ pub record HasDecision (files : List PolicyFile) (ts : List Told) (packet : ℕ)
   pub none_after : All (DecidesOther packet) after
   pub header : Header
   pub mark : ℕ
-  pub entered : HasEntered before packet header mark
+  pub entered : TraceHasEntered before packet header mark
   pub above_mark : mark < version
   pub policy : List Row
   pub submitted : slice_get (policies_told files before) (version - 1) ≡ Some policy
@@ -112,13 +112,13 @@ pub record IsDecidedOnce (files : List PolicyFile) (before after : List Told) (p
   pub none_later : All (DecidesOther packet) after
 
 -- a packet that the lines say is dropped, or out by a port, was decided like that
-abbrev pub IsJustified : List PolicyFile → List Told → List Told → ℕ → End → Type 0
-IsJustified files before after packet Dropped = IsDecidedOnce files before after packet action.Drop
-IsJustified files before after packet (LeftBy port) =
+abbrev pub IsTraceJustified : List PolicyFile → List Told → List Told → ℕ → End → Type 0
+IsTraceJustified files before after packet Dropped = IsDecidedOnce files before after packet action.Drop
+IsTraceJustified files before after packet (LeftBy port) =
     IsDecidedOnce files before after packet (action.Out port)
-IsJustified files before after packet _ = ⊤
+IsTraceJustified files before after packet _ = ⊤
 
 abbrev pub AreJustified : List PolicyFile → List TraceLine → Type 0
 AreJustified files lines = (before after : List Told) (packet : ℕ) (end : End)
-    → all_told lines ≡ before ++ told.Ended packet end ∷ after
-    → IsJustified files before after packet end
+    → all_trace_told lines ≡ before ++ told.Ended packet end ∷ after
+    → IsTraceJustified files before after packet end

@@ -2,8 +2,8 @@
 -- may take it; a line of an item that is no move is good too.
 use Rattle.std.specs.Prelude.{[], if◌then◌else◌, ◌-◌, ◌==◌, ◌∷◌, ◌≡◌, ◌≤◌, List, None, Option, Some, length, option_to_list, slice_get, ℕ}
 use Rattle.base.specs.Exports.{result_ok}
-use Rattle.five_tuple.specs.Exports.{parts_round}
-use Rattle.update_machine.specs.Exports.{Decides, Ends, Enters, Header, Hit, Machine, PolicyFile, Retires, Row, Submits, made_by, most_versions}
+use Rattle.five_tuple.specs.Exports.{text_parts_round_byte}
+use Rattle.update_machine.specs.Exports.{Decides, Ends, MachineEnters, Header, Hit, Machine, PolicyFile, MachineRetires, Row, MachineSubmits, made_by, most_versions}
 use Rattle.policy_rules.specs.Exports.{action_text, rule_text}
 use Rattle.trace_audit.specs.Told.{Told, told_of}
 use Rattle.trace_audit.specs.Told as told
@@ -48,13 +48,13 @@ pub record IsPrinted (rule action : List ℕ) (hit : Hit) : Type 0 where
 abbrev pub Follows : List PolicyFile → TraceState → Told → TraceState → Type 0
 Follows files old (told.Row header) new = new ≡ record old { pending = header }
 Follows files old (told.Entered packet) new = (header : Header) × (old.pending ≡ Some header)
-    × Enters old.machine packet header new.machine × (new.pending ≡ None)
+    × MachineEnters old.machine packet header new.machine × (new.pending ≡ None)
 Follows files old (told.Submitted file version) new =
-    Submits old.machine version (made_policy files file (latest_policy old.machine.policies))
+    MachineSubmits old.machine version (made_policy files file (latest_policy old.machine.policies))
     new.machine
     × (version ≤ most_versions) × (new.pending ≡ old.pending)
 Follows files old (told.Retired version) new =
-    Retires old.machine version new.machine × (new.pending ≡ old.pending)
+    MachineRetires old.machine version new.machine × (new.pending ≡ old.pending)
 Follows files old (told.Decided packet version rule action) new = (hit : Hit)
     × IsPrinted rule action hit × Decides old.machine packet version hit new.machine
     × (new.pending ≡ old.pending)
@@ -80,7 +80,7 @@ lines_of_parts (rest ∷ []) = open_line rest
 lines_of_parts (text ∷ next ∷ parts) = Whole text ∷ lines_of_parts (next ∷ parts)
 
 unfoldable pub lines_of : List ℕ → List TraceLine
-lines_of trace = lines_of_parts (parts_round 10 trace)
+lines_of trace = lines_of_parts (text_parts_round_byte 10 trace)
 
 -- a good line leads from one state to another; one without its line feed is bad
 abbrev pub ReadsLine : List PolicyFile → TraceState → TraceLine → TraceState → Type 0

@@ -2,7 +2,7 @@
 use Rattle.std.specs.Prelude.{[], ◌++◌, ◌∷◌, ◌≡◌, List, ℕ}
 use Rattle.update_machine.specs.Exports.{Cause, Dropped, Header, Hit, How, IsRun, Item, Leaving, LeftBy, Leg, Lost, PolicyFile, Setting, Stuck}
 use Rattle.journal.specs.declared.item.Item.TheVariants as item
-use Rattle.trace_audit.specs.Decided.{IsWaiting, all_told}
+use Rattle.trace_audit.specs.Decided.{IsTraceWaiting, all_trace_told}
 use Rattle.trace_audit.specs.Reading.{IsPrinted, TraceLine}
 use Rattle.trace_audit.specs.Told.{Told}
 use Rattle.trace_audit.specs.Told as told
@@ -11,7 +11,7 @@ use Rattle.trace_audit.specs.Told as told
 -- enters with the header of its row. Fields that the machine doesn't read may be anything.
 abbrev pub AreItemsOf : List Told → Told → List Item → Type 0
 AreItemsOf before (told.Entered packet) items = (switch : ℕ) × (header : Header)
-    × IsWaiting before header × (items ≡ item.Entered packet switch header ∷ [])
+    × IsTraceWaiting before header × (items ≡ item.Entered packet switch header ∷ [])
 AreItemsOf before (told.Submitted file version) items = items ≡ item.Submitted file version ∷ []
 AreItemsOf before (told.Retired version) items = items ≡ item.Retired version ∷ []
 AreItemsOf before (told.Decided packet version rule action) items = (hit : Hit) × (how : How)
@@ -27,14 +27,14 @@ AreItemsOf before (told.Row header) items = items ≡ []
 AreItemsOf before told.Nothing items = items ≡ []
 
 -- the items of all lines after these, in order
-abbrev pub AreItems : List Told → List Told → List Item → Type 0
-AreItems before [] items = items ≡ []
-AreItems before (first ∷ more) items = (front rest : List Item) × (items ≡ front ++ rest)
-    × AreItemsOf before first front × AreItems (before ++ first ∷ []) more rest
+abbrev pub AreTraceItems : List Told → List Told → List Item → Type 0
+AreTraceItems before [] items = items ≡ []
+AreTraceItems before (first ∷ more) items = (front rest : List Item) × (items ≡ front ++ rest)
+    × AreItemsOf before first front × AreTraceItems (before ++ first ∷ []) more rest
 
 -- the moves that the lines state are a run of the machine that has these files of policies and
 -- changes, on whatever network
-pub record AreRun (files : List PolicyFile) (lines : List TraceLine) : Type 0 where
+pub record AreTraceRun (files : List PolicyFile) (lines : List TraceLine) : Type 0 where
   pub moves : List Item
-  pub told : AreItems [] (all_told lines) moves
+  pub told : AreTraceItems [] (all_trace_told lines) moves
   pub run : (setting : Setting) → setting.files ≡ files → IsRun setting moves

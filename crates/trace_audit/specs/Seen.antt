@@ -20,11 +20,11 @@ use Rattle.trace_audit.specs.declared.told.End.TheVariants as end
 use Rattle.trace_audit.specs.declared.told.LineMeaning.{LineMeaning}
 use Rattle.trace_audit.specs.declared.told.LineMeaning.TheVariants as line
 
-abbrev pub end_seen : code_end.End → End
-end_seen end.Dropped = Dropped
-end_seen (end.LeftBy port) = LeftBy port
-end_seen end.Lost = Lost
-end_seen end.Stuck = Stuck
+abbrev pub trace_end_seen : code_end.End → End
+trace_end_seen end.Dropped = Dropped
+trace_end_seen (end.LeftBy port) = LeftBy port
+trace_end_seen end.Lost = Lost
+trace_end_seen end.Stuck = Stuck
 
 abbrev pub told_seen : LineMeaning → Told
 told_seen (line.Row header) = told.Row header
@@ -33,32 +33,32 @@ told_seen (line.Submitted file version) = told.Submitted file version
 told_seen (line.Retired version) = told.Retired version
 told_seen (line.Decided packet version rule action) =
     told.Decided packet version rule.now action.now
-told_seen (line.Ended packet end) = told.Ended packet (end_seen end)
+told_seen (line.Ended packet end) = told.Ended packet (trace_end_seen end)
 told_seen line.Nothing = told.Nothing
 
 -- the action of a packet's decision, if it has one
-abbrev pub action_seen : TracePacket → Action
-action_seen p = if p.is_out then Out p.port else Drop
+abbrev pub trace_action_seen : TracePacket → Action
+trace_action_seen p = if p.is_out then Out p.port else Drop
 
 -- the decision by this rule with this action; none if it is undecided
-abbrev pub decision_by : DecidedBy → ℕ → Action → Option Hit
-decision_by Undecided priority action = None
-decision_by Default priority action = Some (record { rule = None; action = action })
-decision_by Row priority action = Some (record { rule = Some priority; action = action })
+abbrev pub trace_decision_by : DecidedBy → ℕ → Action → Option Hit
+trace_decision_by Undecided priority action = None
+trace_decision_by Default priority action = Some (record { rule = None; action = action })
+trace_decision_by Row priority action = Some (record { rule = Some priority; action = action })
 
 -- an end as the action says
-abbrev pub end_by : Action → End
-end_by Drop = Dropped
-end_by (Out port) = LeftBy port
+abbrev pub trace_end_by : Action → End
+trace_end_by Drop = Dropped
+trace_end_by (Out port) = LeftBy port
 
-abbrev pub ending_by : PacketEnd → Action → Option End
-ending_by Going action = None
-ending_by AsDecided action = Some (end_by action)
-ending_by ending.Lost action = Some Lost
-ending_by ending.Stuck action = Some Stuck
+abbrev pub trace_ending_by : PacketEnd → Action → Option End
+trace_ending_by Going action = None
+trace_ending_by AsDecided action = Some (trace_end_by action)
+trace_ending_by ending.Lost action = Some Lost
+trace_ending_by ending.Stuck action = Some Stuck
 
-abbrev pub packet_seen : TracePacket → Packet
-packet_seen p = record {
+abbrev pub trace_packet_seen : TracePacket → Packet
+trace_packet_seen p = record {
   header = header_of (record {
     src = p.src;
     dst = p.dst;
@@ -67,26 +67,26 @@ packet_seen p = record {
     proto = p.proto;
   });
   entry_mark = p.entry_mark;
-  decision = decision_by p.rule p.priority (action_seen p);
-  end = ending_by p.ending (action_seen p);
+  decision = trace_decision_by p.rule p.priority (trace_action_seen p);
+  end = trace_ending_by p.ending (trace_action_seen p);
 }
 
 -- the item of this number in a run whose numbers begin with `first`
-abbrev pub run_get : {A : Type 0} → ℕ → List A → ℕ → Option A
-run_get first run number = if nat_le first number then slice_get run (number - first) else None
+abbrev pub trace_run_get : {A : Type 0} → ℕ → List A → ℕ → Option A
+trace_run_get first run number = if nat_le first number then slice_get run (number - first) else None
 
 -- the packet that is known by this number, if one is: in the run, or else among the others
-abbrev pub packets_seen : Packets → ℕ → Option Packet
-packets_seen p number = option_map packet_seen
-    (option_or (run_get p.first p.run.items number) (get nat_cmp p.others number))
+abbrev pub trace_packets_seen : Packets → ℕ → Option Packet
+trace_packets_seen p number = option_map trace_packet_seen
+    (option_or (trace_run_get p.first p.run.items number) (get nat_cmp p.others number))
 
 -- the machine, and the pending header
-abbrev pub state_seen : Auditor → TraceState
-state_seen a = record {
+abbrev pub trace_state_seen : Auditor → TraceState
+trace_state_seen a = record {
   machine = record {
     policies = a.policies.items;
     mark = a.mark;
-    packets = packets_seen a.packets;
+    packets = trace_packets_seen a.packets;
   };
   pending = a.pending;
 }

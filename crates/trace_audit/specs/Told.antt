@@ -2,7 +2,7 @@
 -- that two blanks make an empty word. A number is decimal, without sign or leading zero.
 use Rattle.std.specs.Prelude.{[], if◌then◌else◌, ◌&&◌, ◌==◌, ◌||◌, ◌∷◌, ◌≡◌, ◌⊎◌, Bool, List, MatchOption, None, Option, Some, bytes_eq, codes, drop, false, nat_le, not, option_map, take, ℕ}
 use Rattle.base.specs.Exports.{Bor, list_all, list_any, option_map_or}
-use Rattle.five_tuple.specs.Exports.{header_of, number_up_to, packet_fields_of, parts_round}
+use Rattle.five_tuple.specs.Exports.{header_of, number_up_to, packet_fields_of, text_parts_round_byte}
 use Rattle.update_machine.specs.Exports.{Dropped, End, Header, LeftBy, Lost, Stuck}
 use Rattle.net_file.specs.Exports.{is_name}
 use Rattle.steps.specs.Exports.{max_events, max_number}
@@ -24,16 +24,16 @@ pub data Told : Type 0 where
 -- the parts of the text before and after the first such byte; none if it has no such byte
 abbrev pub IsCut : ℕ → List ℕ → Option (Bor (List ℕ) × Bor (List ℕ)) → Type 0
 IsCut byte text cut = MatchOption cut
-    (parts_round byte text ≡ text ∷ [])
-    (λ r. parts_round byte text ≡ r.0.now ∷ parts_round byte r.1.now)
+    (text_parts_round_byte byte text ≡ text ∷ [])
+    (λ r. text_parts_round_byte byte text ≡ r.0.now ∷ text_parts_round_byte byte r.1.now)
 
 abbrev pub words_of : List ℕ → List (List ℕ)
-words_of line = parts_round 32 line
+words_of line = text_parts_round_byte 32 line
 
 -- the words of the text that is left, if one is left
-abbrev pub words_left : Option (Bor (List ℕ)) → List (List ℕ)
-words_left None = []
-words_left (Some text) = words_of text.now
+abbrev pub trace_words_left : Option (Bor (List ℕ)) → List (List ℕ)
+trace_words_left None = []
+trace_words_left (Some text) = words_of text.now
 
 -- the word has no blank
 abbrev pub has_no_blank : List ℕ → Bool
@@ -55,8 +55,8 @@ IsWordTaken word old new = (next : List ℕ) × (more : List (List ℕ))
     × (old ≡ word ∷ next ∷ more) × (new ≡ next ∷ more)
 
 -- the first word was taken, and `said` is whether it passes the test
-abbrev pub TakesWord : List (List ℕ) → (List ℕ → Bool) → List (List ℕ) → Bool → Type 0
-TakesWord old passes new said = (next : List ℕ) × (old ≡ next ∷ new) × (said ≡ passes next)
+abbrev pub TakesTraceWord : List (List ℕ) → (List ℕ → Bool) → List (List ℕ) → Bool → Type 0
+TakesTraceWord old passes new said = (next : List ℕ) × (old ≡ next ∷ new) × (said ≡ passes next)
 
 -- there is no word, or more than one
 abbrev pub IsNoSingle : List (List ℕ) → Type 0
@@ -86,7 +86,7 @@ pair_told told _ _ = None
 -- the words of `row R: packet S SRC DST SPORT DPORT PROTO` after `packet`
 abbrev pub packet_row_told : List ℕ → List (List ℕ) → Option Told
 packet_row_told row (switch ∷ src ∷ dst ∷ sport ∷ dport ∷ proto ∷ []) =
-    if is_row_number (parts_round 58 row) && is_name switch
+    if is_row_number (text_parts_round_byte 58 row) && is_name switch
     then option_map (λ fields. Row (Some (header_of fields)))
     (packet_fields_of src dst sport dport proto) else None
 packet_row_told row _ = None

@@ -2,10 +2,10 @@ ghost use Rattle.std.specs.Prelude.{◌≡◌, ◌↔◌, IfOk, IsTrue, List, So
 ghost use Rattle.std.specs.Result.{result_ok};
 ghost use Rattle.policy_rules.specs.Applied.{applied};
 ghost use Rattle.policy_rules.specs.declared.file.PolicyFile.{PolicyFile};
-ghost use Rattle.update_machine.specs.Machine.{MayEnd};
+ghost use Rattle.update_machine.specs.Machine.{MachineMayEnd};
 ghost use Rattle.trace_audit.specs.Reading.{numbered_file, first_state, latest_policy, made_policy};
 ghost use Rattle.update_machine.specs.Setting.{made_by};
-ghost use Rattle.trace_audit.specs.Seen.{IsTaken, end_seen, packet_seen, state_seen, told_seen};
+ghost use Rattle.trace_audit.specs.Seen.{IsTaken, trace_end_seen, trace_packet_seen, trace_state_seen, told_seen};
 ghost use Rattle.trace_audit.specs.Told as told;
 
 use crate::index::IndexedPolicy;
@@ -27,7 +27,7 @@ pub(crate) struct Auditor {
 }
 
 /// The policy that the file of this number has, or makes of the newest one, if there is one.
-#[tactic(auto, using(crate::proofs::PoliciesMade::policy_of, crate::proofs::PoliciesMade::no_policy))]
+#[tactic(auto, using(crate::proofs::AuditMadePolicies::policy_of, crate::proofs::AuditMadePolicies::no_policy))]
 fn made_policy(
     alloc: Global,
     files: &[PolicyFile],
@@ -71,7 +71,7 @@ fn made_by(
 }
 
 // The policy with the change applied to it; `None` if the policy refuses it.
-#[tactic(auto, using(crate::proofs::PoliciesMade::some_made, crate::proofs::PoliciesMade::none_made))]
+#[tactic(auto, using(crate::proofs::AuditMadePolicies::some_made, crate::proofs::AuditMadePolicies::none_made))]
 fn changed(alloc: Global, policy: &Policy, change: &Amendment) -> Result<Option<Policy>, AllocError>
     ensures { IfOk result (λ made. made ≡ result_ok (applied policy.now change.now)) }
 {
@@ -88,7 +88,7 @@ impl Auditor {
     /// # Errors
     /// Only out of memory.
     pub fn new(alloc: Global, files: &[PolicyFile]) -> Result<Auditor, AllocError>
-        ensures { IfOk result (λ auditor. state_seen auditor ≡ first_state files.now) }
+        ensures { IfOk result (λ auditor. trace_state_seen auditor ≡ first_state files.now) }
     {
         let mut policies = Vec::new(alloc);
         if let Some(policy) = made_policy(alloc, files, 1, None)? {
@@ -114,7 +114,7 @@ impl Auditor {
 
     fn enter(&mut self, number: u32) -> Result<bool, AllocError>
         ensures { (files : List PolicyFile) → IfOk result
-            (IsTaken files (state_seen self.old) (told.Entered number) (state_seen self.new)) }
+            (IsTaken files (trace_state_seen self.old) (told.Entered number) (trace_state_seen self.new)) }
     {
         let Some(header) = self.pending else {
             return Ok(false);
@@ -135,7 +135,7 @@ impl Auditor {
         file: u32,
         version: u32,
     ) -> Result<bool, AllocError>
-        ensures { IfOk result (IsTaken files.now (state_seen self.old) (told.Submitted file version) (state_seen self.new)) }
+        ensures { IfOk result (IsTaken files.now (trace_state_seen self.old) (told.Submitted file version) (trace_state_seen self.new)) }
     {
         if version > MAX_VERSIONS || version as usize != self.policies.len() + 1 {
             return Ok(false);
@@ -151,7 +151,7 @@ impl Auditor {
 
     fn retire(&mut self, version: u32) -> bool
         ensures { (files : List PolicyFile) →
-            IsTaken files (state_seen self.old) (told.Retired version) (state_seen self.new) result }
+            IsTaken files (trace_state_seen self.old) (told.Retired version) (trace_state_seen self.new) result }
     {
         if version <= self.mark || version as usize >= self.policies.len() {
             return false;
@@ -168,7 +168,7 @@ impl Auditor {
         action: &[u8],
     ) -> Result<bool, AllocError>
         ensures { (files : List PolicyFile) → IfOk result
-            (IsTaken files (state_seen self.old) (told.Decided number version rule.now action.now) (state_seen self.new)) }
+            (IsTaken files (trace_state_seen self.old) (told.Decided number version rule.now action.now) (trace_state_seen self.new)) }
     {
         let Some(packet) = self.packets.get(number) else {
             return Ok(false);
@@ -189,7 +189,7 @@ impl Auditor {
 
     fn end(&mut self, number: u32, end: End) -> Result<bool, AllocError>
         ensures { (files : List PolicyFile) → IfOk result
-            (IsTaken files (state_seen self.old) (told.Ended number (end_seen end)) (state_seen self.new)) }
+            (IsTaken files (trace_state_seen self.old) (told.Ended number (trace_end_seen end)) (trace_state_seen self.new)) }
     {
         let Some(packet) = self.packets.get(number) else {
             return Ok(false);
@@ -211,7 +211,7 @@ impl Auditor {
         files: &[PolicyFile],
         told: &LineMeaning,
     ) -> Result<bool, AllocError>
-        ensures { IfOk result (IsTaken files.now (state_seen self.old) (told_seen told.now) (state_seen self.new)) }
+        ensures { IfOk result (IsTaken files.now (trace_state_seen self.old) (told_seen told.now) (trace_state_seen self.new)) }
     {
         match *told {
             LineMeaning::Row(header) => {
@@ -235,7 +235,7 @@ impl Auditor {
 
 // Whether the packet may end like this.
 fn may_end(packet: &TracePacket, end: End) -> bool
-    ensures { IsTrue result ↔ MayEnd (packet_seen packet.now) (end_seen end) }
+    ensures { IsTrue result ↔ MachineMayEnd (trace_packet_seen packet.now) (trace_end_seen end) }
 {
     match end {
         End::Dropped => packet.action() == Some(Action::Drop),

@@ -2,7 +2,7 @@ ghost use Rattle.std.specs.Prelude.{◌≡◌, ◌<◌, ◌+◌, List, IfOk, IfS
 ghost use Rattle.policy_rules.specs.Exports.{IsFirstMatch, IsPolicy};
 ghost use Rattle.policy_rules.specs.declared.policy.Hit.{Hit};
 ghost use Rattle.policy_rules.specs.declared.policy.Row.{Row};
-ghost use Rattle.trace_audit.specs.Index.{AreShapesOf, HasShape, IsBest, IsBetter, IsIndexOf, IsIndexUpTo, Notes, better_of, is_shape, shape_of_row, slot_of, slot_of_row};
+ghost use Rattle.trace_audit.specs.Index.{AreShapesOf, HasShape, IsBest, IsBetterIndexHit, IsIndexOf, IsIndexUpTo, IndexNotes, better_index_hit, is_index_shape, shape_of_row, index_slot_of, slot_of_row};
 
 use five_tuple::{Fields, Header, Prefix};
 use policy_rules::{Hit, Policy, Row, policy_laws};
@@ -58,7 +58,7 @@ impl Model for IndexedPolicy {
 // The slot of blocks that begin with these addresses, of the shape at this place.
 fn slot(shapes: &[Shape], place: usize, src: u32, dst: u32) -> usize
     requires { place < length shapes.now }
-    ensures slot { result ≡ slot_of (length shapes.now) place src dst }
+    ensures slot { result ≡ index_slot_of (length shapes.now) place src dst }
     ensures bound { result < 4096 }
 {
     let mixed = src
@@ -70,7 +70,7 @@ fn slot(shapes: &[Shape], place: usize, src: u32, dst: u32) -> usize
 
 // The place of the shape among the others, if it is one of them.
 fn place_of(shapes: &[Shape], shape: Shape) -> Option<usize>
-    ensures { result ≡ position (is_shape shape) shapes.now }
+    ensures { result ≡ position (is_index_shape shape) shapes.now }
 {
     shapes
         .iter()
@@ -88,7 +88,7 @@ fn slot_of_row(shapes: &[Shape], row: &Row) -> usize
 
 // The better of the row, if it matches, and the hit.
 fn better(row: &Row, fields: &Fields, hit: Hit) -> Hit
-    ensures { result ≡ better_of row.now fields.now hit }
+    ensures { result ≡ better_index_hit row.now fields.now hit }
 {
     let exceeds = match hit.rule {
         None => true,
@@ -114,7 +114,7 @@ impl Shape {
 
 // Adds the shape unless it is among these.
 fn note(shapes: &mut Vec<Shape>, shape: Shape) -> Result<(), AllocError>
-    ensures { OnOk result (Notes shapes.old.items shape shapes.new.items) }
+    ensures { OnOk result (IndexNotes shapes.old.items shape shapes.new.items) }
 {
     if place_of(shapes, shape).is_none() {
         shapes.push(shape)?;
@@ -123,7 +123,7 @@ fn note(shapes: &mut Vec<Shape>, shape: Shape) -> Result<(), AllocError>
 }
 
 // The shapes of the rows; `None` if there are too many of them for an index.
-fn shapes_of(alloc: Global, rows: &[Row]) -> Result<Option<Vec<Shape>>, AllocError>
+fn row_shapes_of(alloc: Global, rows: &[Row]) -> Result<Option<Vec<Shape>>, AllocError>
     requires { IsPolicy rows.now }
     ensures { IfOk result (λ some. IfSome some (λ shapes. AreShapesOf rows.now shapes.items)) }
 {
@@ -168,7 +168,7 @@ impl Index {
         requires { IsPolicy rows.now }
         ensures { IfOk result (λ some. IfSome some (IsIndexOf rows.now)) }
     {
-        let Some(shapes) = shapes_of(alloc, rows)? else {
+        let Some(shapes) = row_shapes_of(alloc, rows)? else {
             return Ok(None);
         };
         let mut index = Index::new(alloc, shapes)?;
@@ -182,7 +182,7 @@ impl Index {
     fn best_in(&self, rows: &[Row], slot: usize, fields: &Fields, hit: Hit) -> Hit
         requires index { IsIndexOf rows.now self.now }
         requires slot { slot < 4096 }
-        ensures { IsBetter self.now.shapes.items rows.now slot fields.now hit result }
+        ensures { IsBetterIndexHit self.now.shapes.items rows.now slot fields.now hit result }
     {
         let mut best = hit;
         let mut at = self.last[slot];

@@ -1,6 +1,6 @@
 ghost use Rattle.std.specs.Prelude.{◌≡◌, None, OnOk, Some, is_some, option_map};
-ghost use Rattle.update_machine.specs.Machine.{MayEnd};
-ghost use Rattle.trace_audit.specs.Seen.{action_seen, end_seen, packet_seen, packets_seen, run_get, with_one};
+ghost use Rattle.update_machine.specs.Machine.{MachineMayEnd};
+ghost use Rattle.trace_audit.specs.Seen.{trace_action_seen, trace_end_seen, trace_packet_seen, trace_packets_seen, trace_run_get, with_one};
 
 use crate::told::End;
 use five_tuple::{Fields, Header};
@@ -53,7 +53,7 @@ const _: () = prove!(size_of::<TracePacket>() <= 28);
 impl TracePacket {
     /// A packet that entered with this header under this mark.
     pub fn new(header: Header, mark: u32) -> TracePacket
-        ensures { packet_seen result ≡
+        ensures { trace_packet_seen result ≡
             record { header = header; entry_mark = mark; decision = None; end = None } }
     {
         let fields = header.fields();
@@ -74,7 +74,7 @@ impl TracePacket {
 
     /// Its header.
     pub fn header(&self) -> Header
-        ensures { result ≡ (packet_seen self.now).header }
+        ensures { result ≡ (trace_packet_seen self.now).header }
     {
         Header::pack(&Fields {
             src: self.src,
@@ -87,14 +87,14 @@ impl TracePacket {
 
     /// The mark when it entered.
     pub fn entry_mark(&self) -> u32
-        ensures { result ≡ (packet_seen self.now).entry_mark }
+        ensures { result ≡ (trace_packet_seen self.now).entry_mark }
     {
         self.entry_mark
     }
 
     // The action of its decision, if it has one.
     fn decided_action(&self) -> Action
-        ensures { result ≡ action_seen self.now }
+        ensures { result ≡ trace_action_seen self.now }
     {
         if self.is_out {
             Action::Out(self.port)
@@ -105,7 +105,7 @@ impl TracePacket {
 
     /// The action of its decision, if it has one.
     pub fn action(&self) -> Option<Action>
-        ensures { result ≡ option_map (λ hit. hit.action) (packet_seen self.now).decision }
+        ensures { result ≡ option_map (λ hit. hit.action) (trace_packet_seen self.now).decision }
     {
         match self.rule {
             DecidedBy::Undecided => None,
@@ -115,7 +115,7 @@ impl TracePacket {
 
     /// Whether it has ended.
     pub fn has_ended(&self) -> bool
-        ensures { result ≡ is_some (packet_seen self.now).end }
+        ensures { result ≡ is_some (trace_packet_seen self.now).end }
     {
         match self.ending {
             PacketEnd::Going => false,
@@ -125,8 +125,8 @@ impl TracePacket {
 
     /// The packet with this decision.
     pub fn decided(self, hit: Hit) -> TracePacket
-        requires { (packet_seen self).end ≡ None }
-        ensures { packet_seen result ≡ record (packet_seen self) { decision = Some hit } }
+        requires { (trace_packet_seen self).end ≡ None }
+        ensures { trace_packet_seen result ≡ record (trace_packet_seen self) { decision = Some hit } }
     {
         let (rule, priority) = match hit.rule {
             Some(priority) => (DecidedBy::Row, priority),
@@ -147,8 +147,8 @@ impl TracePacket {
 
     /// The packet with this end.
     pub fn ended(self, end: End) -> TracePacket
-        requires { MayEnd (packet_seen self) (end_seen end) }
-        ensures { packet_seen result ≡ record (packet_seen self) { end = Some (end_seen end) } }
+        requires { MachineMayEnd (trace_packet_seen self) (trace_end_seen end) }
+        ensures { trace_packet_seen result ≡ record (trace_packet_seen self) { end = Some (trace_end_seen end) } }
     {
         let ending = match end {
             End::Dropped | End::LeftBy(_) => PacketEnd::AsDecided,
@@ -173,7 +173,7 @@ pub(crate) struct Packets {
 impl Packets {
     /// No packets.
     pub fn new(alloc: Global) -> Packets
-        ensures { packets_seen result ≡ (λ _. None) }
+        ensures { trace_packets_seen result ≡ (λ _. None) }
     {
         Packets {
             first: 0,
@@ -184,7 +184,7 @@ impl Packets {
 
     // The packet of the run that has this number, if one has it.
     fn in_run(&self, number: u32) -> Option<TracePacket>
-        ensures { result ≡ run_get self.now.first self.now.run.items number }
+        ensures { result ≡ trace_run_get self.now.first self.now.run.items number }
     {
         let place = number.checked_sub(self.first)?;
         self.run.get(place as usize).copied()
@@ -192,7 +192,7 @@ impl Packets {
 
     /// The packet of this number, if there is one.
     pub fn get(&self, number: u32) -> Option<TracePacket>
-        ensures { option_map packet_seen result ≡ packets_seen self.now number }
+        ensures { option_map trace_packet_seen result ≡ trace_packets_seen self.now number }
     {
         match self.in_run(number) {
             Some(packet) => Some(packet),
@@ -205,7 +205,7 @@ impl Packets {
     /// # Errors
     /// Only out of memory.
     pub fn put(&mut self, number: u32, packet: TracePacket) -> Result<(), AllocError>
-        ensures { OnOk result (packets_seen self.new ≡ with_one (packets_seen self.old) number (packet_seen packet)) }
+        ensures { OnOk result (trace_packets_seen self.new ≡ with_one (trace_packets_seen self.old) number (trace_packet_seen packet)) }
     {
         if self.run.is_empty() {
             self.first = number;

@@ -1,11 +1,11 @@
 ghost use Rattle.std.specs.Prelude.{◌≡◌, ◌∷◌, ◌==◌, ◌<◌, ◌^◌, [], IfSome, bytes_eq, codes, false, option_map};
 ghost use Rattle.std.specs.List.{list_any};
-ghost use Rattle.five_tuple.specs.Texts.{number_up_to, parts_round};
+ghost use Rattle.five_tuple.specs.Texts.{number_up_to, text_parts_round_byte};
 ghost use Rattle.update_machine.specs.Machine as machine;
-ghost use Rattle.trace_audit.specs.Seen.{end_seen, told_seen};
+ghost use Rattle.trace_audit.specs.Seen.{trace_end_seen, told_seen};
 ghost use Rattle.trace_audit.specs.Told.{begins_with, decided_told, ended_told, entered_told, indented_told, is_row_number, left_told, number_of_word, packet_row_told, retired_told, row_told, silent_told, stuck_told, submitted_told, told_of, version_of_word};
 
-use crate::words::{Words, cut_near};
+use crate::words::{Words, cut_text_near};
 use five_tuple::{Header, read_fields, read_number};
 use net_file::is_name;
 use steps::{MAX_EVENTS, MAX_NUMBER};
@@ -63,11 +63,11 @@ fn version(word: &[u8]) -> Option<u32>
 }
 
 // Whether the word is the number of a row, from 1, and a colon.
-#[tactic(auto, using(crate::proofs::TraceLines::row_number_rest))]
+#[tactic(auto, using(crate::proofs::AuditTraceLines::row_number_rest))]
 fn is_row_number(word: &[u8]) -> bool
-    ensures { result ≡ is_row_number (parts_round 58 word.now) }
+    ensures { result ≡ is_row_number (text_parts_round_byte 58 word.now) }
 {
-    let Some((digits, rest)) = cut_near(word, b':') else {
+    let Some((digits, rest)) = cut_text_near(word, b':') else {
         return false;
     };
     if !rest.is_empty() {
@@ -146,7 +146,7 @@ fn read_retired<'a>(words: Words<'a>) -> Option<LineMeaning<'a>>
     Some(LineMeaning::Retired(version))
 }
 
-#[tactic(auto, using(crate::proofs::TraceLines::no_how, crate::proofs::TraceLines::no_rule))]
+#[tactic(auto, using(crate::proofs::AuditTraceLines::no_how, crate::proofs::AuditTraceLines::no_rule))]
 #[inline(never)]
 fn read_decided<'a>(mut words: Words<'a>) -> Option<LineMeaning<'a>>
     ensures { option_map told_seen result ≡ decided_told words.entry }
@@ -170,7 +170,7 @@ fn read_decided<'a>(mut words: Words<'a>) -> Option<LineMeaning<'a>>
 }
 
 fn read_ended<'a>(end: End, words: Words<'a>) -> Option<LineMeaning<'a>>
-    ensures { option_map told_seen result ≡ ended_told (end_seen end) words.entry }
+    ensures { option_map told_seen result ≡ ended_told (trace_end_seen end) words.entry }
 {
     let packet = number(words.last()?)?;
     Some(LineMeaning::Ended { packet, end })
@@ -249,9 +249,9 @@ fn read_silent<'a>(mut words: Words<'a>) -> Option<LineMeaning<'a>>
 }
 
 // An item whose word isn't `decided`, `entered` or `dropped`.
-#[tactic(auto, using(crate::proofs::TraceLines::other_item), unfolding(crate::specs::Told::item_told))]
+#[tactic(auto, using(crate::proofs::AuditTraceLines::other_item), unfolding(crate::specs::Told::item_told))]
 #[inline(never)]
-fn read_rare<'a>(mut words: Words<'a>) -> Option<LineMeaning<'a>>
+fn read_rare_item<'a>(mut words: Words<'a>) -> Option<LineMeaning<'a>>
     requires decided { begins_with (codes "decided") words ≡ false }
     requires entered { begins_with (codes "entered") words ≡ false }
     requires dropped { begins_with (codes "dropped") words ≡ false }
@@ -290,11 +290,11 @@ fn read_item<'a>(mut words: Words<'a>) -> Option<LineMeaning<'a>>
     if words.take(b"dropped".as_slice()) {
         return read_ended(End::Dropped, words);
     }
-    read_rare(words)
+    read_rare_item(words)
 }
 
 /// What a line says; `None` if it is bad whatever precedes it.
-#[tactic(auto, using(crate::proofs::TraceLines::other_line), unfolding(crate::specs::Told::told_of))]
+#[tactic(auto, using(crate::proofs::AuditTraceLines::other_line), unfolding(crate::specs::Told::told_of))]
 pub(crate) fn read_line<'a>(line: &'a [u8]) -> Option<LineMeaning<'a>>
     ensures { option_map told_seen result ≡ told_of line.now }
 {

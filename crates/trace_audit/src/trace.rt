@@ -2,8 +2,8 @@ ghost use Rattle.std.specs.Prelude.{◌≡◌, ◌↔◌, All, IfOk};
 ghost use Rattle.policy_rules.specs.PolicyFiles.{IsPolicyFile};
 ghost use Rattle.trace_audit.specs.Decided.{AreJustified};
 ghost use Rattle.trace_audit.specs.Reading.{AreGood, Whole, lines_of};
-ghost use Rattle.trace_audit.specs.Run.{AreRun};
-ghost use Rattle.trace_audit.specs.Seen.{IsLineRead, state_seen};
+ghost use Rattle.trace_audit.specs.Run.{AreTraceRun};
+ghost use Rattle.trace_audit.specs.Seen.{IsLineRead, trace_state_seen};
 ghost use Rattle.trace_audit.specs.Verdicts.{IsAuditVerdict};
 ghost use Rattle.trace_audit.specs.declared.trace.Verdict.TheVariants.{Yes};
 
@@ -34,11 +34,11 @@ pub fn audit(alloc: Global, trace: &[u8], files: &[PolicyFile]) -> Result<Verdic
     ensures verdict { IfOk result (IsAuditVerdict files.now (lines_of trace.now)) }
     ensures exactly { IfOk result
         (λ verdict. (verdict ≡ Yes) ↔ AreGood files.now (lines_of trace.now)) }
-    ensures run { IfOk result (λ verdict. verdict ≡ Yes → AreRun files.now (lines_of trace.now)) }
+    ensures run { IfOk result (λ verdict. verdict ≡ Yes → AreTraceRun files.now (lines_of trace.now)) }
     ensures justified { IfOk result
         (λ verdict. verdict ≡ Yes → AreJustified files.now (lines_of trace.now)) }
 {
-    files_are_sound(files);
+    audited_files_are_sound(files);
     let mut auditor = Auditor::new(alloc, files)?;
     let mut rest = trace;
     let mut line: u32 = 0;
@@ -47,7 +47,7 @@ pub fn audit(alloc: Global, trace: &[u8], files: &[PolicyFile]) -> Result<Verdic
         match cut(rest, b'\n') {
             None => return Ok(Verdict::No { line }),
             Some((text, next)) => {
-                let good = take_line(&mut auditor, alloc, files, text)?;
+                let good = take_trace_line(&mut auditor, alloc, files, text)?;
                 if !good {
                     return Ok(Verdict::No { line });
                 }
@@ -59,7 +59,7 @@ pub fn audit(alloc: Global, trace: &[u8], files: &[PolicyFile]) -> Result<Verdic
 }
 
 // Each file is sound, by the invariant of its type.
-fn files_are_sound(files: &[PolicyFile])
+fn audited_files_are_sound(files: &[PolicyFile])
     ensures { All IsPolicyFile files.now }
 {
     for file in files {
@@ -81,15 +81,15 @@ fn file_is_sound(file: &PolicyFile)
 }
 
 // Reads a line, and returns whether it is good.
-#[tactic(auto, using(crate::proofs::TraceLines::line_read, crate::proofs::TraceLines::line_unread))]
-fn take_line(
+#[tactic(auto, using(crate::proofs::AuditTraceLines::line_read, crate::proofs::AuditTraceLines::line_unread))]
+fn take_trace_line(
     auditor: &mut Auditor,
     alloc: Global,
     files: &[PolicyFile],
     line: &[u8],
 ) -> Result<bool, AllocError>
     ensures { IfOk result
-        (IsLineRead files.now (state_seen auditor.old) (Whole line.now) (state_seen auditor.new)) }
+        (IsLineRead files.now (trace_state_seen auditor.old) (Whole line.now) (trace_state_seen auditor.new)) }
 {
     match read_line(line) {
         Some(told) => auditor.take(alloc, files, &told),

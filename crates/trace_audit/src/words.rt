@@ -1,5 +1,5 @@
 ghost use Rattle.std.specs.Prelude.{◌≡◌, ◌∷◌, ◌==◌, [], IfNone, IfSome, IsTrue, List, MatchBool, bytes_eq, false, position, ℕ};
-ghost use Rattle.trace_audit.specs.Told.{IsRestAfter, IsCut, IsNoSingle, IsWordTaken, TakesWord, begins_with, has_no_blank, words_of};
+ghost use Rattle.trace_audit.specs.Told.{IsRestAfter, IsCut, IsNoSingle, IsWordTaken, TakesTraceWord, begins_with, has_no_blank, words_of};
 
 use memchr::memchr;
 use std::marker::Model;
@@ -13,7 +13,7 @@ fn place_of(text: &[u8], byte: u8) -> Option<usize>
 
 // The place of the first such byte, which is likely to be near.
 #[inline(always)]
-fn near_place_of(text: &[u8], byte: u8) -> Option<usize>
+fn near_place_in_text(text: &[u8], byte: u8) -> Option<usize>
     ensures { result ≡ position (λ b. b == byte) text.now }
 {
     text.iter().position(|b| *b == byte)
@@ -40,10 +40,10 @@ pub(crate) fn cut(text: &[u8], byte: u8) -> Option<(&[u8], &[u8])>
 
 /// The same for a byte that is likely to be near.
 #[inline(always)]
-pub(crate) fn cut_near(text: &[u8], byte: u8) -> Option<(&[u8], &[u8])>
+pub(crate) fn cut_text_near(text: &[u8], byte: u8) -> Option<(&[u8], &[u8])>
     ensures { IsCut byte text.now result }
 {
-    cut_at(text, near_place_of(text, byte))
+    cut_at(text, near_place_in_text(text, byte))
 }
 
 // The text after the word and a blank, if it begins with them.
@@ -75,11 +75,11 @@ pub(crate) struct Words<'a> {
 
 impl<'a> Model for Words<'a> {
     ghost use Rattle.std.specs.Prelude.{List, ℕ};
-    ghost use Rattle.trace_audit.specs.Told.{words_left};
+    ghost use Rattle.trace_audit.specs.Told.{trace_words_left};
 
     ghost Value = { List (List ℕ) };
 
-    ghost view = { λ words. words_left words.rest };
+    ghost view = { λ words. trace_words_left words.rest };
 }
 
 impl<'a> Words<'a> {
@@ -108,7 +108,7 @@ impl<'a> Words<'a> {
         ensures none { IfNone result (self.old ≡ []) }
     {
         let rest = self.rest?;
-        match cut_near(rest, b' ') {
+        match cut_text_near(rest, b' ') {
             Some((word, rest)) => {
                 self.rest = Some(rest);
                 Some(word)
@@ -134,7 +134,7 @@ impl<'a> Words<'a> {
     }
 
     /// Takes the next word if it is this one and more words follow it, and returns whether it did.
-    #[tactic(auto, using(crate::proofs::FirstWords::words_taken))]
+    #[tactic(auto, using(crate::proofs::AuditFirstWords::words_taken))]
     #[inline(always)]
     pub fn take(&mut self, word: &[u8]) -> bool
         requires { IsTrue (has_no_blank word.now) }
@@ -158,7 +158,7 @@ impl<'a> Words<'a> {
     #[inline(always)]
     pub fn next_is(&mut self, word: &[u8]) -> Option<bool>
         requires { IsTrue (has_no_blank word.now) }
-        ensures some { IfSome result (TakesWord self.old (λ next. bytes_eq next word.now) self.new) }
+        ensures some { IfSome result (TakesTraceWord self.old (λ next. bytes_eq next word.now) self.new) }
         ensures none { IfNone result (self.old ≡ []) }
     {
         if self.take(word) {

@@ -1,6 +1,6 @@
-pub mod LinePieces
-mod OneLine
-mod ToldItems
-mod WholeLines
-mod GoodLines
-mod ScheduleAnswers
+pub mod TraceTextPieces
+mod TraceTextOneLine
+mod TraceTextItems
+mod TraceTextWholeLines
+mod TraceTextGoodLines
+mod TraceTextAnswers

@@ -1,6 +1,6 @@
 -- The text of a journal that answers a schedule, and the lines that may follow it.
 use Rattle.std.specs.Prelude.{[], ◌++◌, ◌∷◌, ◌≡◌, ◌≢◌, ◌≤◌, ◌⊎◌, All, List, None, Option, Some, codes, flat_map, length, ℕ}
-use Rattle.control_laws.specs.Exports.{AreEvents}
+use Rattle.control_laws.specs.Exports.{AreNetworkEvents}
 use Rattle.update_machine.specs.Exports.{Answers, Event, IsSetting, Item, Setting, StopsFull}
 use Rattle.journal_text.specs.Lines.{journal_text}
 use Rattle.steps.specs.Exports.{max_events, max_number}
@@ -24,7 +24,7 @@ IsAnsweredTo setting events journal (Some row) = StopsFull setting events journa
 -- made of good lines, and so are the last lines after it
 abbrev pub TextsAreGood : Type 0
 TextsAreGood = (setting : Setting) (events : List Event) (journal : List Item) (full : Option ℕ)
-    (last : List (List ℕ)) → IsSetting setting → AreEvents setting events
+    (last : List (List ℕ)) → IsSetting setting → AreNetworkEvents setting events
     → IsAnsweredTo setting events journal full
     → length events ≤ max_events → length setting.files ≤ max_number → All IsLastLine last
     → AreGood setting.files (lines_of (journal_text setting.net journal ++ with_line_feeds last))

@@ -1,8 +1,8 @@
 ghost use Rattle.trace_texts.specs.Texts.{TextsAreGood};
 
 use control_laws::versions_are_planned;
-use five_tuple::printed_forms_are_read_back;
-use net_file::{name_laws, port_laws};
+use five_tuple::printed_fields_are_read_back;
+use net_file::{net_port_laws, switch_name_laws};
 use packet_laws::{
     answered_rows_are_entered, answers_are_runs, ends_have_causes, packet_rows_are_entered,
 };
@@ -12,9 +12,9 @@ use packet_laws::{
 pub fn texts_are_good()
     ensures { TextsAreGood }
 {
-    printed_forms_are_read_back();
-    name_laws();
-    port_laws();
+    printed_fields_are_read_back();
+    switch_name_laws();
+    net_port_laws();
     versions_are_planned();
     packet_rows_are_entered();
     answered_rows_are_entered();

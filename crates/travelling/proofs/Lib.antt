@@ -1,4 +1,4 @@
-pub mod PacketTable
-pub mod StandingMasks
-pub mod MarkBlocks
-pub mod SlotNumbers
+pub mod TravellingTable
+pub mod TravellingMasks
+pub mod TravellingMarkBlocks
+pub mod TravellingSlots

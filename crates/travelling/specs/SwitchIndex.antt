@@ -4,19 +4,19 @@ use Rattle.std.specs.Prelude.{if◌then◌else◌, ◌%◌, ◌*◌, ◌+◌, �
 use Rattle.base.specs.Exports.{has}
 
 -- the mask of the numbers of this block of 64 at the switch
-abbrev pub mask_at : List ℕ → ℕ → ℕ → ℕ
-mask_at masks block s = slice_index_or masks (block * 64 + s) 0
+abbrev pub switch_mask_at : List ℕ → ℕ → ℕ → ℕ
+switch_mask_at masks block s = slice_index_or masks (block * 64 + s) 0
 
 abbrev pub is_marked : List ℕ → ℕ → ℕ → Bool
-is_marked masks i s = has (mask_at masks (i / 64) s) (i % 64)
+is_marked masks i s = has (switch_mask_at masks (i / 64) s) (i % 64)
 
 -- one of the block's numbers is marked at the switch
 abbrev pub has_marks : List ℕ → ℕ → ℕ → Bool
-has_marks masks block s = not (mask_at masks block s == 0)
+has_marks masks block s = not (switch_mask_at masks block s == 0)
 
 -- the second flag, flipped if the first one is true
-abbrev pub flipped_if : Bool → Bool → Bool
-flipped_if turns was = if turns then not was else was
+abbrev pub mark_flipped_if : Bool → Bool → Bool
+mark_flipped_if turns was = if turns then not was else was
 
 -- no number from one up to another is marked at the switch
 abbrev pub IsNoneMarked : List ℕ → ℕ → ℕ → ℕ → Type 0
@@ -43,6 +43,6 @@ pub record AreOfBlocks (masks above : List ℕ) : Type 0 where
   pub room : (i : ℕ) → i + 64 ≤ length masks → i / 64 + 64 ≤ length above
 
 -- the marks of packets, of their blocks, and of the blocks of these
-pub record AreLevels (packets blocks groups : List ℕ) : Type 0 where
+pub record AreMarkLevels (packets blocks groups : List ℕ) : Type 0 where
   pub low : AreOfBlocks packets blocks
   pub high : AreOfBlocks blocks groups

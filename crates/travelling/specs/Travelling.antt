@@ -23,8 +23,8 @@ abbrev pub flight : Flights → ℕ → Option Flight
 flight flights i = slice_index_or flights i None
 
 -- the packet of this number is this one, or none; all others are as before
-abbrev pub WithOne : Flights → ℕ → Option Flight → Flights → Type 0
-WithOne before packet this after =
+abbrev pub TravellingWithOne : Flights → ℕ → Option Flight → Flights → Type 0
+TravellingWithOne before packet this after =
     (i : ℕ) → flight after i ≡ (if i == packet then this else flight before i)
 
 -- the least number at or above `from` of a packet that travels; `None` if there is none
@@ -39,12 +39,12 @@ abbrev pub travels_by : TunnelValue → ℕ → Option ℕ → Flight
 travels_by tunnel version rule = record { tunnel = tunnel; version = version; rule = rule }
 
 -- its route has this place
-abbrev pub HasPlace : ℕ → Flight → Type 0
-HasPlace place t = place < length t.tunnel.route
+abbrev pub FlightHasPlace : ℕ → Flight → Type 0
+FlightHasPlace place t = place < length t.tunnel.route
 
 -- at this place of its route
-abbrev pub placed_at : ℕ → Flight → Flight
-placed_at place t = record t { tunnel = record t.tunnel { place = place } }
+abbrev pub flight_placed_at : ℕ → Flight → Flight
+flight_placed_at place t = record t { tunnel = record t.tunnel { place = place } }
 
 -- ---- one packet where it is
 
@@ -66,12 +66,12 @@ standing_at switch flight = record {
 }
 
 -- the link from its switch to another was found down
-abbrev pub marked_at : Standing → ℕ → Standing
-marked_at at other = record at { down = with_link at.down at.switch other }
+abbrev pub flight_marked_at : Standing → ℕ → Standing
+flight_marked_at at other = record at { down = with_link at.down at.switch other }
 
 -- at the beginning of this route on its leg
-abbrev pub begun_at : Standing → Leg → List ℕ → List ℕ → TunnelValue
-begun_at at leg targets route =
+abbrev pub flight_begun_at : Standing → Leg → List ℕ → List ℕ → TunnelValue
+flight_begun_at at leg targets route =
     tunnel_begun at.packet at.header at.ingress leg targets route at.down
 
 -- as contracts see it; without a set of links it found none down
@@ -104,8 +104,8 @@ numbers_at flights switch =
     filter (λ i. stands_at switch (flight flights i)) (range_with_len 0 (length flights))
 
 -- those that were at the switch no longer travel; all others are as before
-abbrev pub WithoutAt : Flights → ℕ → Flights → Type 0
-WithoutAt before switch after = (i : ℕ) → flight after i
+abbrev pub TravellingWithoutAt : Flights → ℕ → Flights → Type 0
+TravellingWithoutAt before switch after = (i : ℕ) → flight after i
     ≡ (if stands_at switch (flight before i) then None else flight before i)
 
 -- ---- how they are kept
@@ -133,13 +133,13 @@ AreMarked flights by_switch =
     (i s : ℕ) → s < 64 → is_marked by_switch i s ≡ stands_at s (flight flights i)
 
 -- packets are only at switches below 64
-abbrev pub StandBelow : Flights → Type 0
-StandBelow flights = (i s : ℕ) → 64 ≤ s → stands_at s (flight flights i) ≡ false
+abbrev pub TravellingStandBelow : Flights → Type 0
+TravellingStandBelow flights = (i s : ℕ) → 64 ≤ s → stands_at s (flight flights i) ≡ false
 
 -- numbers have 32 bits, no packet below the first one travels, and each is marked where it is
-pub record IsTable (flights : Flights) (first : ℕ) (by_switch : List ℕ) : Type 0 where
+pub record IsTravellingTable (flights : Flights) (first : ℕ) (by_switch : List ℕ) : Type 0 where
   pub few : length flights ≤ 4_294_967_296
   pub none : (i : ℕ) → i < first → flight flights i ≡ None
   pub room : (i : ℕ) → i < length flights → i + 64 ≤ length by_switch
   pub marked : AreMarked flights by_switch
-  pub below : StandBelow flights
+  pub below : TravellingStandBelow flights

@@ -1,6 +1,6 @@
 ghost use Rattle.std.specs.Prelude.{◌≡◌, ◌<◌, IfOk};
 ghost use Rattle.tunnel.specs.Moves.{here, next};
-ghost use Rattle.travelling.specs.Travelling.{HasPlace, begun_at, placed_at, standing_at, standing_kept, travels_by};
+ghost use Rattle.travelling.specs.Travelling.{FlightHasPlace, flight_begun_at, flight_placed_at, standing_at, standing_kept, travels_by};
 
 use crate::standing::Standing;
 use five_tuple::Header;
@@ -44,7 +44,7 @@ impl StoredFlight {
     /// the set of links stay shared, and it allocates nothing.
     pub fn begin(at: Standing, leg: Leg, targets: Targets, route: SharedRoute) -> StoredFlight
         ensures { result
-            ≡ travels_by (begun_at (standing_kept at) leg targets route) at.version at.rule }
+            ≡ travels_by (flight_begun_at (standing_kept at) leg targets route) at.version at.rule }
     {
         let _items = route.get().items();
         StoredFlight {
@@ -142,8 +142,8 @@ impl StoredFlight {
 
     /// Moves the packet to this place of its route. Allocates nothing.
     pub fn move_to(&mut self, place: u32)
-        requires { HasPlace place self.old }
-        ensures { self.new ≡ placed_at place self.old }
+        requires { FlightHasPlace place self.old }
+        ensures { self.new ≡ flight_placed_at place self.old }
     {
         self.place = place;
     }

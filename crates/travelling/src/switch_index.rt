@@ -5,7 +5,7 @@
 //! So a search for the packets at a switch reads no packet, and skips 262,144 of them by one mask
 //! if none is there.
 ghost use Rattle.std.specs.Prelude.{◌≡◌, ◌+◌, ◌*◌, ◌/◌, ◌<◌, ◌≤◌, ◌==◌, ◌&&◌, ℕ, [], false, true, length, max, slice_index_or, OnOk};
-ghost use Rattle.travelling.specs.SwitchIndex.{AreOfBlocks, IsLeastMarked, IsNextInBlock, IsNextMarked, flipped_if, has_marks, is_marked};
+ghost use Rattle.travelling.specs.SwitchIndex.{AreOfBlocks, IsLeastMarked, IsNextInBlock, IsNextMarked, mark_flipped_if, has_marks, is_marked};
 ghost use Rattle.travelling.specs.Travelling.{stands_at};
 
 use crate::held_flight::HeldFlight;
@@ -25,13 +25,13 @@ pub struct SwitchIndex {
 
 impl Model for SwitchIndex {
     ghost use Rattle.std.specs.Prelude.{List, ℕ};
-    ghost use Rattle.travelling.specs.SwitchIndex.{AreLevels};
+    ghost use Rattle.travelling.specs.SwitchIndex.{AreMarkLevels};
 
     ghost Value = { List ℕ };
 
     ghost view = { λ m. m.packets.items };
 
-    ghost invariant = { λ m. AreLevels m.packets.items m.blocks.items m.groups.items };
+    ghost invariant = { λ m. AreMarkLevels m.packets.items m.blocks.items m.groups.items };
 }
 
 impl SwitchIndex {
@@ -57,9 +57,9 @@ impl SwitchIndex {
         ensures grown { length self.old ≤ length self.new }
         ensures same { (j : ℕ) → slice_index_or self.new j 0 ≡ slice_index_or self.old j 0 }
     {
-        make_masks(&mut self.groups, number / 64 / 64)?;
-        make_masks(&mut self.blocks, number / 64)?;
-        make_masks(&mut self.packets, number)
+        make_switch_masks(&mut self.groups, number / 64 / 64)?;
+        make_switch_masks(&mut self.blocks, number / 64)?;
+        make_switch_masks(&mut self.packets, number)
     }
 
     /// Flips the mark of the slot's packet at the switch where it is.
@@ -67,7 +67,7 @@ impl SwitchIndex {
         requires { number + 64 ≤ length self.old }
         ensures room { length self.new ≡ length self.old }
         ensures marks { (i s : ℕ) → s < 64 → is_marked self.new i s
-            ≡ flipped_if (i == number && stands_at s slot.now) (is_marked self.old i s) }
+            ≡ mark_flipped_if (i == number && stands_at s slot.now) (is_marked self.old i s) }
         ensures below { (s : ℕ) → 64 ≤ s → stands_at s slot.now ≡ false }
     {
         if let Some(held) = slot {
@@ -81,7 +81,7 @@ impl SwitchIndex {
         requires switch { switch < 64 }
         ensures room { length self.new ≡ length self.old }
         ensures marks { (i s : ℕ) → s < 64 → is_marked self.new i s
-            ≡ flipped_if (i == number && switch == s) (is_marked self.old i s) }
+            ≡ mark_flipped_if (i == number && switch == s) (is_marked self.old i s) }
     {
         if !turn(&mut self.packets, number, switch) {
             return;
@@ -97,18 +97,18 @@ impl SwitchIndex {
         requires { switch < 64 }
         ensures { IsNextMarked self.now switch from result }
     {
-        if let Some(packet) = next_in_block(&self.packets, from, switch) {
+        if let Some(packet) = next_mark_in_block(&self.packets, from, switch) {
             return Some(packet);
         }
-        match next_by_blocks(&self.blocks, &self.groups, from / 64 + 1, switch) {
-            Some(block) => Some(first_of_block(&self.packets, block, switch)),
+        match next_mark_by_blocks(&self.blocks, &self.groups, from / 64 + 1, switch) {
+            Some(block) => Some(first_mark_of_block(&self.packets, block, switch)),
             None => None,
         }
     }
 }
 
 // Makes sure that there is a mask for this number at each switch.
-fn make_masks(masks: &mut Vec<u64>, number: usize) -> Result<(), AllocError>
+fn make_switch_masks(masks: &mut Vec<u64>, number: usize) -> Result<(), AllocError>
     requires { number < 4_294_967_296 }
     ensures room { OnOk result (number + 64 ≤ length masks.new.items) }
     ensures grown { length masks.old.items ≤ length masks.new.items }
@@ -129,9 +129,9 @@ fn turn(masks: &mut Vec<u64>, number: usize, switch: u32) -> bool
     requires switch { switch < 64 }
     ensures room { length masks.new.items ≡ length masks.old.items }
     ensures marks { (i s : ℕ) → s < 64 → is_marked masks.new.items i s
-        ≡ flipped_if (i == number && switch == s) (is_marked masks.old.items i s) }
+        ≡ mark_flipped_if (i == number && switch == s) (is_marked masks.old.items i s) }
     ensures blocks { (block s : ℕ) → s < 64 → has_marks masks.new.items block s
-        ≡ flipped_if (result && (block == number / 64 && switch == s))
+        ≡ mark_flipped_if (result && (block == number / 64 && switch == s))
         (has_marks masks.old.items block s) }
 {
     let place = number / 64 * 64 + switch as usize;
@@ -144,29 +144,29 @@ fn turn(masks: &mut Vec<u64>, number: usize, switch: u32) -> bool
 
 // The least number at or above `from` that is marked at the switch, if there is one, by the marks
 // of the blocks. It looks at those of 64 blocks at once.
-fn next_by_blocks(masks: &[u64], blocks: &[u64], from: usize, switch: u32) -> Option<usize>
+fn next_mark_by_blocks(masks: &[u64], blocks: &[u64], from: usize, switch: u32) -> Option<usize>
     requires blocks { AreOfBlocks masks.now blocks.now }
     requires switch { switch < 64 }
     ensures { IsNextMarked masks.now switch from result }
 {
-    if let Some(number) = next_in_block(masks, from, switch) {
+    if let Some(number) = next_mark_in_block(masks, from, switch) {
         return Some(number);
     }
-    match next_marked(blocks, from / 64 + 1, switch) {
-        Some(block) => Some(first_of_block(masks, block, switch)),
+    match next_marked_packet(blocks, from / 64 + 1, switch) {
+        Some(block) => Some(first_mark_of_block(masks, block, switch)),
         None => None,
     }
 }
 
 // The least number at or above `from` that is marked at the switch, if there is one. It looks at
 // 64 at once.
-fn next_marked(masks: &[u64], from: usize, switch: u32) -> Option<usize>
+fn next_marked_packet(masks: &[u64], from: usize, switch: u32) -> Option<usize>
     requires { switch < 64 }
     ensures { IsNextMarked masks.now switch from result }
 {
     let mut next = from;
     while next / 64 * 64 + (switch as usize) < masks.len() {
-        if let Some(number) = next_in_block(masks, next, switch) {
+        if let Some(number) = next_mark_in_block(masks, next, switch) {
             return Some(number);
         }
         next = (next / 64 + 1) * 64;
@@ -175,7 +175,7 @@ fn next_marked(masks: &[u64], from: usize, switch: u32) -> Option<usize>
 }
 
 // The same, if that number is in the block of `from`; otherwise `None`.
-fn next_in_block(masks: &[u64], from: usize, switch: u32) -> Option<usize>
+fn next_mark_in_block(masks: &[u64], from: usize, switch: u32) -> Option<usize>
     requires { switch < 64 }
     ensures { IsNextInBlock masks.now switch from result }
 {
@@ -191,7 +191,7 @@ fn next_in_block(masks: &[u64], from: usize, switch: u32) -> Option<usize>
 }
 
 // The least number of the block that is marked at the switch.
-fn first_of_block(masks: &[u64], block: usize, switch: u32) -> usize
+fn first_mark_of_block(masks: &[u64], block: usize, switch: u32) -> usize
     requires switch { switch < 64 }
     requires some { has_marks masks.now block switch ≡ true }
     ensures { IsLeastMarked masks.now switch (block * 64) result }

@@ -9,7 +9,7 @@
 //! No slot is freed before the end, as in a journal.
 ghost use Rattle.std.specs.Prelude.{◌≡◌, ◌+◌, ◌<◌, ◌≤◌, ℕ, max, [], Some, None, is_some, option_map, length, slice_set, IfOk, IsSome, OnOk};
 ghost use Rattle.std.specs.Option.{IsSomeAnd, option_copied};
-ghost use Rattle.travelling.specs.Travelling.{AreMarked, HasPlace, IsNextAt, IsNextFrom, StandBelow, WithOne, placed_at, flight, standing_kept};
+ghost use Rattle.travelling.specs.Travelling.{AreMarked, FlightHasPlace, IsNextAt, IsNextFrom, TravellingStandBelow, TravellingWithOne, flight_placed_at, flight, standing_kept};
 
 use crate::held_flight::HeldFlight;
 use crate::no_links::NoLinks;
@@ -33,13 +33,13 @@ pub struct Travelling {
 }
 
 impl Model for Travelling {
-    ghost use Rattle.travelling.specs.Travelling.{IsTable, Flights};
+    ghost use Rattle.travelling.specs.Travelling.{IsTravellingTable, Flights};
 
     ghost Value = { Flights };
 
     ghost view = { λ t. t.slots.items };
 
-    ghost invariant = { λ t. IsTable t.slots.items t.first t.by_switch };
+    ghost invariant = { λ t. IsTravellingTable t.slots.items t.first t.by_switch };
 }
 
 impl Travelling {
@@ -77,7 +77,7 @@ impl Travelling {
     /// # Errors
     /// Only out of memory.
     pub fn put(&mut self, packet: u32, kept: StoredFlight) -> Result<(), AllocError>
-        ensures { OnOk result (WithOne self.old packet (Some kept) self.new) }
+        ensures { OnOk result (TravellingWithOne self.old packet (Some kept) self.new) }
     {
         let number = packet as usize;
         let held = HeldFlight::new(*self.slots.allocator(), kept)?;
@@ -88,30 +88,30 @@ impl Travelling {
         };
         self.by_switch.make_bits(number)?;
         make_room(&mut self.slots, number)?;
-        set_slot(&mut self.slots, &mut self.by_switch, number, Some(held));
+        set_packet_slot(&mut self.slots, &mut self.by_switch, number, Some(held));
         self.first = first;
         Ok(())
     }
 
     /// Moves the packet to this place of its route. Allocates nothing.
     pub fn move_to(&mut self, packet: u32, place: u32)
-        requires { IsSomeAnd (flight self.old packet) (HasPlace place) }
-        ensures { WithOne self.old packet
-            (option_map (placed_at place) (flight self.old packet)) self.new }
+        requires { IsSomeAnd (flight self.old packet) (FlightHasPlace place) }
+        ensures { TravellingWithOne self.old packet
+            (option_map (flight_placed_at place) (flight self.old packet)) self.new }
     {
-        move_slot(&mut self.slots, &mut self.by_switch, packet as usize, place);
+        move_packet_slot(&mut self.slots, &mut self.by_switch, packet as usize, place);
     }
 
     /// Removes the packet: it no longer travels. Returns whether it did.
     pub fn remove(&mut self, packet: u32) -> bool
         ensures was { result ≡ is_some (flight self.old packet) }
-        ensures after { WithOne self.old packet None self.new }
+        ensures after { TravellingWithOne self.old packet None self.new }
     {
         if !self.has(packet) {
             return false;
         }
-        set_slot(&mut self.slots, &mut self.by_switch, packet as usize, None);
-        self.first = first_held(&self.slots, self.first);
+        set_packet_slot(&mut self.slots, &mut self.by_switch, packet as usize, None);
+        self.first = first_held_packet(&self.slots, self.first);
         true
     }
 
@@ -134,7 +134,7 @@ impl Travelling {
     pub fn next(&self, from: u32) -> Option<u32>
         ensures { IsNextFrom self.now from result }
     {
-        let number = first_held(&self.slots, self.first.max(from as usize));
+        let number = first_held_packet(&self.slots, self.first.max(from as usize));
         if number < self.slots.len() {
             Some(number as u32)
         } else {
@@ -159,7 +159,7 @@ impl Travelling {
 
 // Makes sure that there is a slot of this number. Each new one is pushed, so that n of them take
 // O(n) in all.
-#[tactic(auto, using(crate::proofs::PacketTable::pushed_same))]
+#[tactic(auto, using(crate::proofs::TravellingTable::pushed_same))]
 fn make_room(slots: &mut Vec<Option<HeldFlight>>, number: usize) -> Result<(), AllocError>
     ensures room { OnOk result (number < length slots.new.items) }
     ensures few { length slots.new.items ≤ max (length slots.old.items) (number + 1) }
@@ -173,7 +173,7 @@ fn make_room(slots: &mut Vec<Option<HeldFlight>>, number: usize) -> Result<(), A
 
 // The least number at or above `from` of a slot that holds a packet; if there is none, a number
 // beyond the slots.
-fn first_held(slots: &[Option<HeldFlight>], from: usize) -> usize
+fn first_held_packet(slots: &[Option<HeldFlight>], from: usize) -> usize
     ensures from { from ≤ result }
     ensures empty { (i : ℕ) → from ≤ i → i < result → flight slots.now i ≡ None }
     ensures held { result < length slots.now → IsSome (flight slots.now result) }
@@ -186,7 +186,7 @@ fn first_held(slots: &[Option<HeldFlight>], from: usize) -> usize
 }
 
 // Replaces what the slot holds, and marks its packet where it is.
-fn set_slot(
+fn set_packet_slot(
     slots: &mut Vec<Option<HeldFlight>>,
     by_switch: &mut SwitchIndex,
     number: usize,
@@ -195,11 +195,11 @@ fn set_slot(
     requires within { number < length slots.old.items }
     requires room { number + 64 ≤ length by_switch.old }
     requires marked { AreMarked slots.old.items by_switch.old }
-    requires below { StandBelow slots.old.items }
+    requires below { TravellingStandBelow slots.old.items }
     ensures slots { slots.new.items ≡ slice_set slots.old.items number slot }
     ensures room { length by_switch.new ≡ length by_switch.old }
     ensures marked { AreMarked slots.new.items by_switch.new }
-    ensures below { StandBelow slots.new.items }
+    ensures below { TravellingStandBelow slots.new.items }
 {
     by_switch.mark_slot(number, &slots[number]);
     by_switch.mark_slot(number, &slot);
@@ -207,21 +207,21 @@ fn set_slot(
 }
 
 // Moves the packet of the slot to this place of its route, and marks it there.
-fn move_slot(
+fn move_packet_slot(
     slots: &mut Vec<Option<HeldFlight>>,
     by_switch: &mut SwitchIndex,
     number: usize,
     place: u32,
 )
-    requires held { IsSomeAnd (flight slots.old.items number) (HasPlace place) }
+    requires held { IsSomeAnd (flight slots.old.items number) (FlightHasPlace place) }
     requires room { number + 64 ≤ length by_switch.old }
     requires marked { AreMarked slots.old.items by_switch.old }
-    requires below { StandBelow slots.old.items }
+    requires below { TravellingStandBelow slots.old.items }
     ensures slots { slots.new.items ≡ slice_set slots.old.items number
-        (option_map (placed_at place) (flight slots.old.items number)) }
+        (option_map (flight_placed_at place) (flight slots.old.items number)) }
     ensures room { length by_switch.new ≡ length by_switch.old }
     ensures marked { AreMarked slots.new.items by_switch.new }
-    ensures below { StandBelow slots.new.items }
+    ensures below { TravellingStandBelow slots.new.items }
 {
     by_switch.mark_slot(number, &slots[number]);
     if let Some(held) = &mut slots[number] {

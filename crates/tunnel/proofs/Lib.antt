@@ -1,1 +1,1 @@
-pub mod OnwardSwitch
+pub mod TunnelOnwardSwitch

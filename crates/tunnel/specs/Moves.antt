@@ -32,8 +32,8 @@ abbrev pub advanced_tunnel : TunnelValue → TunnelValue
 advanced_tunnel t = record t { place = t.place + 1 }
 
 -- the link between this switch and another was found down
-abbrev pub marked_down : TunnelValue → ℕ → TunnelValue
-marked_down t other = record t { down = with_link t.down (here t) other }
+abbrev pub tunnel_marked_down : TunnelValue → ℕ → TunnelValue
+tunnel_marked_down t other = record t { down = with_link t.down (here t) other }
 
 -- its route from here by the links that are known here, except those found down
 abbrev pub route_from_here : TunnelValue → List (Option Advert) → ℕ → Option (List ℕ)

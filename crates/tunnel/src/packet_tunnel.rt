@@ -1,5 +1,5 @@
 ghost use Rattle.std.specs.Prelude.{◌≡◌, ◌≢◌, ◌<◌, ◌+◌, ◌↔◌, length, is_some, slice_get, IfSome, IsSome};
-ghost use Rattle.tunnel.specs.Moves.{tunnel_begun, here, next, advanced_tunnel, marked_down, route_from_here, put_on_route};
+ghost use Rattle.tunnel.specs.Moves.{tunnel_begun, here, next, advanced_tunnel, tunnel_marked_down, route_from_here, put_on_route};
 
 use failover::{Database, DownSet, Route};
 use five_tuple::Header;
@@ -82,7 +82,7 @@ impl Tunnel {
         ensures more { IsSome result ↔ (self.now.place + 1 < length self.now.route) }
         ensures other { IfSome result (λ other. (other ≢ here self.now) × (other < 64)) }
     {
-        switch_after(&self.route, self.place)
+        route_switch_after(&self.route, self.place)
     }
 
     /// Moves one place on.
@@ -97,7 +97,7 @@ impl Tunnel {
     pub fn mark_down(&mut self, other: u32)
         requires different { other ≢ here self.old }
         requires switch { other < 64 }
-        ensures { self.new ≡ marked_down self.old other }
+        ensures { self.new ≡ tunnel_marked_down self.old other }
     {
         let here = self.here();
         self.down.add(here, other);
@@ -122,7 +122,7 @@ impl Tunnel {
 }
 
 // The switch after this place on the route.
-fn switch_after(route: &Route, place: u32) -> Option<u32>
+fn route_switch_after(route: &Route, place: u32) -> Option<u32>
     ensures { result ≡ slice_get route.now (place + 1) }
 {
     route.items().get(place as usize + 1).copied()

@@ -1,17 +1,17 @@
 -- What a switch knows of the network's links, by the laws of adverts and routes.
 use Rattle.std.proofs.Common.{[], ◌&&◌, ◌++◌, ◌<◌, ◌==◌, ◌^◌, ◌||◌, ◌↔◌, ◌∙◌, ◌∷◌, ◌≡◌, ◌≢◌, ◌≤◌, ◌⊎◌, Bool, Contains, Err, IsFalse, IsTrue, List, None, Ok, Option, Result, Some, ap, arith, bit_or, false, filter, get_or, get_or-set_other, get_or-set_same, if◌then◌else◌, inl, inr, length, length-set, map, max, min, nat_lt, option_to_list, refl, rules, set, set-set, slice_index, slice_set, subst, sym, true, unwrap_or, ℕ}
 use Rattle.base.proofs.Exports.{AllByRecursion, any_filtered, any_weaker, cases_eq, cases_lt, false_from_ne_true, get_or-map-range_with_len, has-or, has-pow_other, has_mask, list_any, map-set, nat_tests, option_map_or, or-false, or_left, or_right, set-get_or, set_past}
-use Rattle.failover.specs.Exports.{AreByOrigin, IsIsolated, IsNewest, IsPath, IsReachable, IsRoute, LinksLead, after_hearing, after_hearing_all, first_advert, first_adverts, first_of, has_link, held_advert, is_link, known_links, links_at, named_links, neighbours_named, no_adverts, no_links, with_link}
-use Rattle.failover.proofs.HeldAdverts.{by_origin-first, by_origin-hearing, by_origin-none, held-first}
-use Rattle.update_machine.specs.Exports.{Advert, Exit, Header, IsPlanOf, Item, KnownLinkLaws, LinkRow, MessageStarts, Out, PacketStarts, Row, Setting, StartLaws, acked_stamp, advert_known, adverts_begun, adverts_heard, adverts_known, adverts_of_others, boot_of, cache_of, can_use, changes_found, controller_heard, current_mark, decision_of, end_items, file_of, finds_down, folded_from, found_down, handled_count, has_acked, header_in, heard, holds_version, hosted_in, ingress_of, is_cut_off, is_deliverable, is_forgotten, is_in_first_boot, is_link_up, is_member, is_over, is_up, is_usable, known_boot, leaving_item, leg_items, leg_of, links_known, lookup_at, message_of, near, next_message, next_packet, next_switch, next_travelling, next_waiting, no_switch, opened_at, own_advert, own_if_sent, own_seq, owner, plan_at, policy_in, present_step, retired_mark, route_from, route_in, route_place, sendings, serves, stamp_of, standing, steps_in, stuck_on, switches_of, tables_at, takes_route, travels, usable_links, version_count, was_delivered}
+use Rattle.failover.specs.Exports.{AreByOrigin, IsIsolated, IsNewestAdvert, IsPath, IsReachable, IsRoute, LinksLeadTo, adverts_after_hearing, after_hearing_all, first_advert, first_adverts, first_of, has_link, held_advert, is_link, known_links, links_at, named_links, neighbours_named, no_adverts, no_links, with_link}
+use Rattle.failover.proofs.FailoverHeldAdverts.{by_origin-first, by_origin-hearing, by_origin-none, held-first}
+use Rattle.update_machine.specs.Exports.{Advert, Exit, Header, IsPlanOf, Item, KnownLinkLaws, LinkRow, MessageStarts, Out, PacketStarts, Row, Setting, StartLaws, acked_stamp, advert_known, adverts_begun, adverts_heard, adverts_known, adverts_of_others, boot_of, cache_of, can_use, changes_found, controller_heard, current_mark, decision_of, end_items, file_of, finds_down, folded_from, found_down, handled_count, has_acked, header_in, heard, holds_version, hosted_in_version, ingress_of, is_cut_off, is_deliverable, is_forgotten, is_in_first_boot, is_link_up, is_member, is_over, is_up, is_usable, known_boot, leaving_item, leg_items, leg_of, links_known, lookup_at, message_of, near, next_message, next_packet, next_switch, next_travelling, next_waiting, no_switch, opened_at, own_advert, own_if_sent, own_seq, owner, plan_at, policy_in, present_step, retired_mark, route_from, route_in, route_place, sendings, serves, stamp_of, standing, steps_in, stuck_on_leg_items, switches_of, tables_at, takes_route, travels, usable_links, version_count, was_delivered}
 use Rattle.net_file.specs.Exports.{are_linked, joins, links_of, owner_of}
 use Rattle.switch_table.specs.Exports.{table_lookup}
-use Rattle.failover.proofs.NewestAdvert.{held_newest}
-use Rattle.failover.proofs.KnownLinkRows.{has_known, isolated_tells}
+use Rattle.failover.proofs.FailoverNewestAdvert.{held_newest}
+use Rattle.failover.proofs.FailoverKnownLinks.{has_known, isolated_tells}
 use Rattle.failover.proofs.RouteSearch.{known_route_is_route}
 use Rattle.base.specs.Exports.{has, switches}
-use Rattle.failover.proofs.LinkBalls.{or_cases}
-use Rattle.failover.proofs.LinkSets.{has_link-none}
+use Rattle.failover.proofs.RouteLinkBalls.{or_cases}
+use Rattle.failover.proofs.FailoverLinkSets.{has_link-none}
 use Rattle.partition.specs.Plan.{Hosted}
 use Rattle.policy_rules.specs.Exports.{NoPlan}
 
@@ -113,7 +113,7 @@ begun_by_origin setting journal s = by_test (is_in_first_boot journal s) where
 all_by_origin : (adverts : List (Option Advert)) (heard : List Advert) → AreByOrigin adverts
     → AreByOrigin (after_hearing_all adverts heard)
 all_by_origin adverts [] sound = sound
-all_by_origin adverts (advert ∷ heard) sound = all_by_origin (after_hearing adverts advert) heard
+all_by_origin adverts (advert ∷ heard) sound = all_by_origin (adverts_after_hearing adverts advert) heard
     (by_origin-hearing adverts advert sound)
 
 pub heard_by_origin : (setting : Setting) (journal : List Item) (s : ℕ)
@@ -129,7 +129,7 @@ known_places setting journal s =
     ∙ (heard_by_origin setting journal s).places
 
 newest_known : (setting : Setting) (journal : List Item) (s origin : ℕ) → origin ≢ s → origin < 64
-    → IsNewest origin (option_to_list (held_advert (adverts_begun setting journal s) origin)
+    → IsNewestAdvert origin (option_to_list (held_advert (adverts_begun setting journal s) origin)
     ++ adverts_heard journal s) (advert_known setting journal s origin)
 unfolding adverts_known
 newest_known setting journal s origin other small =
@@ -201,7 +201,7 @@ cut_off_known setting journal s target down = rw (links_are setting journal s do
 
 -- each path ends at a switch
 ends_below : (links : List ℕ) (at target : ℕ) (path : List ℕ) → at < 64 → 64 ≤ target
-    → LinksLead links target at path → ⊥
+    → LinksLeadTo links target at path → ⊥
 ends_below links at target [] here past leads = omega (arith, leads, here, past)
 ends_below links at target (next ∷ path) here past leads =
     ends_below links next target path leads.0 past leads.2
@@ -222,7 +222,7 @@ no_route links from (Some path) (inr is) = is.1
 
 portless_stuck : (setting : Setting) (journal : List Item) (i s port : ℕ) → s < 64
     → owner_of setting.net.switches port ≡ None
-    → end_items setting i s (Out port) journal ≡ stuck_on setting journal i s (Exit port) ∷ []
+    → end_items setting i s (Out port) journal ≡ stuck_on_leg_items setting journal i s (Exit port) ∷ []
 unfolding end_items leg_items
 portless_stuck setting journal i s port small none =
     let elsewhere : (owner setting port == s) ≡ false =
@@ -236,7 +236,7 @@ portless_stuck setting journal i s port small none =
       | false ↦ leg_items setting journal i s (Exit port)
     ]) elsewhere
     ∙ ap (λ route. elim route [
-      | None ↦ stuck_on setting journal i s (Exit port) ∷ []
+      | None ↦ stuck_on_leg_items setting journal i s (Exit port) ∷ []
       | Some way ↦ takes_route i (Exit port) way ∷ []
     ]) stuck
 
@@ -351,12 +351,12 @@ plan_is setting journal version hosted there =
     by_policy (policy_in setting journal version) refl there
   where
     plan_by : Option (List Row) → List Hosted
-    plan_by policy = option_map_or (λ rows. hosted_in (setting.plan rows)) policy []
+    plan_by policy = option_map_or (λ rows. hosted_in_version (setting.plan rows)) policy []
 
     by_plan : (rows : List Row) (plan : Result (List Hosted) NoPlan)
         → policy_in setting journal version ≡ Some rows → setting.plan rows ≡ plan
-        → Contains (hosted_in plan) hosted
-        → IsPlanOf setting journal version (hosted_in plan)
+        → Contains (hosted_in_version plan) hosted
+        → IsPlanOf setting journal version (hosted_in_version plan)
     by_plan rows (Err why) policy is there = absurd (omega (arith, there.1))
     by_plan rows (Ok plan) policy is there = (rows, policy, is)
 

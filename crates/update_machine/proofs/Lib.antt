@@ -1,24 +1,24 @@
-pub mod ExampleNetworks
-mod CacheRows
-mod BootRows
-mod QuietRows
-mod OtherRows
-mod CachesSaid
-mod AnswerRows
-mod HandledRows
-pub mod SilentLinks
-mod VersionsSaid
-mod MarksSaid
-mod SwitchesSaid
-mod NumberBlocks
-mod VersionPolicies
-mod PolicySettings
-mod FirstSteps
-mod AnswerExistence
-mod PacketNumbering
-mod SilentSteps
-mod SilentController
+pub mod JournalExampleNetworks
+mod JournalCacheRows
+mod JournalBootRows
+mod JournalQuietRows
+mod JournalOtherRows
+mod JournalCachesSaid
+mod JournalAnswerRows
+mod JournalHandledRows
+pub mod JournalSilentLinks
+mod JournalVersionsSaid
+mod JournalMarksSaid
+mod JournalSwitchesSaid
+mod JournalBlockNumbers
+mod JournalVersionPolicies
+mod JournalSettings
+mod JournalFirstSteps
+mod JournalAnswerExistence
+mod JournalItemNumbers
+mod JournalSilentSteps
+mod JournalSilentController
 mod JournalKnownLinks
-mod SomePlay
+mod JournalSomePlay
 pub mod CallerLemmas
 pub mod Exports

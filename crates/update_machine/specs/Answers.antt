@@ -18,16 +18,16 @@ pub record StepOfRow : Type 0 where
   pub step : Step
 
 -- the journal after the steps wrote their pieces, one after another
-abbrev pub after_steps : Setting → List Item → List StepOfRow → List Item
-after_steps setting before [] = before
-after_steps setting before (next ∷ steps) =
-    after_steps setting (before ++ piece setting before next.row next.step) steps
+abbrev pub journal_after_steps : Setting → List Item → List StepOfRow → List Item
+journal_after_steps setting before [] = before
+journal_after_steps setting before (next ∷ steps) =
+    journal_after_steps setting (before ++ piece setting before next.row next.step) steps
 
 -- the journal is the pieces of any steps of the network, one after another
 pub record IsReached (setting : Setting) (journal : List Item) : Type 0 where
   pub steps : List StepOfRow
   pub own : All (λ next. IsStep setting.net (length setting.files) next.step) steps
-  pub written : journal ≡ after_steps setting [] steps
+  pub written : journal ≡ journal_after_steps setting [] steps
 
 -- ---- flush and drain
 
@@ -39,45 +39,45 @@ abbrev pub next_hop : List Item → Option Step
 next_hop journal = option_map Hop (next_travelling journal)
 
 -- after this journal, these are steps of the row, each the next one; and then there is none
-abbrev pub AreAll : Setting → (List Item → Option Step) → ℕ → List Item → List StepOfRow → Type 0
-AreAll setting next row before [] = next before ≡ None
-AreAll setting next row before (first ∷ steps) =
+abbrev pub AreAllEventSteps : Setting → (List Item → Option Step) → ℕ → List Item → List StepOfRow → Type 0
+AreAllEventSteps setting next row before [] = next before ≡ None
+AreAllEventSteps setting next row before (first ∷ steps) =
     (first.row ≡ row) × (next before ≡ Some first.step)
-    × AreAll setting next row (before ++ piece setting before first.row first.step) steps
+    × AreAllEventSteps setting next row (before ++ piece setting before first.row first.step) steps
 
 -- after this journal, these are first steps of the row, each the next one; others may follow
-abbrev pub AreSome : Setting → (List Item → Option Step) → ℕ → List Item → List StepOfRow → Type 0
-AreSome setting next row before [] = ⊤
-AreSome setting next row before (first ∷ steps) =
+abbrev pub AreFirstEventSteps : Setting → (List Item → Option Step) → ℕ → List Item → List StepOfRow → Type 0
+AreFirstEventSteps setting next row before [] = ⊤
+AreFirstEventSteps setting next row before (first ∷ steps) =
     (first.row ≡ row) × (next before ≡ Some first.step)
-    × AreSome setting next row (before ++ piece setting before first.row first.step) steps
+    × AreFirstEventSteps setting next row (before ++ piece setting before first.row first.step) steps
 
 -- ---- the steps of events
 
 -- after this journal, these are all steps of the event of the row
 abbrev pub AreStepsOf : Setting → ℕ → Event → List Item → List StepOfRow → Type 0
 AreStepsOf setting row (One step) before steps = steps ≡ record { row = row; step = step } ∷ []
-AreStepsOf setting row Flush before steps = AreAll setting next_delivery row before steps
-AreStepsOf setting row Drain before steps = AreAll setting next_hop row before steps
+AreStepsOf setting row Flush before steps = AreAllEventSteps setting next_delivery row before steps
+AreStepsOf setting row Drain before steps = AreAllEventSteps setting next_hop row before steps
 
 -- after this journal, these are first steps of the event of the row
 abbrev pub AreFirstStepsOf : Setting → ℕ → Event → List Item → List StepOfRow → Type 0
 AreFirstStepsOf setting row (One step) before steps =
     (steps ≡ []) ⊎ (steps ≡ record { row = row; step = step } ∷ [])
-AreFirstStepsOf setting row Flush before steps = AreSome setting next_delivery row before steps
-AreFirstStepsOf setting row Drain before steps = AreSome setting next_hop row before steps
+AreFirstStepsOf setting row Flush before steps = AreFirstEventSteps setting next_delivery row before steps
+AreFirstStepsOf setting row Drain before steps = AreFirstEventSteps setting next_hop row before steps
 
 -- the steps are these of one event and then those of others
-pub record Splits (mine rest steps : List StepOfRow) : Type 0 where
+pub record EventStepsSplit (mine rest steps : List StepOfRow) : Type 0 where
   pub split : steps ≡ mine ++ rest
 
 -- after this journal, these are all steps of the events, the first of which has this row
 abbrev pub AreSteps : Setting → ℕ → List Event → List Item → List StepOfRow → Type 0
 AreSteps setting row [] before steps = steps ≡ []
 AreSteps setting row (event ∷ events) before steps =
-    (mine : List StepOfRow) × (rest : List StepOfRow) × Splits mine rest steps
+    (mine : List StepOfRow) × (rest : List StepOfRow) × EventStepsSplit mine rest steps
     × AreStepsOf setting row event before mine
-    × AreSteps setting (row + 1) events (after_steps setting before mine) rest
+    × AreSteps setting (row + 1) events (journal_after_steps setting before mine) rest
 
 -- after this journal, these are first steps of the events: first ones of the first event, or all of
 -- its steps and then first ones of the others
@@ -85,9 +85,9 @@ abbrev pub AreFirstSteps : Setting → ℕ → List Event → List Item → List
 AreFirstSteps setting row [] before steps = steps ≡ []
 AreFirstSteps setting row (event ∷ events) before steps =
     AreFirstStepsOf setting row event before steps
-    ⊎ ((mine : List StepOfRow) × (rest : List StepOfRow) × Splits mine rest steps
+    ⊎ ((mine : List StepOfRow) × (rest : List StepOfRow) × EventStepsSplit mine rest steps
     × AreStepsOf setting row event before mine
-    × AreFirstSteps setting (row + 1) events (after_steps setting before mine) rest)
+    × AreFirstSteps setting (row + 1) events (journal_after_steps setting before mine) rest)
 
 -- ---- answers
 
@@ -96,14 +96,14 @@ AreFirstSteps setting row (event ∷ events) before steps =
 pub record Answers (setting : Setting) (events : List Event) (journal : List Item) : Type 0 where
   pub steps : List StepOfRow
   pub allowed : AreSteps setting 1 events [] steps
-  pub written : journal ≡ after_steps setting [] steps
+  pub written : journal ≡ journal_after_steps setting [] steps
 
 -- the journal answers the events up to its end: it is the pieces of their first steps
 pub record AnswersSoFar (setting : Setting) (events : List Event) (journal : List Item)
     : Type 0 where
   pub steps : List StepOfRow
   pub allowed : AreFirstSteps setting 1 events [] steps
-  pub written : journal ≡ after_steps setting [] steps
+  pub written : journal ≡ journal_after_steps setting [] steps
 
 -- the journal begins an answer to the events: items of the last of its steps may be missing
 pub record BeginsAnswer (setting : Setting) (events : List Event) (journal : List Item)

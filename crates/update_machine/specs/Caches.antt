@@ -21,8 +21,8 @@ abbrev pub raised_from : ℕ → ℕ → CacheValue → CacheValue
 raised_from earlier stamp cache = if nat_lt earlier stamp then after_raise stamp cache else cache
 
 -- a stamp that rises to a version carries the entries to it, except those that its change touches
-abbrev pub carried_from : List WordValue → ℕ → ℕ → CacheValue → CacheValue
-carried_from touched earlier version cache =
+abbrev pub cache_carried_from : List WordValue → ℕ → ℕ → CacheValue → CacheValue
+cache_carried_from touched earlier version cache =
     if nat_lt earlier version then after_carry version touched cache else cache
 
 -- the cache after a delivered body, under the stamps before and after its delivery: a cache rule
@@ -39,7 +39,7 @@ cache_after touched_of earlier stamp number cache (CacheRule version word rule a
 cache_after touched_of earlier stamp number cache (OpenAt boot version) =
     raised_from earlier stamp cache
 cache_after touched_of earlier stamp number cache (Stamp boot version touched) =
-    carried_from (touched_of version) earlier version cache
+    cache_carried_from (touched_of version) earlier version cache
 cache_after touched_of earlier stamp number cache _ = cache
 
 abbrev pub changes_cache : Setting → ℕ → List Item → CacheValue → Item → CacheValue

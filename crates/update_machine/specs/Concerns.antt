@@ -61,15 +61,15 @@ is_message_to_controller before number =
     option_map_or (λ message. is_to_controller message.to) (message_of before number) false
 
 -- a body after which a switch may serve
-abbrev pub is_opening : Body → Bool
-is_opening (OpenAt boot version) = true
-is_opening _ = false
+abbrev pub is_opening_body : Body → Bool
+is_opening_body (OpenAt boot version) = true
+is_opening_body _ = false
 
 -- what is delivered to the controller, messages by which it opens switches, confirmations,
 -- submissions and marks
 abbrev pub concerns_controller : List Item → Item → Bool
 concerns_controller before (item.Delivered number) = is_message_to_controller before number
-concerns_controller before (item.Sent number message) = is_opening message.body
+concerns_controller before (item.Sent number message) = is_opening_body message.body
 concerns_controller before (item.OverNow switch) = true
 concerns_controller before (item.Submitted file version) = true
 concerns_controller before (item.Current version) = true

@@ -16,7 +16,7 @@ use Rattle.update_machine.specs.Boots.{is_up, body_to_switch}
 use Rattle.update_machine.specs.LinkMasks.{near}
 use Rattle.update_machine.specs.Marks.{known_boot}
 use Rattle.update_machine.specs.Messages.{send_items}
-use Rattle.update_machine.specs.Moves.{in_turn, items_then}
+use Rattle.update_machine.specs.Moves.{in_turn, journal_items_then}
 use Rattle.update_machine.specs.Setting.{Setting}
 use Rattle.update_machine.specs.SwitchNumbers.{switches_of}
 use Rattle.update_machine.specs.Settling.{installs_to, settling, to_switch}
@@ -33,34 +33,34 @@ abbrev pub advert_to : ℕ → Advert → Message
 advert_to s advert = to_switch s (Advertise advert)
 
 -- the switch is up, and the mask of its usable links changed
-abbrev pub has_changed : Setting → List Item → List Item → ℕ → Bool
-has_changed setting before journal s =
+abbrev pub usable_links_changed : Setting → List Item → List Item → ℕ → Bool
+usable_links_changed setting before journal s =
     is_up journal s && not (near setting before s == near setting journal s)
 
 -- what the switch sends a neighbour: over a link that became usable all adverts that it has, over
 -- any other one only its own
-abbrev pub messages_over : Setting → List Item → List Item → ℕ → ℕ → List Message
-messages_over setting before journal s neighbour = elim (has (near setting before s) neighbour) [
+abbrev pub messages_over_link : Setting → List Item → List Item → ℕ → ℕ → List Message
+messages_over_link setting before journal s neighbour = elim (has (near setting before s) neighbour) [
   | true ↦ advert_to neighbour (own_advert setting journal s) ∷ []
   | false ↦ map (advert_to neighbour) (held_adverts setting journal s)
 ]
 
 abbrev pub messages_of : Setting → List Item → List Item → ℕ → List Message
 messages_of setting before journal s =
-    flat_map (messages_over setting before journal s) (switches_in setting (near setting journal s))
+    flat_map (messages_over_link setting before journal s) (switches_in setting (near setting journal s))
 
 -- each switch whose links changed sends to its neighbours, all by ascending number
 unfoldable pub link_changes : Setting → List Item → List Item → List Item
 link_changes setting before journal =
     send_items journal
     (flat_map (messages_of setting before journal)
-    (filter (has_changed setting before journal) (switches_of setting)))
+    (filter (usable_links_changed setting before journal) (switches_of setting)))
 
 -- ---- at a switch
 
 -- the switch passes an advert on to its neighbours
-abbrev pub passed_on : Setting → List Item → ℕ → Advert → List Message
-passed_on setting journal s advert =
+abbrev pub advert_passed_on : Setting → List Item → ℕ → Advert → List Message
+advert_passed_on setting journal s advert =
     map (λ neighbour. advert_to neighbour advert)
     (switches_in setting (near setting journal s))
 
@@ -77,12 +77,12 @@ switch_items setting before s (Stamp boot version touched) journal =
     send_items journal (to_controller (Stamped s boot version) ∷ [])
 switch_items setting before s (OpenAt boot version) journal = elim (serves before s) [
   | true ↦ []
-  | false ↦ items_then (item.Opened s (stamp_of journal s) ∷ []) (link_changes setting before)
+  | false ↦ journal_items_then (item.Opened s (stamp_of journal s) ∷ []) (link_changes setting before)
       journal
 ]
 switch_items setting before s (Advertise advert) journal =
     elim (is_news_to setting before s advert) [
-      | true ↦ send_items journal (passed_on setting journal s advert)
+      | true ↦ send_items journal (advert_passed_on setting journal s advert)
       | false ↦ []
     ]
 switch_items setting before s _ journal = []

@@ -2,35 +2,35 @@
 use Rattle.std.specs.Prelude.{[], ◌++◌, ◌<◌, ◌∷◌, ◌≡◌, ◌≤◌, List, None, Option, Some, ℕ, ⊤}
 use Rattle.journal.specs.declared.item.Item.{Item}
 use Rattle.steps.specs.declared.step.Event.{Event}
-use Rattle.update_machine.specs.Answers.{Answers, AreFirstSteps, StepOfRow, after_steps}
+use Rattle.update_machine.specs.Answers.{Answers, AreFirstSteps, StepOfRow, journal_after_steps}
 use Rattle.update_machine.specs.Messages.{next_message}
 use Rattle.update_machine.specs.Pieces.{piece}
 use Rattle.update_machine.specs.Setting.{Setting}
 
 -- this many messages fill a journal
-abbrev pub full_at : ℕ
-full_at = 990_000
+abbrev pub journal_full_at : ℕ
+journal_full_at = 990_000
 
 -- so many messages were sent that no step begins after this journal: messages are numbered from 1,
 -- so the next one has a number above their count
 abbrev pub IsFull : List Item → Type 0
-IsFull journal = full_at < next_message journal
+IsFull journal = journal_full_at < next_message journal
 
 -- a step may begin after this journal
 abbrev pub HasRoom : List Item → Type 0
-HasRoom journal = next_message journal ≤ full_at
+HasRoom journal = next_message journal ≤ journal_full_at
 
 -- each of these steps begins with room, the first one after this journal
-abbrev pub HaveRoom : Setting → List Item → List StepOfRow → Type 0
-HaveRoom setting before [] = ⊤
-HaveRoom setting before (next ∷ steps) =
-    HasRoom before × HaveRoom setting (before ++ piece setting before next.row next.step) steps
+abbrev pub JournalsHaveRoom : Setting → List Item → List StepOfRow → Type 0
+JournalsHaveRoom setting before [] = ⊤
+JournalsHaveRoom setting before (next ∷ steps) =
+    HasRoom before × JournalsHaveRoom setting (before ++ piece setting before next.row next.step) steps
 
 -- the journal answers the events, and each of their steps began with room
 pub record AnswersWithRoom (setting : Setting) (events : List Event) (journal : List Item)
     : Type 0 where
   pub answers : Answers setting events journal
-  pub room : HaveRoom setting [] answers.steps
+  pub room : JournalsHaveRoom setting [] answers.steps
 
 -- the journal answers the events as far as there was room: it is the pieces of their first steps,
 -- it is full, and the next step, which isn't taken, is of this row
@@ -39,8 +39,8 @@ pub record StopsFull (setting : Setting) (events : List Event) (journal : List I
   pub steps : List StepOfRow
   pub next : StepOfRow
   pub allowed : AreFirstSteps setting 1 events [] (steps ++ next ∷ [])
-  pub written : journal ≡ after_steps setting [] steps
-  pub room : HaveRoom setting [] steps
+  pub written : journal ≡ journal_after_steps setting [] steps
+  pub room : JournalsHaveRoom setting [] steps
   pub full : IsFull journal
   pub of_row : next.row ≡ row
 

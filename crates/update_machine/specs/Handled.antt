@@ -16,9 +16,9 @@ is_entry_at s (item.Closed packet switch) = switch == s
 is_entry_at s _ = false
 
 -- a packet moved on
-abbrev pub is_move : Item → Bool
-is_move (item.Hopped packet switch) = true
-is_move _ = false
+abbrev pub is_packet_move : Item → Bool
+is_packet_move (item.Hopped packet switch) = true
+is_packet_move _ = false
 
 -- a link was found down, and the packet got stuck right there
 abbrev pub stuck_at_link : List Item → Bool
@@ -28,7 +28,7 @@ stuck_at_link [] = false
 
 -- the items of a hop that moved its packet on, or found it stuck before it arrived
 abbrev pub stays_on_way : List Item → Bool
-stays_on_way items = list_any is_move items || stuck_at_link items
+stays_on_way items = list_any is_packet_move items || stuck_at_link items
 
 -- a hop of a packet that was at the switch is a call there, and another one if it arrives
 abbrev pub hop_calls : ℕ → StepItems → List Item → ℕ

@@ -1,6 +1,6 @@
 -- The laws of what journals say: each is ensured by a function of the crate that has no body.
 use Rattle.std.specs.Prelude.{[], if◌then◌else◌, ◌++◌, ◌<◌, ◌==◌, ◌↔◌, ◌∷◌, ◌≡◌, ◌≢◌, ◌≤◌, IsTrue, List, None, Some, false, length, map, option_to_list, true, ℕ}
-use Rattle.failover.specs.Exports.{IsIsolated, IsNewest, IsRoute, first_advert, first_adverts, held_advert, no_links}
+use Rattle.failover.specs.Exports.{IsIsolated, IsNewestAdvert, IsRoute, first_advert, first_adverts, held_advert, no_links}
 use Rattle.five_tuple.specs.declared.header.Header.{Header}
 use Rattle.net_file.specs.Exports.{links_of, owner_of}
 use Rattle.policy_rules.specs.declared.packet.Leg.TheVariants.{Exit}
@@ -15,7 +15,7 @@ use Rattle.update_machine.specs.Handled.{handled_count}
 use Rattle.update_machine.specs.Links.{is_link_up, serves, message_of}
 use Rattle.update_machine.specs.Marks.{acked_stamp, controller_heard, current_mark, has_acked, is_member, is_over, known_boot, opened_at, retired_mark}
 use Rattle.update_machine.specs.Messages.{is_deliverable, is_forgotten, next_message, next_waiting, was_delivered}
-use Rattle.update_machine.specs.Moves.{end_items, stuck_on}
+use Rattle.update_machine.specs.Moves.{end_items, stuck_on_leg_items}
 use Rattle.update_machine.specs.Packets.{decision_of, header_in, next_packet, standing}
 use Rattle.update_machine.specs.Quiet.{is_waited_for}
 use Rattle.update_machine.specs.Sendings.{sendings}
@@ -208,7 +208,7 @@ pub record ConcernLaws : Type 0 where
 pub record KnownLinkLaws : Type 0 where
   -- of another switch it knows the newest advert of those that it began with and heard
   pub newest : (setting : Setting) (journal : List Item) (s origin : ℕ) → origin ≢ s → origin < 64 →
-      IsNewest origin
+      IsNewestAdvert origin
       (option_to_list (held_advert (adverts_begun setting journal s) origin)
       ++ adverts_heard journal s)
       (advert_known setting journal s origin)
@@ -227,4 +227,4 @@ pub record KnownLinkLaws : Type 0 where
   -- a packet that is to leave by a port that no switch has is stuck where it was decided
   pub portless : (setting : Setting) (journal : List Item) (i s port : ℕ) → s < 64 →
       owner_of setting.net.switches port ≡ None →
-      end_items setting i s (Out port) journal ≡ stuck_on setting journal i s (Exit port) ∷ []
+      end_items setting i s (Out port) journal ≡ stuck_on_leg_items setting journal i s (Exit port) ∷ []

@@ -77,17 +77,17 @@ abbrev pub claim_in : ℕ → ℕ → Message → Option Claim
 claim_in s one message = claim_by s one message.to message.body
 
 -- the newer of two claims, and of equally new ones the first
-abbrev pub newer_of : Option Claim → Option Claim → Option Claim
-newer_of held None = held
-newer_of None heard = heard
-newer_of (Some held) (Some heard) = if nat_lt held.boot heard.boot
+abbrev pub newer_claim_of : Option Claim → Option Claim → Option Claim
+newer_claim_of held None = held
+newer_claim_of None heard = heard
+newer_claim_of (Some held) (Some heard) = if nat_lt held.boot heard.boot
     || (held.boot == heard.boot && nat_lt held.seq heard.seq) then Some heard else Some held
 
 abbrev pub changes_claim : ℕ → ℕ → List Item → Option Claim → Item → Option Claim
 changes_claim s one before claim (item.Down switch) = if switch == s then None else claim
 changes_claim s one before claim (item.Booted switch boot) = if switch == s then None else claim
 changes_claim s one before claim (item.Delivered number) =
-    newer_of claim (option_and_then (claim_in s one) (message_of before number))
+    newer_claim_of claim (option_and_then (claim_in s one) (message_of before number))
 changes_claim s one before claim _ = claim
 
 -- at the beginning each switch knows each one's links in the network

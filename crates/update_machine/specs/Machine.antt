@@ -54,7 +54,7 @@ with_packet machine number packet = record machine {
 
 -- there must be a policy that the file has, or makes of the newest one; then it is the newest
 -- version, and has its number
-pub record Submits (old : Machine) (version : ℕ) (made : Option (List Row)) (new : Machine)
+pub record MachineSubmits (old : Machine) (version : ℕ) (made : Option (List Row)) (new : Machine)
     : Type 0 where
   pub policy : List Row
   pub there : made ≡ Some policy
@@ -62,13 +62,13 @@ pub record Submits (old : Machine) (version : ℕ) (made : Option (List Row)) (n
   pub after : new ≡ record old { policies = old.policies ++ policy ∷ [] }
 
 -- the mark rises, but not to the newest version
-pub record Retires (old : Machine) (mark : ℕ) (new : Machine) : Type 0 where
+pub record MachineRetires (old : Machine) (mark : ℕ) (new : Machine) : Type 0 where
   pub rises : old.mark < mark
   pub below_newest : mark < length old.policies
   pub after : new ≡ record old { mark = mark }
 
 -- a new packet enters under the present mark
-pub record Enters (old : Machine) (number : ℕ) (header : Header) (new : Machine) : Type 0 where
+pub record MachineEnters (old : Machine) (number : ℕ) (header : Header) (new : Machine) : Type 0 where
   pub unknown : old.packets number ≡ None
   pub after : new ≡ with_packet old number
       (record { header = header; entry_mark = old.mark; decision = None; end = None })
@@ -86,27 +86,27 @@ pub record Decides (old : Machine) (number version : ℕ) (hit : Hit) (new : Mac
   pub after : new ≡ with_packet old number (record packet { decision = Some hit })
 
 -- a packet is dropped or leaves only as its decision says; it may be lost or get stuck at any time
-abbrev pub MayEnd : Packet → End → Type 0
-MayEnd packet Dropped = option_map (λ hit. hit.action) packet.decision ≡ Some action.Drop
-MayEnd packet (LeftBy port) =
+abbrev pub MachineMayEnd : Packet → End → Type 0
+MachineMayEnd packet Dropped = option_map (λ hit. hit.action) packet.decision ≡ Some action.Drop
+MachineMayEnd packet (LeftBy port) =
     option_map (λ hit. hit.action) packet.decision ≡ Some (action.Out port)
-MayEnd packet _ = ⊤
+MachineMayEnd packet _ = ⊤
 
 -- a packet ends, and ends once
 pub record Ends (old : Machine) (number : ℕ) (end : End) (new : Machine) : Type 0 where
   pub packet : Packet
   pub entered : old.packets number ≡ Some packet
   pub not_ended : packet.end ≡ None
-  pub may : MayEnd packet end
+  pub may : MachineMayEnd packet end
   pub after : new ≡ with_packet old number (record packet { end = Some end })
 
 -- what an item does to the machine: a move that the machine may make, or nothing
 abbrev pub Takes : Setting → Machine → Item → Machine → Type 0
 Takes setting old (item.Submitted file version) new =
     let newest = submitted_policy old (length old.policies) in
-    Submits old version (result_ok (policy_by setting newest file)) new
-Takes setting old (item.Retired version) new = Retires old version new
-Takes setting old (item.Entered packet switch header) new = Enters old packet header new
+    MachineSubmits old version (result_ok (policy_by setting newest file)) new
+Takes setting old (item.Retired version) new = MachineRetires old version new
+Takes setting old (item.Entered packet switch header) new = MachineEnters old packet header new
 Takes setting old (item.Decided packet version rule action how) new =
     Decides old packet version (record { rule = rule; action = action }) new
 Takes setting old (item.Dropped packet) new = Ends old packet Dropped new

@@ -59,26 +59,26 @@ changes_over s before over _ = over
 unfoldable pub is_over : List Item → ℕ → Bool
 is_over journal s = folded_value (changes_over s) false journal
 
-abbrev pub open_in : ℕ → Body → List ℕ
-open_in boot (OpenAt of version) = if of == boot then version ∷ [] else []
-open_in boot _ = []
+abbrev pub open_version_in : ℕ → Body → List ℕ
+open_version_in boot (OpenAt of version) = if of == boot then version ∷ [] else []
+open_version_in boot _ = []
 
 -- the version of an Open message of this boot to the switch
 abbrev pub open_sent : ℕ → ℕ → Item → List ℕ
 open_sent s boot (item.Sent number message) =
-    if is_to_switch s message.to then open_in boot message.body else []
+    if is_to_switch s message.to then open_version_in boot message.body else []
 open_sent s boot _ = []
 
 -- the first of these, if there is one
-abbrev pub first_number : List ℕ → Option ℕ
-first_number [] = None
-first_number (x ∷ xs) = Some x
+abbrev pub first_open_number : List ℕ → Option ℕ
+first_open_number [] = None
+first_open_number (x ∷ xs) = Some x
 
 -- the version at which the switch was opened in its known boot: 1 in boot 1
 unfoldable pub opened_at : List Item → ℕ → Option ℕ
 opened_at journal s = if known_boot journal s == 1
     then Some 1
-    else first_number (all_given (open_sent s (known_boot journal s)) journal)
+    else first_open_number (all_given (open_sent s (known_boot journal s)) journal)
 
 abbrev pub open_version : List Item → ℕ → ℕ
 open_version journal s = unwrap_or (opened_at journal s) 0
@@ -95,30 +95,30 @@ is_joining journal s = not (is_over journal s) && not (is_member journal s)
 abbrev pub members : Setting → List Item → List ℕ
 members setting journal = filter (is_member journal) (switches_of setting)
 
-abbrev pub installed_in : ℕ → ℕ → Body → Option ℕ
-installed_in s boot (Installed switch of version) =
+abbrev pub installed_version_in : ℕ → ℕ → Body → Option ℕ
+installed_version_in s boot (Installed switch of version) =
     if switch == s && of == boot then Some version else None
-installed_in s boot _ = None
+installed_version_in s boot _ = None
 
 -- the versions whose tables the switch acknowledged in its known boot: version 1 in boot 1
 abbrev pub acked : List Item → ℕ → List ℕ
 acked journal s =
     (if known_boot journal s == 1 then 1 ∷ [] else [])
-    ++ filter_map (installed_in s (known_boot journal s)) (controller_heard journal)
+    ++ filter_map (installed_version_in s (known_boot journal s)) (controller_heard journal)
 
 unfoldable pub has_acked : List Item → ℕ → ℕ → Bool
 has_acked journal s version = list_any (nat_eq version) (acked journal s)
 
-abbrev pub stamped_in : ℕ → ℕ → Body → Option ℕ
-stamped_in s boot (Stamped switch of version) =
+abbrev pub stamped_version_in : ℕ → ℕ → Body → Option ℕ
+stamped_version_in s boot (Stamped switch of version) =
     if switch == s && of == boot then Some version else None
-stamped_in s boot _ = None
+stamped_version_in s boot _ = None
 
 -- the greatest version with which a member is known to stamp: at least that at which it was opened
 unfoldable pub acked_stamp : List Item → ℕ → ℕ
 acked_stamp journal s =
     fold max (open_version journal s)
-    (filter_map (stamped_in s (known_boot journal s)) (controller_heard journal))
+    (filter_map (stamped_version_in s (known_boot journal s)) (controller_heard journal))
 
 -- ---- the marks
 
@@ -172,7 +172,7 @@ next_retired setting journal =
 
 -- clause (a): current rises only to a version that exists, and only if each member acknowledged
 -- every version above the old mark up to it
-pub record MayRise (setting : Setting) (before : List Item) (version : ℕ) : Type 0 where
+pub record CurrentMayRise (setting : Setting) (before : List Item) (version : ℕ) : Type 0 where
   pub rises : current_mark before < version
   pub there : version ≤ version_count before
   pub acknowledged : (v : ℕ) → current_mark before < v → v ≤ version →

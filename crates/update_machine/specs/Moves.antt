@@ -37,34 +37,34 @@ use Rattle.update_machine.specs.PacketRoutes.{found_down, next_switch, owner, ta
 -- ---- blocks
 
 -- these items, and what follows a journal with them at its end
-abbrev pub items_then : List Item → (List Item → List Item) → List Item → List Item
-items_then items rest journal = items ++ rest (journal ++ items)
+abbrev pub journal_items_then : List Item → (List Item → List Item) → List Item → List Item
+journal_items_then items rest journal = items ++ rest (journal ++ items)
 
 -- blocks one after another, each read on the journal with those before it
 abbrev pub in_turn : List (List Item → List Item) → List Item → List Item
 in_turn [] journal = []
-in_turn (block ∷ blocks) journal = items_then (block journal) (in_turn blocks) journal
+in_turn (block ∷ blocks) journal = journal_items_then (block journal) (in_turn blocks) journal
 
 -- ---- legs
 
 -- a packet that finds no route is stuck without an authority exactly if it seeks one and no
 -- known link ends at any target
-abbrev pub cause_at : Setting → List Item → ℕ → List ℕ → Leg → Cause
-cause_at setting journal s down (Seek version partition) =
+abbrev pub stuck_cause_at : Setting → List Item → ℕ → List ℕ → Leg → Cause
+stuck_cause_at setting journal s down (Seek version partition) =
     if list_all (is_cut_off setting journal s down)
     (targets_of setting journal (Seek version partition))
     then NoAuthority else NoRoute
-cause_at setting journal s down (Exit port) = NoRoute
+stuck_cause_at setting journal s down (Exit port) = NoRoute
 
 -- the packet is stuck at the switch on this leg
-abbrev pub stuck_on : Setting → List Item → ℕ → ℕ → Leg → Item
-stuck_on setting journal i s leg =
-    item.Stuck i s (cause_at setting journal s (found_down journal i) leg) leg
+abbrev pub stuck_on_leg_items : Setting → List Item → ℕ → ℕ → Leg → Item
+stuck_on_leg_items setting journal i s leg =
+    item.Stuck i s (stuck_cause_at setting journal s (found_down journal i) leg) leg
     (found_down journal i)
 
 -- the route from the switch to the leg's targets, without the links that the packet found down
-abbrev pub route_for : Setting → List Item → ℕ → ℕ → Leg → Option (List ℕ)
-route_for setting journal i s leg =
+abbrev pub packet_route_for : Setting → List Item → ℕ → ℕ → Leg → Option (List ℕ)
+packet_route_for setting journal i s leg =
     route_from setting journal s (targets_of setting journal leg) (found_down journal i)
 
 abbrev pub takes_route : ℕ → Leg → List ℕ → Item
@@ -73,16 +73,16 @@ takes_route i (Exit port) route = item.Exiting i route
 
 -- the packet takes a leg from the switch, or is stuck there
 unfoldable pub leg_items : Setting → List Item → ℕ → ℕ → Leg → List Item
-leg_items setting journal i s leg = elim (route_for setting journal i s leg) [
-  | None ↦ stuck_on setting journal i s leg ∷ []
+leg_items setting journal i s leg = elim (packet_route_for setting journal i s leg) [
+  | None ↦ stuck_on_leg_items setting journal i s leg ∷ []
   | Some route ↦ takes_route i leg route ∷ []
 ]
 
 -- ---- decisions
 
 -- the packet's header
-abbrev pub header_at : List Item → ℕ → Header
-header_at journal i =
+abbrev pub packet_header_at : List Item → ℕ → Header
+packet_header_at journal i =
     unwrap_or (header_in journal i)
     (header_of (record { src = 0; dst = 0; sport = 0; dport = 0; proto = 0 }))
 
@@ -90,7 +90,7 @@ header_at journal i =
 abbrev pub leaving_item : List Item → ℕ → ℕ → Item
 leaving_item journal i port = item.Left i port (record {
   packet = i;
-  header = header_at journal i;
+  header = packet_header_at journal i;
   version = unwrap_or (option_map (λ decision. decision.version) (decision_of journal i)) 0;
   rule = unwrap_or (option_map (λ decision. decision.rule) (decision_of journal i)) None;
 })
@@ -123,8 +123,7 @@ authority_rule setting journal version partition place =
 -- the place of the first rule of the partition that holds the header
 abbrev pub first_place : Setting → List Item → ℕ → ℕ → Header → ℕ
 first_place setting journal version partition header =
-    unwrap_or (option_and_then
-    (λ hosted. position (is_held (number_of header)) hosted.0.rules)
+    unwrap_or (option_and_then (λ hosted. position (is_held (number_of header)) hosted.0.rules)
     (slice_get (plan_at setting journal version) partition)) 0
 
 -- the cache rule by which the ingress decides headers as this rule does
@@ -138,18 +137,17 @@ cache_rule found ingress header = record {
 
 -- the switch sends it to an ingress other than itself
 unfoldable pub cache_items : Setting → ℕ → ℕ → AuthorityRule → List Item → List Item
-cache_items setting i s found journal =
-    elim (is_at s (ingress_of journal i)) [
-      | true ↦ []
-      | false ↦ send_items journal
-          (cache_rule found (unwrap_or (ingress_of journal i) 0) (header_at journal i) ∷ [])
-    ]
+cache_items setting i s found journal = elim (is_at s (ingress_of journal i)) [
+  | true ↦ []
+  | false ↦ send_items journal
+      (cache_rule found (unwrap_or (ingress_of journal i) 0) (packet_header_at journal i) ∷ [])
+]
 
 -- an authority rule of the switch decides the packet
 unfoldable pub authority_items : Setting → ℕ → ℕ → Option AuthorityRule → List Item → List Item
 authority_items setting i s None journal = []
 authority_items setting i s (Some found) journal =
-    items_then
+    journal_items_then
     (item.Decided i found.version found.rule.rule found.rule.action
     (how.Authority s found.part.number) ∷ [])
     (in_turn (cache_items setting i s found ∷ end_items setting i s found.rule.action ∷ [])) journal
@@ -157,7 +155,7 @@ authority_items setting i s (Some found) journal =
 -- what becomes of the packet by a lookup under the switch's stamp
 abbrev pub found_items : Setting → ℕ → ℕ → Found → List Item → List Item
 found_items setting i s (found.Cached entry) journal =
-    items_then
+    journal_items_then
     (item.Decided i entry.version entry.rule entry.action (how.Cached entry.message) ∷ [])
     (end_items setting i s entry.action) journal
 found_items setting i s (found.Authority partition place) journal =
@@ -168,25 +166,25 @@ found_items setting i s (found.Redirect partition targets) journal =
 
 unfoldable pub lookup_items : Setting → ℕ → ℕ → List Item → List Item
 lookup_items setting i s journal =
-    found_items setting i s (lookup_at setting journal s (header_at journal i)) journal
+    found_items setting i s (lookup_at setting journal s (packet_header_at journal i)) journal
 
 -- ---- on the way
 
 -- a packet that arrives by its leg: at its port, at an authority switch that has its version, or
 -- at one that doesn't have it and looks the packet up again
-abbrev pub arrive_by : Setting → ℕ → ℕ → Option Leg → List Item → List Item
-arrive_by setting i s None journal = []
-arrive_by setting i s (Some (Exit port)) journal = leaving_item journal i port ∷ []
-arrive_by setting i s (Some (Seek version partition)) journal =
+abbrev pub arrive_by_leg_items : Setting → ℕ → ℕ → Option Leg → List Item → List Item
+arrive_by_leg_items setting i s None journal = []
+arrive_by_leg_items setting i s (Some (Exit port)) journal = leaving_item journal i port ∷ []
+arrive_by_leg_items setting i s (Some (Seek version partition)) journal =
     elim (holds_version journal s version) [
       | false ↦ lookup_items setting i s journal
-      | true ↦ let place = first_place setting journal version partition (header_at journal i) in
+      | true ↦ let place = first_place setting journal version partition (packet_header_at journal i) in
           authority_items setting i s (authority_rule setting journal version partition place)
           journal
     ]
 
 unfoldable pub arrive_items : Setting → ℕ → ℕ → List Item → List Item
-arrive_items setting i s journal = arrive_by setting i s (leg_of journal i) journal
+arrive_items setting i s journal = arrive_by_leg_items setting i s (leg_of journal i) journal
 
 -- it moves on along its new route, or arrives if that is only this switch
 abbrev pub go_on : Setting → ℕ → ℕ → List Item → List Item
@@ -198,9 +196,9 @@ go_on setting i s journal = elim (next_switch journal i) [
 -- with one more link found down, it takes a new route from the switch, or is stuck there
 abbrev pub reroute_by : Setting → ℕ → ℕ → Option Leg → List Item → List Item
 reroute_by setting i s None journal = []
-reroute_by setting i s (Some leg) journal = elim (route_for setting journal i s leg) [
-  | None ↦ stuck_on setting journal i s leg ∷ []
-  | Some route ↦ items_then (item.Rerouted i route ∷ []) (go_on setting i s) journal
+reroute_by setting i s (Some leg) journal = elim (packet_route_for setting journal i s leg) [
+  | None ↦ stuck_on_leg_items setting journal i s leg ∷ []
+  | Some route ↦ journal_items_then (item.Rerouted i route ∷ []) (go_on setting i s) journal
 ]
 
 unfoldable pub reroute_items : Setting → ℕ → ℕ → List Item → List Item
@@ -212,6 +210,6 @@ move_items setting i s journal = elim (next_switch journal i) [
   | None ↦ arrive_items setting i s journal
   | Some next ↦ elim (has (near setting journal s) next) [
     | true ↦ item.Hopped i next ∷ []
-    | false ↦ items_then (item.FoundDown i s next ∷ []) (reroute_items setting i s) journal
+    | false ↦ journal_items_then (item.FoundDown i s next ∷ []) (reroute_items setting i s) journal
   ]
 ]

@@ -31,9 +31,9 @@ pub record AreNumbered (journal : List Item) : Type 0 where
   pub versions : VersionsAreNumbered journal
 
 -- the cause of a number: it is the next one
-abbrev pub TakesNext : List Item → Item → Type 0
-TakesNext before (item.Sent number message) = number ≡ next_message before
-TakesNext before (item.Entered packet switch header) = packet ≡ next_packet before
-TakesNext before (item.Closed packet switch) = packet ≡ next_packet before
-TakesNext before (item.Submitted file version) = version ≡ version_count before + 1
-TakesNext before _ = ⊤
+abbrev pub TakesNextNumber : List Item → Item → Type 0
+TakesNextNumber before (item.Sent number message) = number ≡ next_message before
+TakesNextNumber before (item.Entered packet switch header) = packet ≡ next_packet before
+TakesNextNumber before (item.Closed packet switch) = packet ≡ next_packet before
+TakesNextNumber before (item.Submitted file version) = version ≡ version_count before + 1
+TakesNextNumber before _ = ⊤

@@ -21,7 +21,7 @@ use Rattle.update_machine.specs.Deliveries.{advert_to, delivery_items, link_chan
 use Rattle.update_machine.specs.Links.{is_link_up, serves}
 use Rattle.update_machine.specs.Marks.{most_live, most_versions, retired_mark}
 use Rattle.update_machine.specs.Messages.{is_deliverable, send_items}
-use Rattle.update_machine.specs.Moves.{lookup_items, move_items, items_then}
+use Rattle.update_machine.specs.Moves.{lookup_items, move_items, journal_items_then}
 use Rattle.update_machine.specs.Packets.{next_packet, standing}
 use Rattle.update_machine.specs.Setting.{Setting}
 use Rattle.update_machine.specs.Settling.{resent_by_controller, settling, submitted_items}
@@ -38,7 +38,7 @@ nothing = item.Nothing ∷ []
 unfoldable pub packet_items : Setting → ℕ → ℕ → Header → List Item → List Item
 packet_items setting i s header journal = elim (serves journal s) [
   | false ↦ item.Closed i s ∷ []
-  | true ↦ items_then (item.Entered i s header ∷ []) (lookup_items setting i s) journal
+  | true ↦ journal_items_then (item.Entered i s header ∷ []) (lookup_items setting i s) journal
 ]
 
 unfoldable pub hop_items : Setting → ℕ → List Item → List Item
@@ -58,7 +58,7 @@ lose_items i journal = elim (travels journal i) [
 unfoldable pub deliver_items : Setting → List Item → ℕ → List Item → List Item
 deliver_items setting before number journal = elim (is_deliverable before number) [
   | false ↦ nothing
-  | true ↦ items_then (item.Delivered number ∷ []) (delivery_items setting before number) journal
+  | true ↦ journal_items_then (item.Delivered number ∷ []) (delivery_items setting before number) journal
 ]
 
 unfoldable pub forget_items : ℕ → List Item → List Item
@@ -110,7 +110,7 @@ update_code setting journal file = elim (next_policy setting journal file) [
 unfoldable pub update_items : Setting → ℕ → List Item → List Item
 update_items setting file journal = elim (update_code setting journal file) [
   | Some code ↦ item.Refused file code ∷ []
-  | None ↦ items_then (item.Submitted file (version_count journal + 1) ∷ [])
+  | None ↦ journal_items_then (item.Submitted file (version_count journal + 1) ∷ [])
       (submitted_items setting)
       journal
 ]
@@ -121,7 +121,7 @@ update_items setting file journal = elim (update_code setting journal file) [
 unfoldable pub link_items : Setting → List Item → ℕ → ℕ → Bool → List Item → List Item
 link_items setting before one two up journal = elim (beq (is_link_up before one two) up) [
   | true ↦ nothing
-  | false ↦ items_then (item.LinkIs (min one two) (max one two) up ∷ [])
+  | false ↦ journal_items_then (item.LinkIs (min one two) (max one two) up ∷ [])
       (link_changes setting before)
       journal
 ]
@@ -130,7 +130,7 @@ link_items setting before one two up journal = elim (beq (is_link_up before one 
 unfoldable pub crash_items : Setting → List Item → ℕ → List Item → List Item
 crash_items setting before s journal = elim (is_up before s) [
   | false ↦ nothing
-  | true ↦ items_then (item.Down s ∷ map item.Lost (packets_at before s))
+  | true ↦ journal_items_then (item.Down s ∷ map item.Lost (packets_at before s))
       (link_changes setting before) journal
 ]
 
@@ -141,7 +141,7 @@ hello_of journal s = to_controller (Hello s (boot_of journal s))
 unfoldable pub restart_items : ℕ → List Item → List Item
 restart_items s journal = elim (is_up journal s) [
   | true ↦ nothing
-  | false ↦ items_then (item.Booted s (boot_of journal s + 1) ∷ [])
+  | false ↦ journal_items_then (item.Booted s (boot_of journal s + 1) ∷ [])
       (λ booted. send_items booted (hello_of booted s ∷ [])) journal
 ]
 
@@ -149,7 +149,7 @@ restart_items s journal = elim (is_up journal s) [
 unfoldable pub confirm_items : Setting → ℕ → List Item → List Item
 confirm_items setting s journal = elim (is_up journal s) [
   | true ↦ nothing
-  | false ↦ items_then (item.OverNow s ∷ []) (settling setting) journal
+  | false ↦ journal_items_then (item.OverNow s ∷ []) (settling setting) journal
 ]
 
 -- a switch that is up sends its hello again, and to each neighbour every advert that it has
@@ -193,4 +193,4 @@ step_items setting before (Resend switch) = resend_items setting switch
 -- what a step of this row writes after the journal
 unfoldable pub piece : Setting → List Item → ℕ → Step → List Item
 piece setting journal row step =
-    items_then (item.Row row step ∷ []) (step_items setting journal step) journal
+    journal_items_then (item.Row row step ∷ []) (step_items setting journal step) journal

@@ -23,11 +23,11 @@ use Rattle.update_machine.specs.SwitchNumbers.{switches_of}
 -- ---- which messages matter
 
 -- the switch that speaks in a body to the controller, and its boot
-abbrev pub speaker : Body → Option (ℕ × ℕ)
-speaker (Hello s boot) = Some (s, boot)
-speaker (Installed s boot version) = Some (s, boot)
-speaker (Stamped s boot version) = Some (s, boot)
-speaker _ = None
+abbrev pub speaking_in_body : Body → Option (ℕ × ℕ)
+speaking_in_body (Hello s boot) = Some (s, boot)
+speaking_in_body (Installed s boot version) = Some (s, boot)
+speaking_in_body (Stamped s boot version) = Some (s, boot)
+speaking_in_body _ = None
 
 abbrev pub is_of_boot : ℕ → ℕ → ℕ × ℕ → Bool
 is_of_boot s boot (switch, of) = switch == s && of == boot
@@ -61,7 +61,7 @@ abbrev pub matters : List Item → ℕ → Message → List Item → Bool
 matters journal s message after = elim message.to [
   | receiver.Controller ↦
       is_up journal s
-      && option_map_or (is_of_boot s (boot_of journal s)) (speaker message.body) false
+      && option_map_or (is_of_boot s (boot_of journal s)) (speaking_in_body message.body) false
       && not (is_old_answer (current_mark journal) message.body)
   | receiver.Switch to ↦
       is_up journal s && to == s && not (list_any (begins_boot s) after)
@@ -82,32 +82,31 @@ is_later_body (Advertise advert) (Advertise earlier) =
 is_later_body _ _ = false
 
 -- the later message is to the same receiver, and says the same, or something later
-pub record Replaces (later earlier : Message) : Type 0 where
+pub record MessageReplaces (later earlier : Message) : Type 0 where
   pub receiver : later.to ≡ earlier.to
   pub says : (later.body ≡ earlier.body) ⊎ IsTrue (is_later_body later.body earlier.body)
 
 -- ---- quiet
 
 -- one of these items sends a message that replaces this one, and that is delivered later
-abbrev pub IsReplaced : Message → List Item → Type 0
-IsReplaced message [] = ⊥
-IsReplaced message (item.Sent number later ∷ after) =
-    (Replaces later message × IsTrue (was_delivered after number)) ⊎ IsReplaced message after
-IsReplaced message (_ ∷ after) = IsReplaced message after
+abbrev pub IsMessageReplaced : Message → List Item → Type 0
+IsMessageReplaced message [] = ⊥
+IsMessageReplaced message (item.Sent number later ∷ after) =
+    (MessageReplaces later message × IsTrue (was_delivered after number)) ⊎ IsMessageReplaced message after
+IsMessageReplaced message (_ ∷ after) = IsMessageReplaced message after
 
 -- the message of this number, with these items after it, was delivered, or one that replaces it
-abbrev pub IsReceived : ℕ → Message → List Item → Type 0
-IsReceived number message after = IsTrue (was_delivered after number) ⊎ IsReplaced message after
+abbrev pub IsMessageReceived : ℕ → Message → List Item → Type 0
+IsMessageReceived number message after = IsTrue (was_delivered after number) ⊎ IsMessageReplaced message after
 
 -- the same is true of each message of these last items of the journal that matters to a switch of
 -- the network
-abbrev pub AreReceived : Setting → List Item → List Item → Type 0
-AreReceived setting journal [] = ⊤
-AreReceived setting journal (item.Sent number message ∷ after) =
+abbrev pub AreMessagesReceived : Setting → List Item → List Item → Type 0
+AreMessagesReceived setting journal [] = ⊤
+AreMessagesReceived setting journal (item.Sent number message ∷ after) =
     ((s : ℕ) → HasSwitch setting.net s → IsTrue (matters journal s message after)
-    → IsReceived number message after)
-    × AreReceived setting journal after
-AreReceived setting journal (_ ∷ after) = AreReceived setting journal after
+    → IsMessageReceived number message after) × AreMessagesReceived setting journal after
+AreMessagesReceived setting journal (_ ∷ after) = AreMessagesReceived setting journal after
 
 abbrev pub gives_waited_for : ℕ → Item → Option Bool
 gives_waited_for s (item.Down switch) = if switch == s then Some true else None
@@ -121,4 +120,4 @@ is_waited_for journal s = unwrap_or (last_given (gives_waited_for s) journal) fa
 pub record IsQuiet (setting : Setting) (journal : List Item) : Type 0 where
   pub switches : All (λ s. IsTrue (is_up journal s || not (is_waited_for journal s)))
       (switches_of setting)
-  pub messages : AreReceived setting journal journal
+  pub messages : AreMessagesReceived setting journal journal

@@ -14,15 +14,15 @@ pub record Sending : Type 0 where
   pub message : Message
   pub boot : ℕ
 
-abbrev pub boot_at : List Item → Place → ℕ
-boot_at before (receiver.Switch s) = boot_of before s
-boot_at before receiver.Controller = 0
+abbrev pub receiver_boot_at : List Item → Place → ℕ
+receiver_boot_at before (receiver.Switch s) = boot_of before s
+receiver_boot_at before receiver.Controller = 0
 
 abbrev pub changes_sendings : List Item → List Sending → Item → List Sending
 changes_sendings before sendings (item.Sent number message) = sendings ++ record {
   number = number;
   message = message;
-  boot = boot_at before message.to;
+  boot = receiver_boot_at before message.to;
 } ∷ []
 changes_sendings before sendings _ = sendings
 

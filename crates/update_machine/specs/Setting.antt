@@ -4,7 +4,7 @@ use Rattle.base.specs.Exports.{option_or, result_ok}
 use Rattle.net_file.specs.declared.net.Net.{Net}
 use Rattle.net_file.specs.Exports.{IsNet, owner_of}
 use Rattle.partition.specs.Plan.{Hosted, plan_of}
-use Rattle.policy_rules.specs.Exports.{GivesOnly, IsPolicyFile, NoPlan, applied}
+use Rattle.policy_rules.specs.Exports.{PolicyFileGivesOnly, IsPolicyFile, NoPlan, applied}
 use Rattle.policy_rules.specs.declared.applying.Inapplicable.{Inapplicable}
 use Rattle.policy_rules.specs.declared.applying.Inapplicable.TheVariants.{Absent}
 use Rattle.policy_rules.specs.declared.file.PolicyFile.{PolicyFile}
@@ -31,8 +31,8 @@ setting_of net files = record {
 }
 
 -- files are numbered from 1
-abbrev pub file_at : Setting → ℕ → Option PolicyFile
-file_at setting file = if file == 0 then None else slice_get setting.files (file - 1)
+abbrev pub setting_file_at : Setting → ℕ → Option PolicyFile
+setting_file_at setting file = if file == 0 then None else slice_get setting.files (file - 1)
 
 -- a file has a policy, or makes one of the policy of the version before; if there is no file, or a
 -- change has no policy before it, there is none
@@ -43,7 +43,7 @@ made_by _ _ = Err Absent
 
 -- the same, for the file of this number
 abbrev pub policy_by : Setting → Option (List Row) → ℕ → Result (List Row) Inapplicable
-policy_by setting earlier file = made_by (file_at setting file) earlier
+policy_by setting earlier file = made_by (setting_file_at setting file) earlier
 
 -- what the first item that says something says: one more way, besides those of `Folds`
 abbrev pub first_given : {X : Type 0} → (Item → Option X) → List Item → Option X
@@ -82,7 +82,7 @@ pub record IsSetting (setting : Setting) : Type 0 where
   pub net : IsNet setting.net
   pub made : setting ≡ setting_of setting.net setting.files
   pub sound : All IsPolicyFile setting.files
-  pub ports : All (GivesOnly (λ row. NamesOwnPort setting row.action)) setting.files
+  pub ports : All (PolicyFileGivesOnly (λ row. NamesOwnPort setting row.action)) setting.files
   pub first : List Row
-  pub whole : file_at setting 1 ≡ Some (Whole first)
+  pub whole : setting_file_at setting 1 ≡ Some (Whole first)
   pub planned : IsOk (setting.plan first)

@@ -11,7 +11,7 @@ use Rattle.journal.specs.declared.item.Item.{Item}
 use Rattle.journal.specs.declared.item.Item.TheVariants as item
 use Rattle.update_machine.specs.Marks.{acked_stamp, current_mark, has_acked, is_joining, is_member, is_over, known_boot, members, next_current, next_retired, open_version, retired_mark}
 use Rattle.update_machine.specs.Messages.{send_items}
-use Rattle.update_machine.specs.Moves.{in_turn, items_then}
+use Rattle.update_machine.specs.Moves.{in_turn, journal_items_then}
 use Rattle.update_machine.specs.Setting.{Setting}
 use Rattle.update_machine.specs.SwitchNumbers.{switches_of}
 use Rattle.update_machine.specs.Touched.{touched_by}
@@ -49,7 +49,7 @@ raised_items mark next says tells setting journal =
     let version = next setting journal in
     elim (nat_lt (mark journal) version) [
       | false ↦ []
-      | true ↦ items_then (says version ∷ [])
+      | true ↦ journal_items_then (says version ∷ [])
           (λ raised. send_items raised (map (tells journal version) (members setting journal)))
           journal
     ]

@@ -52,14 +52,14 @@ abbrev pub packets_at : List Item → ℕ → List ℕ
 packets_at journal s = filter (travels_at journal s) (packets_in journal)
 
 -- the port of an action, if it has one
-abbrev pub port_in : Action → Option ℕ
-port_in action.Drop = None
-port_in (action.Out port) = Some port
+abbrev pub port_of_action : Action → Option ℕ
+port_of_action action.Drop = None
+port_of_action (action.Out port) = Some port
 
 -- the port by which the packet is to leave; 0 if it has none
 abbrev pub exit_port : List Item → ℕ → ℕ
 exit_port journal i =
-    unwrap_or (option_and_then (λ decision. port_in decision.action) (decision_of journal i)) 0
+    unwrap_or (option_and_then (λ decision. port_of_action decision.action) (decision_of journal i)) 0
 
 -- the leg of its last `Seeking` or `Exiting`; it exits by the port of its decision
 abbrev pub changes_leg : ℕ → List Item → Option Leg → Item → Option Leg

@@ -21,14 +21,14 @@ use Rattle.partition.specs.Plan.{Hosted}
 -- ---- policies and plans
 
 -- the partitions of a plan with their targets; none if there is no plan
-abbrev pub hosted_in : Result (List Hosted) NoPlan → List Hosted
-hosted_in (Ok plan) = plan
-hosted_in (Err why) = []
+abbrev pub hosted_in_version : Result (List Hosted) NoPlan → List Hosted
+hosted_in_version (Ok plan) = plan
+hosted_in_version (Err why) = []
 
 -- the partitions of its plan with their targets; none if there is no policy or no plan
 unfoldable pub plan_at : Setting → List Item → ℕ → List Hosted
 plan_at setting journal version =
-    option_map_or (λ rows. hosted_in (setting.plan rows)) (policy_in setting journal version) []
+    option_map_or (λ rows. hosted_in_version (setting.plan rows)) (policy_in setting journal version) []
 
 abbrev pub is_submission : Item → Bool
 is_submission (item.Submitted file version) = true
@@ -64,8 +64,8 @@ tables_at setting journal version s = tables_of (plan_at setting journal version
 -- ---- stamps
 
 -- the greatest of numbers, and 0 if there is none
-abbrev pub greatest_number : List ℕ → ℕ
-greatest_number numbers = fold max 0 numbers
+abbrev pub greatest_stamp_number : List ℕ → ℕ
+greatest_stamp_number numbers = fold max 0 numbers
 
 -- the version with which a switch may stamp after a body
 abbrev pub stamp_in : Body → Option ℕ
@@ -79,7 +79,7 @@ first_stamp journal s = if is_in_first_boot journal s then 1 ∷ [] else []
 -- the greatest version with which the switch was told to stamp, or to open, in its boot; version 1
 -- counts in boot 1
 unfoldable pub stamp_of : List Item → ℕ → ℕ
-stamp_of journal s = greatest_number (first_stamp journal s
+stamp_of journal s = greatest_stamp_number (first_stamp journal s
     ++ filter_map stamp_in (heard journal s))
 
 -- ---- held versions

@@ -6,13 +6,13 @@ ghost use Rattle.policy_rules.specs.declared.file.PolicyFile.TheVariants.{Whole}
 ghost use Rattle.policy_rules.specs.declared.policy.Row.{Row};
 ghost use Rattle.journal.specs.declared.item.Item.TheVariants.{Submitted};
 ghost use Rattle.steps.specs.declared.step.Event.TheVariants.{One};
-ghost use Rattle.update_machine.specs.Exports.{Answers, AnswersSoFar, AreAnswered, AreNumbered, AreStepsOf, BeginsAnswer, ConcernLaws, Event, HasPlay, HaveSteps, IsFull, IsPlay, IsSetting, Item, KnownLinkLaws, NamesOwnPort, Setting, StartLaws, Step, StepOfRow, StopsFull, VersionsAreNumbered, after_steps, file_at, full_at, is_sending, is_version, hosted_in, next_policy, plan_at, policy_at, policy_in, version_count};
+ghost use Rattle.update_machine.specs.Exports.{Answers, AnswersSoFar, AreAnswered, AreNumbered, AreStepsOf, BeginsAnswer, ConcernLaws, Event, HasPlay, HaveSteps, IsFull, IsPlay, IsSetting, Item, KnownLinkLaws, NamesOwnPort, Setting, StartLaws, Step, StepOfRow, StopsFull, VersionsAreNumbered, journal_after_steps, setting_file_at, journal_full_at, is_sending, is_version, hosted_in_version, next_policy, plan_at, policy_at, policy_in, version_count};
 ghost use Rattle.update_machine.specs.Folds.{all_given, count_of, folded_value, folded_from, last_given};
 ghost use Rattle.update_machine.specs.Setting.{first_given};
 ghost use Rattle.update_machine.specs.declared.full.TheConstants.{FULL_AT};
 
 /// What a journal says after more items: a law for each of the folds, whatever an item says.
-#[tactic(auto, using(crate::proofs::NumberBlocks::last_given_append, crate::proofs::NumberBlocks::first_given_append, crate::proofs::NumberBlocks::folded_append))]
+#[tactic(auto, using(crate::proofs::JournalBlockNumbers::last_given_append, crate::proofs::JournalBlockNumbers::first_given_append, crate::proofs::JournalBlockNumbers::folded_append))]
 pub fn journals_grow<X>()
     ensures last { (tells : Item → Option X) (before items : List Item)
         → last_given tells (before ++ items)
@@ -52,7 +52,7 @@ pub fn answers_exist()
     ensures goes_on { (setting : Setting) (events : List Event) (event : Event)
         (journal : List Item) (steps : List StepOfRow) → Answers setting events journal
         → AreStepsOf setting (length events + 1) event journal steps
-        → Answers setting (events ++ event ∷ []) (after_steps setting journal steps) }
+        → Answers setting (events ++ event ∷ []) (journal_after_steps setting journal steps) }
 {}
 
 /// A schedule has at most one play, and one if it has an answer: if a play stops full, no other one
@@ -69,8 +69,8 @@ pub fn plays_are_one()
         → StopsFull setting events journal row → AnswersSoFar setting events journal }
     ensures begins { (setting : Setting) (events : List Event) (journal : List Item) (row : ℕ)
         → StopsFull setting events journal row → BeginsAnswer setting events journal }
-    ensures full { (journal : List Item) → IsFull journal ↔ full_at ≤ count_of is_sending journal }
-    ensures constant { FULL_AT ≡ full_at }
+    ensures full { (journal : List Item) → IsFull journal ↔ journal_full_at ≤ count_of is_sending journal }
+    ensures constant { FULL_AT ≡ journal_full_at }
 {}
 
 /// In an answer, and in each beginning of one, packets, messages and versions are numbered from 1
@@ -98,16 +98,16 @@ pub fn versions_keep_policies()
     ensures of_policy { (setting : Setting) (journal : List Item) (version : ℕ) (rows : List Row)
         → policy_in setting journal version ≡ Some rows
         → (policy_at setting journal version ≡ rows)
-        × (plan_at setting journal version ≡ hosted_in (setting.plan rows)) }
+        × (plan_at setting journal version ≡ hosted_in_version (setting.plan rows)) }
     ensures first { (setting : Setting) (journal : List Item) (rows : List Row)
-        → file_at setting 1 ≡ Some (Whole rows) → (policy_at setting journal 1 ≡ rows)
-        × (plan_at setting journal 1 ≡ hosted_in (setting.plan rows)) }
+        → setting_file_at setting 1 ≡ Some (Whole rows) → (policy_at setting journal 1 ≡ rows)
+        × (plan_at setting journal 1 ≡ hosted_in_version (setting.plan rows)) }
     ensures next { (setting : Setting) (before : List Item) (file version : ℕ) (rows : List Row)
         → VersionsAreNumbered before → version ≡ version_count before + 1
         → next_policy setting before file ≡ Ok rows
         → (policy_at setting (before ++ Submitted file version ∷ []) version ≡ rows)
         × (plan_at setting (before ++ Submitted file version ∷ []) version
-        ≡ hosted_in (setting.plan rows)) }
+        ≡ hosted_in_version (setting.plan rows)) }
     ensures own { (setting : Setting) (journal : List Item) (version : ℕ) → IsSetting setting
         → IsPolicy (policy_at setting journal version)
         × All (λ row. NamesOwnPort setting row.action) (policy_at setting journal version) }

@@ -1,5 +1,5 @@
-pub mod TestMasks
-pub mod LeastStamp
-pub mod OpenedSwitches
-pub mod OneResult
-pub mod AcknowledgedVersions
+pub mod VersionTestMasks
+pub mod VersionLeastStamp
+pub mod VersionOpenings
+pub mod VersionOneSettling
+pub mod VersionAcknowledgements

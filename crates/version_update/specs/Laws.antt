@@ -9,8 +9,8 @@ use Rattle.version_update.specs.Marks.{MarksValue, least_of, AreMarksSettled}
 use Rattle.version_update.specs.Settling.{Names, Settles}
 
 -- nothing rose, and nothing is sent
-abbrev pub nothing_rose : Bool → Settled
-nothing_rose taken = record {
+abbrev pub no_mark_rose : Bool → Settled
+no_mark_rose taken = record {
   taken = taken;
   current = None;
   stamps = 0;
@@ -30,7 +30,7 @@ pub record SettlingLaws : Type 0 where
       → Settles before b y → x.taken ≡ y.taken → x ≡ y
   -- settled marks stay unchanged
   pub idle : (marks : MarksValue) (taken : Bool) → AreMarksSettled marks
-      → Settles marks marks (nothing_rose taken)
+      → Settles marks marks (no_mark_rose taken)
   -- a mask names switches that exist and that pass
   pub named : (mask s : ℕ) (passes : SwitchRecord → Bool) (switches : List SwitchRecord)
       → Names mask passes switches → bit_at mask s ≡ 1 →

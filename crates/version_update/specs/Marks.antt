@@ -3,7 +3,7 @@
 use Rattle.std.specs.Prelude.{◌+◌, ◌-◌, ◌<◌, ◌≡◌, ◌≤◌, All, Bool, IsFalse, List, Option, filter, length, map, min, replicate, slice_index_or, slice_set, unwrap_or, ℕ}
 use Rattle.base.specs.Exports.{list_all, reduce}
 use Rattle.version_update.specs.declared.record.SwitchRecord.{SwitchRecord}
-use Rattle.version_update.specs.Record.{is_member, has_acked, first_record, unknown_switch, IsSoundRecord, opens_at}
+use Rattle.version_update.specs.Record.{is_member, has_acked, first_record, unknown_switch_record, IsSoundRecord, joining_opens_at}
 
 -- the versions are 1 to count; those up to retired are retired; each switch is known at its number
 pub record MarksValue : Type 0 where
@@ -24,7 +24,7 @@ first_marks number = record {
 -- ---- switches
 
 abbrev pub record_of : MarksValue → ℕ → SwitchRecord
-record_of marks s = slice_index_or marks.switches s unknown_switch
+record_of marks s = slice_index_or marks.switches s unknown_switch_record
 
 -- the marks with this change of what is known of switch s
 abbrev pub at_switch : ℕ → (SwitchRecord → SwitchRecord) → MarksValue → MarksValue
@@ -58,7 +58,7 @@ abbrev pub retired_of : MarksValue → ℕ
 retired_of marks = unwrap_or (least_of (acked_stamps marks.switches)) marks.current - 1
 
 -- the marks are of 1 to 64 versions and of 1 to 64 switches
-pub record AreBounded (marks : MarksValue) : Type 0 where
+pub record AreMarksBounded (marks : MarksValue) : Type 0 where
   pub first : 1 ≤ marks.current
   pub last : marks.current ≤ marks.count
   pub versions : marks.count ≤ 64
@@ -68,13 +68,13 @@ pub record AreBounded (marks : MarksValue) : Type 0 where
 
 -- current can't rise, no joining switch can open, and retired is as far as the members allow
 pub record AreMarksSettled (marks : MarksValue) : Type 0 where
-  pub bounds : AreBounded marks
+  pub bounds : AreMarksBounded marks
   pub stopped : marks.current < marks.count → IsFalse (all_have_acked (marks.current + 1) marks.switches)
-  pub opened : All (λ known. IsFalse (opens_at marks.current known)) marks.switches
+  pub opened : All (λ known. IsFalse (joining_opens_at marks.current known)) marks.switches
   pub retired : marks.retired ≡ retired_of marks
   pub live : marks.retired < marks.count
 
 -- still settled, and of the same switches
-pub record StaySettled (old new : MarksValue) : Type 0 where
+pub record MarksStaySettled (old new : MarksValue) : Type 0 where
   pub settled : AreMarksSettled new
   pub switches : length new.switches ≡ length old.switches

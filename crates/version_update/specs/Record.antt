@@ -33,8 +33,8 @@ abbrev pub first_record : SwitchRecord
 first_record = record { boot = 1; phase = Member; acked = 1; open_version = 1; acked_stamp = 1 }
 
 -- the record of a number that no switch has
-abbrev pub unknown_switch : SwitchRecord
-unknown_switch = record { boot = 0; phase = Over; acked = 0; open_version = 0; acked_stamp = 0 }
+abbrev pub unknown_switch_record : SwitchRecord
+unknown_switch_record = record { boot = 0; phase = Over; acked = 0; open_version = 0; acked_stamp = 0 }
 
 -- it names only the versions 1 to count, and a member acknowledged at least what it was opened at
 pub record IsSoundRecord (count : ℕ) (known : SwitchRecord) : Type 0 where
@@ -76,9 +76,9 @@ after_over known = record known { phase = Over }
 -- ---- opening
 
 -- a joining switch opens if it acknowledged the current version
-abbrev pub opens_at : ℕ → SwitchRecord → Bool
-opens_at current known = is_joining known.phase && has_acked known current
+abbrev pub joining_opens_at : ℕ → SwitchRecord → Bool
+joining_opens_at current known = is_joining known.phase && has_acked known current
 
 abbrev pub opened_record : ℕ → SwitchRecord → SwitchRecord
-opened_record current known = if opens_at current known then record known
+opened_record current known = if joining_opens_at current known then record known
     { phase = Member; open_version = current; acked_stamp = current } else known

@@ -3,12 +3,12 @@ use Rattle.std.specs.Prelude.{if◌then◌else◌, ◌&&◌, ◌+◌, ◌<◌, �
 use Rattle.base.specs.Exports.{bit_at, from_bool, option_map_or}
 use Rattle.version_update.specs.declared.record.SwitchRecord.{SwitchRecord}
 use Rattle.version_update.specs.declared.marks.Settled.{Settled}
-use Rattle.version_update.specs.Record.{is_member, opens_at, opened_record}
+use Rattle.version_update.specs.Record.{is_member, joining_opens_at, opened_record}
 use Rattle.version_update.specs.Marks.{MarksValue, all_have_acked, retired_of}
 
 -- the new number if it rose
-abbrev pub rises_to : ℕ → ℕ → Option ℕ
-rises_to old new = if nat_lt old new then Some new else None
+abbrev pub mark_rises_to : ℕ → ℕ → Option ℕ
+mark_rises_to old new = if nat_lt old new then Some new else None
 
 -- bit s of the mask is 1 exactly if there is a switch s that passes
 abbrev pub Names : ℕ → (SwitchRecord → Bool) → List SwitchRecord → Type 0
@@ -16,20 +16,20 @@ Names mask passes switches = (s : ℕ)
     → bit_at mask s ≡ from_bool (option_map_or passes (slice_get switches s) false)
 
 -- what rose, and the switches to send to
-pub record Reports (before after : MarksValue) (answer : Settled) : Type 0 where
-  pub current : answer.current ≡ rises_to before.current after.current
+pub record SettlingReports (before after : MarksValue) (answer : Settled) : Type 0 where
+  pub current : answer.current ≡ mark_rises_to before.current after.current
   -- a new current version is sent to the members from before
   pub stamps : Names answer.stamps
       (λ known. nat_lt before.current after.current && is_member known.phase) before.switches
-  pub opens : Names answer.opens (opens_at after.current) before.switches
-  pub retired : answer.retired ≡ rises_to before.retired after.retired
+  pub opens : Names answer.opens (joining_opens_at after.current) before.switches
+  pub retired : answer.retired ≡ mark_rises_to before.retired after.retired
   -- a newly retired version is sent to all members
   pub collects : Names answer.collects
       (λ known. nat_lt before.retired after.retired && is_member known.phase) after.switches
 
 -- from the old mark on, each member acknowledged every version up to this one, which is the last
 -- version, or one after which a member stops the rise
-pub record RisesTo (marks : MarksValue) (current : ℕ) : Type 0 where
+pub record CurrentRisesTo (marks : MarksValue) (current : ℕ) : Type 0 where
   pub rises : marks.current ≤ current
   pub bound : current ≤ marks.count
   pub acknowledged : (version : ℕ) → marks.current < version → version ≤ current
@@ -40,7 +40,7 @@ pub record RisesTo (marks : MarksValue) (current : ℕ) : Type 0 where
 -- the members allow
 pub record Settles (before after : MarksValue) (answer : Settled) : Type 0 where
   pub count : after.count ≡ before.count
-  pub current : RisesTo before after.current
+  pub current : CurrentRisesTo before after.current
   pub switches : after.switches ≡ map (opened_record after.current) before.switches
   pub retired : after.retired ≡ retired_of after
-  pub tells : Reports before after answer
+  pub tells : SettlingReports before after answer

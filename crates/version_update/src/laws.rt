@@ -6,7 +6,7 @@ pub fn settling_laws()
 {}
 
 /// The versions that a switch acknowledged are its first one and those of the messages recorded.
-#[tactic(auto, using(crate::proofs::AcknowledgedVersions::first_acked, crate::proofs::AcknowledgedVersions::hello_acked, crate::proofs::AcknowledgedVersions::installed_acked, crate::proofs::AcknowledgedVersions::past_acked))]
-pub fn record_laws()
+#[tactic(auto, using(crate::proofs::VersionAcknowledgements::first_acked, crate::proofs::VersionAcknowledgements::hello_acked, crate::proofs::VersionAcknowledgements::installed_acked, crate::proofs::VersionAcknowledgements::past_acked))]
+pub fn acked_version_laws()
     ensures { RecordLaws }
 {}

@@ -1,7 +1,7 @@
 ghost use Rattle.std.specs.Prelude.{◌≡◌, ◌+◌, ◌<◌, ◌≤◌, length, map, replicate, slice_set};
-ghost use Rattle.version_update.specs.Record.{first_record, IsSoundRecord, opens_at, opened_record};
-ghost use Rattle.version_update.specs.Marks.{first_marks, record_of, AreBounded, StaySettled, retired_of};
-ghost use Rattle.version_update.specs.Settling.{Names, rises_to, RisesTo, Settles};
+ghost use Rattle.version_update.specs.Record.{first_record, IsSoundRecord, joining_opens_at, opened_record};
+ghost use Rattle.version_update.specs.Marks.{first_marks, record_of, AreMarksBounded, MarksStaySettled, retired_of};
+ghost use Rattle.version_update.specs.Settling.{Names, mark_rises_to, CurrentRisesTo, Settles};
 
 use crate::marks::Settled;
 use crate::record::SwitchRecord;
@@ -11,7 +11,7 @@ use std::marker::Model;
 
 /// The marks, settled or not.
 #[derive(Drop)]
-pub struct Ledger {
+pub struct MarksLedger {
     /// How many versions there are.
     pub count: u32,
     /// The current version: it rises while each member acknowledged the next one.
@@ -23,9 +23,9 @@ pub struct Ledger {
     switches: [SwitchRecord; MAX_SWITCHES as usize],
 }
 
-impl Model for Ledger {
+impl Model for MarksLedger {
     ghost use Rattle.std.specs.Prelude.{◌≤◌, take};
-    ghost use Rattle.version_update.specs.Marks.{MarksValue, AreBounded};
+    ghost use Rattle.version_update.specs.Marks.{MarksValue, AreMarksBounded};
 
     ghost Value = { MarksValue };
 
@@ -36,7 +36,7 @@ impl Model for Ledger {
       switches = take l.number l.switches;
     } };
 
-    ghost invariant = { λ l. (l.number ≤ 64) × AreBounded (record {
+    ghost invariant = { λ l. (l.number ≤ 64) × AreMarksBounded (record {
       count = l.count;
       current = l.current;
       retired = l.retired;
@@ -44,26 +44,26 @@ impl Model for Ledger {
     }) };
 }
 
-impl Ledger {
+impl MarksLedger {
     /// Each switch is a member in boot 1, with version 1.
-    pub fn begin(number: u32) -> Ledger
+    pub fn begin(number: u32) -> MarksLedger
         requires some { 1 ≤ number }
         requires few { number ≤ 64 }
         ensures { result ≡ first_marks number }
     {
-        Ledger {
+        MarksLedger {
             count: 1,
             current: 1,
             retired: 0,
             number: number as usize,
-            switches: first_records(),
+            switches: first_switch_marks(),
         }
     }
 
     /// What is known of the switches, by their numbers.
     pub fn switches(&self) -> &[SwitchRecord]
         ensures switches { result.now ≡ self.now.switches }
-        ensures bounds { AreBounded self.now }
+        ensures bounds { AreMarksBounded self.now }
     {
         &self.switches[..self.number]
     }
@@ -97,11 +97,11 @@ impl Ledger {
     /// Settles, and returns what rose and to which switches to send.
     pub fn settle(&mut self, taken: bool) -> Settled
         ensures settled { Settles self.old self.new result }
-        ensures rule { StaySettled self.old self.new }
+        ensures rule { MarksStaySettled self.old self.new }
         ensures taken { result.taken ≡ taken }
     {
         let current = self.risen();
-        let stamps = switches::members_where(self.current < current, self.switches());
+        let stamps = switches::mask_of_members_where(self.current < current, self.switches());
         let old_current = self.current;
         let old_retired = self.retired;
         self.current = current;
@@ -114,13 +114,13 @@ impl Ledger {
             stamps,
             opens,
             retired: raised(old_retired, retired),
-            collects: switches::members_where(old_retired < retired, self.switches()),
+            collects: switches::mask_of_members_where(old_retired < retired, self.switches()),
         }
     }
 
     // The version to which current rises.
     fn risen(&self) -> u32
-        ensures { RisesTo self.now result }
+        ensures { CurrentRisesTo self.now result }
     {
         let mut current = self.current;
         while current < self.count && switches::all_acked(self.switches(), current + 1) {
@@ -132,7 +132,7 @@ impl Ledger {
     fn open_joining(&mut self) -> u64
         ensures opened { self.new
             ≡ record self.old { switches = map (opened_record self.old.current) self.old.switches } }
-        ensures opens { Names result (opens_at self.old.current) self.old.switches }
+        ensures opens { Names result (joining_opens_at self.old.current) self.old.switches }
     {
         let number = self.number;
         let current = self.current;
@@ -144,11 +144,11 @@ impl Ledger {
         ensures allowed { result ≡ retired_of self.now }
         ensures live { result < self.now.count }
     {
-        switches::least_stamp(self.switches()).unwrap_or(self.current) - 1
+        switches::least_acked_stamp(self.switches()).unwrap_or(self.current) - 1
     }
 }
 
-fn first_records() -> [SwitchRecord; MAX_SWITCHES as usize]
+fn first_switch_marks() -> [SwitchRecord; MAX_SWITCHES as usize]
     ensures { result ≡ replicate 64 first_record }
 {
     [SwitchRecord::first(); MAX_SWITCHES as usize]
@@ -156,7 +156,7 @@ fn first_records() -> [SwitchRecord; MAX_SWITCHES as usize]
 
 // The new number, if it rose.
 fn raised(old: u32, new: u32) -> Option<u32>
-    ensures { result ≡ rises_to old new }
+    ensures { result ≡ mark_rises_to old new }
 {
     (old < new).then_some(new)
 }

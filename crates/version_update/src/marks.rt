@@ -1,10 +1,10 @@
 ghost use Rattle.std.specs.Prelude.{◌≡◌, ◌≢◌, ◌-◌, ◌<◌, ◌≤◌, ◌↔◌, length, IsTrue, IfOk, OnErr, Err};
 ghost use Rattle.version_update.specs.Record.{is_member, has_acked, takes_hello, hello_recorded, takes_installed, after_installed, takes_stamped, after_stamped, after_over};
-ghost use Rattle.version_update.specs.Marks.{first_marks, record_of, at_switch, with_version, AreMarksSettled, StaySettled};
+ghost use Rattle.version_update.specs.Marks.{first_marks, record_of, at_switch, with_version, AreMarksSettled, MarksStaySettled};
 ghost use Rattle.version_update.specs.Settling.{Settles};
 ghost use Rattle.version_update.specs.declared.marks.SubmitError.TheVariants.{TooManyLive, TooManyVersions};
 
-use crate::ledger::Ledger;
+use crate::ledger::MarksLedger;
 use crate::record::Phase;
 use base::MAX_VERSIONS;
 use std::marker::Model;
@@ -51,7 +51,7 @@ pub enum SubmitError {
 /// Versions that no member stamps packets with any more are retired.
 #[derive(Drop)]
 pub struct Marks {
-    ledger: Ledger,
+    ledger: MarksLedger,
 }
 
 const _: () = prove!(size_of::<Marks>() <= 4096);
@@ -75,7 +75,7 @@ impl Marks {
         ensures rule { AreMarksSettled result }
     {
         Marks {
-            ledger: Ledger::begin(switches),
+            ledger: MarksLedger::begin(switches),
         }
     }
 
@@ -84,7 +84,7 @@ impl Marks {
         requires { s < length self.old.switches }
         ensures taken { result.taken ≡ takes_hello boot (record_of self.old s) }
         ensures settled { Settles (at_switch s (hello_recorded boot) self.old) self.new result }
-        ensures rule { StaySettled self.old self.new }
+        ensures rule { MarksStaySettled self.old self.new }
     {
         let mut known = self.ledger.record(s);
         let taken = known.hello(boot);
@@ -101,7 +101,7 @@ impl Marks {
         ensures taken { result.taken ≡ takes_installed boot (record_of self.old s) }
         ensures settled { Settles
             (at_switch s (after_installed boot version) self.old) self.new result }
-        ensures rule { StaySettled self.old self.new }
+        ensures rule { MarksStaySettled self.old self.new }
     {
         let mut known = self.ledger.record(s);
         let taken = known.installed(boot, version);
@@ -118,7 +118,7 @@ impl Marks {
         ensures taken { result.taken ≡ takes_stamped boot (record_of self.old s) }
         ensures settled { Settles
             (at_switch s (after_stamped boot version) self.old) self.new result }
-        ensures rule { StaySettled self.old self.new }
+        ensures rule { MarksStaySettled self.old self.new }
     {
         let mut known = self.ledger.record(s);
         let taken = known.stamped(boot, version);
@@ -131,7 +131,7 @@ impl Marks {
         requires { s < length self.old.switches }
         ensures taken { IsTrue result.taken }
         ensures settled { Settles (at_switch s after_over self.old) self.new result }
-        ensures rule { StaySettled self.old self.new }
+        ensures rule { MarksStaySettled self.old self.new }
     {
         let mut known = self.ledger.record(s);
         known.over();
@@ -151,7 +151,7 @@ impl Marks {
         ensures versions { (result ≡ Err TooManyVersions)
             ↔ ((self.old.count - self.old.retired ≢ 8) × (self.old.count ≡ 64)) }
         ensures refused { OnErr result (self.new ≡ self.old) }
-        ensures rule { StaySettled self.old self.new }
+        ensures rule { MarksStaySettled self.old self.new }
     {
         if let Some(error) = self.refusal() {
             return Err(error);

@@ -1,5 +1,5 @@
 ghost use Rattle.std.specs.Prelude.{◌≡◌, ◌<◌, ◌≤◌};
-ghost use Rattle.version_update.specs.Record.{is_member, has_acked, first_record, takes_hello, hello_recorded, takes_installed, after_installed, takes_stamped, after_stamped, after_over, opens_at, opened_record};
+ghost use Rattle.version_update.specs.Record.{is_member, has_acked, first_record, takes_hello, hello_recorded, takes_installed, after_installed, takes_stamped, after_stamped, after_over, joining_opens_at, opened_record};
 
 use base::has;
 
@@ -107,7 +107,7 @@ impl SwitchRecord {
     pub fn open_if_acked(&mut self, current: u32) -> bool
         requires first { 1 ≤ current }
         requires last { current ≤ 64 }
-        ensures opens { result ≡ opens_at current self.old }
+        ensures opens { result ≡ joining_opens_at current self.old }
         ensures after { self.new ≡ opened_record current self.old }
     {
         let opens = self.phase == Phase::Joining && self.has_acked(current);

@@ -1,6 +1,6 @@
 //! Questions about all switches, each answered in one pass over their records.
 ghost use Rattle.std.specs.Prelude.{◌≡◌, ◌-◌, ◌<◌, ◌≤◌, ◌&&◌, map, length};
-ghost use Rattle.version_update.specs.Record.{is_member, opens_at, opened_record};
+ghost use Rattle.version_update.specs.Record.{is_member, joining_opens_at, opened_record};
 ghost use Rattle.version_update.specs.Marks.{all_have_acked, acked_stamps, least_of};
 ghost use Rattle.version_update.specs.Settling.{Names};
 ghost use Rattle.version_update.specs.declared.record.SwitchRecord.{SwitchRecord};
@@ -8,7 +8,7 @@ ghost use Rattle.version_update.specs.declared.record.SwitchRecord.{SwitchRecord
 use crate::record::SwitchRecord;
 
 /// The members as a mask if `rose` is true, otherwise the empty mask.
-pub fn members_where(rose: bool, switches: &[SwitchRecord]) -> u64
+pub fn mask_of_members_where(rose: bool, switches: &[SwitchRecord]) -> u64
     requires { length switches.now ≤ 64 }
     ensures { Names result (λ (known : SwitchRecord). rose && is_member known.phase) switches.now }
 {
@@ -25,7 +25,7 @@ pub fn open_if_acked(switches: &mut [SwitchRecord], current: u32) -> u64
     requires first { 1 ≤ current }
     requires last { current ≤ 64 }
     ensures opened { switches.new ≡ map (opened_record current) switches.old }
-    ensures opens { Names result (opens_at current) switches.old }
+    ensures opens { Names result (joining_opens_at current) switches.old }
 {
     let mut mask = 0;
     for (s, known) in switches.iter_mut().enumerate() {
@@ -47,7 +47,7 @@ pub fn all_acked(switches: &[SwitchRecord], version: u32) -> bool
 }
 
 /// The least stamp that a member acknowledged; `None` if there is no member.
-pub fn least_stamp(switches: &[SwitchRecord]) -> Option<u32>
+pub fn least_acked_stamp(switches: &[SwitchRecord]) -> Option<u32>
     ensures { result ≡ least_of (acked_stamps switches.now) }
 {
     switches

@@ -9,29 +9,29 @@ use Rattle.wire.specs.declared.error.Malformed.{Malformed}
 use Rattle.wire.specs.Frames.{AreFrames, place_in_frame, count_in_frame, chunk_of, frame}
 
 -- the frame at a place
-abbrev pub held_at : List (List ℕ) → ℕ → Option (List ℕ)
-held_at held place = find (λ f. place_in_frame f == place) held
+abbrev pub frame_held_at : List (List ℕ) → ℕ → Option (List ℕ)
+frame_held_at held place = find (λ f. place_in_frame f == place) held
 
 -- a frame is added: after those of lower places, and before those of higher ones
-abbrev pub with_frame : List (List ℕ) → List ℕ → List (List ℕ)
-with_frame held f =
+abbrev pub frames_with_frame : List (List ℕ) → List ℕ → List (List ℕ)
+frames_with_frame held f =
     filter (λ g. nat_lt (place_in_frame g) (place_in_frame f)) held
     ++ f ∷ filter (λ g. nat_lt (place_in_frame f) (place_in_frame g)) held
 
 -- there is a frame at each place below the count
 abbrev pub AreAllHeld : List (List ℕ) → ℕ → Type 0
-AreAllHeld held count = (place : ℕ) → place < count → IsSome (held_at held place)
+AreAllHeld held count = (place : ℕ) → place < count → IsSome (frame_held_at held place)
 
 -- why a frame is refused
 pub data IsRefusedFrame (held : List (List ℕ)) (f : List ℕ) : Type 0 where
   too_short : length f < 9 → IsRefusedFrame held f
   too_long : 16384 < length f → IsRefusedFrame held f
   past_the_count : count_in_frame f ≤ place_in_frame f → IsRefusedFrame held f
-  another_count : (place : ℕ) (g : List ℕ) → held_at held place ≡ Some g
+  another_count : (place : ℕ) (g : List ℕ) → frame_held_at held place ≡ Some g
       → count_in_frame g ≢ count_in_frame f → IsRefusedFrame held f
-  another_frame : (g : List ℕ) → held_at held (place_in_frame f) ≡ Some g → g ≢ f → IsRefusedFrame held f
-  no_message : AreAllHeld (with_frame held f) (count_in_frame f)
-      → ((m : Message) → AreFrames m (with_frame held f) → ⊥) → IsRefusedFrame held f
+  another_frame : (g : List ℕ) → frame_held_at held (place_in_frame f) ≡ Some g → g ≢ f → IsRefusedFrame held f
+  no_message : AreAllHeld (frames_with_frame held f) (count_in_frame f)
+      → ((m : Message) → AreFrames m (frames_with_frame held f) → ⊥) → IsRefusedFrame held f
 
 -- ---- what is true of the frames that it has
 
@@ -42,63 +42,63 @@ pub record IsOfCount (count : ℕ) (f : List ℕ) : Type 0 where
   pub count_is : count_in_frame f ≡ count
 
 -- frames of one count, at rising places from this one on
-abbrev pub AreRising : ℕ → ℕ → List (List ℕ) → Type 0
-AreRising from count [] = Unit {0}
-AreRising from count (f ∷ fs) =
-    (from ≤ place_in_frame f) × IsOfCount count f × AreRising (place_in_frame f + 1) count fs
+abbrev pub AreFramesRising : ℕ → ℕ → List (List ℕ) → Type 0
+AreFramesRising from count [] = Unit {0}
+AreFramesRising from count (f ∷ fs) =
+    (from ≤ place_in_frame f) × IsOfCount count f × AreFramesRising (place_in_frame f + 1) count fs
 
 -- the frames are of one count, each of its own place
-abbrev pub AreTogether : List (List ℕ) → Type 0
-AreTogether [] = Unit {0}
-AreTogether (f ∷ fs) = AreRising 0 (count_in_frame f) (f ∷ fs)
+abbrev pub AreFramesTogether : List (List ℕ) → Type 0
+AreFramesTogether [] = Unit {0}
+AreFramesTogether (f ∷ fs) = AreFramesRising 0 (count_in_frame f) (f ∷ fs)
 
 -- ---- what an assembler returns
 
 -- as many frames as their count, which are the frames of no message
-abbrev pub AreNone : List (List ℕ) → ℕ → Type 0
-AreNone fs count = (length fs ≡ count) × ((m : Message) → AreFrames m fs → ⊥)
+abbrev pub AreNoMessageFrames : List (List ℕ) → ℕ → Type 0
+AreNoMessageFrames fs count = (length fs ≡ count) × ((m : Message) → AreFrames m fs → ⊥)
 
 -- the result for frames that have all come
 abbrev pub IsWhole : List (List ℕ) → Result Message (Failure Malformed) → Type 0
 IsWhole fs (Ok m) = AreFrames m fs
-IsWhole fs (Err error) = IfRefused (λ _. AreNone fs (length fs)) error
+IsWhole fs (Err error) = IfRefused (λ _. AreNoMessageFrames fs (length fs)) error
 
 -- the result for the frames of a count
-abbrev pub IsAssembled : List (List ℕ) → ℕ → Result (Option Message) (Failure Malformed) → Type 0
-IsAssembled fs count (Ok None) = length fs ≢ count
-IsAssembled fs count (Ok (Some m)) = (length fs ≡ count) × AreFrames m fs
-IsAssembled fs count (Err error) = IfRefused (λ _. AreNone fs count) error
+abbrev pub IsMessageAssembled : List (List ℕ) → ℕ → Result (Option Message) (Failure Malformed) → Type 0
+IsMessageAssembled fs count (Ok None) = length fs ≢ count
+IsMessageAssembled fs count (Ok (Some m)) = (length fs ≡ count) × AreFrames m fs
+IsMessageAssembled fs count (Err error) = IfRefused (λ _. AreNoMessageFrames fs count) error
 
 -- the frames are of this count, or one of them isn't
 abbrev pub Agree : List (List ℕ) → ℕ → Bool → Type 0
-Agree held count true = AreRising 0 count held
+Agree held count true = AreFramesRising 0 count held
 Agree held count false =
-    (place : ℕ) × (g : List ℕ) × (held_at held place ≡ Some g) × (count_in_frame g ≢ count)
+    (place : ℕ) × (g : List ℕ) × (frame_held_at held place ≡ Some g) × (count_in_frame g ≢ count)
 
 -- a frame that can be added to those that have come
 pub record Joins (held : List (List ℕ)) (f : List ℕ) : Type 0 where
   pub long : 9 ≤ length f
   pub short : length f ≤ 16384
   pub below : place_in_frame f < count_in_frame f
-  pub rising : AreRising 0 (count_in_frame f) held
-  pub same : (g : List ℕ) → held_at held (place_in_frame f) ≡ Some g → g ≡ f
+  pub rising : AreFramesRising 0 (count_in_frame f) held
+  pub same : (g : List ℕ) → frame_held_at held (place_in_frame f) ≡ Some g → g ≡ f
 
 -- where a frame belongs among those that have come: nowhere, at the place where it already is, or
 -- before the frame of this index
 abbrev pub IsFrameCheck : List (List ℕ) → List ℕ → FrameCheck → Type 0
 IsFrameCheck held f Refused = IsRefusedFrame held f
-IsFrameCheck held f Held = Joins held f × (with_frame held f ≡ held)
+IsFrameCheck held f Held = Joins held f × (frames_with_frame held f ≡ held)
 IsFrameCheck held f (New index) =
-    Joins held f × (index ≤ length held) × (with_frame held f ≡ insert held index f)
-    × AreRising 0 (count_in_frame f) (insert held index f)
+    Joins held f × (index ≤ length held) × (frames_with_frame held f ≡ insert held index f)
+    × AreFramesRising 0 (count_in_frame f) (insert held index f)
 
 -- the result of feeding a frame, and the frames after it
-pub record IsFed (held : List (List ℕ)) (f : List ℕ) (after : List (List ℕ))
+pub record IsAssemblerFed (held : List (List ℕ)) (f : List ℕ) (after : List (List ℕ))
     (result : Result (Option Message) (Failure Malformed)) : Type 0 where
-  pub together : AreTogether after
+  pub together : AreFramesTogether after
   pub refused : IfErr result (IfRefused (λ _. IsRefusedFrame held f))
   pub taken : OnOk result (IsRefusedFrame held f → ⊥)
-  pub is_held : OnOk result (after ≡ with_frame held f)
+  pub is_held : OnOk result (after ≡ frames_with_frame held f)
   pub some : IfOk result (λ answer. IsSome answer ↔ AreAllHeld after (count_in_frame f))
   pub message : IfOk result (λ answer. IfSome answer (λ m. AreFrames m after))
   pub unchanged : OnErr result (after ≡ held)

@@ -25,12 +25,12 @@ chunks_behind_head head bytes =
 
 -- for an installation the receiver, the kind and the boot, so that its other chunks encode only
 -- the tables; for any other message everything
-abbrev pub head_len : Body → List ℕ → ℕ
-head_len (Install _ _) bytes = 6
-head_len _ bytes = length bytes
+abbrev pub first_chunk_len : Body → List ℕ → ℕ
+first_chunk_len (Install _ _) bytes = 6
+first_chunk_len _ bytes = length bytes
 
 abbrev pub chunks : Message → List (List ℕ)
-chunks m = let bytes = message.spell m in chunks_behind_head (head_len m.body bytes) bytes
+chunks m = let bytes = message.spell m in chunks_behind_head (first_chunk_len m.body bytes) bytes
 
 -- the place of a chunk, how many there are, and the chunk
 unfoldable pub frame : ℕ → ℕ → List ℕ → List ℕ

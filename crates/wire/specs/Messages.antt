@@ -12,7 +12,7 @@ use Rattle.policy_rules.specs.declared.rules.Partition.{Partition}
 use Rattle.switch_table.specs.declared.tables.PartRow.{PartRow}
 use Rattle.switch_table.specs.declared.tables.Tables.{Tables}
 use Rattle.ternary.specs.Exports.{WordValue}
-use Rattle.wire.specs.Format.{Format, then_read, ◌⊗◌, as_type, such_that}
+use Rattle.wire.specs.Format.{Format, format_then_read, ◌⊗◌, format_as_type, format_such_that}
 use Rattle.wire.specs.Fields as form
 
 -- ---- the receiver: a switch, or 255 for the controller
@@ -33,8 +33,8 @@ unfoldable pub receiver : Format Place
 receiver = record {
   spell = spelled_receiver;
   fits = receiver_fits;
-  read = λ bytes. then_read (form.n1.read bytes) (λ x.
-      then_read (receiver_of x.0) (λ to. Some (to, x.1)));
+  read = λ bytes. format_then_read (form.n1.read bytes) (λ x.
+      format_then_read (receiver_of x.0) (λ to. Some (to, x.1)));
 }
 
 -- ---- the fields of each kind
@@ -53,7 +53,7 @@ cache_rule_form = form.n4 ⊗ form.word ⊗ form.rule_name ⊗ form.action
 
 unfoldable pub advert : Format Advert
 advert =
-    as_type (λ p. record { origin = p.0; boot = p.1.0; seq = p.1.1.0; up = p.1.1.1 })
+    format_as_type (λ p. record { origin = p.0; boot = p.1.0; seq = p.1.1.0; up = p.1.1.1 })
     (λ a. (a.origin, (a.boot, (a.seq, a.up))))
     (form.switch ⊗ form.n4 ⊗ form.n4 ⊗ form.n8)
 
@@ -77,21 +77,21 @@ kind_number (Installed _ _ _) = 8
 kind_number (Stamped _ _ _) = 9
 
 -- a value in its format: the encoding, and whether it has one
-abbrev pub in_format : {A : Type 0} → Format A → A → List ℕ × Bool
-in_format f x = (f.spell x, f.fits x)
+abbrev pub spelled_in_format : {A : Type 0} → Format A → A → List ℕ × Bool
+spelled_in_format f x = (f.spell x, f.fits x)
 
 abbrev pub fields_in_format : Body → List ℕ × Bool
-fields_in_format (Install boot tables) = in_format install_form (boot, tables)
-fields_in_format (OpenAt boot version) = in_format boot_and_version (boot, version)
-fields_in_format (Stamp boot version touched) = in_format stamp_form (boot, (version, touched))
-fields_in_format (Collect boot version) = in_format boot_and_version (boot, version)
+fields_in_format (Install boot tables) = spelled_in_format install_form (boot, tables)
+fields_in_format (OpenAt boot version) = spelled_in_format boot_and_version (boot, version)
+fields_in_format (Stamp boot version touched) = spelled_in_format stamp_form (boot, (version, touched))
+fields_in_format (Collect boot version) = spelled_in_format boot_and_version (boot, version)
 fields_in_format (CacheRule version word rule action) =
-    in_format cache_rule_form (version, (word, (rule, action)))
-fields_in_format (Advertise news) = in_format advert news
-fields_in_format (Hello switch boot) = in_format hello (switch, boot)
-fields_in_format (Installed switch boot version) = in_format acknowledgement
+    spelled_in_format cache_rule_form (version, (word, (rule, action)))
+fields_in_format (Advertise news) = spelled_in_format advert news
+fields_in_format (Hello switch boot) = spelled_in_format hello (switch, boot)
+fields_in_format (Installed switch boot version) = spelled_in_format acknowledgement
     (switch, (boot, version))
-fields_in_format (Stamped switch boot version) = in_format acknowledgement (switch, (boot, version))
+fields_in_format (Stamped switch boot version) = spelled_in_format acknowledgement (switch, (boot, version))
 
 abbrev pub spelled_fields : Body → List ℕ
 spelled_fields body = (fields_in_format body).0
@@ -101,7 +101,7 @@ fields_fit body = (fields_in_format body).1
 
 -- the body that the fields make
 abbrev pub made_body : {A : Type 0} → (A → Body) → Option (A × List ℕ) → Option (Body × List ℕ)
-made_body make read = then_read read (λ x. Some (make x.0, x.1))
+made_body make read = format_then_read read (λ x. Some (make x.0, x.1))
 
 abbrev pub cache_rule_of : ℕ × (WordValue × (Option ℕ × Action)) → Body
 cache_rule_of p = CacheRule p.0 p.1.0 p.1.1.0 p.1.1.1
@@ -123,7 +123,7 @@ unfoldable pub body : Format Body
 body = record {
   spell = λ b. form.n1.spell (kind_number b) ++ spelled_fields b;
   fits = fields_fit;
-  read = λ bytes. then_read (form.n1.read bytes) (λ kind. read_fields kind.0 kind.1);
+  read = λ bytes. format_then_read (form.n1.read bytes) (λ kind. read_fields kind.0 kind.1);
 }
 
 -- ---- what comes before the tables in the encoding of an installation
@@ -144,7 +144,7 @@ pub record IsFront (to : Place) (boot : ℕ) (bytes : List ℕ) : Type 0 where
 -- what all of the bytes say, if they are a front
 abbrev pub read_front : List ℕ → Option ((Place × ℕ) × List ℕ)
 read_front bytes =
-    then_read (message_front.read bytes) (λ x.
+    format_then_read (message_front.read bytes) (λ x.
     if x.0.1.0 == 1
     then (if length x.1 == 0 then Some ((x.0.0, x.0.1.1), x.1) else None)
     else None)
@@ -152,18 +152,18 @@ read_front bytes =
 -- ---- messages
 
 -- a message to the controller has a body for it, and one to a switch has one for a switch
-abbrev pub suits_receiver : Place → Body → Bool
-suits_receiver (Switch s) body = not (is_for_controller body)
-suits_receiver Controller body = is_for_controller body
+abbrev pub body_suits_receiver : Place → Body → Bool
+body_suits_receiver (Switch s) body = not (is_for_controller body)
+body_suits_receiver Controller body = is_for_controller body
 
 unfoldable pub message : Format Message
 message =
-    as_type (λ p. record { to = p.0; body = p.1 }) (λ m. (m.to, m.body))
-    (such_that (λ p. suits_receiver p.0 p.1) (receiver ⊗ body))
+    format_as_type (λ p. record { to = p.0; body = p.1 }) (λ m. (m.to, m.body))
+    (format_such_that (λ p. body_suits_receiver p.0 p.1) (receiver ⊗ body))
 
 -- the message that all of the bytes encode
 abbrev pub whole_message : List ℕ → Option (Message × List ℕ)
-whole_message bytes = then_read (message.read bytes) (λ m. if length m.1 == 0 then Some m else None)
+whole_message bytes = format_then_read (message.read bytes) (λ m. if length m.1 == 0 then Some m else None)
 
 -- the bytes are the encoding of the message: each number fits its bytes, each switch is below 64,
 -- each list is shorter than 2^32, and the receiver suits the body
@@ -179,26 +179,26 @@ AreSwitches row = All (λ s. s < 64) row.targets
 abbrev pub HasFewRules : Partition → Type 0
 HasFewRules part = length part.rules < 2 ^ 32
 
-pub record AreShort (t : Tables) : Type 0 where
+pub record AreWireShort (t : Tables) : Type 0 where
   pub regions : length t.parts < 2 ^ 32
   pub targets : All AreSwitches t.parts
   pub partitions : length t.auth < 2 ^ 32
   pub rules : All HasFewRules t.auth
 
-abbrev pub FieldsSuit : Body → Type 0
-FieldsSuit (Install boot tables) = AreShort tables
-FieldsSuit (Advertise news) = news.origin < 64
-FieldsSuit (Hello switch boot) = switch < 64
-FieldsSuit (Installed switch boot version) = switch < 64
-FieldsSuit (Stamped switch boot version) = switch < 64
-FieldsSuit _ = Unit {0}
+abbrev pub WireFieldsSuit : Body → Type 0
+WireFieldsSuit (Install boot tables) = AreWireShort tables
+WireFieldsSuit (Advertise news) = news.origin < 64
+WireFieldsSuit (Hello switch boot) = switch < 64
+WireFieldsSuit (Installed switch boot version) = switch < 64
+WireFieldsSuit (Stamped switch boot version) = switch < 64
+WireFieldsSuit _ = Unit {0}
 
-abbrev pub IsPlace : Place → Type 0
-IsPlace (Switch s) = s < 64
-IsPlace Controller = Unit {0}
+abbrev pub IsWirePlace : Place → Type 0
+IsWirePlace (Switch s) = s < 64
+IsWirePlace Controller = Unit {0}
 
 -- switches below 64, lists shorter than 2^32, and a receiver that suits the body
 pub record HasSpelling (m : Message) : Type 0 where
-  pub switch : IsPlace m.to
-  pub suits : suits_receiver m.to m.body ≡ true
-  pub fields : FieldsSuit m.body
+  pub switch : IsWirePlace m.to
+  pub suits : body_suits_receiver m.to m.body ≡ true
+  pub fields : WireFieldsSuit m.body

@@ -14,8 +14,8 @@ Gives view read (Ok x) rest = read ≡ Some (view x, rest)
 Gives view read (Err error) rest = IfRefused (λ _. read ≡ None) error
 
 -- the result and the bytes that are left are what the format reads
-abbrev pub Reads : {A : Type 0} → Format A → List ℕ → Result A (Failure Malformed) → List ℕ → Type 0
-Reads f bytes result rest = Gives (λ x. x) (f.read bytes) result rest
+abbrev pub FormatReads : {A : Type 0} → Format A → List ℕ → Result A (Failure Malformed) → List ℕ → Type 0
+FormatReads f bytes result rest = Gives (λ x. x) (f.read bytes) result rest
 
 -- the value has an encoding, which is at the end of the new bytes
 pub record AppendsForm {A : Type 0} (f : Format A) (x : A) (before after : List ℕ) : Type 0 where

@@ -3,7 +3,7 @@ ghost use Rattle.std.specs.Option.{option_copied};
 ghost use Rattle.std.specs.List.{insert, position, position_or_len};
 ghost use Rattle.base.specs.Refusals.{IfRefused};
 ghost use Rattle.wire.specs.Frames.{AreFrames, count_in_frame, place_in_frame};
-ghost use Rattle.wire.specs.Assembly.{Agree, AreAllHeld, AreRising, AreTogether, IsAssembled, IsFed, IsRefusedFrame, IsFrameCheck, held_at, with_frame};
+ghost use Rattle.wire.specs.Assembly.{Agree, AreAllHeld, AreFramesRising, AreFramesTogether, IsMessageAssembled, IsAssemblerFed, IsRefusedFrame, IsFrameCheck, frame_held_at, frames_with_frame};
 
 use crate::assembly::{are_same, message_of};
 use crate::error::{Malformed, WireError};
@@ -22,13 +22,13 @@ pub struct Assembler {
 
 impl Model for Assembler {
     ghost use Rattle.std.specs.Prelude.{List, ℕ};
-    ghost use Rattle.wire.specs.Assembly.{AreTogether};
+    ghost use Rattle.wire.specs.Assembly.{AreFramesTogether};
 
     ghost Value = { List (List ℕ) };
 
     ghost view = { λ a. a.frames.items };
 
-    ghost invariant = { λ a. AreTogether a.frames.items };
+    ghost invariant = { λ a. AreFramesTogether a.frames.items };
 }
 
 impl Assembler {
@@ -51,7 +51,7 @@ impl Assembler {
     pub fn feed(&mut self, frame: &[u8]) -> Result<Option<Message>, WireError>
         ensures refused { IfErr result (IfRefused (λ _. IsRefusedFrame self.old frame.now)) }
         ensures taken { OnOk result (IsRefusedFrame self.old frame.now → ⊥) }
-        ensures held { OnOk result (self.new ≡ with_frame self.old frame.now) }
+        ensures held { OnOk result (self.new ≡ frames_with_frame self.old frame.now) }
         ensures some { IfOk result (λ answer.
             IsSome answer ↔ AreAllHeld self.new (count_in_frame frame.now)) }
         ensures message { IfOk result (λ answer. IfSome answer (λ m. AreFrames m self.new)) }
@@ -63,10 +63,10 @@ impl Assembler {
 }
 
 fn feed(frames: &mut Vec<Frame>, alloc: Global, frame: &[u8]) -> Result<Option<Message>, WireError>
-    requires { AreTogether frames.old.items }
-    ensures { IsFed frames.old.items frame.now frames.new.items result }
+    requires { AreFramesTogether frames.old.items }
+    ensures { IsAssemblerFed frames.old.items frame.now frames.new.items result }
 {
-    match check_of(frames, frame) {
+    match frame_check_of(frames, frame) {
         FrameCheck::Refused => Err(WireError::Refused(Malformed)),
         FrameCheck::Held => message_of(alloc, count_of(frame), frames),
         FrameCheck::New(index) => hold(frames, alloc, index, frame),
@@ -82,9 +82,9 @@ fn hold(
 ) -> Result<Option<Message>, WireError>
     requires index { index ≤ length frames.old.items }
     requires long { 8 ≤ length frame.now }
-    requires rising { AreRising 0 (count_in_frame frame.now) (insert frames.old.items index frame.now) }
+    requires rising { AreFramesRising 0 (count_in_frame frame.now) (insert frames.old.items index frame.now) }
     ensures answer { let held = insert frames.old.items index frame.now in
-        IsAssembled held (count_in_frame frame.now) result }
+        IsMessageAssembled held (count_in_frame frame.now) result }
     ensures ok { OnOk result (frames.new.items ≡ insert frames.old.items index frame.now) }
     ensures unchanged { OnErr result (frames.new.items ≡ frames.old.items) }
 {
@@ -109,8 +109,8 @@ enum FrameCheck {
     New(usize),
 }
 
-fn check_of(frames: &[Frame], frame: &[u8]) -> FrameCheck
-    requires { AreTogether frames.now }
+fn frame_check_of(frames: &[Frame], frame: &[u8]) -> FrameCheck
+    requires { AreFramesTogether frames.now }
     ensures { IsFrameCheck frames.now frame.now result }
 {
     if frame.len() <= HEADER_LEN {
@@ -125,12 +125,12 @@ fn check_of(frames: &[Frame], frame: &[u8]) -> FrameCheck
     if !agree(frames, count_of(frame)) {
         return FrameCheck::Refused;
     }
-    check_among(frames, frame)
+    frame_check_among(frames, frame)
 }
 
 // Whether the frames that came have this count.
 fn agree(frames: &[Frame], count: u32) -> bool
-    requires { AreTogether frames.now }
+    requires { AreFramesTogether frames.now }
     ensures { Agree frames.now count result }
 {
     match frames.first() {
@@ -140,11 +140,11 @@ fn agree(frames: &[Frame], count: u32) -> bool
 }
 
 // Where a frame belongs among those of its count.
-fn check_among(frames: &[Frame], frame: &[u8]) -> FrameCheck
+fn frame_check_among(frames: &[Frame], frame: &[u8]) -> FrameCheck
     requires long { 9 ≤ length frame.now }
     requires short { length frame.now ≤ 16384 }
     requires below { place_in_frame frame.now < count_in_frame frame.now }
-    requires rising { AreRising 0 (count_in_frame frame.now) frames.now }
+    requires rising { AreFramesRising 0 (count_in_frame frame.now) frames.now }
     ensures { IsFrameCheck frames.now frame.now result }
 {
     let place = place_of(frame);
@@ -162,7 +162,7 @@ fn check_among(frames: &[Frame], frame: &[u8]) -> FrameCheck
 
 // The frame of this place; `None` if it hasn't come.
 fn find_at(frames: &[Frame], place: u32) -> Option<&Frame>
-    ensures { option_copied result ≡ held_at frames.now place }
+    ensures { option_copied result ≡ frame_held_at frames.now place }
 {
     frames.iter().find(|frame| frame.place() == place)
 }

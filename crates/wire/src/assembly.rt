@@ -1,12 +1,12 @@
 ghost use Rattle.std.specs.Prelude.{◌≡◌, ◌↔◌, length, map, IsTrue, IfOk};
 ghost use Rattle.std.specs.List.{flat_map};
 ghost use Rattle.wire.specs.Frames.{chunk_of};
-ghost use Rattle.wire.specs.Assembly.{AreRising, IsAssembled, IsWhole};
+ghost use Rattle.wire.specs.Assembly.{AreFramesRising, IsMessageAssembled, IsWhole};
 
 use crate::codec::decode;
 use crate::error::{Malformed, WireError};
 use crate::frame::Frame;
-use crate::frames::{MAX_CHUNK, cut, head_len};
+use crate::frames::{MAX_CHUNK, cut, first_chunk_len};
 use ctrl_msg::Message;
 use std::alloc::{AllocError, Global};
 
@@ -29,7 +29,7 @@ fn joined(alloc: Global, frames: &[Frame]) -> Result<Vec<u8>, AllocError>
 }
 
 // Whether these are the chunks of the frames.
-fn are_chunks(frames: &[Frame], parts: &[&[u8]]) -> bool
+fn are_frame_chunks(frames: &[Frame], parts: &[&[u8]]) -> bool
     ensures { IsTrue result ↔ (map chunk_of frames.now ≡ map (λ p. p.now) parts.now) }
 {
     if frames.len() != parts.len() {
@@ -44,14 +44,14 @@ fn are_chunks(frames: &[Frame], parts: &[&[u8]]) -> bool
 }
 
 // The message of these frames, whose chunks make these bytes.
-fn decoded(alloc: Global, frames: &[Frame], bytes: &[u8]) -> Result<Message, WireError>
-    requires rising { AreRising 0 (length frames.now) frames.now }
+fn decoded_frames(alloc: Global, frames: &[Frame], bytes: &[u8]) -> Result<Message, WireError>
+    requires rising { AreFramesRising 0 (length frames.now) frames.now }
     requires bytes { bytes.now ≡ flat_map chunk_of frames.now }
     ensures { IsWhole frames.now result }
 {
     let message = decode(alloc, bytes)?;
-    let parts = cut(alloc, head_len(&message.body, bytes), bytes)?;
-    if are_chunks(frames, &parts) {
+    let parts = cut(alloc, first_chunk_len(&message.body, bytes), bytes)?;
+    if are_frame_chunks(frames, &parts) {
         Ok(message)
     } else {
         Err(WireError::Refused(Malformed))
@@ -60,11 +60,11 @@ fn decoded(alloc: Global, frames: &[Frame], bytes: &[u8]) -> Result<Message, Wir
 
 // The message of all of its frames.
 fn complete(alloc: Global, frames: &[Frame]) -> Result<Message, WireError>
-    requires { AreRising 0 (length frames.now) frames.now }
+    requires { AreFramesRising 0 (length frames.now) frames.now }
     ensures { IsWhole frames.now result }
 {
     let bytes = joined(alloc, frames)?;
-    decoded(alloc, frames, &bytes)
+    decoded_frames(alloc, frames, &bytes)
 }
 
 /// The message of these frames at rising places; `None` if there are fewer than `count`.
@@ -76,8 +76,8 @@ pub(crate) fn message_of(
     count: u32,
     frames: &[Frame],
 ) -> Result<Option<Message>, WireError>
-    requires { AreRising 0 count frames.now }
-    ensures { IsAssembled frames.now count result }
+    requires { AreFramesRising 0 count frames.now }
+    ensures { IsMessageAssembled frames.now count result }
 {
     if frames.len() != count as usize {
         return Ok(None);

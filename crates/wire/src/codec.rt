@@ -3,8 +3,8 @@ ghost use Rattle.ctrl_msg.specs.declared.message.Message.{Message};
 ghost use Rattle.base.specs.Refusals.{IfRefused};
 ghost use Rattle.wire.specs.Fields as form;
 ghost use Rattle.wire.specs.Messages as kinds;
-ghost use Rattle.wire.specs.Messages.{AreShort, FieldsSuit, HasSpelling, IsSpelling, IsPlace, cache_rule_of, kind_number, made_body, read_fields, whole_message};
-ghost use Rattle.wire.specs.Reading.{AppendsForm, AppendsFields, Gives, Reads};
+ghost use Rattle.wire.specs.Messages.{AreWireShort, WireFieldsSuit, HasSpelling, IsSpelling, IsWirePlace, cache_rule_of, kind_number, made_body, read_fields, whole_message};
+ghost use Rattle.wire.specs.Reading.{AppendsForm, AppendsFields, Gives, FormatReads};
 
 use crate::error::{Malformed, WireError};
 use crate::fields::{
@@ -24,7 +24,7 @@ use ternary::Word;
 
 #[tactic(auto, unfolding(crate::specs::Messages::receiver))]
 pub(crate) fn read_receiver(reader: &mut ByteReader) -> Result<Place, WireError>
-    ensures { Reads kinds.receiver reader.old result reader.new }
+    ensures { FormatReads kinds.receiver reader.old result reader.new }
 {
     match reader.n1()? {
         255 => Ok(Place::Controller),
@@ -36,7 +36,7 @@ pub(crate) fn read_receiver(reader: &mut ByteReader) -> Result<Place, WireError>
 /// The byte of a receiver.
 #[tactic(auto, unfolding(crate::specs::Messages::receiver, crate::specs::Fields::switch, crate::specs::Fields::n1, crate::specs::Format::spelled_number))]
 pub(crate) fn receiver_byte(to: Place) -> u8
-    requires { IsPlace to }
+    requires { IsWirePlace to }
     ensures fits { kinds.receiver.fits to ≡ true }
     ensures spelled { kinds.receiver.spell to ≡ result ∷ [] }
 {
@@ -47,7 +47,7 @@ pub(crate) fn receiver_byte(to: Place) -> u8
 }
 
 pub(crate) fn put_receiver(out: &mut Vec<u8>, to: Place) -> Result<(), AllocError>
-    requires { IsPlace to }
+    requires { IsWirePlace to }
     ensures { OnOk result (AppendsForm kinds.receiver to out.old.items out.new.items) }
 {
     out.push(receiver_byte(to))?;
@@ -56,7 +56,7 @@ pub(crate) fn put_receiver(out: &mut Vec<u8>, to: Place) -> Result<(), AllocErro
 
 #[tactic(auto, unfolding(crate::specs::Messages::install_form))]
 fn read_install(reader: &mut ByteReader) -> Result<(u32, SharedTables), WireError>
-    ensures { Reads kinds.install_form reader.old result reader.new }
+    ensures { FormatReads kinds.install_form reader.old result reader.new }
 {
     let boot = reader.n4()?;
     let tables = read_tables(reader)?;
@@ -66,7 +66,7 @@ fn read_install(reader: &mut ByteReader) -> Result<(u32, SharedTables), WireErro
 
 #[tactic(auto, unfolding(crate::specs::Messages::boot_and_version))]
 fn read_of_version(reader: &mut ByteReader) -> Result<(u32, u32), WireError>
-    ensures { Reads kinds.boot_and_version reader.old result reader.new }
+    ensures { FormatReads kinds.boot_and_version reader.old result reader.new }
 {
     let boot = reader.n4()?;
     let version = reader.n4()?;
@@ -87,7 +87,7 @@ fn read_stamp(reader: &mut ByteReader) -> Result<(u32, u32, Shared<Touched>), Wi
 
 #[tactic(auto, unfolding(crate::specs::Messages::advert))]
 fn read_advert(reader: &mut ByteReader) -> Result<Advert, WireError>
-    ensures { Reads kinds.advert reader.old result reader.new }
+    ensures { FormatReads kinds.advert reader.old result reader.new }
 {
     Ok(Advert {
         origin: read_switch(reader)?,
@@ -112,7 +112,7 @@ fn read_cache_rule(reader: &mut ByteReader) -> Result<Body, WireError>
 
 #[tactic(auto, unfolding(crate::specs::Messages::hello))]
 fn read_hello(reader: &mut ByteReader) -> Result<(u32, u32), WireError>
-    ensures { Reads kinds.hello reader.old result reader.new }
+    ensures { FormatReads kinds.hello reader.old result reader.new }
 {
     let switch = read_switch(reader)?;
     let boot = reader.n4()?;
@@ -160,7 +160,7 @@ fn read_fields(kind: u8, reader: &mut ByteReader) -> Result<Body, WireError>
 
 #[tactic(auto, unfolding(crate::specs::Messages::body))]
 fn read_body(reader: &mut ByteReader) -> Result<Body, WireError>
-    ensures { Reads kinds.body reader.old result reader.new }
+    ensures { FormatReads kinds.body reader.old result reader.new }
 {
     let kind = reader.n1()?;
     read_fields(kind, reader)
@@ -168,7 +168,7 @@ fn read_body(reader: &mut ByteReader) -> Result<Body, WireError>
 
 #[tactic(auto, unfolding(crate::specs::Messages::message))]
 fn read_message(reader: &mut ByteReader) -> Result<Message, WireError>
-    ensures { Reads kinds.message reader.old result reader.new }
+    ensures { FormatReads kinds.message reader.old result reader.new }
 {
     let to = read_receiver(reader)?;
     let body = read_body(reader)?;
@@ -196,7 +196,7 @@ fn whole(reader: &mut ByteReader) -> Result<Message, WireError>
 
 #[tactic(auto, unfolding(crate::specs::Messages::install_form))]
 fn put_install(out: &mut Vec<u8>, boot: u32, tables: &SharedTables) -> Result<(), AllocError>
-    requires { AreShort tables.now }
+    requires { AreWireShort tables.now }
     ensures { OnOk result (AppendsForm kinds.install_form (boot, tables.now) out.old.items out.new.items) }
 {
     put_n4(out, boot)?;
@@ -307,7 +307,7 @@ fn kind_of(body: &Body) -> u8
 }
 
 fn put_fields(out: &mut Vec<u8>, body: &Body) -> Result<(), AllocError>
-    requires { FieldsSuit body.now }
+    requires { WireFieldsSuit body.now }
     ensures { OnOk result (AppendsFields body.now out.old.items out.new.items) }
 {
     match body {
@@ -349,7 +349,7 @@ fn put_fields(out: &mut Vec<u8>, body: &Body) -> Result<(), AllocError>
 
 #[tactic(auto, unfolding(crate::specs::Messages::body))]
 fn put_body(out: &mut Vec<u8>, body: &Body) -> Result<(), AllocError>
-    requires { FieldsSuit body.now }
+    requires { WireFieldsSuit body.now }
     ensures { OnOk result (AppendsForm kinds.body body.now out.old.items out.new.items) }
 {
     put_n1(out, kind_of(body))?;
@@ -388,7 +388,7 @@ pub fn encode(alloc: Global, message: &Message) -> Result<Vec<u8>, AllocError>
 ///
 /// # Errors
 /// `Malformed` exactly if they are the encoding of no message; or out of memory.
-#[tactic(auto, using(crate::proofs::MessageDecoding::found, crate::proofs::MessageDecoding::only, crate::proofs::MessageDecoding::malformed))]
+#[tactic(auto, using(crate::proofs::WireDecoding::found, crate::proofs::WireDecoding::only, crate::proofs::WireDecoding::malformed))]
 pub fn decode(alloc: Global, bytes: &[u8]) -> Result<Message, WireError>
     ensures found { IfOk result (λ message. IsSpelling message bytes.now) }
     ensures only { IfOk result (λ message.

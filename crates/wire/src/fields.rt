@@ -1,6 +1,6 @@
 ghost use Rattle.std.specs.Prelude.{◌<◌, ◌≤◌, All, IfOk, OnOk};
 ghost use Rattle.wire.specs.Fields as form;
-ghost use Rattle.wire.specs.Reading.{AppendsForm, Reads};
+ghost use Rattle.wire.specs.Reading.{AppendsForm, FormatReads};
 
 use crate::error::{Malformed, WireError};
 use crate::list::{put_items, read_items};
@@ -13,7 +13,7 @@ use ternary::Word;
 
 #[tactic(auto, unfolding(crate::specs::Fields::switch))]
 pub(crate) fn read_switch(reader: &mut ByteReader) -> Result<u32, WireError>
-    ensures { Reads form.switch reader.old result reader.new }
+    ensures { FormatReads form.switch reader.old result reader.new }
 {
     let number = reader.n1()?;
     if number < 64 {
@@ -33,7 +33,7 @@ pub(crate) fn put_switch(out: &mut Vec<u8>, number: u32) -> Result<(), AllocErro
 
 #[tactic(auto, unfolding(crate::specs::Fields::word))]
 pub(crate) fn read_word(reader: &mut ByteReader) -> Result<Word, WireError>
-    ensures { Reads form.word reader.old result reader.new }
+    ensures { FormatReads form.word reader.old result reader.new }
 {
     let value = reader.n16()?;
     let mask = reader.n16()?;
@@ -53,7 +53,7 @@ pub(crate) fn put_word(out: &mut Vec<u8>, word: &Word) -> Result<(), AllocError>
 
 #[tactic(auto, unfolding(crate::specs::Fields::rule_name))]
 pub(crate) fn read_rule_name(reader: &mut ByteReader) -> Result<Option<u32>, WireError>
-    ensures { Reads form.rule_name reader.old result reader.new }
+    ensures { FormatReads form.rule_name reader.old result reader.new }
 {
     match reader.n1()? {
         0 => Ok(None),
@@ -77,7 +77,7 @@ pub(crate) fn put_rule_name(out: &mut Vec<u8>, rule: Option<u32>) -> Result<(), 
 
 #[tactic(auto, unfolding(crate::specs::Fields::action))]
 pub(crate) fn read_action(reader: &mut ByteReader) -> Result<Action, WireError>
-    ensures { Reads form.action reader.old result reader.new }
+    ensures { FormatReads form.action reader.old result reader.new }
 {
     match reader.n1()? {
         0 => Ok(Action::Drop),
@@ -100,8 +100,8 @@ pub(crate) fn put_action(out: &mut Vec<u8>, action: Action) -> Result<(), AllocE
 }
 
 // How many values follow: a byte from `least` to `most`.
-fn read_count(reader: &mut ByteReader, least: u8, most: u8) -> Result<usize, WireError>
-    ensures read { Reads (form.count_within least most) reader.old result reader.new }
+fn read_byte_count(reader: &mut ByteReader, least: u8, most: u8) -> Result<usize, WireError>
+    ensures read { FormatReads (form.count_within least most) reader.old result reader.new }
     ensures within { IfOk result (λ count. (least ≤ count) × (count ≤ most)) }
 {
     let count = reader.n1()?;
@@ -114,9 +114,9 @@ fn read_count(reader: &mut ByteReader, least: u8, most: u8) -> Result<usize, Wir
 
 #[tactic(auto, unfolding(crate::specs::Fields::touched, crate::specs::Fields::touched_count))]
 pub(crate) fn read_touched(reader: &mut ByteReader) -> Result<Touched, WireError>
-    ensures { Reads form.touched reader.old result reader.new }
+    ensures { FormatReads form.touched reader.old result reader.new }
 {
-    let count = read_count(reader, 0, 16)?;
+    let count = read_byte_count(reader, 0, 16)?;
     let words = read_items(reader, count as u32)?;
     match Touched::new(words) {
         Some(touched) => Ok(touched),
@@ -135,9 +135,9 @@ pub(crate) fn put_touched(out: &mut Vec<u8>, touched: &Touched) -> Result<(), Al
 
 #[tactic(auto, unfolding(crate::specs::Fields::targets, crate::specs::Fields::target_count))]
 pub(crate) fn read_targets(reader: &mut ByteReader) -> Result<Targets, WireError>
-    ensures { Reads form.targets reader.old result reader.new }
+    ensures { FormatReads form.targets reader.old result reader.new }
 {
-    let count = read_count(reader, 1, 4)?;
+    let count = read_byte_count(reader, 1, 4)?;
     let mut switches = [0; 4];
     for place in 0..count {
         switches[place] = read_switch(reader)?;

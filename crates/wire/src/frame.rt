@@ -29,7 +29,7 @@ impl Model for Frame {
 
 impl Frame {
     /// The frame of a chunk.
-    #[tactic(auto, unfolding(crate::specs::Frames::frame), using(crate::proofs::FrameBytes::length_frame))]
+    #[tactic(auto, unfolding(crate::specs::Frames::frame), using(crate::proofs::WireFrameBytes::length_frame))]
     pub fn new(alloc: Global, place: u32, count: u32, chunk: &[u8]) -> Result<Frame, AllocError>
         ensures { IfOk result (λ f. f ≡ frame place count chunk.now) }
     {

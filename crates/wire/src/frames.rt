@@ -1,7 +1,7 @@
 ghost use Rattle.std.specs.Prelude.{◌≡◌, ◌<◌, ◌≤◌, ◌^◌, ◌↔◌, Some, true, length, map, take, drop, slice_get, IfOk, IfSome, IsNone};
-ghost use Rattle.wire.specs.Frames.{AreFrames, begun_for, begun_with, chunks_behind_head, head_len, frames_of, frames_of_version};
+ghost use Rattle.wire.specs.Frames.{AreFrames, begun_for, begun_with, chunks_behind_head, first_chunk_len, frames_of, frames_of_version};
 ghost use Rattle.wire.specs.Messages as kinds;
-ghost use Rattle.wire.specs.Messages.{HasSpelling, IsPlace};
+ghost use Rattle.wire.specs.Messages.{HasSpelling, IsWirePlace};
 
 use crate::codec::{encode, receiver_byte};
 use crate::frame::{Frame, HEADER_LEN};
@@ -87,7 +87,7 @@ fn begun_with(alloc: Global, version: u32, frame: &[u8]) -> Result<Frame, AllocE
 /// Writes this receiver into the first frame of a message, so that it is the one of the same
 /// message to this receiver.
 pub fn set_receiver(frame: &mut [u8], to: Place)
-    requires receiver { IsPlace to }
+    requires receiver { IsWirePlace to }
     requires long { 9 ≤ length frame.old }
     ensures fits { kinds.receiver.fits to ≡ true }
     ensures written { frame.new ≡ begun_for to frame.old }
@@ -106,14 +106,14 @@ pub fn split(alloc: Global, message: &Message) -> Result<Frames, AllocError>
     ensures { IfOk result (λ frames. AreFrames message.now frames) }
 {
     let bytes = encode(alloc, message)?;
-    let parts = cut(alloc, head_len(&message.body, &bytes), &bytes)?;
+    let parts = cut(alloc, first_chunk_len(&message.body, &bytes), &bytes)?;
     let frames = framed(alloc, &parts)?;
     Ok(Frames { frames })
 }
 
 // How many bytes the first chunk has.
-pub(crate) fn head_len(body: &Body, bytes: &[u8]) -> usize
-    ensures { result ≡ head_len body.now bytes.now }
+pub(crate) fn first_chunk_len(body: &Body, bytes: &[u8]) -> usize
+    ensures { result ≡ first_chunk_len body.now bytes.now }
 {
     match body {
         Body::Install { .. } => 6,

@@ -2,7 +2,7 @@
 ghost use Rattle.std.specs.Prelude.{◌≡◌, ◌++◌, ℕ, true, IfOk, IfErr, OnOk};
 ghost use Rattle.ctrl_msg.specs.declared.message.Place.{Place};
 ghost use Rattle.base.specs.Refusals.{IfRefused};
-ghost use Rattle.wire.specs.Messages.{IsFront, IsPlace, message_front, read_front, spelled_front};
+ghost use Rattle.wire.specs.Messages.{IsFront, IsWirePlace, message_front, read_front, spelled_front};
 ghost use Rattle.wire.specs.Reading.{Gives};
 
 use crate::codec::{put_receiver, read_receiver};
@@ -20,8 +20,8 @@ const INSTALL: u8 = 1;
 /// # Errors
 /// Only out of memory; then a part of it may be written.
 #[tactic(auto, unfolding(crate::specs::Messages::message_front))]
-pub fn append_front(out: &mut Vec<u8>, to: Place, boot: u32) -> Result<(), AllocError>
-    requires { IsPlace to }
+pub fn append_install_front(out: &mut Vec<u8>, to: Place, boot: u32) -> Result<(), AllocError>
+    requires { IsWirePlace to }
     ensures fits { OnOk result (message_front.fits (to, (1, boot)) ≡ true) }
     ensures spelled { OnOk result (out.new.items ≡ out.old.items ++ spelled_front to boot) }
 {
@@ -48,7 +48,7 @@ fn read(reader: &mut ByteReader) -> Result<(Place, u32), WireError>
 ///
 /// # Errors
 /// `Malformed` exactly if they are the front of no installation; or out of memory.
-#[tactic(auto, using(crate::proofs::InstallationFronts::front_found, crate::proofs::InstallationFronts::no_front))]
+#[tactic(auto, using(crate::proofs::WireInstallationFronts::front_found, crate::proofs::WireInstallationFronts::no_front))]
 pub fn decode_front(alloc: Global, bytes: &[u8]) -> Result<(Place, u32), WireError>
     ensures found { IfOk result (λ front. IsFront front.0 front.1 bytes.now) }
     ensures malformed { IfErr result (IfRefused (λ _.

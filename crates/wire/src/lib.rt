@@ -35,4 +35,4 @@ pub use codec::{append, decode, encode};
 pub use error::{Malformed, WireError};
 pub use frame::HEADER_LEN;
 pub use frames::{Frames, set_receiver, split};
-pub use front::{append_front, decode_front};
+pub use front::{append_install_front, decode_front};

@@ -1,6 +1,6 @@
 ghost use Rattle.std.specs.Prelude.{◌<◌, ◌^◌, length, All, OnOk};
 ghost use Rattle.wire.specs.Format.{Format, list_of, read_items};
-ghost use Rattle.wire.specs.Reading.{Reads, Gives, AppendsForm, AppendsItems};
+ghost use Rattle.wire.specs.Reading.{FormatReads, Gives, AppendsForm, AppendsItems};
 ghost use Rattle.wire.specs.Fields.{n4};
 
 use crate::error::WireError;
@@ -21,7 +21,7 @@ pub(crate) trait Part: Sized + Drop {
 
     /// Reads a part from the front of the bytes.
     fn read(reader: &mut ByteReader) -> Result<Self, WireError>
-        ensures { Reads format reader.old result reader.new };
+        ensures { FormatReads format reader.old result reader.new };
 
     /// Appends the encoding of the part.
     fn put(&self, out: &mut Vec<u8>) -> Result<(), AllocError>

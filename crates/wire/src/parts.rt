@@ -1,9 +1,9 @@
 #![tactic(auto, unfolding(crate::specs::Fields::rule, crate::specs::Fields::region, crate::specs::Fields::partition, crate::specs::Fields::tables))]
 
 ghost use Rattle.std.specs.Prelude.{OnOk};
-ghost use Rattle.wire.specs.Reading.{AppendsForm, Reads};
+ghost use Rattle.wire.specs.Reading.{AppendsForm, FormatReads};
 ghost use Rattle.wire.specs.Fields as form;
-ghost use Rattle.wire.specs.Messages.{AreShort, AreSwitches, HasFewRules};
+ghost use Rattle.wire.specs.Messages.{AreWireShort, AreSwitches, HasFewRules};
 
 use crate::error::WireError;
 use crate::fields::{
@@ -93,7 +93,7 @@ impl Part for Partition {
 }
 
 pub(crate) fn read_tables(reader: &mut ByteReader) -> Result<Tables, WireError>
-    ensures { Reads form.tables reader.old result reader.new }
+    ensures { FormatReads form.tables reader.old result reader.new }
 {
     let version = reader.n4()?;
     let parts = PartRows::new(read_list(reader)?)?;
@@ -106,7 +106,7 @@ pub(crate) fn read_tables(reader: &mut ByteReader) -> Result<Tables, WireError>
 }
 
 pub(crate) fn put_tables(out: &mut Vec<u8>, tables: &Tables) -> Result<(), AllocError>
-    requires { AreShort tables.now }
+    requires { AreWireShort tables.now }
     ensures { OnOk result (AppendsForm form.tables tables.now out.old.items out.new.items) }
 {
     put_n4(out, tables.version)?;

@@ -1,11 +1,11 @@
-pub mod OverParts
-pub mod OverSwitches
-pub mod KeptFiles
+pub mod WorldPacketParts
+pub mod WorldSwitchParts
+pub mod WorldKeptFiles
 pub mod BegunWorld
 pub mod WorldStepClauses
 pub mod WorldActingSteps
-pub mod JournalRoom
+pub mod WorldJournalRoom
 pub mod WorldLeastPacket
 pub mod WorldLeastMessage
-pub mod SoFar
-pub mod ViewedParts
+pub mod WorldSoFar
+pub mod WorldViewedParts

@@ -5,46 +5,46 @@ use Rattle.message_bag.specs.Exports.{Post}
 use Rattle.controller.specs.declared.sends.Act.{Act}
 use Rattle.update_machine.specs.Exports.{Item, Setting, Step, piece}
 use Rattle.journal.specs.declared.item.Item.TheVariants as item
-use Rattle.world.specs.Exports.{BeginsStep, Goes, KeepNet, KeepRest, comes_in, setting_in, state_in}
+use Rattle.world.specs.Exports.{BeginsStep, Goes, PartsKeepNet, PartsKeepRest, comes_in, world_setting_in, world_state_in}
 use Rattle.refinement.specs.Exports.{RefineJournal}
 use Rattle.travelling.specs.Travelling.{Flights}
-use Rattle.world_log.specs.Exports.{IsPart, act_items, act_posts}
+use Rattle.world_log.specs.Exports.{IsLogPart, log_act_items, log_act_posts}
 use Rattle.world_log.specs.declared.log.Log.{Log}
 use Rattle.world.specs.declared.parts.Parts.{Parts}
 use Rattle.world.proofs.WorldStepClauses.{Follows, goes, part_goes}
-use Rattle.world_log.proofs.StepWrites.{step_part, step_written}
+use Rattle.world_log.proofs.LogStepWrites.{step_part, step_written}
 
 -- the journal behind the first item, what is written then, under which number the messages are,
 -- and what they post behind these posts
 pub record Tells {T E : Type 0} (r : Result T E) (before : List Item) (row : ℕ) (step : Step)
     (old new : Parts) (first : Item) (tail : ℕ → List Item) (begun : List Item) (number : ℕ)
     (posts more : List Post) : Type 0 where
-  pub piece_is : piece (setting_in old) before row step
+  pub piece_is : piece (world_setting_in old) before row step
       ≡ item.Row row step ∷ first ∷ tail (length old.log.bag + 1)
   pub counted : new.packets ≡ old.packets + comes_in step
   pub pushed : begun ≡ old.log.journal ++ first ∷ []
   pub number_is : number ≡ length old.log.bag
   pub travelling : new.log.travelling ≡ old.log.travelling
   pub written : OnOk r (new.log.journal ≡ begun ++ tail (number + 1))
-  pub part : OnErr r (IsPart begun (tail (number + 1)) new.log.journal)
+  pub part : OnErr r (IsLogPart begun (tail (number + 1)) new.log.journal)
   pub posted : OnOk r (new.log.bag ≡ posts ++ more)
-  pub refines : OnOk r (RefineJournal (setting_in old)
+  pub refines : OnOk r (RefineJournal (world_setting_in old)
       (before ++ item.Row row step ∷ first ∷ tail (length old.log.bag + 1))
-      (record (state_in new) { travelling = old.log.travelling; posts = posts ++ more }))
+      (record (world_state_in new) { travelling = old.log.travelling; posts = posts ++ more }))
 
 -- acts that were noted after this journal and these posts, under the numbers after this one
 pub record AreNoted {T E : Type 0} (r : Result T E) (begun : List Item) (number : ℕ)
     (posts : List Post) (now : Log) (acts : List Act) : Type 0 where
-  pub written : OnOk r (now.journal ≡ begun ++ act_items (number + 1) acts)
-  pub posted : OnOk r (now.bag ≡ posts ++ act_posts acts)
-  pub part : OnErr r (IsPart begun (act_items (number + 1) acts) now.journal)
+  pub written : OnOk r (now.journal ≡ begun ++ log_act_items (number + 1) acts)
+  pub posted : OnOk r (now.bag ≡ posts ++ log_act_posts acts)
+  pub part : OnErr r (IsLogPart begun (log_act_items (number + 1) acts) now.journal)
 
 -- the acts are these
 pub as_noted : {T E : Type 0} (r : Result T E) (begun : List Item) (number : ℕ) (posts : List Post)
     (now : Log) (given acts : List Act) → given ≡ acts
-    → OnOk r (now.journal ≡ begun ++ act_items (number + 1) given)
-    → OnOk r (now.bag ≡ posts ++ act_posts given)
-    → OnErr r (IsPart begun (act_items (number + 1) given) now.journal)
+    → OnOk r (now.journal ≡ begun ++ log_act_items (number + 1) given)
+    → OnOk r (now.bag ≡ posts ++ log_act_posts given)
+    → OnErr r (IsLogPart begun (log_act_items (number + 1) given) now.journal)
     → AreNoted r begun number posts now acts
 as_noted r begun number posts now given acts same written posted part =
     subst (AreNoted r begun number posts now) same
@@ -63,35 +63,35 @@ goes_told {r} {before} {row} {step} {old} {new} first tail begun number posts mo
     (step_written r old.log.journal begun new.log.journal items (first ∷ items) first refl
     tells.pushed (rw tells.number_is at tells.written))
     (step_part r old.log.journal begun new.log.journal items (first ∷ items) first refl tells.pushed
-    (subst (λ k. OnErr r (IsPart begun (tail (k + 1)) new.log.journal)) tells.number_is tells.part))
+    (subst (λ k. OnErr r (IsLogPart begun (tail (k + 1)) new.log.journal)) tells.number_is tells.part))
     (both_ok r (λ all refines. rw all (rw tells.travelling refines)) tells.posted tells.refines)
 
 -- where the controller's acts are what it writes then
 pub goes_acting : {T E : Type 0} {r : Result T E} {before : List Item} {row : ℕ} {step : Step}
     {old new : Parts} (first : Item) (acts given : List Act) (begun : List Item)
     → BeginsStep before row step old → Follows old new → new.packets ≡ old.packets + comes_in step
-    → piece (setting_in old) before row step
-    ≡ item.Row row step ∷ first ∷ act_items (length old.log.bag + 1) acts
+    → piece (world_setting_in old) before row step
+    ≡ item.Row row step ∷ first ∷ log_act_items (length old.log.bag + 1) acts
     → begun ≡ old.log.journal ++ first ∷ [] → given ≡ acts → new.log.travelling ≡ old.log.travelling
-    → OnOk r (new.log.journal ≡ begun ++ act_items (length old.log.bag + 1) given)
-    → OnOk r (new.log.bag ≡ old.log.bag ++ act_posts given)
-    → OnErr r (IsPart begun (act_items (length old.log.bag + 1) given) new.log.journal)
-    → RefineJournal (setting_in old) (before ++ item.Row row step
-    ∷ first ∷ act_items (length old.log.bag + 1) acts) (record (state_in new) {
+    → OnOk r (new.log.journal ≡ begun ++ log_act_items (length old.log.bag + 1) given)
+    → OnOk r (new.log.bag ≡ old.log.bag ++ log_act_posts given)
+    → OnErr r (IsLogPart begun (log_act_items (length old.log.bag + 1) given) new.log.journal)
+    → RefineJournal (world_setting_in old) (before ++ item.Row row step
+    ∷ first ∷ log_act_items (length old.log.bag + 1) acts) (record (world_state_in new) {
       travelling = old.log.travelling;
-      posts = old.log.bag ++ act_posts acts;
+      posts = old.log.bag ++ log_act_posts acts;
     }) → Goes r before row step old new
 goes_acting {r} {old} {new} first acts given begun begins keeps counted is pushed same travelling
     written posted part refines =
     let all = on_ok_weaker r (λ done. refines) (as_noted r begun (length old.log.bag) old.log.bag
     new.log given acts same written posted part).written in
-    goes_told first (λ k. act_items k acts) begun (length old.log.bag) old.log.bag (act_posts acts)
+    goes_told first (λ k. log_act_items k acts) begun (length old.log.bag) old.log.bag (log_act_posts acts)
     begins keeps (search rules)
 
 -- memory runs out behind the first item
 pub first_goes : {T E : Type 0} {r : Result T E} {before : List Item} {row : ℕ} {step : Step}
     {old new : Parts} (first : Item) (rest : List Item) → BeginsStep before row step old
-    → KeepNet old new → piece (setting_in old) before row step ≡ item.Row row step ∷ first ∷ rest
+    → PartsKeepNet old new → piece (world_setting_in old) before row step ≡ item.Row row step ∷ first ∷ rest
     → IsErr r → new.log.journal ≡ old.log.journal ++ first ∷ [] → Goes r before row step old new
 first_goes {before} {row} {step} first rest begins keeps is failed pushed =
     part_goes keeps failed (record {
@@ -103,12 +103,12 @@ first_goes {before} {row} {step} first rest begins keeps is failed pushed =
 
 -- the parts refine the journal where only switches, messages and usable links changed
 pub relinked_refines : {old new : Parts} {setting : Setting} {journal : List Item}
-    {travelling : Flights} {posts : List Post} {near : List ℕ} → KeepRest old new → new.near ≡ near
-    → RefineJournal setting journal (record (state_in old) {
+    {travelling : Flights} {posts : List Post} {near : List ℕ} → PartsKeepRest old new → new.near ≡ near
+    → RefineJournal setting journal (record (world_state_in old) {
       switches = new.switches.items;
       travelling = travelling;
       posts = posts;
       near = near;
     }) → RefineJournal setting journal
-    (record (state_in new) { travelling = travelling; posts = posts })
+    (record (world_state_in new) { travelling = travelling; posts = posts })
 relinked_refines keeps is refines = rw (keeps.packets, keeps.controller, keeps.links, is) refines

@@ -4,11 +4,11 @@ use Rattle.base.proofs.Exports.{cases_lt, length-map, option_map_or, range_with_
 use Rattle.policy_rules.proofs.CallerLemmas.{find_same}
 use Rattle.message_bag.specs.Deliveries as statuses
 use Rattle.message_bag.specs.Posts as bag
-use Rattle.message_bag.proofs.NumberedPosts.{numbered_map}
+use Rattle.message_bag.proofs.BagNumberedPosts.{numbered_map}
 use Rattle.message_bag.specs.declared.deliveries.MessageState.{MessageState}
 use Rattle.update_machine.specs.Exports.{Item, Message, count_of, is_deliverable, is_forgotten, is_sending, is_waiting, message_of, next_message, next_waiting, was_delivered}
 use Rattle.world.specs.Exports.{IsLeastFrom, RefinesJournal, WorldValue}
-use Rattle.refinement.specs.Exports.{IsBagOf, post_in}
+use Rattle.refinement.specs.Exports.{IsBagOf, post_in_journal}
 
 -- a post waits as the journal says of its message
 post_waits : (sent : Option Message) (delivered forgotten : Bool) → option_map_or statuses.waits
@@ -25,8 +25,8 @@ post_waits (Some message) false true = refl
 post_waits (Some message) false false = refl
 
 waits_same : (journal : List Item) (posts : List bag.Post) → IsBagOf journal posts → (n : ℕ)
-    → statuses.is_waiting (bag.statuses_of posts) n ≡ is_waiting journal n
-unfolding post_in is_deliverable
+    → statuses.is_waiting (bag.post_statuses_of posts) n ≡ is_waiting journal n
+unfolding post_in_journal is_deliverable
 waits_same journal posts of n = ap (λ o. option_map_or statuses.waits o false)
     (numbered_map (λ (post : bag.Post). post.1) posts n
     ∙ ap (option_map (λ (post : bag.Post). post.1)) (of.each n))
@@ -35,7 +35,7 @@ waits_same journal posts of n = ap (λ o. option_map_or statuses.waits o false)
 least_waits : (journal : List Item) (posts : List bag.Post) → IsBagOf journal posts
     → bag.next_waiting_post posts 1 ≡ next_waiting journal
 unfolding next_waiting next_message
-least_waits journal posts of = let all : List MessageState = bag.statuses_of posts in
+least_waits journal posts of = let all : List MessageState = bag.post_statuses_of posts in
     ap (λ count. find (statuses.is_waiting all) (range_with_len 1 count))
     (omega (arith, of.many, length-map posts (λ (post : bag.Post). post.1)))
     ∙ find_same (statuses.is_waiting all) (is_waiting journal) (waits_same journal posts of)
@@ -78,7 +78,7 @@ none_behind all (suc place) behind = cc (slice_get_past all place (omega (arith,
 
 least_from : (journal : List Item) (posts : List bag.Post) → IsBagOf journal posts → (from : ℕ)
     → IsLeastFrom (is_waiting journal) from (bag.next_waiting_post posts from)
-least_from journal posts of from = let all : List MessageState = bag.statuses_of posts in
+least_from journal posts of from = let all : List MessageState = bag.post_statuses_of posts in
     subst (λ next. IsLeastFrom (is_waiting journal) from next)
     (sym (find_same (statuses.is_waiting all) (is_waiting journal) (waits_same journal posts of)
     (range_with_len from (length all + 1 - from))))

@@ -3,10 +3,10 @@ use Rattle.std.proofs.Common.{◌+◌, ◌∙◌, ◌≡◌, ◌≤◌, Bool, Is
 use Rattle.base.proofs.Exports.{cases_lt, cond-true, false_from_ne_true, none-some, range_with_len, some_passes_of}
 use Rattle.update_machine.specs.Exports.{Item, Setting, next_packet, next_travelling, travels}
 use Rattle.packet_laws.specs.Exports.{what_is_known}
-use Rattle.world.specs.Exports.{IsLeastFrom, RefinesJournal, WorldValue, setting_at}
+use Rattle.world.specs.Exports.{IsLeastFrom, RefinesJournal, WorldValue, world_setting_at}
 use Rattle.refinement.specs.Exports.{flight_in, flight_of}
 use Rattle.travelling.specs.Travelling.{IsNextFrom, Flights, flight}
-use Rattle.refinement.proofs.StepRefines.{reached_known}
+use Rattle.refinement.proofs.RefinedSteps.{reached_known}
 
 differ : {X : Type 0} (b : Bool) → b ≡ true → b ≡ false → X
 differ true holds fails = cc fails
@@ -82,11 +82,11 @@ least_travels journal next over least =
 pub least_from_in : (world : WorldValue) (from : ℕ) (next : Option ℕ) → RefinesJournal world
     → IsNextFrom world.travelling from next → IsLeastFrom (travels world.journal) from next
 least_from_in world from next refines least =
-    least_from (setting_at world) world.journal world.travelling refines.packet from next least
+    least_from (world_setting_at world) world.journal world.travelling refines.packet from next least
 
 pub least_travels_in : (world : WorldValue) (next : Option ℕ) → RefinesJournal world
     → IsNextFrom world.travelling 1 next → next ≡ next_travelling world.journal
 unfolding what_is_known
 least_travels_in world next refines least = least_travels world.journal next (λ i new.
-    ((reached_known (setting_at world) world.journal refines.sound refines.reached).kept.unknown i
+    ((reached_known (world_setting_at world) world.journal refines.sound refines.reached).kept.unknown i
     new).travels) (least_from_in world 1 next refines least)

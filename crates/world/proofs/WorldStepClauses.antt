@@ -6,12 +6,12 @@ use Rattle.message_bag.specs.Exports.{Post}
 use Rattle.controller.specs.Exports.{newest_policy}
 use Rattle.update_machine.specs.Exports.{Item, Setting, Step, piece, step_items}
 use Rattle.journal.specs.declared.item.Item.TheVariants as item
-use Rattle.world.specs.Exports.{BeginsStep, FilesValue, Goes, HasBegun, HoldNewest, IsReadyForStep, KeepNet, PartsRefineJournal, Plays, comes_in, setting_in, state_in}
+use Rattle.world.specs.Exports.{BeginsStep, FilesValue, Goes, WorldStepHasBegun, FilesHoldNewest, IsReadyForStep, PartsKeepNet, PartsRefineJournal, WorldPlays, comes_in, world_setting_in, world_state_in}
 use Rattle.refinement.specs.Exports.{NetworkState, RefineJournal}
-use Rattle.world_log.specs.Exports.{IsPart}
+use Rattle.world_log.specs.Exports.{IsLogPart}
 use Rattle.world.specs.declared.parts.Parts.{Parts}
-use Rattle.refinement.proofs.StepRefines.{grown}
-use Rattle.world_log.proofs.StepWrites.{grown_more, part_none, step_part, step_written}
+use Rattle.refinement.proofs.RefinedSteps.{grown}
+use Rattle.world_log.proofs.LogStepWrites.{grown_more, part_none, step_part, step_written}
 
 -- nothing was done to the files and the ports
 pub record KeepFiles (old new : Parts) : Type 0 where
@@ -23,7 +23,7 @@ pub files_stay : {old new : Parts} → new.files ≡ old.files → new.ports ≡
 files_stay files ports = record { files = files; ports = ports }
 
 -- so the network stays, and the files
-pub net_stays : {old new : Parts} → new.files ≡ old.files → new.ports ≡ old.ports → KeepNet old new
+pub net_stays : {old new : Parts} → new.files ≡ old.files → new.ports ≡ old.ports → PartsKeepNet old new
 net_stays files ports = record {
   same_net = ap (λ (f : FilesValue). f.net) files;
   same_files = ap (λ (f : FilesValue). f.files) files;
@@ -32,8 +32,8 @@ net_stays files ports = record {
 
 -- they do, and changes are still applied to the newest policy
 pub record Follows (old new : Parts) : Type 0 where
-  pub net : KeepNet old new
-  pub newest : HoldNewest new
+  pub net : PartsKeepNet old new
+  pub newest : FilesHoldNewest new
 
 -- as where the newest policy is the one from before
 pub follows : {before : List Item} {row : ℕ} {step : Step} {old new : Parts}
@@ -45,8 +45,8 @@ follows begins files ports newest = record {
 }
 
 -- the network and the files stayed
-as_kept : (old new : Parts) → KeepNet old new
-    → RefineJournal (setting_in old) new.log.journal (state_in new) → PartsRefineJournal new
+as_kept : (old new : Parts) → PartsKeepNet old new
+    → RefineJournal (world_setting_in old) new.log.journal (world_state_in new) → PartsRefineJournal new
 as_kept old new keeps refines = rw (keeps.same_net, keeps.same_files) refines
 
 -- the controller stayed, and which links are up and usable
@@ -65,7 +65,7 @@ plane_stays controller links near = record {
 
 -- so only switches, packets on their way and messages changed
 abbrev pub with_posts : Parts → Parts → List Post → NetworkState
-with_posts old new posts = record (state_in old) {
+with_posts old new posts = record (world_state_in old) {
   switches = new.switches.items;
   travelling = new.log.travelling;
   packets = new.packets;
@@ -73,8 +73,8 @@ with_posts old new posts = record (state_in old) {
 }
 
 pub by_posts : (old new : Parts) (journal : List Item) → KeepControl old new
-    → RefineJournal (setting_in old) journal (with_posts old new new.log.bag)
-    → RefineJournal (setting_in old) journal (state_in new)
+    → RefineJournal (world_setting_in old) journal (with_posts old new new.log.bag)
+    → RefineJournal (world_setting_in old) journal (world_state_in new)
 by_posts old new journal keeps refines =
     rw (keeps.same_controller, keeps.same_links, keeps.same_near) refines
 
@@ -91,34 +91,34 @@ piece_split setting before row step = refl
 -- the step writes these items behind its row
 module _ {T E : Type 0} {r : Result T E} {before : List Item} {row : ℕ} {step : Step}
     {old new : Parts} (begins : BeginsStep before row step old) (keeps : Follows old new) where
-  pub goes : (items : List Item) → piece (setting_in old) before row step
+  pub goes : (items : List Item) → piece (world_setting_in old) before row step
       ≡ item.Row row step ∷ items → OnOk r (new.packets ≡ old.packets + comes_in step)
       → OnOk r (new.log.journal ≡ old.log.journal ++ items)
-      → OnErr r (IsPart old.log.journal items new.log.journal)
-      → OnOk r (RefineJournal (setting_in old) (before ++ item.Row row step ∷ items) (state_in new))
+      → OnErr r (IsLogPart old.log.journal items new.log.journal)
+      → OnOk r (RefineJournal (world_setting_in old) (before ++ item.Row row step ∷ items) (world_state_in new))
       → Goes r before row step old new
   goes items is counted written part refines = record {
     net = keeps.net;
     newest = on_ok_weaker r (λ grown. keeps.newest) written;
     counted = counted;
     written = step_written r before old.log.journal new.log.journal items
-        (piece (setting_in old) before row step) (item.Row row step) is begins.rowed written;
+        (piece (world_setting_in old) before row step) (item.Row row step) is begins.rowed written;
     refines = both_ok r (λ grown kept. as_kept old new keeps.net (rw (grown_more before
         old.log.journal new.log.journal items (item.Row row step) begins.rowed grown) kept)) written
         refines;
     part = step_part r before old.log.journal new.log.journal items
-        (piece (setting_in old) before row step) (item.Row row step) is begins.rowed part;
+        (piece (world_setting_in old) before row step) (item.Row row step) is begins.rowed part;
   }
 
 module _ {T E : Type 0} {r : Result T E} {before : List Item} {row : ℕ} {step : Step}
     {old new : Parts} (begins : BeginsStep before row step old) (keeps : KeepFiles old new) where
   -- and of the control plane it changes messages alone
   pub goes_quiet : (items : List Item) → KeepControl old new
-      → piece (setting_in old) before row step ≡ item.Row row step ∷ items
+      → piece (world_setting_in old) before row step ≡ item.Row row step ∷ items
       → OnOk r (new.packets ≡ old.packets + comes_in step)
       → OnOk r (new.log.journal ≡ old.log.journal ++ items)
-      → OnErr r (IsPart old.log.journal items new.log.journal)
-      → OnOk r (RefineJournal (setting_in old) (before ++ item.Row row step ∷ items)
+      → OnErr r (IsLogPart old.log.journal items new.log.journal)
+      → OnOk r (RefineJournal (world_setting_in old) (before ++ item.Row row step ∷ items)
       (with_posts old new new.log.bag)) → Goes r before row step old new
   goes_quiet items control is counted written part refines =
       goes begins (follows begins keeps.files keeps.ports
@@ -128,8 +128,8 @@ module _ {T E : Type 0} {r : Result T E} {before : List Item} {row : ℕ} {step 
   -- it writes one item, and no packet enters
   pub goes_one : (one : Item) (posts : List Post) → KeepControl old new → new.log.bag ≡ posts
       → new.packets ≡ old.packets + comes_in step
-      → (piece (setting_in old) before row step ≡ item.Row row step ∷ one ∷ [])
-      × RefineJournal (setting_in old) (grown before row step one) (with_posts old new posts)
+      → (piece (world_setting_in old) before row step ≡ item.Row row step ∷ one ∷ [])
+      × RefineJournal (world_setting_in old) (grown before row step one) (with_posts old new posts)
       → OnOk r (new.log.journal ≡ old.log.journal ++ one ∷ [])
       → OnErr r (new.log.journal ≡ old.log.journal) → Goes r before row step old new
   goes_one one posts control same counted is pushed unchanged = goes_quiet (one ∷ []) control is.0
@@ -138,9 +138,9 @@ module _ {T E : Type 0} {r : Result T E} {before : List Item} {row : ℕ} {step 
       (on_ok_weaker r (λ grown. rw same is.1) pushed)
 
 module _ {T E : Type 0} {r : Result T E} {before : List Item} {row : ℕ} {step : Step}
-    {old new : Parts} (keeps : KeepNet old new) where
+    {old new : Parts} (keeps : PartsKeepNet old new) where
   -- it gives up when memory runs out, and a part of its items is written
-  pub part_goes : IsErr r → IsPart before (piece (setting_in old) before row step) new.log.journal
+  pub part_goes : IsErr r → IsLogPart before (piece (world_setting_in old) before row step) new.log.journal
       → Goes r before row step old new
   part_goes failed part = record {
     net = keeps;
@@ -152,13 +152,13 @@ module _ {T E : Type 0} {r : Result T E} {before : List Item} {row : ℕ} {step 
   }
 
 module _ {T E : Type 0} {r : Result T E} {before : List Item} {row : ℕ} {step : Step}
-    {old new : Parts} (begins : BeginsStep before row step old) (keeps : KeepNet old new) where
+    {old new : Parts} (begins : BeginsStep before row step old) (keeps : PartsKeepNet old new) where
   -- behind its row
   pub nothing_goes : IsErr r → new.log.journal ≡ old.log.journal → Goes r before row step old new
   nothing_goes failed same = part_goes keeps failed (record {
     written = item.Row row step ∷ [];
-    rest = step_items (setting_in old) before step (before ++ item.Row row step ∷ []);
-    split = piece_split (setting_in old) before row step;
+    rest = step_items (world_setting_in old) before step (before ++ item.Row row step ∷ []);
+    split = piece_split (world_setting_in old) before row step;
     grown = same ∙ begins.rowed;
   })
 
@@ -169,8 +169,8 @@ with_journal parts journal = record parts { log = record parts.log { journal = j
 -- nothing happens: of all parts the journal alone changes, which says so
 pub goes_nothing : {T E : Type 0} {r : Result T E} {before : List Item} {row : ℕ} {step : Step}
     {old : Parts} {journal : List Item} → BeginsStep before row step old → comes_in step ≡ 0
-    → (piece (setting_in old) before row step ≡ item.Row row step ∷ item.Nothing ∷ [])
-    × RefineJournal (setting_in old) (grown before row step item.Nothing) (state_in old)
+    → (piece (world_setting_in old) before row step ≡ item.Row row step ∷ item.Nothing ∷ [])
+    × RefineJournal (world_setting_in old) (grown before row step item.Nothing) (world_state_in old)
     → OnOk r (journal ≡ old.log.journal ++ item.Nothing ∷ []) → OnErr r (journal ≡ old.log.journal)
     → Goes r before row step old (with_journal old journal)
 goes_nothing {old} begins none is pushed unchanged = goes_one begins (files_stay refl refl)
@@ -190,11 +190,11 @@ module _ (row : ℕ) (step kind : Step) (old : Parts) (rowed : List Item)
       kind_is (record { ready = ready_behind old.log.journal step old rowed ready; rowed = is })
 
   -- the method of its kind may take it
-  pub begun : HasBegun kind (with_journal old rowed)
+  pub begun : WorldStepHasBegun kind (with_journal old rowed)
   begun = record { before = old.log.journal; row = row; begins = begins_kind }
 
   -- and plays it
   pub played : {T E : Type 0} (r : Result T E) (new : Parts)
-      → Plays kind r (with_journal old rowed) new → Goes r old.log.journal row step old new
+      → WorldPlays kind r (with_journal old rowed) new → Goes r old.log.journal row step old new
   played r new plays = let its = plays old.log.journal row begins_kind in
       subst (λ (k : Step). Goes r old.log.journal row k old new) (sym kind_is) (search rules)

@@ -36,12 +36,12 @@ file_or_none files place = slice_index_or files place (Change [])
 abbrev pub Making : Type 0
 Making = Result (List Row) Inapplicable × List WordValue
 
-abbrev pub made_from : PolicyFile → List Row → Making
-made_from file newest = (made_by (Some file) (Some newest), touched_of (Some file) (Some newest))
+abbrev pub file_made_from : PolicyFile → List Row → Making
+file_made_from file newest = (made_by (Some file) (Some newest), touched_of (Some file) (Some newest))
 
 -- what the file at a place makes of the newest policy
-abbrev pub made_at : List PolicyFile → List Row → ℕ → Making
-made_at files newest place = made_from (file_or_none files place) newest
+abbrev pub file_made_at : List PolicyFile → List Row → ℕ → Making
+file_made_at files newest place = file_made_from (file_or_none files place) newest
 
 -- the code of why rows have no plan; none if memory ran out
 abbrev pub code_of : PlanError → Option ℕ
@@ -65,22 +65,22 @@ pub record HasThisPlan (net : Net) (making : Making) (plan : PlanValue) (told : 
 
 -- what a file makes compiles to this: the plan of its policy, or the code of why there is no
 -- policy or no plan
-abbrev pub IsMade : Net → Making → Compiled → Type 0
-IsMade net making (Planned plan told) = HasThisPlan net making plan told
-IsMade net making (Refused code) =
+abbrev pub IsFileMade : Net → Making → Compiled → Type 0
+IsFileMade net making (Planned plan told) = HasThisPlan net making plan told
+IsFileMade net making (Refused code) =
     ((why : Inapplicable) × (making.0 ≡ Err why) × (apply_code why ≡ code))
     ⊎ ((rows : List Row) × (making.0 ≡ Ok rows) × HasNoPlan net rows code)
 
 -- for each file that was compiled, the result that is kept is that for this newest policy
-pub record AreCompiled (net : Net) (files : List PolicyFile) (newest : List Row)
+pub record AreFilesCompiled (net : Net) (files : List PolicyFile) (newest : List Row)
     (kept : List (Option Compiled)) : Type 0 where
   pub sound : IsNet net
   pub many : length kept ≡ length files
   pub each : (place : ℕ) (compiled : Compiled) → slice_index_or kept place None ≡ Some compiled
-      → IsMade net (made_at files newest place) compiled
+      → IsFileMade net (file_made_at files newest place) compiled
 
 -- what is still kept was kept before, and belongs to a file with its own policy
-pub record KeepsWhole (files : List PolicyFile) (old new : List (Option Compiled)) : Type 0 where
+pub record FilesKeepWhole (files : List PolicyFile) (old new : List (Option Compiled)) : Type 0 where
   pub many : length new ≡ length old
   pub each : (place : ℕ) (compiled : Compiled) → slice_index_or new place None ≡ Some compiled
       → (slice_index_or old place None ≡ Some compiled)

@@ -3,5 +3,5 @@ use Rattle.update_machine.specs.Exports.{Failure, Refused}
 use Rattle.world.specs.declared.error.Full.{Full}
 
 -- no step begins, because the journal is full
-abbrev pub no_step : Failure Full
-no_step = Refused (record {})
+abbrev pub no_world_step : Failure Full
+no_world_step = Refused (record {})

@@ -3,28 +3,28 @@ use Rattle.std.specs.Prelude.{[], ◌++◌, ◌+◌, ◌<◌, ◌∷◌, ◌≡�
 use Rattle.controller.specs.Exports.{newest_policy}
 use Rattle.update_machine.specs.Exports.{Item, Setting, Step, next_packet, piece, setting_of}
 use Rattle.journal.specs.declared.item.Item.TheVariants as item
-use Rattle.net_file.specs.Exports.{AreOwners, IsNet}
+use Rattle.net_file.specs.Exports.{ArePortOwners, IsNet}
 use Rattle.steps.specs.Exports.{IsStep}
 use Rattle.world.specs.State.{WorldValue, comes_in}
 use Rattle.refinement.specs.Exports.{NetworkState, RefineJournal}
-use Rattle.world_log.specs.Exports.{IsPart}
+use Rattle.world_log.specs.Exports.{IsLogPart}
 use Rattle.world.specs.declared.parts.Parts.{Parts}
 
-abbrev pub setting_in : Parts → Setting
-setting_in parts = setting_of parts.files.net parts.files.files
+abbrev pub world_setting_in : Parts → Setting
+world_setting_in parts = setting_of parts.files.net parts.files.files
 
 -- the table of the ports is the network's
 pub record AreSoundParts (parts : Parts) : Type 0 where
   pub sound : IsNet parts.files.net
-  pub owners : AreOwners parts.files.net.switches parts.ports
+  pub owners : ArePortOwners parts.files.net.switches parts.ports
 
 -- changes are applied to the policy of the controller's newest version
-abbrev pub HoldNewest : Parts → Type 0
-HoldNewest parts = newest_policy parts.controller ≡ Some parts.files.newest
+abbrev pub FilesHoldNewest : Parts → Type 0
+FilesHoldNewest parts = newest_policy parts.controller ≡ Some parts.files.newest
 
 -- the state of the parts, which their journal describes
-abbrev pub state_in : Parts → NetworkState
-state_in parts = record {
+abbrev pub world_state_in : Parts → NetworkState
+world_state_in parts = record {
   switches = parts.switches.items;
   travelling = parts.log.travelling;
   packets = parts.packets;
@@ -36,18 +36,18 @@ state_in parts = record {
 
 -- the parts are as their journal says
 abbrev pub PartsRefineJournal : Parts → Type 0
-PartsRefineJournal parts = RefineJournal (setting_in parts) parts.log.journal (state_in parts)
+PartsRefineJournal parts = RefineJournal (world_setting_in parts) parts.log.journal (world_state_in parts)
 
 -- ---- one step
 
 -- the network, its ports and the files stay the same
-pub record KeepNet (before after : Parts) : Type 0 where
+pub record PartsKeepNet (before after : Parts) : Type 0 where
   pub same_net : after.files.net ≡ before.files.net
   pub same_files : after.files.files ≡ before.files.files
   pub same_ports : after.ports ≡ before.ports
 
 -- all parts stay the same but the switches, their usable links, the journal and the messages
-pub record KeepRest (before after : Parts) : Type 0 where
+pub record PartsKeepRest (before after : Parts) : Type 0 where
   pub files : after.files ≡ before.files
   pub ports : after.ports ≡ before.ports
   pub links : after.links ≡ before.links
@@ -58,8 +58,8 @@ pub record KeepRest (before after : Parts) : Type 0 where
 -- a step may be played on the parts, which are as this journal says
 pub record IsReadyForStep (before : List Item) (step : Step) (parts : Parts) : Type 0 where
   pub sound : AreSoundParts parts
-  pub refines : RefineJournal (setting_in parts) before (state_in parts)
-  pub newest : HoldNewest parts
+  pub refines : RefineJournal (world_setting_in parts) before (world_state_in parts)
+  pub newest : FilesHoldNewest parts
   pub may : IsStep parts.files.net (length parts.files.files) step
   pub few : next_packet before ≤ 4_000_000_000
   pub room : length parts.log.bag < 990_000
@@ -73,22 +73,22 @@ pub record BeginsStep (before : List Item) (row : ℕ) (step : Step) (parts : Pa
 -- memory ran out, a part of the items is written
 pub record Goes {T E : Type 0} (result : Result T E) (before : List Item) (row : ℕ) (step : Step)
     (old new : Parts) : Type 0 where
-  pub net : KeepNet old new
-  pub newest : OnOk result (HoldNewest new)
+  pub net : PartsKeepNet old new
+  pub newest : OnOk result (FilesHoldNewest new)
   pub counted : OnOk result (new.packets ≡ old.packets + comes_in step)
-  pub written : OnOk result (new.log.journal ≡ before ++ piece (setting_in old) before row step)
+  pub written : OnOk result (new.log.journal ≡ before ++ piece (world_setting_in old) before row step)
   pub refines : OnOk result (PartsRefineJournal new)
-  pub part : OnErr result (IsPart before (piece (setting_in old) before row step) new.log.journal)
+  pub part : OnErr result (IsLogPart before (piece (world_setting_in old) before row step) new.log.journal)
 
 -- the step was begun
-pub record HasBegun (step : Step) (parts : Parts) : Type 0 where
+pub record WorldStepHasBegun (step : Step) (parts : Parts) : Type 0 where
   pub before : List Item
   pub row : ℕ
   pub begins : BeginsStep before row step parts
 
 -- the call plays a step that was begun
-abbrev pub Plays : {T E : Type 0} → Step → Result T E → Parts → Parts → Type 0
-Plays step result old new =
+abbrev pub WorldPlays : {T E : Type 0} → Step → Result T E → Parts → Parts → Type 0
+WorldPlays step result old new =
     (before : List Item) (row : ℕ) → BeginsStep before row step old
     → Goes result before row step old new
 
@@ -114,4 +114,4 @@ world_value parts is_spent = record {
 pub record IsWorld (parts : Parts) (is_spent : Bool) : Type 0 where
   pub sound : AreSoundParts parts
   pub refines : is_spent ≡ false → PartsRefineJournal parts
-  pub newest : is_spent ≡ false → HoldNewest parts
+  pub newest : is_spent ≡ false → FilesHoldNewest parts

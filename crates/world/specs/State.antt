@@ -26,8 +26,8 @@ pub record WorldValue : Type 0 where
   pub is_spent : Bool
 
 -- the setting of its journal
-abbrev pub setting_at : WorldValue → Setting
-setting_at world = setting_of world.net world.files
+abbrev pub world_setting_at : WorldValue → Setting
+world_setting_at world = setting_of world.net world.files
 
 -- ---- a world
 
@@ -45,11 +45,11 @@ state_at world = record {
 
 -- the world is as its journal says
 abbrev pub RefinesJournal : WorldValue → Type 0
-RefinesJournal world = RefineJournal (setting_at world) world.journal (state_at world)
+RefinesJournal world = RefineJournal (world_setting_at world) world.journal (state_at world)
 
 -- nothing happened yet
-pub record IsBegun (setting : Setting) (world : WorldValue) : Type 0 where
-  pub own : setting_at world ≡ setting
+pub record IsWorldBegun (setting : Setting) (world : WorldValue) : Type 0 where
+  pub own : world_setting_at world ≡ setting
   pub silent : world.journal ≡ []
   pub able : world.is_spent ≡ false
 

@@ -2,7 +2,7 @@ ghost use Rattle.std.specs.Prelude.{◌≡◌, [], length, map, IfOk};
 ghost use Rattle.std.specs.List.{range_with_len};
 ghost use Rattle.controller.specs.Exports.{PlanValue, first_controller};
 ghost use Rattle.net_file.specs.Net.{IsNet};
-ghost use Rattle.world_log.specs.Linking.{AreNear};
+ghost use Rattle.world_log.specs.Linking.{AreNearMasks};
 ghost use Rattle.refinement.specs.Begun.{IsFirstController, switch_begun};
 
 use controller::Controller;
@@ -38,7 +38,7 @@ pub fn switches_of(
     near: &[u64; 64],
 ) -> Result<Vec<Switch>, AllocError>
     requires net { IsNet net.now }
-    requires near { AreNear net.now near.now }
+    requires near { AreNearMasks net.now near.now }
     requires first { IsFirstController net.now controller.now }
     ensures { IfOk result (λ switches. (plan : PlanValue)
         → controller.now ≡ first_controller (length net.now.switches) plan

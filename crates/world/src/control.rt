@@ -4,7 +4,7 @@
 ghost use Rattle.std.specs.Prelude.{◌≡◌, ◌==◌, ◌++◌, length, map};
 ghost use Rattle.controller.specs.declared.sends.Act.TheVariants.{Post};
 ghost use Rattle.steps.specs.declared.step.Step.TheVariants.{Confirm as ConfirmStep, Resend as ResendStep, Update as UpdateStep};
-ghost use Rattle.world.specs.Parts.{HasBegun, Plays};
+ghost use Rattle.world.specs.Parts.{WorldStepHasBegun, WorldPlays};
 
 use crate::codes::{TOO_MANY_LIVE, TOO_MANY_VERSIONS};
 use crate::files::Compiled;
@@ -22,8 +22,8 @@ impl Parts {
     /// # Errors
     /// Only out of memory; then a part of the items is written.
     pub fn update(&mut self, alloc: Global, file: u32) -> Result<(), AllocError>
-        requires { HasBegun (UpdateStep file) self.old }
-        ensures { Plays (UpdateStep file) result self.old self.new }
+        requires { WorldStepHasBegun (UpdateStep file) self.old }
+        ensures { WorldPlays (UpdateStep file) result self.old self.new }
     {
         let (plan, touched) = match self.files.compiled(alloc, file as usize - 1)? {
             Compiled::Refused { code } => {
@@ -52,8 +52,8 @@ impl Parts {
     /// # Errors
     /// Only out of memory; then a part of the items is written.
     pub fn confirm(&mut self, alloc: Global, switch: u32) -> Result<(), AllocError>
-        requires { HasBegun (ConfirmStep switch) self.old }
-        ensures { Plays (ConfirmStep switch) result self.old self.new }
+        requires { WorldStepHasBegun (ConfirmStep switch) self.old }
+        ensures { WorldPlays (ConfirmStep switch) result self.old self.new }
     {
         if self.switches[switch as usize].is_up() {
             return self.log.journal.push(Item::Nothing);
@@ -70,8 +70,8 @@ impl Parts {
     /// # Errors
     /// Only out of memory; then a part of the items is written.
     pub fn resend(&mut self, alloc: Global, switch: u32) -> Result<(), AllocError>
-        requires { HasBegun (ResendStep switch) self.old }
-        ensures { Plays (ResendStep switch) result self.old self.new }
+        requires { WorldStepHasBegun (ResendStep switch) self.old }
+        ensures { WorldPlays (ResendStep switch) result self.old self.new }
     {
         let here = switch as usize;
         let count = self.switches.len() as u32;
@@ -79,7 +79,7 @@ impl Parts {
         let messages = adverts_again(alloc, &self.switches[here], switch, count, near)?;
         let sends = self.controller.resend(switch)?;
         let acts = sends.into_items();
-        if are_none(messages.as_slice(), acts.as_slice()) {
+        if are_sends_none(messages.as_slice(), acts.as_slice()) {
             return self.log.journal.push(Item::Nothing);
         }
         self.log.send_and_note(alloc, messages, acts)
@@ -87,7 +87,7 @@ impl Parts {
 }
 
 // Whether there is nothing to send.
-fn are_none(messages: &[Message], acts: &[Act]) -> bool
+fn are_sends_none(messages: &[Message], acts: &[Act]) -> bool
     ensures { result ≡ (length (map Post messages.now ++ acts.now) == 0) }
 {
     messages.is_empty() && acts.is_empty()

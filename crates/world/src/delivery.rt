@@ -1,13 +1,13 @@
 //! Messages that are delivered: which switch hears them, and what is sent in reply.
 ghost use Rattle.std.specs.Prelude.{◌≡◌, ◌+◌, ◌-◌, ◌^◌, ◌<◌, ◌≤◌, ◌++◌, All, OnOk, OnErr, length, map};
 ghost use Rattle.message_bag.specs.Posts.{new_post};
-ghost use Rattle.controller.specs.Exports.{ControllerValue, NamesThere, SettlesWith, hear_acts, marks_after, newest_policy};
+ghost use Rattle.controller.specs.Exports.{ControllerValue, ReplyNamesExist, SettlesWith, hear_acts, marks_after, newest_policy};
 ghost use Rattle.steps.specs.declared.step.Step.TheVariants.{Deliver as DeliverStep};
 ghost use Rattle.update_machine.specs.Messages.{sent_from};
-ghost use Rattle.world_log.specs.Linking.{AreRelinked, all_adverts_sent, near_all};
-ghost use Rattle.world.specs.Parts.{HasBegun, KeepRest, Plays};
-ghost use Rattle.world_log.specs.Sending.{MayNote, MaySend, act_items, act_posts};
-ghost use Rattle.world_log.specs.Writing.{IsPart};
+ghost use Rattle.world_log.specs.Linking.{AreSwitchesRelinked, all_adverts_sent, near_all};
+ghost use Rattle.world.specs.Parts.{WorldStepHasBegun, PartsKeepRest, WorldPlays};
+ghost use Rattle.world_log.specs.Sending.{LogMayNote, LogMaySend, log_act_items, log_act_posts};
+ghost use Rattle.world_log.specs.Writing.{IsLogPart};
 
 use crate::parts::Parts;
 use controller::Controller;
@@ -22,8 +22,8 @@ impl Parts {
     /// # Errors
     /// Only out of memory; then a part of the items is written.
     pub fn deliver(&mut self, alloc: Global, number: u32) -> Result<(), AllocError>
-        requires { HasBegun (DeliverStep number) self.old }
-        ensures { Plays (DeliverStep number) result self.old self.new }
+        requires { WorldStepHasBegun (DeliverStep number) self.old }
+        ensures { WorldPlays (DeliverStep number) result self.old self.new }
     {
         let message = match self.log.bag.get(number)? {
             None => return self.log.journal.push(Item::Nothing),
@@ -61,11 +61,11 @@ impl Parts {
     pub fn change_links(&mut self, alloc: Global) -> Result<(), AllocError>
         requires many { length self.old.switches.items ≤ 64 }
         requires next { All (λ switch. switch.seq < 2 ^ 32 - 1) self.old.switches.items }
-        requires may { MaySend self.old.log.bag (all_adverts_sent self.old.near
+        requires may { LogMaySend self.old.log.bag (all_adverts_sent self.old.near
             (near_all self.old.links self.old.switches.items) self.old.switches.items) }
         ensures near { OnOk result
             (self.new.near ≡ near_all self.old.links self.old.switches.items) }
-        ensures switches { OnOk result (AreRelinked self.old.near
+        ensures switches { OnOk result (AreSwitchesRelinked self.old.near
             (near_all self.old.links self.old.switches.items)
             self.old.switches.items self.new.switches.items) }
         ensures written { OnOk result (self.new.log.journal ≡ self.old.log.journal
@@ -74,11 +74,11 @@ impl Parts {
         ensures posted { OnOk result (self.new.log.bag ≡ self.old.log.bag
             ++ map new_post (all_adverts_sent self.old.near
             (near_all self.old.links self.old.switches.items) self.old.switches.items)) }
-        ensures part { OnErr result (IsPart self.old.log.journal
+        ensures part { OnErr result (IsLogPart self.old.log.journal
             (sent_from (length self.old.log.bag + 1) (all_adverts_sent self.old.near
             (near_all self.old.links self.old.switches.items) self.old.switches.items))
             self.new.log.journal) }
-        ensures rest { KeepRest self.old self.new }
+        ensures rest { PartsKeepRest self.old self.new }
     {
         let now = usable(&self.links, &self.switches);
         let messages = relink(alloc, &mut self.switches, &self.near, &now)?;
@@ -94,19 +94,19 @@ fn deliver_to_controller(
     controller: &mut Controller,
     body: &Body,
 ) -> Result<(), AllocError>
-    requires there { NamesThere body.now controller.old.marks }
+    requires there { ReplyNamesExist body.now controller.old.marks }
     requires may { (new : ControllerValue)
         → SettlesWith (marks_after body.now controller.old.marks) controller.old.plans new
-        → MayNote log.old.bag (hear_acts body.now controller.old.marks new) }
+        → LogMayNote log.old.bag (hear_acts body.now controller.old.marks new) }
     ensures after { SettlesWith
         (marks_after body.now controller.old.marks) controller.old.plans controller.new }
     ensures newest { newest_policy controller.new ≡ newest_policy controller.old }
     ensures written { OnOk result (log.new.journal ≡ log.old.journal
-        ++ act_items (length log.old.bag + 1)
+        ++ log_act_items (length log.old.bag + 1)
         (hear_acts body.now controller.old.marks controller.new)) }
     ensures posted { OnOk result (log.new.bag ≡ log.old.bag
-        ++ act_posts (hear_acts body.now controller.old.marks controller.new)) }
-    ensures part { OnErr result (IsPart log.old.journal (act_items (length log.old.bag + 1)
+        ++ log_act_posts (hear_acts body.now controller.old.marks controller.new)) }
+    ensures part { OnErr result (IsLogPart log.old.journal (log_act_items (length log.old.bag + 1)
         (hear_acts body.now controller.old.marks controller.new)) log.new.journal) }
     ensures travelling { log.new.travelling ≡ log.old.travelling }
 {

@@ -1,13 +1,13 @@
 //! Switches and links that fail and come back.
 ghost use Rattle.steps.specs.declared.step.Step.TheVariants.{Crash as CrashStep, Restart as RestartStep};
 ghost use Rattle.refinement.specs.Links.{link_step};
-ghost use Rattle.world.specs.Parts.{HasBegun, Plays};
+ghost use Rattle.world.specs.Parts.{WorldStepHasBegun, WorldPlays};
 
 use crate::parts::Parts;
 use base::has;
 use journal::Item;
 use std::alloc::{AllocError, Global};
-use world_log::{hello, set_ends};
+use world_log::{hello, set_link_ends};
 
 impl Parts {
     /// The switch goes down, unless it is down already: it loses what it learnt, and the packets
@@ -16,8 +16,8 @@ impl Parts {
     /// # Errors
     /// Only out of memory; then a part of the items is written.
     pub fn crash(&mut self, alloc: Global, switch: u32) -> Result<(), AllocError>
-        requires { HasBegun (CrashStep switch) self.old }
-        ensures { Plays (CrashStep switch) result self.old self.new }
+        requires { WorldStepHasBegun (CrashStep switch) self.old }
+        ensures { WorldPlays (CrashStep switch) result self.old self.new }
     {
         if !self.switches[switch as usize].is_up() {
             return self.log.journal.push(Item::Nothing);
@@ -34,8 +34,8 @@ impl Parts {
     /// # Errors
     /// Only out of memory; then a part of the items is written.
     pub fn restart(&mut self, alloc: Global, switch: u32) -> Result<(), AllocError>
-        requires { HasBegun (RestartStep switch) self.old }
-        ensures { Plays (RestartStep switch) result self.old self.new }
+        requires { WorldStepHasBegun (RestartStep switch) self.old }
+        ensures { WorldPlays (RestartStep switch) result self.old self.new }
     {
         let here = switch as usize;
         if self.switches[here].is_up() {
@@ -59,13 +59,13 @@ impl Parts {
         two: u32,
         up: bool,
     ) -> Result<(), AllocError>
-        requires { HasBegun (link_step up one two) self.old }
-        ensures { Plays (link_step up one two) result self.old self.new }
+        requires { WorldStepHasBegun (link_step up one two) self.old }
+        ensures { WorldPlays (link_step up one two) result self.old self.new }
     {
         if has(self.links[one as usize], two) == up {
             return self.log.journal.push(Item::Nothing);
         }
-        set_ends(&mut self.links, one, two, up);
+        set_link_ends(&mut self.links, one, two, up);
         self.log.journal.push(Item::LinkIs {
             one: one.min(two),
             two: one.max(two),

@@ -1,5 +1,5 @@
 ghost use Rattle.steps.specs.declared.step.Step.TheVariants.{Expire as ExpireStep, Forget as ForgetStep, Hop as HopStep, Lose as LoseStep, Packet as PacketStep};
-ghost use Rattle.world.specs.Parts.{Goes, HasBegun, IsReadyForStep, Plays};
+ghost use Rattle.world.specs.Parts.{Goes, WorldStepHasBegun, IsReadyForStep, WorldPlays};
 
 use crate::files::Files;
 use controller::Controller;
@@ -9,7 +9,7 @@ use net_file::Ports;
 use std::alloc::{AllocError, Global};
 use steps::Step;
 use switch_core::Switch;
-use world_log::{Log, Site};
+use world_log::{Log, SwitchSite};
 
 /// What a world is made of.
 #[derive(Drop)]
@@ -57,11 +57,11 @@ impl Parts {
 
     // A packet enters at a switch, or the switch does not serve.
     fn packet(&mut self, alloc: Global, switch: u32, header: &Header) -> Result<(), AllocError>
-        requires { HasBegun (PacketStep switch header.now) self.old }
-        ensures { Plays (PacketStep switch header.now) result self.old self.new }
+        requires { WorldStepHasBegun (PacketStep switch header.now) self.old }
+        ensures { WorldPlays (PacketStep switch header.now) result self.old self.new }
     {
         self.packets += 1;
-        let site = Site {
+        let site = SwitchSite {
             near: self.near[switch as usize],
             ports: &self.ports,
         };
@@ -76,8 +76,8 @@ impl Parts {
 
     // A packet moves on, or is at the end of its route.
     fn hop(&mut self, alloc: Global, packet: u32) -> Result<(), AllocError>
-        requires { HasBegun (HopStep packet) self.old }
-        ensures { Plays (HopStep packet) result self.old self.new }
+        requires { WorldStepHasBegun (HopStep packet) self.old }
+        ensures { WorldPlays (HopStep packet) result self.old self.new }
     {
         self.log
             .hop(alloc, packet, &mut self.switches, &self.near, &self.ports)
@@ -85,8 +85,8 @@ impl Parts {
 
     // A packet is lost on its way.
     fn lose(&mut self, packet: u32) -> Result<(), AllocError>
-        requires { HasBegun (LoseStep packet) self.old }
-        ensures { Plays (LoseStep packet) result self.old self.new }
+        requires { WorldStepHasBegun (LoseStep packet) self.old }
+        ensures { WorldPlays (LoseStep packet) result self.old self.new }
     {
         if !self.log.travelling.has(packet) {
             return self.log.journal.push(Item::Nothing);
@@ -96,8 +96,8 @@ impl Parts {
 
     // The message is forgotten: it is never delivered after that.
     fn forget(&mut self, number: u32) -> Result<(), AllocError>
-        requires { HasBegun (ForgetStep number) self.old }
-        ensures { Plays (ForgetStep number) result self.old self.new }
+        requires { WorldStepHasBegun (ForgetStep number) self.old }
+        ensures { WorldPlays (ForgetStep number) result self.old self.new }
     {
         if !self.log.bag.may_be_delivered(number) {
             return self.log.journal.push(Item::Nothing);
@@ -108,8 +108,8 @@ impl Parts {
 
     // A cached rule expires.
     fn expire(&mut self, switch: u32, place: u32) -> Result<(), AllocError>
-        requires { HasBegun (ExpireStep switch place) self.old }
-        ensures { Plays (ExpireStep switch place) result self.old self.new }
+        requires { WorldStepHasBegun (ExpireStep switch place) self.old }
+        ensures { WorldPlays (ExpireStep switch place) result self.old self.new }
     {
         match self.switches[switch as usize].expire(place) {
             None => self.log.journal.push(Item::Nothing),

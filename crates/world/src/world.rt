@@ -2,7 +2,7 @@ ghost use Rattle.std.specs.Prelude.{◌≡◌, ◌+◌, ◌-◌, ◌++◌, ◌<�
 ghost use Rattle.message_bag.specs.Posts.{next_waiting_post};
 ghost use Rattle.controller.specs.Plan.{RefusesPlan};
 ghost use Rattle.net_file.specs.Net.{IsNet};
-ghost use Rattle.policy_rules.specs.Exports.{GivesOnly, IsPolicyFile};
+ghost use Rattle.policy_rules.specs.Exports.{PolicyFileGivesOnly, IsPolicyFile};
 ghost use Rattle.update_machine.specs.Exports.{HasRoom, IsFull, NamesOwnPort, next_packet, next_travelling, next_waiting, piece, setting_of, travels};
 ghost use Rattle.update_machine.specs.Messages.{is_waiting};
 ghost use Rattle.packet_laws.specs.Exports.{HoldsSoFar, IsKeptBehind};
@@ -10,10 +10,10 @@ ghost use Rattle.steps.specs.Steps.{IsStep};
 ghost use Rattle.base.specs.declared.error.Failure.TheVariants.{NoMemory};
 ghost use Rattle.world.specs.Files.{first_policy};
 ghost use Rattle.world.specs.Least.{IsLeastFrom};
-ghost use Rattle.world.specs.NoStep.{no_step};
-ghost use Rattle.world.specs.State.{IsBegun, RefinesJournal, comes_in, setting_at};
+ghost use Rattle.world.specs.NoStep.{no_world_step};
+ghost use Rattle.world.specs.State.{IsWorldBegun, RefinesJournal, comes_in, world_setting_at};
 ghost use Rattle.travelling.specs.Travelling.{IsNextFrom, flight};
-ghost use Rattle.world_log.specs.Writing.{IsPart};
+ghost use Rattle.world_log.specs.Writing.{IsLogPart};
 
 use crate::beginning::{first_journal, switches_of};
 use crate::error::{Full, StepError};
@@ -67,9 +67,9 @@ impl World {
         requires net { IsNet net.now }
         requires first { IsSome (first_policy files.items) }
         requires sound { All IsPolicyFile files.items }
-        requires ports { All (GivesOnly (λ row. NamesOwnPort (setting_of net.now files.items)
+        requires ports { All (PolicyFileGivesOnly (λ row. NamesOwnPort (setting_of net.now files.items)
             row.action)) files.items }
-        ensures begun { IfOk result (IsBegun (setting_of net.now files.items)) }
+        ensures begun { IfOk result (IsWorldBegun (setting_of net.now files.items)) }
         ensures refused { IfErr result
             (RefusesPlan (unwrap_or (first_policy files.items) []) net.now) }
     {
@@ -112,25 +112,25 @@ impl World {
         requires may { HasRoom self.old.journal
             → IsStep self.old.net (length self.old.files) step.now }
         requires few { next_packet self.old.journal ≤ 4_000_000_000 }
-        ensures setting { setting_at self.new ≡ setting_at self.old }
+        ensures setting { world_setting_at self.new ≡ world_setting_at self.old }
         ensures written { OnOk result (self.new.journal ≡ self.old.journal
-            ++ piece (setting_at self.old) self.old.journal row step.now) }
+            ++ piece (world_setting_at self.old) self.old.journal row step.now) }
         ensures counted { OnOk result (self.new.packets ≡ self.old.packets + comes_in step.now) }
         ensures goes_on { OnOk result (self.new.is_spent ≡ false) }
-        ensures part { OnErr result (IsPart self.old.journal
-            (piece (setting_at self.old) self.old.journal row step.now) self.new.journal) }
+        ensures part { OnErr result (IsLogPart self.old.journal
+            (piece (world_setting_at self.old) self.old.journal row step.now) self.new.journal) }
         ensures room { OnOk result (HasRoom self.old.journal) }
-        ensures full { IsErrOf result no_step → IsFull self.old.journal }
+        ensures full { IsErrOf result no_world_step → IsFull self.old.journal }
         ensures refused { self.old.is_spent ≡ false → IsFull self.old.journal
-            → IsErrOf result no_step }
-        ensures unchanged { IsErrOf result no_step → self.new ≡ self.old }
+            → IsErrOf result no_world_step }
+        ensures unchanged { IsErrOf result no_world_step → self.new ≡ self.old }
         ensures lost { IsErrOf result NoMemory → self.new.is_spent ≡ true }
         ensures spent { self.old.is_spent ≡ true
             → (IsErrOf result NoMemory) × (self.new ≡ self.old) }
 
         // However it ends, the journal is a run whose ends have causes, and the versions are whole.
         ensures so_far { self.old.is_spent ≡ false
-            → HoldsSoFar (setting_at self.old) self.new.journal }
+            → HoldsSoFar (world_setting_at self.old) self.new.journal }
     {
         let alloc = *self.parts.switches.allocator();
         journals_hold_so_far();
@@ -233,9 +233,9 @@ impl World {
     /// and the marks are settled.
     pub fn keeps_on_the_way(&self)
         ensures so_far { self.now.is_spent ≡ false
-            → HoldsSoFar (setting_at self.now) self.now.journal }
+            → HoldsSoFar (world_setting_at self.now) self.now.journal }
         ensures kept { self.now.is_spent ≡ false
-            → IsKeptBehind (setting_at self.now) self.now.journal }
+            → IsKeptBehind (world_setting_at self.now) self.now.journal }
     {
         journals_hold_so_far();
         steps_are_kept();

@@ -1,9 +1,9 @@
-pub mod StepWrites
+pub mod LogStepWrites
 pub mod LogCalls
 pub mod LogForwarding
-pub mod MessageLogs
+pub mod LogMessages
 pub mod LogPacketMoves
 pub mod LogLosses
-pub mod HopLogs
-pub mod RelinkingAdverts
+pub mod LogHops
+pub mod LogRelinking
 pub mod LogDetours

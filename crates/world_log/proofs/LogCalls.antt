@@ -3,15 +3,15 @@ use Rattle.std.proofs.Common.{[], ◌++◌, ◌∙◌, ◌∷◌, ◌≡◌, IsE
 use Rattle.base.proofs.Exports.{both_written, on_err, on_err_weaker, on_ok_failed, on_ok_weaker}
 use Rattle.update_machine.specs.Exports.{Item}
 use Rattle.message_bag.specs.Exports.{Post}
-use Rattle.travelling.specs.Travelling.{Flight, WithOne}
-use Rattle.world_log.specs.Exports.{IsPart, LogAfter}
+use Rattle.travelling.specs.Travelling.{Flight, TravellingWithOne}
+use Rattle.world_log.specs.Exports.{IsLogPart, LogAfter}
 use Rattle.world_log.specs.declared.log.Log.{Log}
-use Rattle.world_log.proofs.StepWrites.{part_none, part_of_rest}
+use Rattle.world_log.proofs.LogStepWrites.{part_none, part_of_rest}
 
 -- memory ran out where a part was written
 pub log_failed : {T E : Type 0} (r : Result T E) (items : List Item) (posts : List Post)
     (packet : ℕ) (this : Option Flight) (old new : Log) → IsErr r
-    → IsPart old.journal items new.journal → LogAfter r items posts packet this old new
+    → IsLogPart old.journal items new.journal → LogAfter r items posts packet this old new
 log_failed r items posts packet this old new failed part = record {
   written = on_ok_failed _ r failed;
   posted = on_ok_failed _ r failed;
@@ -37,7 +37,7 @@ log_behind r first items before posts packet this old mid new grown more same lo
       (both_written old.journal mid.journal new.journal first items grown) log.written;
   posted = on_ok_weaker r (both_written old.bag mid.bag new.bag before posts more) log.posted;
   travels = on_ok_weaker r
-      (subst (λ table. WithOne table packet this new.travelling) same) log.travels;
+      (subst (λ table. TravellingWithOne table packet this new.travelling) same) log.travels;
   part = on_err_weaker r
       (part_of_rest old.journal mid.journal first items new.journal grown) log.part;
 }
@@ -46,7 +46,7 @@ log_behind r first items before posts packet this old mid new grown more same lo
 pub log_one : {T E : Type 0} (r : Result T E) (item : Item) (packet : ℕ)
     (this : Option Flight) (old new : Log)
     → OnOk r (new.journal ≡ old.journal ++ item ∷ []) → OnErr r (new.journal ≡ old.journal)
-    → new.bag ≡ old.bag → WithOne old.travelling packet this new.travelling
+    → new.bag ≡ old.bag → TravellingWithOne old.travelling packet this new.travelling
     → LogAfter r (item ∷ []) [] packet this old new
 log_one r item packet this old new written unwritten unsent with = record {
   written = written;

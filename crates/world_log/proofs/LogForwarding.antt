@@ -3,9 +3,9 @@ use Rattle.std.proofs.Common.{[], if◌then◌else◌, ◌<◌, ◌==◌, ◌∙
 use Rattle.update_machine.specs.Exports.{Action, CacheRule, Cause, Exit as ExitLeg, Leg, NoRoute, Out as OutBy}
 use Rattle.ctrl_msg.specs.declared.message.Place.TheVariants as receiver
 use Rattle.message_bag.specs.Exports.{HasShortSpelling}
-use Rattle.message_bag.proofs.SpellingLengths.{alone_short}
+use Rattle.message_bag.proofs.BagSpellingLengths.{alone_short}
 use Rattle.net_file.specs.Exports.{port_owner}
-use Rattle.switch_core.specs.Exports.{Site, SwitchValue, cause_of, exit_by, leave_by, next_of, seek_by, set_out}
+use Rattle.switch_core.specs.Exports.{SwitchSite, SwitchValue, cause_of, exit_by_switch, leave_by_switch, next_of, seek_by, set_out}
 use Rattle.failover.specs.Exports.{route_of}
 use Rattle.tunnel.specs.Exports.{TunnelValue, tunnel_begun}
 use Rattle.switch_core.specs.declared.tunnel_calls.Packet.{Packet}
@@ -14,7 +14,7 @@ use Rattle.switch_core.specs.declared.tunnel_calls.Next.{Next}
 use Rattle.switch_core.specs.declared.tunnel_calls.Next.TheVariants.{Out, Stuck}
 use Rattle.ternary.specs.Exports.{WordValue}
 use Rattle.travelling.specs.Travelling.{Standing}
-use Rattle.world_log.specs.Exports.{LogAfter, answer_flight, answer_items, answer_posts, decided_flight, end_item, exit_leg, packet_standing, set_flight, set_item}
+use Rattle.world_log.specs.Exports.{LogAfter, log_answer_flight, log_answer_items, log_answer_posts, log_decided_flight, log_end_item, log_exit_leg, log_packet_standing, log_set_flight, log_set_item}
 use Rattle.world_log.specs.declared.log.Log.{Log}
 
 -- the route that the switch knows
@@ -43,32 +43,32 @@ module _ {T E : Type 0} (r : Result T E) (at : Standing) (packet : ℕ) (old new
   -- to an authority switch
   pub sought : (number : ℕ) (leg : Leg) (version : ℕ) (rule : Option ℕ)
       (way : Result TunnelValue Cause)
-      → LogAfter r (set_item at leg way ∷ []) [] packet (set_flight version rule way) old new
-      → LogAfter r (answer_items number at (seek_by leg way)) (answer_posts at (seek_by leg way))
-      packet (answer_flight version rule (seek_by leg way)) old new
+      → LogAfter r (log_set_item at leg way ∷ []) [] packet (log_set_flight version rule way) old new
+      → LogAfter r (log_answer_items number at (seek_by leg way)) (log_answer_posts at (seek_by leg way))
+      packet (log_answer_flight version rule (seek_by leg way)) old new
   sought number leg version rule (Ok tunnel) log = log
   sought number leg version rule (Err cause) log = log
 
   -- to the switch of its port
   pub exits : (decision : Decision) (way : Result TunnelValue Cause)
-      → LogAfter r (set_item at (exit_leg decision.action) way ∷ []) [] packet
-      (set_flight decision.version decision.rule way) old new
-      → LogAfter r (end_item at decision (exit_by way) ∷ []) [] packet
-      (decided_flight decision (exit_by way)) old new
+      → LogAfter r (log_set_item at (log_exit_leg decision.action) way ∷ []) [] packet
+      (log_set_flight decision.version decision.rule way) old new
+      → LogAfter r (log_end_item at decision (exit_by_switch way) ∷ []) [] packet
+      (log_decided_flight decision (exit_by_switch way)) old new
   exits decision (Ok tunnel) log = log
   exits decision (Err cause) log = log
 
 -- ---- as the decision's action says
 
 module _ {T E : Type 0} (r : Result T E) (at : Standing) (packet : ℕ) (old new : Log)
-    (s : SwitchValue) (site : Site) (decision : Decision) where
+    (s : SwitchValue) (site : SwitchSite) (decision : Decision) where
   -- what was written of it goes this way
   abbrev pub Goes : Decision → Next → Type 0
-  Goes decision way = LogAfter r (end_item at decision way ∷ []) [] packet
-      (decided_flight decision way) old new
+  Goes decision way = LogAfter r (log_end_item at decision way ∷ []) [] packet
+      (log_decided_flight decision way) old new
 
   abbrev pub way_by : Action → Next
-  way_by action = next_of s site (packet_standing at) action
+  way_by action = next_of s site (log_packet_standing at) action
 
   pub by_action : (action : Action) → decision.action ≡ action
       → Goes (record decision { action = action }) (way_by action)
@@ -78,7 +78,7 @@ module _ {T E : Type 0} (r : Result T E) (at : Standing) (packet : ℕ) (old new
   module _ (port : ℕ) where
     by_owner : (owner : Option ℕ) → port_owner site.ports port ≡ owner
         → Goes (record decision { action = OutBy port })
-        (leave_by s site.near (packet_standing at) port owner)
+        (leave_by_switch s site.near (log_packet_standing at) port owner)
         → Goes (record decision { action = OutBy port }) (way_by (OutBy port))
     unfolding next_of
     by_owner owner is goes = rw is goes
@@ -86,18 +86,18 @@ module _ {T E : Type 0} (r : Result T E) (at : Standing) (packet : ℕ) (old new
     pub unowned : decision.action ≡ OutBy port → port_owner site.ports port ≡ None
         → Goes (record decision { action = OutBy port }) (Stuck NoRoute)
         → Goes decision (way_by decision.action)
-    unfolding leave_by
+    unfolding leave_by_switch
     unowned acts is goes = by_action (OutBy port) acts (by_owner None is goes)
 
     abbrev way_of : ℕ → Bool → Next
     way_of owner here = if here then Out port
-        else exit_by (set_out s site.near (packet_standing at) (ExitLeg port) (owner ∷ []))
+        else exit_by_switch (set_out s site.near (log_packet_standing at) (ExitLeg port) (owner ∷ []))
 
     pub owned : (owner : ℕ) (here : Bool) → decision.action ≡ OutBy port
         → port_owner site.ports port ≡ Some owner → (owner == s.number) ≡ here
         → Goes (record decision { action = OutBy port }) (way_of owner here)
         → Goes decision (way_by decision.action)
-    unfolding leave_by
+    unfolding leave_by_switch
     owned owner here acts is at_home goes = by_action (OutBy port) acts
         (by_owner (Some owner) is (rw at_home goes))
 

@@ -3,9 +3,9 @@ use Rattle.std.proofs.Common.{[], if◌then◌else◌, ◌++◌, ◌+◌, ◌-�
 use Rattle.base.proofs.Exports.{cases_lt, filter_more, map-append, range_with_len}
 use Rattle.update_machine.specs.Exports.{Item}
 use Rattle.journal.specs.declared.item.Item.TheVariants as item
-use Rattle.travelling.specs.Travelling.{IsNextAt, Flights, WithOne, WithoutAt, numbers_at, stands_at, flight}
-use Rattle.world_log.specs.Exports.{AreLostBelow, IsPart, numbers_below}
-use Rattle.travelling.proofs.SlotNumbers.{beyond, filter_on, none_between}
+use Rattle.travelling.specs.Travelling.{IsNextAt, Flights, TravellingWithOne, TravellingWithoutAt, numbers_at, stands_at, flight}
+use Rattle.world_log.specs.Exports.{AreLostBelow, IsLogPart, numbers_below}
+use Rattle.travelling.proofs.TravellingSlots.{beyond, filter_on, none_between}
 
 pub none_lost : (before : Flights) (switch : ℕ) (journal : List Item)
     → AreLostBelow before switch 0 journal journal before
@@ -25,7 +25,7 @@ module _ (before : Flights) (switch from : ℕ) (journal now : List Item) (after
   stands_so i above = ap (stands_at switch) (lost.later i above)
 
   -- a part of all is written
-  pub lost_part : IsPart journal (map item.Lost (numbers_at before switch)) now
+  pub lost_part : IsLogPart journal (map item.Lost (numbers_at before switch)) now
   unfolding numbers_at
   lost_part =
       let more : ℕ = length before - from in
@@ -65,7 +65,7 @@ module _ (before : Flights) (switch from : ℕ) (journal now : List Item) (after
 
     -- it is lost too
     pub lost_more : (behind : List Item) (gone : Flights)
-        → behind ≡ now ++ item.Lost packet ∷ [] → WithOne after packet None gone
+        → behind ≡ now ++ item.Lost packet ∷ [] → TravellingWithOne after packet None gone
         → AreLostBelow before switch (packet + 1) journal behind gone
     lost_more behind gone pushed without = record {
       within = omega (arith, lost_within);
@@ -105,7 +105,7 @@ module _ (before : Flights) (switch from : ℕ) (journal now : List Item) (after
         (sym (ap (λ k. filter test (range_with_len 0 k)) (omega (arith, lost.within))
         ∙ none_between test from more (λ i above below. none_more i above)))
 
-    pub lost_all : WithoutAt before switch after
+    pub lost_all : TravellingWithoutAt before switch after
     lost_all = λ i. by_place i (cases_lt i from) where
       by_place : (i : ℕ) → (i < from) ⊎ (from ≤ i)
           → flight after i ≡ (if test i then None else flight before i)

@@ -1,8 +1,8 @@
 -- What a switch's move makes of a packet: it keeps its number, its header, its leg and its ingress.
 use Rattle.std.proofs.Common.{◌≡◌, List, None, Option, Some, refl, ℕ}
 use Rattle.update_machine.specs.Exports.{Exit, Header, Leg, Seek}
-use Rattle.switch_core.specs.Exports.{IsAtAuthority, SwitchValue, call_counted, hop_answer, hopped_to, link_found_down, move_answer, moved_along, rerouted_here}
-use Rattle.tunnel.specs.Exports.{TunnelValue, marked_down, next, on_route, route_from_here}
+use Rattle.switch_core.specs.Exports.{IsAtAuthority, SwitchValue, call_counted, hop_answer, hopped_to, link_found_down, move_answer, moved_along_route, rerouted_here}
+use Rattle.tunnel.specs.Exports.{TunnelValue, tunnel_marked_down, next, on_route, route_from_here}
 
 -- the same packet on the same leg
 pub record SamePacket (old new : TunnelValue) : Type 0 where
@@ -16,7 +16,7 @@ moved_same t None = record { packet = refl; header = refl; leg = refl; ingress =
 moved_same t (Some other) = record { packet = refl; header = refl; leg = refl; ingress = refl }
 
 along_same : (w : SwitchValue) (near : ℕ) (t : TunnelValue) (route : Option (List ℕ))
-    → SamePacket t (moved_along w near t route).tunnel
+    → SamePacket t (moved_along_route w near t route).tunnel
 along_same w near t None = record { packet = refl; header = refl; leg = refl; ingress = refl }
 along_same w near t (Some route) =
     let same = moved_same (on_route t route) (next (on_route t route)) in
@@ -29,7 +29,7 @@ hopped_same w near t = by_link (link_found_down near (next t)) where
   by_link : (o : Option ℕ) → SamePacket t (hopped_to w near t o).tunnel
   by_link None = moved_same t (next t)
   by_link (Some other) =
-      let met : TunnelValue = marked_down t other in
+      let met : TunnelValue = tunnel_marked_down t other in
       let same = along_same w near met (route_from_here met w.database near) in
       record { packet = same.packet; header = same.header; leg = same.leg; ingress = same.ingress }
 

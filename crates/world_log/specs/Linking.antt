@@ -10,35 +10,35 @@ use Rattle.switch_core.specs.Exports.{SwitchValue, near_changed, next_advert, se
 -- ---- links that are up
 
 -- `near` has at each switch's number the mask of its neighbours
-abbrev pub AreNear : Net → List ℕ → Type 0
-AreNear net near = (s : ℕ) → s < 64 → slice_index near s ≡ links_of net.links s
+abbrev pub AreNearMasks : Net → List ℕ → Type 0
+AreNearMasks net near = (s : ℕ) → s < 64 → slice_index near s ≡ links_of net.links s
 
 -- ---- a link that fails or comes back
 
 -- the link of these two switches is up, or down, at both ends; all other links are as before
-abbrev pub SetsLink : List ℕ → ℕ → ℕ → Bool → List ℕ → Type 0
-SetsLink before one two up after = (s k : ℕ) → s < 64 → k < 64
+abbrev pub LogSetsLink : List ℕ → ℕ → ℕ → Bool → List ℕ → Type 0
+LogSetsLink before one two up after = (s k : ℕ) → s < 64 → k < 64
     → has (slice_index after s) k ≡ (if joins s k (record { one = one; two = two }) then up
     else has (slice_index before s) k)
 
 -- ---- usable links
 
 -- the switch of this number exists, and serves
-abbrev pub serves_at : List SwitchValue → ℕ → Bool
-serves_at switches s = option_map_or serves (slice_get switches s) false
+abbrev pub switch_serves_at : List SwitchValue → ℕ → Bool
+switch_serves_at switches s = option_map_or serves (slice_get switches s) false
 
 -- of these links, those whose other end serves; none if the switch itself doesn't serve
-abbrev pub near_where : ℕ → Bool → (ℕ → Bool) → ℕ
-near_where links own others = mask_of (λ k. has links k && own && others k)
+abbrev pub near_mask_where : ℕ → Bool → (ℕ → Bool) → ℕ
+near_mask_where links own others = mask_of (λ k. has links k && own && others k)
 
 -- the switches to which a switch has a usable link, if these links are up: both ends serve
-unfoldable pub near_by : List ℕ → List SwitchValue → ℕ → ℕ
-near_by links switches s =
-    near_where (slice_index links s) (serves_at switches s) (serves_at switches)
+unfoldable pub near_mask_by : List ℕ → List SwitchValue → ℕ → ℕ
+near_mask_by links switches s =
+    near_mask_where (slice_index links s) (switch_serves_at switches s) (switch_serves_at switches)
 
 -- the same for all 64 numbers
 unfoldable pub near_all : List ℕ → List SwitchValue → List ℕ
-near_all links switches = map (near_by links switches) (range_with_len 0 64)
+near_all links switches = map (near_mask_by links switches) (range_with_len 0 64)
 
 -- ---- what switches send
 
@@ -82,8 +82,8 @@ abbrev pub links_change : ℕ → ℕ → SwitchValue → Bool
 links_change had near switch = switch.is_up && not (had == near)
 
 -- then it makes its next advert
-abbrev pub relinked_as : ℕ → ℕ → SwitchValue → SwitchValue
-relinked_as had near switch = if links_change had near switch then near_changed switch near
+abbrev pub switch_relinked_as : ℕ → ℕ → SwitchValue → SwitchValue
+switch_relinked_as had near switch = if links_change had near switch then near_changed switch near
     else switch
 
 -- and sends its neighbours among this many switches that advert, or all over a new link
@@ -92,8 +92,8 @@ adverts_on_change count had near switch = if links_change had near switch
     then flat_map (λ other. adverts_over (near_changed switch near) (next_advert switch near)
     (has had other) other) (filter (has near) (range_with_len 0 count)) else []
 
-abbrev pub adverts_at : ℕ → List ℕ → List ℕ → List SwitchValue → ℕ → List Message
-adverts_at count had near switches s = elim (slice_get switches s) [
+abbrev pub adverts_relinked_at : ℕ → List ℕ → List ℕ → List SwitchValue → ℕ → List Message
+adverts_relinked_at count had near switches s = elim (slice_get switches s) [
   | None ↦ []
   | Some switch ↦ adverts_on_change count (slice_index had s) (slice_index near s) switch
 ]
@@ -101,11 +101,11 @@ adverts_at count had near switches s = elim (slice_get switches s) [
 -- all that is sent, by ascending number of the sender
 unfoldable pub all_adverts_sent : List ℕ → List ℕ → List SwitchValue → List Message
 all_adverts_sent had near switches =
-    flat_map (adverts_at (length switches) had near switches)
+    flat_map (adverts_relinked_at (length switches) had near switches)
     (range_with_len 0 (length switches))
 
 -- each of these switches made its next advert if its links changed
-pub record AreRelinked (had near : List ℕ) (old new : List SwitchValue) : Type 0 where
+pub record AreSwitchesRelinked (had near : List ℕ) (old new : List SwitchValue) : Type 0 where
   pub as_many : length new ≡ length old
   pub each : (s : ℕ) (d : SwitchValue) → s < length old → slice_index_or new s d
-      ≡ relinked_as (slice_index had s) (slice_index near s) (slice_index_or old s d)
+      ≡ switch_relinked_as (slice_index had s) (slice_index near s) (slice_index_or old s d)

@@ -4,17 +4,17 @@ use Rattle.message_bag.specs.Exports.{Post}
 use Rattle.failover.specs.Exports.{no_links}
 use Rattle.update_machine.specs.Exports.{Header, Item, Leg, Ports}
 use Rattle.journal.specs.declared.item.Item.TheVariants as item
-use Rattle.switch_core.specs.Exports.{Answer, CanLookUp, IsAtAuthority, Moved, StandsAt, SwitchValue, admitted, around, call_counted, hop_answer, incoming_packet, link_found_down, move_answer, received, serves}
+use Rattle.switch_core.specs.Exports.{Answer, CanLookUp, IsAtAuthority, Moved, PacketStandsAt, SwitchValue, admitted, around, call_counted, hop_answer, incoming_packet, link_found_down, move_answer, received, serves}
 use Rattle.switch_core.specs.declared.tunnel_calls.HopEnd.{HopEnd}
 use Rattle.switch_core.specs.declared.tunnel_calls.HopEnd.TheVariants as hop
 use Rattle.tunnel.specs.Exports.{here, next}
 use Rattle.travelling.specs.Travelling.{Flight, Standing, flight, standing_at}
-use Rattle.world_log.specs.Writing.{LogAfter, arrived_items, arrived_posts, arrived_flight}
+use Rattle.world_log.specs.Writing.{LogAfter, log_arrived_items, log_arrived_posts, log_arrived_flight}
 use Rattle.world_log.specs.declared.log.Log.{Log}
 
 -- a packet that enters at a switch
-abbrev pub coming_in : ℕ → Header → ℕ → Standing
-coming_in packet header switch = record {
+abbrev pub log_coming_in : ℕ → Header → ℕ → Standing
+log_coming_in packet header switch = record {
   packet = packet;
   header = header;
   ingress = switch;
@@ -27,93 +27,93 @@ abbrev pub entry : SwitchValue → ℕ → Ports → ℕ → Header → Option A
 entry s near ports packet header = admitted s (around near ports) (incoming_packet s packet header)
 
 -- what its arrival writes and posts if the next message has this number, and where it then is
-unfoldable pub arrival_items : ℕ → SwitchValue → ℕ → Ports → Flight → List Item
-arrival_items number s near ports flight =
-    arrived_items number (standing_at s.number flight) flight.version flight.rule
+unfoldable pub log_arrival_items : ℕ → SwitchValue → ℕ → Ports → Flight → List Item
+log_arrival_items number s near ports flight =
+    log_arrived_items number (standing_at s.number flight) flight.version flight.rule
     (received s (around near ports) flight.tunnel)
 
-unfoldable pub arrival_posts : SwitchValue → ℕ → Ports → Flight → List Post
-arrival_posts s near ports flight =
-    arrived_posts (standing_at s.number flight) (received s (around near ports) flight.tunnel)
+unfoldable pub log_arrival_posts : SwitchValue → ℕ → Ports → Flight → List Post
+log_arrival_posts s near ports flight =
+    log_arrived_posts (standing_at s.number flight) (received s (around near ports) flight.tunnel)
 
-unfoldable pub arrival : SwitchValue → ℕ → Ports → Flight → Option Flight
-arrival s near ports flight =
-    arrived_flight flight.version flight.rule
+unfoldable pub log_arrival : SwitchValue → ℕ → Ports → Flight → Option Flight
+log_arrival s near ports flight =
+    log_arrived_flight flight.version flight.rule
     (received s (around near ports) flight.tunnel)
 
 -- ---- when it moves on
 
 -- what a link that was found down writes, with the packet's route around it unless it is stuck
-abbrev pub turned_items : ℕ → ℕ → Option ℕ → HopEnd → List ℕ → List Item
-turned_items packet here None end route = []
-turned_items packet here (Some other) (hop.Stuck cause) route =
+abbrev pub log_turned_items : ℕ → ℕ → Option ℕ → HopEnd → List ℕ → List Item
+log_turned_items packet here None end route = []
+log_turned_items packet here (Some other) (hop.Stuck cause) route =
     item.FoundDown packet here other ∷ []
-turned_items packet here (Some other) _ route =
+log_turned_items packet here (Some other) _ route =
     item.FoundDown packet here other ∷ item.Rerouted packet route ∷ []
 
 -- what is written when the packet is at the end of its route, moves to the next switch or is stuck
-abbrev pub ended_items : ℕ → SwitchValue → ℕ → Ports → Flight → HopEnd → List Item
-ended_items number s near ports t hop.Arrive = arrival_items number s near ports t
-ended_items number s near ports t (hop.Move other) = item.Hopped t.tunnel.packet other ∷ []
-ended_items number s near ports t (hop.Stuck cause) =
+abbrev pub log_ended_items : ℕ → SwitchValue → ℕ → Ports → Flight → HopEnd → List Item
+log_ended_items number s near ports t hop.Arrive = log_arrival_items number s near ports t
+log_ended_items number s near ports t (hop.Move other) = item.Hopped t.tunnel.packet other ∷ []
+log_ended_items number s near ports t (hop.Stuck cause) =
     item.Stuck t.tunnel.packet s.number cause t.tunnel.leg t.tunnel.down ∷ []
 
-abbrev pub ended_posts : SwitchValue → ℕ → Ports → Flight → HopEnd → List Post
-ended_posts s near ports t hop.Arrive = arrival_posts s near ports t
-ended_posts s near ports t _ = []
+abbrev pub log_ended_posts : SwitchValue → ℕ → Ports → Flight → HopEnd → List Post
+log_ended_posts s near ports t hop.Arrive = log_arrival_posts s near ports t
+log_ended_posts s near ports t _ = []
 
 -- the switch, called once more if the packet arrives
-abbrev pub ended_switch : SwitchValue → HopEnd → SwitchValue
-ended_switch s hop.Arrive = call_counted s
-ended_switch s _ = s
+abbrev pub log_ended_switch : SwitchValue → HopEnd → SwitchValue
+log_ended_switch s hop.Arrive = call_counted s
+log_ended_switch s _ = s
 
 -- the packet as the switch's move leaves it
-abbrev pub hopped_flight : SwitchValue → ℕ → Flight → Flight
-hopped_flight s near t = record t { tunnel = (hop_answer s near t.tunnel).tunnel }
+abbrev pub log_hopped_flight : SwitchValue → ℕ → Flight → Flight
+log_hopped_flight s near t = record t { tunnel = (hop_answer s near t.tunnel).tunnel }
 
 -- all that a hop writes and posts, and where the packet is then
-abbrev pub hop_written : ℕ → SwitchValue → ℕ → Ports → Flight → List Item
-hop_written number s near ports t =
+abbrev pub log_hop_written : ℕ → SwitchValue → ℕ → Ports → Flight → List Item
+log_hop_written number s near ports t =
     let moved = hop_answer s near t.tunnel in
-    turned_items t.tunnel.packet s.number (link_found_down near (next t.tunnel)) moved.end
+    log_turned_items t.tunnel.packet s.number (link_found_down near (next t.tunnel)) moved.end
     moved.tunnel.route
-    ++ ended_items number (call_counted s) near ports (hopped_flight s near t) moved.end
+    ++ log_ended_items number (call_counted s) near ports (log_hopped_flight s near t) moved.end
 
-abbrev pub hop_posts : SwitchValue → ℕ → Ports → Flight → List Post
-hop_posts s near ports t =
-    ended_posts (call_counted s) near ports (hopped_flight s near t)
+abbrev pub log_hop_posts : SwitchValue → ℕ → Ports → Flight → List Post
+log_hop_posts s near ports t =
+    log_ended_posts (call_counted s) near ports (log_hopped_flight s near t)
     (hop_answer s near t.tunnel).end
 
-abbrev pub ended_flight : SwitchValue → ℕ → Ports → Flight → HopEnd → Option Flight
-ended_flight s near ports t hop.Arrive = arrival s near ports t
-ended_flight s near ports t (hop.Move other) = Some t
-ended_flight s near ports t (hop.Stuck cause) = None
+abbrev pub log_ended_flight : SwitchValue → ℕ → Ports → Flight → HopEnd → Option Flight
+log_ended_flight s near ports t hop.Arrive = log_arrival s near ports t
+log_ended_flight s near ports t (hop.Move other) = Some t
+log_ended_flight s near ports t (hop.Stuck cause) = None
 
-abbrev pub hop_flight : SwitchValue → ℕ → Ports → Flight → Option Flight
-hop_flight s near ports t =
-    ended_flight (call_counted s) near ports (hopped_flight s near t)
+abbrev pub log_hop_flight : SwitchValue → ℕ → Ports → Flight → Option Flight
+log_hop_flight s near ports t =
+    log_ended_flight (call_counted s) near ports (log_hopped_flight s near t)
     (hop_answer s near t.tunnel).end
 
-abbrev pub hopped_switch : SwitchValue → ℕ → Flight → SwitchValue
-hopped_switch s near t = ended_switch (call_counted s) (hop_answer s near t.tunnel).end
+abbrev pub log_hopped_switch : SwitchValue → ℕ → Flight → SwitchValue
+log_hopped_switch s near t = log_ended_switch (call_counted s) (hop_answer s near t.tunnel).end
 
 -- ---- along a new route
 
 -- a packet at the beginning of this route moves to the second switch, or is at the end
-abbrev pub followed : Flight → Moved
-followed t = move_answer t.tunnel (next t.tunnel)
+abbrev pub log_followed : Flight → Moved
+log_followed t = move_answer t.tunnel (next t.tunnel)
 
-abbrev pub followed_items : ℕ → SwitchValue → ℕ → Ports → Flight → List Item
-followed_items number s near ports t =
-    ended_items number s near ports (record t { tunnel = (followed t).tunnel }) (followed t).end
+abbrev pub log_followed_items : ℕ → SwitchValue → ℕ → Ports → Flight → List Item
+log_followed_items number s near ports t =
+    log_ended_items number s near ports (record t { tunnel = (log_followed t).tunnel }) (log_followed t).end
 
-abbrev pub followed_posts : SwitchValue → ℕ → Ports → Flight → List Post
-followed_posts s near ports t =
-    ended_posts s near ports (record t { tunnel = (followed t).tunnel }) (followed t).end
+abbrev pub log_followed_posts : SwitchValue → ℕ → Ports → Flight → List Post
+log_followed_posts s near ports t =
+    log_ended_posts s near ports (record t { tunnel = (log_followed t).tunnel }) (log_followed t).end
 
-abbrev pub followed_flight : SwitchValue → ℕ → Ports → Flight → Option Flight
-followed_flight s near ports t =
-    ended_flight s near ports (record t { tunnel = (followed t).tunnel }) (followed t).end
+abbrev pub log_followed_flight : SwitchValue → ℕ → Ports → Flight → Option Flight
+log_followed_flight s near ports t =
+    log_ended_flight s near ports (record t { tunnel = (log_followed t).tunnel }) (log_followed t).end
 
 -- the packet `t` is at this switch, with this version and rule, on this leg to these targets; the
 -- switch was called to move it on, and found the link to `other` down
@@ -125,7 +125,7 @@ pub record MeetsDownLink (at : Standing) (its_version : ℕ) (its_rule : Option 
   pub rule : its_rule ≡ t.rule
   pub leg : its_leg ≡ t.tunnel.leg
   pub targets : its_targets ≡ t.tunnel.targets
-  pub here : StandsAt before t.tunnel.route t.tunnel.place
+  pub here : PacketStandsAt before t.tunnel.route t.tunnel.place
   pub found : link_found_down near (next t.tunnel) ≡ Some other
   pub asked : after ≡ call_counted before
   pub authority : (hop_answer before near t.tunnel).end ≡ hop.Arrive
@@ -138,7 +138,7 @@ pub record MeetsDownLink (at : Standing) (its_version : ℕ) (its_rule : Option 
 -- decide it if it arrives there
 pub record MayGoOn (packet : ℕ) (s : SwitchValue) (near : ℕ) (t : Flight) : Type 0 where
   pub known : t.tunnel.packet ≡ packet
-  pub here : StandsAt s t.tunnel.route t.tunnel.place
+  pub here : PacketStandsAt s t.tunnel.route t.tunnel.place
   pub serving : IsTrue (serves s)
   pub stamped : CanLookUp s
   pub authority : (hop_answer s near t.tunnel).end ≡ hop.Arrive
@@ -146,12 +146,12 @@ pub record MayGoOn (packet : ℕ) (s : SwitchValue) (near : ℕ) (t : Flight) : 
   pub ingress : t.tunnel.ingress < 64
 
 -- after the packet's hop: what was written and posted, where it is, and its switch's count of calls
-pub record HasHopped {T E : Type 0} (result : Result T E) (packet : ℕ) (before : SwitchValue)
+pub record LogHasHopped {T E : Type 0} (result : Result T E) (packet : ℕ) (before : SwitchValue)
     (near : ℕ) (ports : Ports) (old : Log) (after : SwitchValue) (new : Log) (t : Flight)
     : Type 0 where
-  pub log : LogAfter result (hop_written (length old.bag + 1) before near ports t)
-      (hop_posts before near ports t) packet (hop_flight before near ports t) old new
-  pub counted : OnOk result (after ≡ hopped_switch before near t)
+  pub log : LogAfter result (log_hop_written (length old.bag + 1) before near ports t)
+      (log_hop_posts before near ports t) packet (log_hop_flight before near ports t) old new
+  pub counted : OnOk result (after ≡ log_hopped_switch before near t)
 
 module _ {T E : Type 0} (result : Result T E) (packet : ℕ) (near : List ℕ) (ports : Ports)
     (old : Log) (before : List SwitchValue) (new : Log) (after : List SwitchValue) where
@@ -161,7 +161,7 @@ module _ {T E : Type 0} (result : Result T E) (packet : ℕ) (near : List ℕ) (
     pub asked : SwitchValue
     pub own : slice_get before (here t.tunnel) ≡ Some switch
     pub only : after ≡ set before (here t.tunnel) asked
-    pub hopped : HasHopped result packet switch (slice_index near (here t.tunnel)) ports old asked
+    pub hopped : LogHasHopped result packet switch (slice_index near (here t.tunnel)) ports old asked
         new t
 
   -- only the item `Nothing` is written

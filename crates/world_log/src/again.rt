@@ -15,7 +15,7 @@ use switch_core::Switch;
 ///
 /// # Errors
 /// Only out of memory.
-#[tactic(auto, using(crate::proofs::RelinkingAdverts::near_steps))]
+#[tactic(auto, using(crate::proofs::LogRelinking::near_steps))]
 pub fn adverts_again(
     alloc: Global,
     switch: &Switch,
@@ -32,13 +32,13 @@ pub fn adverts_again(
     }
     messages.push(hello(s, switch.boot()))?;
     for other in 0..count {
-        send_neighbour(&mut messages, switch, near, other)?;
+        resend_to_neighbour(&mut messages, switch, near, other)?;
     }
     Ok(messages)
 }
 
 // What the switch sends the other one again, if it has a usable link to it.
-fn send_neighbour(
+fn resend_to_neighbour(
     messages: &mut Vec<Message>,
     switch: &Switch,
     near: u64,

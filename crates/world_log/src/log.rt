@@ -2,9 +2,9 @@ ghost use Rattle.std.specs.Prelude.{◌≡◌, ◌+◌, ◌-◌, ◌^◌, ◌<�
 ghost use Rattle.message_bag.specs.Posts.{new_post};
 ghost use Rattle.message_bag.specs.Feeding.{HasShortSpelling};
 ghost use Rattle.journal.specs.declared.item.Item.TheVariants.{Hopped as HoppedItem, Sent as SentItem, Stuck as StuckItem};
-ghost use Rattle.travelling.specs.Travelling.{HasPlace, placed_at, standing_kept, flight};
+ghost use Rattle.travelling.specs.Travelling.{FlightHasPlace, flight_placed_at, standing_kept, flight};
 ghost use Rattle.update_machine.specs.Exports.{takes_route};
-ghost use Rattle.world_log.specs.Writing.{LogAfter, left_item};
+ghost use Rattle.world_log.specs.Writing.{LogAfter, log_left_item};
 
 use journal::{Item, Journal, Leaving, Message, PackedLeaving, SharedRoute};
 use message_bag::PostBag;
@@ -75,9 +75,9 @@ impl Log {
 
     // Moves the packet on to this place of its route, at this switch. Only the journal allocates.
     pub(crate) fn move_on(&mut self, packet: u32, place: u32, switch: u32) -> Result<(), AllocError>
-        requires { IsSomeAnd (flight self.old.travelling packet) (HasPlace place) }
+        requires { IsSomeAnd (flight self.old.travelling packet) (FlightHasPlace place) }
         ensures { LogAfter result (HoppedItem packet switch ∷ []) [] packet
-            (option_map (placed_at place) (flight self.old.travelling packet))
+            (option_map (flight_placed_at place) (flight self.old.travelling packet))
             self.old self.new }
     {
         self.travelling.move_to(packet, place);
@@ -87,7 +87,7 @@ impl Log {
 
 /// The item of a packet that leaves by the port, with the version and the rule of its decision.
 pub fn leaves(at: &Standing, port: u32) -> Item
-    ensures { result ≡ left_item (standing_kept at.now) at.now.version at.now.rule port }
+    ensures { result ≡ log_left_item (standing_kept at.now) at.now.version at.now.rule port }
 {
     let leaving = Leaving {
         packet: at.packet,

@@ -1,9 +1,9 @@
 //! Packets that are lost where they are.
 ghost use Rattle.std.specs.Prelude.{◌≡◌, ◌++◌, ◌∷◌, [], ℕ, map, None, OnOk, OnErr};
 ghost use Rattle.journal.specs.declared.item.Item.TheVariants.{Lost as LostItem};
-ghost use Rattle.travelling.specs.Travelling.{WithOne, WithoutAt, numbers_at};
+ghost use Rattle.travelling.specs.Travelling.{TravellingWithOne, TravellingWithoutAt, numbers_at};
 ghost use Rattle.world_log.specs.Losing.{AreLostBelow};
-ghost use Rattle.world_log.specs.Writing.{IsPart};
+ghost use Rattle.world_log.specs.Writing.{IsLogPart};
 
 use crate::log::Log;
 use journal::Item;
@@ -17,7 +17,7 @@ impl Log {
     pub fn lose(&mut self, packet: u32) -> Result<(), AllocError>
         ensures written { OnOk result (self.new.journal
             ≡ self.old.journal ++ LostItem packet ∷ []) }
-        ensures lost { OnOk result (WithOne self.old.travelling packet None self.new.travelling) }
+        ensures lost { OnOk result (TravellingWithOne self.old.travelling packet None self.new.travelling) }
         ensures unsent { self.new.bag ≡ self.old.bag }
         ensures unchanged { OnErr result (self.new ≡ self.old) }
     {
@@ -35,8 +35,8 @@ impl Log {
     pub fn lose_at(&mut self, switch: u32) -> Result<(), AllocError>
         ensures written { OnOk result (self.new.journal ≡ self.old.journal
             ++ map LostItem (numbers_at self.old.travelling switch)) }
-        ensures lost { OnOk result (WithoutAt self.old.travelling switch self.new.travelling) }
-        ensures part { OnErr result (IsPart self.old.journal
+        ensures lost { OnOk result (TravellingWithoutAt self.old.travelling switch self.new.travelling) }
+        ensures part { OnErr result (IsLogPart self.old.journal
             (map LostItem (numbers_at self.old.travelling switch)) self.new.journal) }
         ensures left { OnErr result ((bound : ℕ) × AreLostBelow self.old.travelling switch bound
             self.old.journal self.new.journal self.new.travelling) }

@@ -1,12 +1,12 @@
 ghost use Rattle.std.specs.Prelude.{◌≡◌, ◌≢◌, ◌+◌, ◌-◌, ◌^◌, ◌<◌, ◌++◌, [], ◌∷◌, None, Some, IsTrue, OnOk, OnErr, length, map, slice_get, slice_index};
 ghost use Rattle.message_bag.specs.Posts.{new_post};
-ghost use Rattle.switch_core.specs.Exports.{CanLookUp, IsAtAuthority, StandsAt, answer_of, cached_by, call_counted, next_of, serves, set_out, site_of};
+ghost use Rattle.switch_core.specs.Exports.{CanLookUp, IsAtAuthority, PacketStandsAt, answer_of, rule_cached_by, call_counted, next_of, serves, set_out, switch_site_of};
 ghost use Rattle.switch_core.specs.State.{SwitchValue};
 ghost use Rattle.travelling.specs.Travelling.{Flight, flight, standing_kept};
 ghost use Rattle.tunnel.specs.Moves.{here, next};
 ghost use Rattle.update_machine.specs.Exports.{sent_from};
-ghost use Rattle.world_log.specs.Packets.{HasHopped, Hops, MeetsDownLink, MayGoOn, coming_in, ended_switch, entry, followed, followed_flight, followed_items, followed_posts};
-ghost use Rattle.world_log.specs.Writing.{LogAfter, arrived_items, arrived_posts, arrived_flight, cache_message, decided_flight, end_item, entered_items, entered_posts, entered_flight, message_list, packet_standing, set_flight, set_item};
+ghost use Rattle.world_log.specs.Packets.{LogHasHopped, Hops, MeetsDownLink, MayGoOn, log_coming_in, log_ended_switch, entry, log_followed, log_followed_flight, log_followed_items, log_followed_posts};
+ghost use Rattle.world_log.specs.Writing.{LogAfter, log_arrived_items, log_arrived_posts, log_arrived_flight, cache_message, log_decided_flight, log_end_item, log_entered_items, log_entered_posts, log_entered_flight, log_message_list, log_packet_standing, log_set_flight, log_set_item};
 
 use crate::log::{Log, leaves, takes_route};
 use base::Failure;
@@ -15,7 +15,7 @@ use journal::{Item, Message, Place};
 use net_file::Ports;
 use policy_rules::{Action, Cause, Leg, Targets};
 use std::alloc::{AllocError, Global};
-use switch_core::{Arriving, Decision, Forwarding, Onward, Site, Switch};
+use switch_core::{Arriving, Decision, Forwarding, Onward, Switch, SwitchSite};
 use ternary::Word;
 use travelling::{Standing, StoredFlight};
 
@@ -30,17 +30,17 @@ impl Log {
         packet: u32,
         header: &Header,
         switch: &mut Switch,
-        site: Site,
+        site: SwitchSite,
     ) -> Result<(), AllocError>
         requires stamped { CanLookUp switch.old }
         requires few { length self.old.bag < 2 ^ 32 - 1 }
         ensures log { LogAfter result
-            (entered_items (length self.old.bag + 1)
-            (coming_in packet header.now switch.old.number)
+            (log_entered_items (length self.old.bag + 1)
+            (log_coming_in packet header.now switch.old.number)
             (entry switch.old site.entry.near site.entry.ports.now packet header.now))
-            (entered_posts (coming_in packet header.now switch.old.number)
+            (log_entered_posts (log_coming_in packet header.now switch.old.number)
             (entry switch.old site.entry.near site.entry.ports.now packet header.now))
-            packet (entered_flight
+            packet (log_entered_flight
             (entry switch.old site.entry.near site.entry.ports.now packet header.now))
             self.old self.new }
         ensures counted { switch.new ≡ call_counted switch.old }
@@ -109,7 +109,7 @@ impl Log {
         let near = near[here];
         let route = kept.route();
         let place = kept.place();
-        let site = Site { near, ports };
+        let site = SwitchSite { near, ports };
         match switch.pass(route, place, near) {
             Onward::Next(next) => self.move_on(packet, place + 1, next),
             Onward::AtEnd => {
@@ -145,7 +145,7 @@ impl Log {
         targets: Targets,
         other: u32,
         switch: &mut Switch,
-        site: Site,
+        site: SwitchSite,
     ) -> Result<(), AllocError>
         requires serving { IsTrue (serves switch.old) }
         requires stamped { CanLookUp switch.old }
@@ -158,7 +158,7 @@ impl Log {
         ensures { (before : SwitchValue) (t : Flight)
             → MeetsDownLink (standing_kept at) at.version at.rule leg targets other before switch.old
             site.entry.near t
-            → HasHopped result at.packet before site.entry.near site.entry.ports.now self.old switch.new
+            → LogHasHopped result at.packet before site.entry.near site.entry.ports.now self.old switch.new
             self.new t }
     {
         let packet = at.packet;
@@ -188,22 +188,22 @@ impl Log {
         alloc: Global,
         mut kept: StoredFlight,
         switch: &mut Switch,
-        site: Site,
+        site: SwitchSite,
     ) -> Result<(), AllocError>
         requires serving { IsTrue (serves switch.old) }
         requires stamped { CanLookUp switch.old }
         requires last { next kept.tunnel ≡ None
-            → StandsAt switch.old kept.tunnel.route kept.tunnel.place
+            → PacketStandsAt switch.old kept.tunnel.route kept.tunnel.place
             × IsAtAuthority switch.old kept.tunnel.header kept.tunnel.leg }
         requires ingress { kept.tunnel.ingress < 64 }
         requires few { length self.old.bag < 2 ^ 32 - 1 }
         ensures log { LogAfter result
-            (followed_items (length self.old.bag + 1) switch.old site.entry.near site.entry.ports.now kept)
-            (followed_posts switch.old site.entry.near site.entry.ports.now kept)
+            (log_followed_items (length self.old.bag + 1) switch.old site.entry.near site.entry.ports.now kept)
+            (log_followed_posts switch.old site.entry.near site.entry.ports.now kept)
             kept.tunnel.packet
-            (followed_flight switch.old site.entry.near site.entry.ports.now kept)
+            (log_followed_flight switch.old site.entry.near site.entry.ports.now kept)
             self.old self.new }
-        ensures asked { OnOk result (switch.new ≡ ended_switch switch.old (followed kept).end) }
+        ensures asked { OnOk result (switch.new ≡ log_ended_switch switch.old (log_followed kept).end) }
     {
         let place = kept.place();
         match kept.next() {
@@ -238,17 +238,17 @@ impl Log {
         at: Standing,
         forwarding: Forwarding,
         switch: &mut Switch,
-        site: Site,
+        site: SwitchSite,
     ) -> Result<(), AllocError>
         requires ingress { at.ingress < 64 }
         requires few { length self.old.bag < 2 ^ 32 - 1 }
         ensures log { LogAfter result
-            (arrived_items (length self.old.bag + 1) (standing_kept at) at.version at.rule
-            (answer_of switch.old (site_of site.entry) (packet_standing (standing_kept at)) forwarding))
-            (arrived_posts (standing_kept at)
-            (answer_of switch.old (site_of site.entry) (packet_standing (standing_kept at)) forwarding))
-            at.packet (arrived_flight at.version at.rule
-            (answer_of switch.old (site_of site.entry) (packet_standing (standing_kept at)) forwarding))
+            (log_arrived_items (length self.old.bag + 1) (standing_kept at) at.version at.rule
+            (answer_of switch.old (switch_site_of site.entry) (log_packet_standing (standing_kept at)) forwarding))
+            (log_arrived_posts (standing_kept at)
+            (answer_of switch.old (switch_site_of site.entry) (log_packet_standing (standing_kept at)) forwarding))
+            at.packet (log_arrived_flight at.version at.rule
+            (answer_of switch.old (switch_site_of site.entry) (log_packet_standing (standing_kept at)) forwarding))
             self.old self.new }
         ensures same { switch.new ≡ switch.old }
     {
@@ -283,10 +283,10 @@ impl Log {
         near: u64,
     ) -> Result<(), AllocError>
         ensures log { LogAfter result
-            (set_item (standing_kept at) leg
-            (set_out switch.old near (packet_standing (standing_kept at)) leg targets) ∷ [])
-            [] at.packet (set_flight at.version at.rule
-            (set_out switch.old near (packet_standing (standing_kept at)) leg targets))
+            (log_set_item (standing_kept at) leg
+            (set_out switch.old near (log_packet_standing (standing_kept at)) leg targets) ∷ [])
+            [] at.packet (log_set_flight at.version at.rule
+            (set_out switch.old near (log_packet_standing (standing_kept at)) leg targets))
             self.old self.new }
         ensures same { switch.new ≡ switch.old }
     {
@@ -315,9 +315,9 @@ impl Log {
         requires few { length self.old.bag < 2 ^ 32 - 1 }
         ensures written { OnOk result (self.new.journal ≡ self.old.journal
             ++ sent_from (length self.old.bag + 1)
-            (message_list (cache_message ingress (cached_by decision.now word)))) }
+            (log_message_list (cache_message ingress (rule_cached_by decision.now word)))) }
         ensures posted { OnOk result (self.new.bag ≡ self.old.bag
-            ++ map new_post (message_list (cache_message ingress (cached_by decision.now word)))) }
+            ++ map new_post (log_message_list (cache_message ingress (rule_cached_by decision.now word)))) }
         ensures unwritten { OnErr result (self.new.journal ≡ self.old.journal) }
         ensures travelling { self.new.travelling ≡ self.old.travelling }
     {
@@ -339,13 +339,13 @@ impl Log {
         mut at: Standing,
         decision: Decision,
         switch: &mut Switch,
-        site: Site,
+        site: SwitchSite,
     ) -> Result<(), AllocError>
         ensures log { LogAfter result
-            (end_item (standing_kept at) decision (next_of switch.old (site_of site.entry)
-            (packet_standing (standing_kept at)) decision.action) ∷ [])
-            [] at.packet (decided_flight decision (next_of switch.old (site_of site.entry)
-            (packet_standing (standing_kept at)) decision.action))
+            (log_end_item (standing_kept at) decision (next_of switch.old (switch_site_of site.entry)
+            (log_packet_standing (standing_kept at)) decision.action) ∷ [])
+            [] at.packet (log_decided_flight decision (next_of switch.old (switch_site_of site.entry)
+            (log_packet_standing (standing_kept at)) decision.action))
             self.old self.new }
         ensures same { switch.new ≡ switch.old }
     {

@@ -3,8 +3,8 @@ ghost use Rattle.std.specs.Prelude.{◌≡◌, ◌+◌, ◌^◌, ◌<◌, ◌++�
 ghost use Rattle.message_bag.specs.Posts.{new_post};
 ghost use Rattle.controller.specs.declared.sends.Act.TheVariants.{Post};
 ghost use Rattle.update_machine.specs.Messages.{sent_from};
-ghost use Rattle.world_log.specs.Sending.{HasNoted, IsSpelled, MayNote, MaySend, act_item, act_post};
-ghost use Rattle.world_log.specs.Writing.{IsPart};
+ghost use Rattle.world_log.specs.Sending.{LogHasNoted, IsActSpelled, LogMayNote, LogMaySend, log_act_item, log_act_post};
+ghost use Rattle.world_log.specs.Writing.{IsLogPart};
 
 use crate::log::Log;
 use controller::Act;
@@ -17,12 +17,12 @@ impl Log {
     /// # Errors
     /// Only out of memory; then a part of the items is written.
     pub fn send_all(&mut self, alloc: Global, messages: Vec<Message>) -> Result<(), AllocError>
-        requires { MaySend self.old.bag messages.items }
+        requires { LogMaySend self.old.bag messages.items }
         ensures written { OnOk result (self.new.journal
             ≡ self.old.journal ++ sent_from (length self.old.bag + 1) messages.items) }
         ensures posted { OnOk result (self.new.bag
             ≡ self.old.bag ++ map new_post messages.items) }
-        ensures part { OnErr result (IsPart self.old.journal
+        ensures part { OnErr result (IsLogPart self.old.journal
             (sent_from (length self.old.bag + 1) messages.items) self.new.journal) }
         ensures travelling { self.new.travelling ≡ self.old.travelling }
     {
@@ -37,8 +37,8 @@ impl Log {
     /// # Errors
     /// Only out of memory; then a part of the items is written.
     pub fn note_acts(&mut self, alloc: Global, acts: Vec<Act>) -> Result<(), AllocError>
-        requires { MayNote self.old.bag acts.items }
-        ensures { HasNoted result acts.items self.old self.new }
+        requires { LogMayNote self.old.bag acts.items }
+        ensures { LogHasNoted result acts.items self.old self.new }
     {
         for act in acts {
             self.note(alloc, act)?;
@@ -56,8 +56,8 @@ impl Log {
         messages: Vec<Message>,
         acts: Vec<Act>,
     ) -> Result<(), AllocError>
-        requires { MayNote self.old.bag (map Post messages.items ++ acts.items) }
-        ensures { HasNoted result (map Post messages.items ++ acts.items) self.old self.new }
+        requires { LogMayNote self.old.bag (map Post messages.items ++ acts.items) }
+        ensures { LogHasNoted result (map Post messages.items ++ acts.items) self.old self.new }
     {
         self.send_all(alloc, messages)?;
         self.note_acts(alloc, acts)
@@ -65,11 +65,11 @@ impl Log {
 
     // Writes that one mark rises, or sends one message; out of memory, it writes nothing.
     fn note(&mut self, alloc: Global, act: Act) -> Result<(), AllocError>
-        requires few { length self.old.bag + length (act_post act) < 2 ^ 32 }
-        requires spelled { IsSpelled act }
+        requires few { length self.old.bag + length (log_act_post act) < 2 ^ 32 }
+        requires spelled { IsActSpelled act }
         ensures written { OnOk result (self.new.journal
-            ≡ self.old.journal ++ act_item (length self.old.bag + 1) act ∷ []) }
-        ensures posted { OnOk result (self.new.bag ≡ self.old.bag ++ act_post act) }
+            ≡ self.old.journal ++ log_act_item (length self.old.bag + 1) act ∷ []) }
+        ensures posted { OnOk result (self.new.bag ≡ self.old.bag ++ log_act_post act) }
         ensures unwritten { OnErr result (self.new.journal ≡ self.old.journal) }
         ensures travelling { self.new.travelling ≡ self.old.travelling }
     {

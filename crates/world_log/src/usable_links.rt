@@ -3,7 +3,7 @@
 ghost use Rattle.std.specs.Prelude.{ℕ, ◌≡◌, ◌-◌, ◌^◌, ◌<◌, ◌≤◌, ◌++◌, All, IfOk, OnOk, length, map};
 ghost use Rattle.base.specs.Masks.{has};
 ghost use Rattle.update_machine.specs.Deliveries.{advert_to};
-ghost use Rattle.world_log.specs.Linking.{AreRelinked, all_adverts_sent, all_held, near_all, near_where, relinked_as, serves_at, adverts_on_change, advert_if_held, adverts_near, adverts_over};
+ghost use Rattle.world_log.specs.Linking.{AreSwitchesRelinked, all_adverts_sent, all_held, near_all, near_mask_where, switch_relinked_as, switch_serves_at, adverts_on_change, advert_if_held, adverts_near, adverts_over};
 
 use base::{has, only_if};
 use ctrl_msg::{Body, Message, Place};
@@ -19,7 +19,7 @@ pub fn usable(links: &[u64; 64], switches: &[Switch]) -> [u64; 64]
     let serving = serving(switches);
     let mut near = [0; 64];
     for s in 0..64 {
-        near[s] = usable_from(links[s], serving, s as u32);
+        near[s] = usable_mask_from(links[s], serving, s as u32);
     }
     near
 }
@@ -27,7 +27,7 @@ pub fn usable(links: &[u64; 64], switches: &[Switch]) -> [u64; 64]
 // The switches that serve.
 fn serving(switches: &[Switch]) -> u64
     requires { length switches.now ≤ 64 }
-    ensures { (k : ℕ) → k < 64 → has result k ≡ serves_at switches.now k }
+    ensures { (k : ℕ) → k < 64 → has result k ≡ switch_serves_at switches.now k }
 {
     let mut mask = 0;
     for (s, switch) in switches.iter().enumerate() {
@@ -37,9 +37,9 @@ fn serving(switches: &[Switch]) -> u64
 }
 
 // The usable links of switch s, if these switches serve.
-fn usable_from(links: u64, serving: u64, s: u32) -> u64
+fn usable_mask_from(links: u64, serving: u64, s: u32) -> u64
     requires { s < 64 }
-    ensures { result ≡ near_where links (has serving s) (has serving) }
+    ensures { result ≡ near_mask_where links (has serving s) (has serving) }
 {
     if has(serving, s) { links & serving } else { 0 }
 }
@@ -58,21 +58,21 @@ pub fn relink(
     requires few { length switches.old.items ≤ 64 }
     requires next { All (λ switch. switch.seq < 2 ^ 32 - 1) switches.old.items }
     ensures switches { OnOk result
-        (AreRelinked had.now now.now switches.old.items switches.new.items) }
+        (AreSwitchesRelinked had.now now.now switches.old.items switches.new.items) }
     ensures told { IfOk result (λ messages. messages.items
         ≡ all_adverts_sent had.now now.now switches.old.items) }
 {
     let mut messages = Vec::new(alloc);
     let count = switches.len() as u32;
     for s in 0..switches.len() {
-        relink_one(&mut messages, &mut switches[s], count, had[s], now[s])?;
+        relink_switch(&mut messages, &mut switches[s], count, had[s], now[s])?;
     }
     Ok(messages)
 }
 
 // `relink` for one switch, which had these usable links before and has these now.
-#[tactic(auto, using(crate::proofs::RelinkingAdverts::near_steps))]
-fn relink_one(
+#[tactic(auto, using(crate::proofs::LogRelinking::near_steps))]
+fn relink_switch(
     messages: &mut Vec<Message>,
     switch: &mut Switch,
     count: u32,
@@ -81,7 +81,7 @@ fn relink_one(
 ) -> Result<(), AllocError>
     requires few { count ≤ 64 }
     requires next { switch.old.seq < 2 ^ 32 - 1 }
-    ensures switch { switch.new ≡ relinked_as had near switch.old }
+    ensures switch { switch.new ≡ switch_relinked_as had near switch.old }
     ensures told { OnOk result (messages.new.items
         ≡ messages.old.items ++ adverts_on_change count had near switch.old) }
 {
@@ -90,13 +90,13 @@ fn relink_one(
     }
     let own = switch.near_changed(near);
     for other in 0..count {
-        send_near(messages, switch, &own, had, near, other)?;
+        send_over_link(messages, switch, &own, had, near, other)?;
     }
     Ok(())
 }
 
 // What the switch sends the other one, if it has a usable link to it.
-fn send_near(
+fn send_over_link(
     messages: &mut Vec<Message>,
     switch: &Switch,
     own: &Advert,
@@ -136,7 +136,7 @@ fn send_adverts(
 ///
 /// # Errors
 /// Only out of memory.
-#[tactic(auto, using(crate::proofs::RelinkingAdverts::held_steps))]
+#[tactic(auto, using(crate::proofs::LogRelinking::held_steps))]
 pub fn send_all_held(
     messages: &mut Vec<Message>,
     switch: &Switch,
@@ -146,13 +146,13 @@ pub fn send_all_held(
         ≡ messages.old.items ++ map (advert_to other) (all_held switch.now)) }
 {
     for origin in 0..64 {
-        send_one(messages, other, switch.known(origin))?;
+        send_advert_to(messages, other, switch.known(origin))?;
     }
     Ok(())
 }
 
 // Adds a message with the advert, if there is one, for this switch.
-fn send_one(
+fn send_advert_to(
     messages: &mut Vec<Message>,
     other: u32,
     advert: Option<Advert>,

@@ -1,6 +1,6 @@
-pub mod MachineFollowing
-pub mod FirstMatches
-pub mod PacketMoves
-pub mod NoRuns
-pub mod WrongCauses
-pub mod ComputedRuns
+pub mod WrongJournalMachine
+pub mod WrongJournalMatches
+pub mod WrongJournalMoves
+pub mod WrongJournalNoRuns
+pub mod WrongJournalCauses
+pub mod WrongJournalRuns

@@ -44,7 +44,7 @@ fn tables(alloc: Global) -> Result<Tables, Fail>
     })
 }
 
-#[tactic(auto, using(crate::proofs::TestTables::sound_thirds))]
+#[tactic(auto, using(crate::proofs::BaseTestTables::sound_thirds))]
 fn shared(alloc: Global) -> Result<Rc<Tables>, Fail>
     ensures { IfOk result (λ t. AreSoundTables t.value) }
 {

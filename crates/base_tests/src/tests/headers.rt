@@ -1,8 +1,8 @@
 //! Texts of headers and of the fields that match them.
 use five_tuple::{
-    Fields, Header, PortBlock, Proto, count_blocks, cover, read_address, read_fields, read_number,
-    read_port, read_prefix, read_proto, read_proto_number, read_range, write_address, write_prefix,
-    write_proto, write_range,
+    Fields, Header, PortBlock, Proto, count_port_blocks, cover, read_address, read_fields,
+    read_number, read_port, read_prefix, read_proto, read_proto_number, read_range, write_address,
+    write_prefix, write_proto, write_range,
 };
 use std::alloc::{AllocError, Global};
 
@@ -194,7 +194,7 @@ fn is_covered(alloc: Global, text: &str, count: u32, first: PortBlock) -> Option
     let range = read_range(text.as_bytes())?;
     let blocks = cover(alloc, &range).ok()?;
     let is_first = blocks.first().copied() == Some(first);
-    Some(is_first && blocks.len() == count as usize && count_blocks(&range) == count)
+    Some(is_first && blocks.len() == count as usize && count_port_blocks(&range) == count)
 }
 
 #[test]

@@ -1,5 +1,5 @@
 //! A text with quotes, line ends of both kinds and blank lines.
-use csv_records::{ByteRecord, Records, field, has_text};
+use csv_records::{ByteRecord, Records, csv_field_has_text, field};
 
 const TEXT: &[u8] = b"\xef\xbb\xbfa,\"b\"\"c\"\r\n\r\n\n1,,3";
 
@@ -14,7 +14,9 @@ fn begins(record: &ByteRecord, width: usize, first: &[u8], second: &[u8]) -> boo
 }
 
 fn ends(record: &ByteRecord) -> bool {
-    has_text(record, 2, "3") && !has_text(record, 2, "1") && field(record, 3).is_empty()
+    csv_field_has_text(record, 2, "3")
+        && !csv_field_has_text(record, 2, "1")
+        && field(record, 3).is_empty()
 }
 
 // Whether both records of the text are read, and no third one.

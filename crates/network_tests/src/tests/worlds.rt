@@ -1,7 +1,7 @@
 //! A world of two switches whose steps are taken one by one.
 ghost use Rattle.std.specs.Prelude.{◌≡◌, ◌≤◌, length};
 ghost use Rattle.steps.specs.Steps.{IsStep};
-ghost use Rattle.world.specs.State.{setting_at};
+ghost use Rattle.world.specs.State.{world_setting_at};
 
 use crate::tests::pairs::{header, pair};
 use policy_rules::{Policy, PolicyFile};
@@ -11,10 +11,10 @@ use steps::Step;
 use world::World;
 
 // Takes the step of the row.
-#[tactic(auto, using(crate::proofs::FewPackets::few_packets))]
+#[tactic(auto, using(crate::proofs::NetworkTestPackets::few_packets))]
 fn take(rt: &impl Abort, world: &mut World, row: u32, step: &Step) -> Result<(), Fail>
     requires { IsStep world.old.net (length world.old.files) step.now }
-    ensures { setting_at world.new ≡ setting_at world.old }
+    ensures { world_setting_at world.new ≡ world_setting_at world.old }
 {
     world.refines();
     assert!(rt; !world.is_spent());

@@ -5,7 +5,7 @@ ghost use Rattle.ternary.specs.Meets.{any_word};
 ghost use Rattle.policy_rules.specs.Hosted.{is_in};
 ghost use Rattle.policy_rules.specs.declared.packet.Leg.TheVariants.{Seek};
 ghost use Rattle.switch_table.specs.Tables.{AreSoundTables};
-ghost use Rattle.switch_core.specs.Exports.{CanLookUp, HasOwnUpTo, IsAtAuthority, StandsAt, own_part, serves};
+ghost use Rattle.switch_core.specs.Exports.{CanLookUp, HasOwnUpTo, IsAtAuthority, PacketStandsAt, own_part, serves};
 ghost use Rattle.tunnel.specs.Moves.{next};
 
 use ctrl_msg::{Body, SharedTables};
@@ -41,7 +41,7 @@ fn tables(alloc: Global, version: u32, auth: Vec<Partition>) -> Result<Tables, F
 }
 
 // Of the authority switch.
-#[tactic(auto, using(crate::proofs::TestTables::sound_authority, crate::proofs::TestTables::own_whole))]
+#[tactic(auto, using(crate::proofs::SwitchTestTables::sound_authority, crate::proofs::SwitchTestTables::own_whole))]
 fn authority_tables(alloc: Global, version: u32) -> Result<SharedTables, Fail>
     ensures sound { IfOk result AreSoundTables }
     ensures version { IfOk result (λ t. t.version ≡ version) }
@@ -102,21 +102,21 @@ fn seeking(version: u32) -> Result<Tunnel, Fail>
 
 // Whether the packet is at the switch.
 fn is_at(packet: &Tunnel, switch: &Switch) -> bool
-    ensures { IsTrue result → StandsAt switch.now packet.now.route packet.now.place }
+    ensures { IsTrue result → PacketStandsAt switch.now packet.now.route packet.now.place }
 {
     packet.here() == switch.number()
 }
 
 // Whether it is there at the end of its route.
 fn is_at_end(packet: &Tunnel, switch: &Switch) -> bool
-    ensures here { IsTrue result → StandsAt switch.now packet.now.route packet.now.place }
+    ensures here { IsTrue result → PacketStandsAt switch.now packet.now.route packet.now.place }
     ensures last { IsTrue result → next packet.now ≡ None }
 {
     is_at(packet, switch) && packet.next().is_none()
 }
 
 // b, with its tables of version 1.
-#[tactic(auto, using(crate::proofs::TestTables::at_authority, crate::proofs::TestTables::looks_up))]
+#[tactic(auto, using(crate::proofs::SwitchTestTables::at_authority, crate::proofs::SwitchTestTables::looks_up))]
 fn authority(alloc: Global) -> Result<Switch, Fail>
     ensures boot { IfOk result (λ s. s.boot ≡ 1) }
     ensures seq { IfOk result (λ s. s.seq ≡ 1) }

@@ -4,11 +4,11 @@ use Rattle.std.proofs.lemmas.Nat.{one_shl, or_lt, xor_lt}
 use Rattle.five_tuple.specs.Exports.{number_of}
 use Rattle.policy_rules.specs.Exports.{is_held}
 use Rattle.ternary.specs.Exports.{IsWord, WordValue, exact_word, free_of, holds, is_fixed_of}
-use Rattle.cache_maker.specs.Differing.{IsWithout}
+use Rattle.cache_maker.specs.Differing.{IsWithoutReasons}
 use Rattle.cache_maker.specs.Independent.{IsIndependent, widen, widening_of}
-use Rattle.cache_maker.proofs.IndependentWords.{exact_independent}
-use Rattle.cache_maker.proofs.FixedBits.{IsGiven, IsNewReason, closes_both, differs_somewhere, fixed_at_first, fixed_next, independent_at, is_new_reason, left_less, left_over, without_open, word_at_last, word_is_sound}
-use Rattle.cache_maker.proofs.WidenedWords.{widened_holds, widest}
+use Rattle.cache_maker.proofs.IndependentCacheWords.{exact_independent}
+use Rattle.cache_maker.proofs.CacheWordFixedBits.{IsGiven, IsNewReason, closes_both, differs_somewhere, fixed_at_first, fixed_next, independent_at, is_new_reason, left_less, left_over, without_open, word_at_last, word_is_sound}
+use Rattle.cache_maker.proofs.WidenedCacheWords.{widened_holds, widest}
 use Rattle.cache_maker.proofs.cache_word.widen.Goals as goal
 
 pub loop-place-init : goal.loop-place-init
@@ -69,7 +69,7 @@ closed_bound : (c : goal.After-without) → bit_or c.mask.result c.mask-2.result
 closed_bound c = or_lt 104 c.mask.result c.mask-2.result c.mask.ensures.bound c.mask-2.ensures.bound
 
 -- what stays of all fixed bits
-stays : (c : goal.After-without) → IsWithout c.loop-place.fixed c.loop-place.reasons
+stays : (c : goal.After-without) → IsWithoutReasons c.loop-place.fixed c.loop-place.reasons
     c.ilog2-bit.result (bit_or (bit_or c.mask.result c.mask-2.result) c.without.result)
 stays c = without_open c.loop-place.invariant.are (closed_bound c) c.without.ensures
 

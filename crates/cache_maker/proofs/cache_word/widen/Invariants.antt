@@ -1,5 +1,5 @@
 use Rattle.std.proofs.Common.{◌≤◌, length, take}
-use Rattle.cache_maker.proofs.FixedBits.{AreFixed, IsGiven, left_over}
+use Rattle.cache_maker.proofs.CacheWordFixedBits.{AreFixed, IsGiven, left_over}
 use Rattle.cache_maker.proofs.cache_word.widen.Given as goal
 
 abbrev pub invariant-loop-place : goal.invariant-loop-place

@@ -3,7 +3,7 @@ use Rattle.std.proofs.Math.Facts.{Fits-lt-pow}
 use Rattle.std.specs.Int.{trailing_zeros, w128}
 use Rattle.std.proofs.lemmas.Nat.{one_shl}
 use Rattle.std.proofs.lemmas.Nat.Bits.{bit_at-trailing_zeros}
-use Rattle.cache_maker.proofs.FixedBits.{IsPartWithout, bit_within, fewer, part_at_first, part_at_last, part_goes, part_stays}
+use Rattle.cache_maker.proofs.CacheWordFixedBits.{IsPartWithout, bit_within, fewer, part_at_first, part_at_last, part_goes, part_stays}
 use Rattle.cache_maker.proofs.cache_word.without.Goals as goal
 use Rattle.cache_maker.proofs.cache_word.without.Goals.{then-reasons-place-ne0, else-reasons-place-ne0}
 

@@ -1,4 +1,4 @@
-use Rattle.cache_maker.proofs.FixedBits.{IsPartWithout}
+use Rattle.cache_maker.proofs.CacheWordFixedBits.{IsPartWithout}
 use Rattle.cache_maker.proofs.cache_word.without.Given as goal
 
 abbrev pub invariant-loop-left : goal.invariant-loop-left

@@ -1,4 +1,4 @@
-use Rattle.cache_maker.proofs.IndependentWords.{test_true, test_of, first_hit, smaller}
+use Rattle.cache_maker.proofs.IndependentCacheWords.{test_true, test_of, first_hit, smaller}
 use Rattle.cache_maker.proofs.laws.independent_laws.Goals as goal
 
 pub returns : goal.returns

@@ -1,6 +1,6 @@
 use Rattle.cache_maker.specs.Independent.{widen}
-use Rattle.cache_maker.proofs.IndependentWords.{exact_independent}
-use Rattle.cache_maker.proofs.WidenedWords.{widened_holds, widened_independent, widened_word, widest}
+use Rattle.cache_maker.proofs.IndependentCacheWords.{exact_independent}
+use Rattle.cache_maker.proofs.WidenedCacheWords.{widened_holds, widened_independent, widened_word, widest}
 use Rattle.cache_maker.proofs.laws.widen_laws.Goals as goal
 
 pub returns : goal.returns

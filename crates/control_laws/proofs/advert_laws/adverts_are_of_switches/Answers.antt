@@ -1,5 +1,5 @@
-use Rattle.control_laws.proofs.AllAdverts.{behind_both}
-use Rattle.control_laws.proofs.NetLinks.{of_switches}
+use Rattle.control_laws.proofs.ControlAllAdverts.{behind_both}
+use Rattle.control_laws.proofs.ControlNetLinks.{of_switches}
 use Rattle.control_laws.proofs.advert_laws.adverts_are_of_switches.Goals as goal
 
 pub returns : goal.returns

@@ -1,5 +1,5 @@
-use Rattle.control_laws.proofs.StampingSwitches.{at_ends}
-use Rattle.control_laws.proofs.PlannedTables.{numbers_few}
+use Rattle.control_laws.proofs.ControlStampingSwitches.{at_ends}
+use Rattle.control_laws.proofs.ControlPlannedTables.{numbers_few}
 use Rattle.control_laws.proofs.advert_laws.numbers_are_few.Goals as goal
 
 pub returns : goal.returns

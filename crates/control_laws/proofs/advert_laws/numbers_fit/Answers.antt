@@ -1,4 +1,4 @@
-use Rattle.control_laws.proofs.PlannedTables.{fit_behind_room, fit_in_room}
+use Rattle.control_laws.proofs.ControlPlannedTables.{fit_behind_room, fit_in_room}
 use Rattle.control_laws.proofs.advert_laws.numbers_fit.Goals as goal
 
 pub returns : goal.returns

@@ -1,5 +1,5 @@
-use Rattle.control_laws.proofs.AllAdverts.{behind_both}
-use Rattle.control_laws.proofs.OwnAdverts.{own_newest}
+use Rattle.control_laws.proofs.ControlAllAdverts.{behind_both}
+use Rattle.control_laws.proofs.ControlOwnAdverts.{own_newest}
 use Rattle.control_laws.proofs.advert_laws.own_adverts_are_newest.Goals as goal
 
 pub returns : goal.returns

@@ -1,6 +1,6 @@
-use Rattle.control_laws.proofs.PieceCauses.{always}
-use Rattle.control_laws.proofs.PlannedTables.{versions_few}
-use Rattle.control_laws.proofs.PieceKinds.{piece_few}
+use Rattle.control_laws.proofs.ControlPieceCauses.{always}
+use Rattle.control_laws.proofs.ControlPlannedTables.{versions_few}
+use Rattle.control_laws.proofs.ControlPieceKinds.{piece_few}
 use Rattle.control_laws.proofs.advert_laws.steps_send_few.Goals as goal
 
 pub returns : goal.returns

@@ -1,5 +1,5 @@
-use Rattle.control_laws.proofs.PieceCauses.{always}
-use Rattle.control_laws.proofs.SwitchOpenings.{caused_known}
+use Rattle.control_laws.proofs.ControlPieceCauses.{always}
+use Rattle.control_laws.proofs.ControlSwitchOpenings.{caused_known}
 use Rattle.control_laws.proofs.version_laws.boots_are_known.Goals as goal
 
 pub returns : goal.returns

@@ -1,5 +1,5 @@
-use Rattle.control_laws.proofs.PieceCauses.{always}
-use Rattle.control_laws.proofs.MarksAtEnds.{rises_rightly}
+use Rattle.control_laws.proofs.ControlPieceCauses.{always}
+use Rattle.control_laws.proofs.ControlMarksAtEnds.{rises_rightly}
 use Rattle.control_laws.proofs.version_laws.current_rises_rightly.Goals as goal
 
 pub returns : goal.returns

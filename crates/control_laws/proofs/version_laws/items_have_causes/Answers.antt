@@ -1,4 +1,4 @@
-use Rattle.control_laws.proofs.PieceCauses.{always}
+use Rattle.control_laws.proofs.ControlPieceCauses.{always}
 use Rattle.control_laws.proofs.version_laws.items_have_causes.Goals as goal
 
 pub returns : goal.returns

@@ -1,4 +1,4 @@
-use Rattle.control_laws.proofs.MarksAtEnds.{settled_at_ends}
+use Rattle.control_laws.proofs.ControlMarksAtEnds.{settled_at_ends}
 use Rattle.control_laws.proofs.version_laws.marks_settle.Goals as goal
 
 pub returns : goal.returns

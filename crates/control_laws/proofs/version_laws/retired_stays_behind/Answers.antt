@@ -1,5 +1,5 @@
-use Rattle.control_laws.proofs.PieceCauses.{always}
-use Rattle.control_laws.proofs.MarksAtEnds.{behind}
+use Rattle.control_laws.proofs.ControlPieceCauses.{always}
+use Rattle.control_laws.proofs.ControlMarksAtEnds.{behind}
 use Rattle.control_laws.proofs.version_laws.retired_stays_behind.Goals as goal
 
 pub returns : goal.returns

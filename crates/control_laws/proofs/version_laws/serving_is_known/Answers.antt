@@ -1,5 +1,5 @@
-use Rattle.control_laws.proofs.PieceCauses.{always}
-use Rattle.control_laws.proofs.SwitchOpenings.{caused_known, serving_known}
+use Rattle.control_laws.proofs.ControlPieceCauses.{always}
+use Rattle.control_laws.proofs.ControlSwitchOpenings.{caused_known, serving_known}
 use Rattle.control_laws.proofs.version_laws.serving_is_known.Goals as goal
 
 pub returns : goal.returns

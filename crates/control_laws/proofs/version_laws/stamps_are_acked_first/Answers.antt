@@ -1,5 +1,5 @@
-use Rattle.control_laws.proofs.PieceCauses.{always}
-use Rattle.control_laws.proofs.MarkLaws.{acked_first}
+use Rattle.control_laws.proofs.ControlPieceCauses.{always}
+use Rattle.control_laws.proofs.ControlMarkLaws.{acked_first}
 use Rattle.control_laws.proofs.version_laws.stamps_are_acked_first.Goals as goal
 
 pub returns : goal.returns

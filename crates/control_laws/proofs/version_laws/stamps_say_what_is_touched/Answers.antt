@@ -1,5 +1,5 @@
-use Rattle.control_laws.proofs.PieceCauses.{always}
-use Rattle.control_laws.proofs.CurrentVersions.{stamps_touched}
+use Rattle.control_laws.proofs.ControlPieceCauses.{always}
+use Rattle.control_laws.proofs.ControlCurrentVersions.{stamps_touched}
 use Rattle.control_laws.proofs.version_laws.stamps_say_what_is_touched.Goals as goal
 
 pub returns : goal.returns

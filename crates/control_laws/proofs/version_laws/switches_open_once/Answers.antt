@@ -1,5 +1,5 @@
-use Rattle.control_laws.proofs.PieceCauses.{always}
-use Rattle.control_laws.proofs.SwitchOpenings.{caused_known, one_opening}
+use Rattle.control_laws.proofs.ControlPieceCauses.{always}
+use Rattle.control_laws.proofs.ControlSwitchOpenings.{caused_known, one_opening}
 use Rattle.control_laws.proofs.version_laws.switches_open_once.Goals as goal
 
 pub returns : goal.returns

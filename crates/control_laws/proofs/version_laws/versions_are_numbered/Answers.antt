@@ -1,5 +1,5 @@
-use Rattle.control_laws.proofs.PieceCauses.{always}
-use Rattle.control_laws.proofs.CurrentVersions.{caused_numbered}
+use Rattle.control_laws.proofs.ControlPieceCauses.{always}
+use Rattle.control_laws.proofs.ControlCurrentVersions.{caused_numbered}
 use Rattle.control_laws.proofs.version_laws.versions_are_numbered.Goals as goal
 
 pub returns : goal.returns

@@ -1,5 +1,5 @@
-use Rattle.control_laws.proofs.PieceCauses.{always}
-use Rattle.control_laws.proofs.PlannedTables.{versions_planned}
+use Rattle.control_laws.proofs.ControlPieceCauses.{always}
+use Rattle.control_laws.proofs.ControlPlannedTables.{versions_planned}
 use Rattle.control_laws.proofs.version_laws.versions_are_planned.Goals as goal
 
 pub returns : goal.returns

@@ -1,6 +1,6 @@
 use Rattle.std.proofs.Common.{◌++◌, ◌∙◌, ◌≡◌, ap, map}
 use Rattle.controller.specs.Exports.{install_act, kept_touched, settling_acts}
-use Rattle.controller.proofs.SettledSends.{added, not_added}
+use Rattle.controller.proofs.ControllerSettledSends.{added, not_added}
 use Rattle.controller.proofs.controller.hello_sends.Goals as goal
 use Rattle.controller.proofs.controller.hello_sends.Goals.{then-settled+in_ok-install_all, else-settled}
 

@@ -2,7 +2,7 @@ use Rattle.std.proofs.Common.{◌∙◌, ap}
 use Rattle.base.proofs.Exports.{err_from_is_err_and}
 use Rattle.cut_tree.specs.Exports.{shape_of}
 use Rattle.partition.specs.Plan.{sizes_of}
-use Rattle.controller.proofs.CompiledPlans.{IsReady, placement_refused, plan_leads, plan_sound, planned_at, rules_refused, tree_refused}
+use Rattle.controller.proofs.ControllerCompiledPlans.{IsReady, placement_refused, plan_leads, plan_sound, planned_at, rules_refused, tree_refused}
 use Rattle.controller.proofs.planning.compile.Goals as goal
 use Rattle.controller.proofs.planning.compile.Goals.{After-place}
 

@@ -3,17 +3,17 @@ use Rattle.ctrl_msg.specs.declared.message.Body.{Body}
 use Rattle.ctrl_msg.specs.declared.message.Body.TheVariants.{Stamp, Collect}
 use Rattle.version_update.specs.Exports.{MarksValue, Settles}
 use Rattle.ternary.specs.Exports.{WordValue}
-use Rattle.controller.specs.Exports.{kept_touched, posts_to, rising_acts, stamp_acts, switches_named}
+use Rattle.controller.specs.Exports.{kept_touched, controller_posts_to, mark_rising_acts, stamp_acts, switches_in_mask}
 use Rattle.controller.specs.declared.sends.Act.TheVariants.{Current, Retired}
-use Rattle.controller.proofs.SettledSends.{opens_told, rising_none, rising_told, same_number, settling_told, told_current}
+use Rattle.controller.proofs.ControllerSettledSends.{opens_told, rising_none, rising_told, same_number, settling_told, told_current}
 use Rattle.controller.proofs.settling.settle.Goals as goal
-use Rattle.controller.proofs.settling.settle.Goals.{After-send_to_each, in-Some+in_ok-tell_current, in_default}
+use Rattle.controller.proofs.settling.settle.Goals.{After-send_to_switches, in-Some+in_ok-tell_current_version, in_default}
 
 -- what the change of the current version touches
-abbrev touched : After-send_to_each → List WordValue
-touched c = kept_touched c.let_go.new.versions.items c.args.marks.now.current
+abbrev touched : After-send_to_switches → List WordValue
+touched c = kept_touched c.drop_old_plans.new.versions.items c.args.marks.now.current
 
-stamps_told : (c : After-send_to_each) (before : MarksValue)
+stamps_told : (c : After-send_to_switches) (before : MarksValue)
     → Settles before c.args.marks.now c.args.settled.now → c.match-settled.acts.items
     ≡ c.args.acts.now.items ++ stamp_acts (touched c) before c.args.marks.now
 stamps_told c before is =
@@ -21,37 +21,37 @@ stamps_told c before is =
     let old = c.args.acts.now.items in
     let stamp : List WordValue → ℕ → ℕ → Body = λ words boot version. Stamp boot version words in
     elim c.match-settled.branch [
-      | in-Some+in_ok-tell_current w ↦ let current : ℕ = w.in-Some.current in
-          let words : List WordValue = kept_touched c.let_go.new.versions.items current in
+      | in-Some+in_ok-tell_current_version w ↦ let current : ℕ = w.in-Some.current in
+          let words : List WordValue = kept_touched c.drop_old_plans.new.versions.items current in
           ap (λ v. v.items) w.acts-is
           ∙ rising_told before.current after.current current _ _ _ Current (stamp words) after
           before.switches old _ _ is.tells.current is.tells.stamps
           (same_number before after _ is) w.in-Some.is refl
-          (w.in_ok-tell_current.ensures ∙ ap (λ plans. old ++ Current current
-          ∷ [] ++ posts_to after (λ boot. Stamp boot current (kept_touched plans current))
-          (switches_named c.args.settled.now.stamps (length after.switches))) w.deref.ensures.value)
-          ∙ ap (λ version. old ++ rising_acts before.current after.current Current
-          (stamp (kept_touched c.let_go.new.versions.items version)) after before.switches)
+          (w.in_ok-tell_current_version.ensures ∙ ap (λ plans. old ++ Current current
+          ∷ [] ++ controller_posts_to after (λ boot. Stamp boot current (kept_touched plans current))
+          (switches_in_mask c.args.settled.now.stamps (length after.switches))) w.deref.ensures.value)
+          ∙ ap (λ version. old ++ mark_rising_acts before.current after.current Current
+          (stamp (kept_touched c.drop_old_plans.new.versions.items version)) after before.switches)
           (sym (told_current before after current (sym is.tells.current ∙ w.in-Some.is)))
       | in_default w ↦ ap (λ v. v.items) w.acts-is ∙ rising_none before.current after.current _
           Current (stamp (touched c)) after before.switches _ is.tells.current w.in_default.is
     ]
 
-pub returns-in_ok-send_to_each-2-clause-acts : goal.returns-in_ok-send_to_each-2-clause-acts
-returns-in_ok-send_to_each-2-clause-acts c = λ before is.
-    let at = (goal.at.returns-in_ok-send_to_each-2-clause-acts c).After-send_to_each in
+pub returns-in_ok-send_to_switches-2-clause-acts : goal.returns-in_ok-send_to_switches-2-clause-acts
+returns-in_ok-send_to_switches-2-clause-acts c = λ before is.
+    let at = (goal.at.returns-in_ok-send_to_switches-2-clause-acts c).After-send_to_switches in
     let after = c.args.marks.now in
     settling_told (touched at) before after _ _ _ _ (stamps_told at before is) (opens_told before _ _ _ _ _ _
-    refl c.current-current.ensures.current c.in_ok-send_to_each.ensures is)
+    refl c.current-current.ensures.current c.in_ok-send_to_switches.ensures is)
     (rising_told before.retired after.retired c.in-Some-retired.retired _ _ _ Retired Collect after
     after.switches _ _ _ is.tells.retired is.tells.collects refl c.in-Some-retired.is
-    c.in_ok-push.ensures.items c.in_ok-send_to_each-2.ensures)
+    c.in_ok-push.ensures.items c.in_ok-send_to_switches-2.ensures)
 
 pub returns-in_default-retired-clause-acts : goal.returns-in_default-retired-clause-acts
 returns-in_default-retired-clause-acts c = λ before is.
-    let at = (goal.at.returns-in_default-retired-clause-acts c).After-send_to_each in
+    let at = (goal.at.returns-in_default-retired-clause-acts c).After-send_to_switches in
     let after = c.args.marks.now in
     settling_told (touched at) before after _ _ _ _ (stamps_told at before is) (opens_told before _ _ _ _ _ _
-    refl c.current-current.ensures.current c.in_ok-send_to_each.ensures is)
+    refl c.current-current.ensures.current c.in_ok-send_to_switches.ensures is)
     (rising_none before.retired after.retired _ Retired Collect after after.switches _
     is.tells.retired c.in_default-retired.is)

@@ -4,13 +4,13 @@ use Rattle.ternary.specs.Exports.{WordValue}
 use Rattle.policy_rules.specs.Exports.{IsSoundRow, additions, removals, removed_rows, words_of_row}
 use Rattle.policy_rules.specs.declared.policy.Row.{Row}
 use Rattle.policy_rules.proofs.CallerLemmas.{additions_sound}
-use Rattle.switch_table.specs.Exports.{few_touched}
-use Rattle.controller.specs.Exports.{ListsMore}
-use Rattle.controller.proofs.TouchedWords.{lists_then, told_alike}
+use Rattle.switch_table.specs.Exports.{few_touched_words}
+use Rattle.controller.specs.Exports.{ListsMoreTouched}
+use Rattle.controller.proofs.ControllerTouchedWords.{lists_then, told_alike}
 use Rattle.controller.proofs.touching.touched.Goals as goal
 
-pub list_added-requires : goal.list_added-requires
-list_added-requires c = subst (All IsSoundRow) (sym c.added.ensures.rows)
+pub touch_added_rows-requires : goal.touch_added_rows-requires
+touch_added_rows-requires c = subst (All IsSoundRow) (sym c.added.ensures.rows)
     (additions_sound c.args.change.now c.added.ensures.amendment.sound)
 
 pub returns : goal.returns
@@ -18,17 +18,17 @@ returns c =
     let rows : List Row = c.args.policy.now in
     let removed : List Row = removed_rows rows c.args.change.now in
     let added : List Row = additions c.args.change.now in
-    let some : List WordValue = c.list_removed.new.words.items in
-    let listed : List WordValue = c.list_added.new.words.items in
+    let some : List WordValue = c.touch_removed_rows.new.words.items in
+    let listed : List WordValue = c.touch_added_rows.new.words.items in
     let words_of : List Row → List ℕ → List WordValue = λ rows gone. flat_map words_of_row
     (filter_map (λ priority. find (λ (row : Row). row.priority == priority) rows) gone) in
-    let first = subst (λ these. ListsMore these some (words_of rows (removals c.args.change.now)))
-    c.new-words.ensures.items (subst (λ these. ListsMore c.new-words.result.items some
+    let first = subst (λ these. ListsMoreTouched these some (words_of rows (removals c.args.change.now)))
+    c.new-words.ensures.items (subst (λ these. ListsMoreTouched c.new-words.result.items some
     (words_of these (removals c.args.change.now))) c.rows.ensures.rows
-    (subst (λ gone. ListsMore c.new-words.result.items some (words_of c.rows.result.now gone))
-    c.removed.ensures c.in_ok-list_removed.ensures)) in
-    let last = subst (λ these. ListsMore some listed (flat_map words_of_row these))
-    c.added.ensures.rows c.in_ok-list_added.ensures in
+    (subst (λ gone. ListsMoreTouched c.new-words.result.items some (words_of c.rows.result.now gone))
+    c.removed.ensures c.in_ok-touch_removed_rows.ensures)) in
+    let last = subst (λ these. ListsMoreTouched some listed (flat_map words_of_row these))
+    c.added.ensures.rows c.in_ok-touch_added_rows.ensures in
     c.touched_by_words.ensures ∙ told_alike listed _
     ((lists_then [] some listed _ _ first last) [] (inl refl))
-    ∙ ap few_touched (sym (flat_map-append words_of_row removed added))
+    ∙ ap few_touched_words (sym (flat_map-append words_of_row removed added))

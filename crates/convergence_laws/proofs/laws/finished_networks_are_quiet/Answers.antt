@@ -1,4 +1,4 @@
-use Rattle.convergence_laws.proofs.NewsLaws.{finished_behind}
+use Rattle.convergence_laws.proofs.ConvergenceNewsLaws.{finished_behind}
 use Rattle.convergence_laws.proofs.laws.finished_networks_are_quiet.Goals as goal
 
 pub returns : goal.returns

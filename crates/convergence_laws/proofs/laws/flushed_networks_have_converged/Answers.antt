@@ -1,4 +1,4 @@
-use Rattle.convergence_laws.proofs.NewsLaws.{flushed_converged, flushed_quiet, flushed_updated}
+use Rattle.convergence_laws.proofs.ConvergenceNewsLaws.{flushed_converged, flushed_quiet, flushed_updated}
 use Rattle.convergence_laws.proofs.laws.flushed_networks_have_converged.Goals as goal
 
 pub returns : goal.returns

@@ -1,4 +1,4 @@
-use Rattle.convergence_laws.proofs.NewsLaws.{news_at_ends}
+use Rattle.convergence_laws.proofs.ConvergenceNewsLaws.{news_at_ends}
 use Rattle.convergence_laws.proofs.laws.news_spreads.Goals as goal
 
 pub returns : goal.returns

@@ -1,4 +1,4 @@
-use Rattle.convergence_laws.proofs.NewsLaws.{apart_at_ends, quiet_apart}
+use Rattle.convergence_laws.proofs.ConvergenceNewsLaws.{apart_at_ends, quiet_apart}
 use Rattle.convergence_laws.proofs.laws.packets_get_stuck_apart.Goals as goal
 
 pub returns : goal.returns

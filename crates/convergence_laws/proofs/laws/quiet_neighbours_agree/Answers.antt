@@ -1,4 +1,4 @@
-use Rattle.convergence_laws.proofs.NewsLaws.{quiet_at_ends}
+use Rattle.convergence_laws.proofs.ConvergenceNewsLaws.{quiet_at_ends}
 use Rattle.convergence_laws.proofs.laws.quiet_neighbours_agree.Goals as goal
 
 pub returns : goal.returns

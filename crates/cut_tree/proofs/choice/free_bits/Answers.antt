@@ -1,4 +1,4 @@
-use Rattle.cut_tree.proofs.LeastLemmas.{free_mask}
+use Rattle.cut_tree.proofs.CutLeastCounts.{free_mask}
 use Rattle.cut_tree.proofs.choice.free_bits.Goals as goal
 
 pub returns : goal.returns

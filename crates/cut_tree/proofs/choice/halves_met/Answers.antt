@@ -1,5 +1,5 @@
 use Rattle.std.proofs.Common.{arith}
-use Rattle.cut_tree.proofs.SideLemmas.{met_high, met_low}
+use Rattle.cut_tree.proofs.CutSides.{met_high, met_low}
 use Rattle.cut_tree.proofs.choice.halves_met.Goals as goal
 
 pub returns-then-one : goal.returns-then-one

@@ -1,4 +1,4 @@
-use Rattle.cut_tree.proofs.CountLemmas.{three_added}
+use Rattle.cut_tree.proofs.CutCounting.{three_added}
 use Rattle.cut_tree.proofs.counters.added.Goals as goal
 
 pub returns : goal.returns

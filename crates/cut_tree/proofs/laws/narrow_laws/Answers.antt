@@ -1,4 +1,4 @@
-use Rattle.cut_tree.proofs.NarrowLaw.{narrow_twice, narrow_first}
+use Rattle.cut_tree.proofs.CutNarrowingTwice.{narrow_twice, narrow_first}
 use Rattle.cut_tree.proofs.laws.narrow_laws.Goals as goal
 
 pub returns : goal.returns

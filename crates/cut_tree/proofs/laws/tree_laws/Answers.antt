@@ -1,5 +1,5 @@
 use Rattle.ternary.specs.Exports.{any_word}
-use Rattle.cut_tree.proofs.TreeLemmas.{one_tree, tree_defined}
+use Rattle.cut_tree.proofs.CutTreeLemmas.{one_tree, tree_defined}
 use Rattle.cut_tree.proofs.laws.tree_laws.Goals as goal
 
 pub returns : goal.returns

@@ -1,5 +1,5 @@
 use Rattle.std.proofs.Common.{◌∙◌, arith, sym}
-use Rattle.cut_tree.proofs.NarrowLemmas.{keeps_all, keeps_last, keeps_next}
+use Rattle.cut_tree.proofs.CutNarrowing.{keeps_all, keeps_last, keeps_next}
 use Rattle.cut_tree.proofs.narrowing.narrow.Goals as goal
 
 pub returns-then-is_whole : goal.returns-then-is_whole

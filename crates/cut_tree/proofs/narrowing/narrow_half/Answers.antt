@@ -1,8 +1,8 @@
 use Rattle.std.proofs.Common.{◌++◌, ◌∙◌, ◌≡◌, List, Option, Some, ap, arith, sym}
 use Rattle.ternary.specs.Exports.{WordValue, fix_of, meet_of}
 use Rattle.policy_rules.specs.declared.rules.Rule.{Rule}
-use Rattle.cut_tree.proofs.HalfLemmas.{lies_at}
-use Rattle.cut_tree.proofs.NarrowLemmas.{keeps_all, keeps_last, keeps_next, narrow_past}
+use Rattle.cut_tree.proofs.CutHalves.{lies_at}
+use Rattle.cut_tree.proofs.CutNarrowing.{keeps_all, keeps_last, keeps_next, narrow_past}
 use Rattle.cut_tree.proofs.narrowing.narrow_half.Goals as goal
 use Rattle.cut_tree.proofs.narrowing.narrow_half.Goals.{After-mask-in-loop-rule}
 

@@ -1,5 +1,5 @@
 use Rattle.std.proofs.Common.{◌∙◌, sym}
-use Rattle.cut_tree.proofs.HalfLemmas.{admits_digit, admits_free, admits_other, half_apart, half_met, held_bit, value_digit}
+use Rattle.cut_tree.proofs.CutHalves.{admits_digit, admits_free, admits_other, half_apart, half_met, held_bit, value_digit}
 use Rattle.cut_tree.proofs.narrowing.with_bit.Goals as goal
 
 pub returns-then-not-is_fixed : goal.returns-then-not-is_fixed

@@ -1,7 +1,7 @@
 use Rattle.std.proofs.Common.{◌+◌, ◌∙◌, ◌≡◌, ap, arith, false, sym, true, ℕ}
 use Rattle.base.proofs.Exports.{err_from_is_err_and}
 use Rattle.cut_tree.specs.Exports.{Node, leaf_count, tree_at}
-use Rattle.cut_tree.proofs.TreeLemmas.{tree_leaf, cut_at, defined_at, half_smaller, exceeds_low, exceeds_high}
+use Rattle.cut_tree.proofs.CutTreeLemmas.{tree_leaf, cut_at, defined_at, half_smaller, exceeds_low, exceeds_high}
 use Rattle.cut_tree.proofs.tree.+grow.Goals as goal
 use Rattle.cut_tree.proofs.tree.+grow.Goals.{After-grow}
 

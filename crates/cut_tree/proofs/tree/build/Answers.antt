@@ -1,5 +1,5 @@
 use Rattle.cut_tree.specs.Exports.{tree_of}
-use Rattle.cut_tree.proofs.TreeLemmas.{root_node}
+use Rattle.cut_tree.proofs.CutTreeLemmas.{root_node}
 use Rattle.cut_tree.proofs.tree.build.Goals as goal
 
 pub invariant_of-root : goal.invariant_of-root

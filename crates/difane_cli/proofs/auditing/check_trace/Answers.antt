@@ -1,8 +1,8 @@
 use Rattle.std.proofs.Common.{◌∙◌, ◌≡◌, None, inl, refl, rules}
 use Rattle.trace_audit.specs.declared.trace.Verdict.TheVariants.{No, Yes}
 use Rattle.difane_cli.specs.Exports.{auditing_stated}
-use Rattle.difane_cli.proofs.AuditEnds.{audited, verdict_on, yes_told}
-use Rattle.difane_cli.proofs.WorkStatus.{after_work, by_failed, by_memory, of_failed}
+use Rattle.difane_cli.proofs.ProgramAuditEnds.{audited, verdict_on, yes_told}
+use Rattle.difane_cli.proofs.ProgramStatus.{after_work, by_failed, by_memory, of_failed}
 use Rattle.difane_cli.proofs.auditing.check_trace.Goals as goal
 
 pub returns-in-Ok-No-clause-outcome : goal.returns-in-Ok-No-clause-outcome

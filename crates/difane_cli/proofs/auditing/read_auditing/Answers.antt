@@ -1,10 +1,10 @@
 use Rattle.std.proofs.Common.{[], ◌∙◌, ◌∷◌, ◌≡◌, refl}
 use Rattle.command_line.specs.Exports.{audit_named}
 use Rattle.difane_cli.specs.Exports.{solo_ports}
-use Rattle.difane_cli.proofs.BegunNetwork.{as_many}
-use Rattle.difane_cli.proofs.AuditReads.{auditing_is, both_read, trace_alone}
-use Rattle.difane_cli.proofs.CalmReads.{stops_behind, stops_with}
-use Rattle.difane_cli.proofs.RefusedNames.{among_first, among_last}
+use Rattle.difane_cli.proofs.ProgramBegunNetwork.{as_many}
+use Rattle.difane_cli.proofs.ProgramAuditReads.{auditing_is, both_read, trace_alone}
+use Rattle.difane_cli.proofs.ProgramCalmReads.{stops_behind, stops_with}
+use Rattle.difane_cli.proofs.ProgramRefusedNames.{among_first, among_last}
 use Rattle.difane_cli.proofs.auditing.read_auditing.Goals as goal
 
 all_ports : 18446744073709551615 ≡ solo_ports

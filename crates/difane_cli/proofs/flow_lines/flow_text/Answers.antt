@@ -1,7 +1,7 @@
 use Rattle.std.proofs.Common.{◌++◌, ◌∙◌, Global, Vec, ap, arith, flat_map, take_all, ℕ}
 use Rattle.flow_export.specs.Lines.{flow_lines}
 use Rattle.meters.specs.Exports.{flow_records_of}
-use Rattle.difane_cli.proofs.FlowTexts.{lines_of_all}
+use Rattle.difane_cli.proofs.ProgramFlowTexts.{lines_of_all}
 use Rattle.difane_cli.proofs.flow_lines.flow_text.Goals as goal
 
 pub returns : goal.returns

@@ -1,15 +1,15 @@
 use Rattle.std.proofs.Common.{[], ◌++◌, ◌+◌, ◌==◌, ◌∙◌, ◌∷◌, ◌≡◌, ◌≤◌, All, Bool, Err, Global, IsSome, IsTrue, List, Ok, Vec, ap, arith, drop, get_or, length, length-append, subst, sym, ℕ}
 use Rattle.base.proofs.Exports.{All-push, ForSome, length-map}
 use Rattle.policy_file.specs.Exports.{file_length, names_port_of}
-use Rattle.policy_rules.specs.Exports.{GivesOnly, IsPolicyFile}
+use Rattle.policy_rules.specs.Exports.{PolicyFileGivesOnly, IsPolicyFile}
 use Rattle.update_machine.specs.Exports.{PolicyFile}
-use Rattle.command_line.specs.Exports.{names_seen}
+use Rattle.command_line.specs.Exports.{argument_names_seen}
 use Rattle.world.specs.Exports.{first_policy}
-use Rattle.difane_cli.specs.Exports.{EndsRead, NamesOneOf, read_file, status_of}
+use Rattle.difane_cli.specs.Exports.{CommandEndsRead, NamesOneOf, read_file, status_of}
 use Rattle.difane_cli.specs.declared.status.Stop.TheVariants as stop
-use Rattle.difane_cli.proofs.CalmReads.{stops_behind, stops_with}
-use Rattle.difane_cli.proofs.FileReads.{HasRead, at_next, first_behind, is_none, name_there, one_read, reads_at, stops_at}
-use Rattle.difane_cli.proofs.RefusedNames.{among_there}
+use Rattle.difane_cli.proofs.ProgramCalmReads.{stops_behind, stops_with}
+use Rattle.difane_cli.proofs.ProgramFileReads.{HasRead, at_next, first_behind, is_none, name_there, one_read, reads_at, stops_at}
+use Rattle.difane_cli.proofs.ProgramRefusedNames.{among_there}
 use Rattle.difane_cli.proofs.inputs.read_files.Goals as goal
 
 -- a vector counts its elements
@@ -27,10 +27,10 @@ returns-in_err-file-clause-read g c =
     c.loop-name-test.true in
     stops_at _ _ _ _ _ (λ (read : Vec PolicyFile Global). read.items) old middle now stop
     c.from_residual.result c.from_residual.ensures.1 so_far
-    (subst (λ (is_first : Bool). EndsRead middle.files (λ files. read_file is_first c.args.ports
-    files (get_or (names_seen names) c.loop-name.name-index [])) (λ (file : PolicyFile). file)
+    (subst (λ (is_first : Bool). CommandEndsRead middle.files (λ files. read_file is_first c.args.ports
+    files (get_or (argument_names_seen names) c.loop-name.name-index [])) (λ (file : PolicyFile). file)
     middle now (Err stop)) (c.is_empty.ensures ∙ counted c.loop-name.read)
-    (subst (λ (name : List ℕ). EndsRead middle.files (λ files. read_file c.is_empty.result
+    (subst (λ (name : List ℕ). CommandEndsRead middle.files (λ files. read_file c.is_empty.result
     c.args.ports files name) (λ (file : PolicyFile). file) middle now (Err stop))
     (name_there names c.loop-name.name-index _ c.loop-name-test.true) c.in_err-file.ensures.read))
 
@@ -38,13 +38,13 @@ pub returns-in_err-file-clause-shelf : goal.returns-in_err-file-clause-shelf
 returns-in_err-file-clause-shelf g c =
     let names = c.args.names.now in
     let i = c.loop-name.name-index in
-    let name = get_or (names_seen names) i [] in
+    let name = get_or (argument_names_seen names) i [] in
     let stop = c.in_err-file.field-0.0 in
     let file = c.in_err-file.ensures.shelf in
     let so_far = at_next c.args.ports names i _ _ _ c.loop-name.invariant.read
     c.loop-name-test.true in
     stops_behind (name ∷ []) _ _ _ _ _ stop c.from_residual.result c.from_residual.ensures.1
-    (among_there (names_seen names) i []
+    (among_there (argument_names_seen names) i []
     (omega (arith, length-map names (λ n. n.now), c.loop-name-test.true)))
     (reads_at _ _ _ _ _ _ _ _ so_far file.after) so_far.after c.loop-name.invariant.calm file.after
     file.calm
@@ -68,9 +68,9 @@ loop-name-preserved g c =
     let before = c.loop-name.read.items in
     let file = c.in_ok-file.file in
     let pushed : c.push.new.self.items ≡ before ++ file ∷ [] = c.in_ok-push.ensures.items in
-    let HasOwn : PolicyFile → Type 0 = GivesOnly (λ row. IsTrue (names_port_of c.args.ports row.action)) in
+    let HasOwn : PolicyFile → Type 0 = PolicyFileGivesOnly (λ row. IsTrue (names_port_of c.args.ports row.action)) in
     let IsShort : PolicyFile → Type 0 = λ (file : PolicyFile). file_length file ≤ 2000 in
-    let name = get_or (names_seen names) c.loop-name.name-index [] in
+    let name = get_or (argument_names_seen names) c.loop-name.name-index [] in
     let is_first : c.is_empty.result ≡ is_none before =
     c.is_empty.ensures ∙ counted c.loop-name.read in
     let read : ForSome known
@@ -80,8 +80,8 @@ loop-name-preserved g c =
     (λ files. read_file c.is_empty.result c.args.ports files name ≡ Ok file))
     (name_there names c.loop-name.name-index _ c.loop-name-test.true) c.in_ok-file.ensures.read) in
     record {
-      read = subst (λ (own : List PolicyFile). HasRead c.args.ports (names_seen names)
-          (drop (c.loop-name.name-index + 1) (names_seen names)) own
+      read = subst (λ (own : List PolicyFile). HasRead c.args.ports (argument_names_seen names)
+          (drop (c.loop-name.name-index + 1) (argument_names_seen names)) own
           (g.F.Shelf.state c.args.shelf.now) (g.F.Shelf.state c.read_file.new.shelf)) (sym pushed)
           (one_read _ _ _ _ before file _ _ _ so_far read c.in_ok-file.ensures.shelf.after);
       many = omega (

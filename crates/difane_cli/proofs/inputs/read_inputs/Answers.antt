@@ -1,13 +1,13 @@
-use Rattle.world.specs.Exports.{setting_at}
+use Rattle.world.specs.Exports.{world_setting_at}
 use Rattle.base.proofs.Exports.{ForSome, common_steps, length-map}
 use Rattle.std.proofs.Common.{[], ◌+◌, ◌∙◌, ◌∷◌, ◌≡◌, Some, ap, arith, option_to_list, refl}
 use Rattle.shelf.specs.Exports.{IsAfterReads}
 use Rattle.command_line.specs.Exports.{Replay, replay_named}
-use Rattle.difane_cli.specs.Exports.{inputs_of, most_reads, net_reads}
-use Rattle.difane_cli.proofs.BegunNetwork.{all_are_events, as_many, asked_for, ends_in_check, few_named, inputs_are, inputs_then, plan_accounts, planned_inputs}
-use Rattle.difane_cli.proofs.CalmReads.{stops_behind, stops_with}
-use Rattle.difane_cli.proofs.RefusedNames.{among_behind, among_front, among_last, first_check}
-use Rattle.difane_cli.proofs.ShelfReads.{all_reads, fewer_reads, net_read, reads_then, schedule_read}
+use Rattle.difane_cli.specs.Exports.{replay_inputs_of, most_reads, command_net_reads}
+use Rattle.difane_cli.proofs.ProgramBegunNetwork.{all_are_events, as_many, asked_for, ends_in_check, few_named, inputs_are, inputs_then, plan_accounts, planned_inputs}
+use Rattle.difane_cli.proofs.ProgramCalmReads.{stops_behind, stops_with}
+use Rattle.difane_cli.proofs.ProgramRefusedNames.{among_behind, among_front, among_last, first_check}
+use Rattle.difane_cli.proofs.ProgramShelfReads.{all_reads, fewer_reads, net_read, reads_then, schedule_read}
 use Rattle.difane_cli.proofs.inputs.read_inputs.Goals as goal
 use Rattle.difane_cli.proofs.inputs.read_inputs.Goals.{In_ok-files}
 use Rattle.difane_cli.proofs.inputs.read_inputs.Given.{Over}
@@ -18,7 +18,7 @@ returns-in_err-net-clause-shelf g c =
     let net = c.in_err-net.ensures.shelf in
     stops_with (option_to_list args.net) _ _ _ _ c.in_err-net.field-0.0 c.from_residual.result
     c.from_residual.ensures.1 (among_front (option_to_list args.net) (args.schedule ∷ args.policies))
-    (fewer_reads (net_reads args.net) _ _ _ (net_read _ args) net.after) net.calm net.stops
+    (fewer_reads (command_net_reads args.net) _ _ _ (net_read _ args) net.after) net.calm net.stops
 
 pub returns-in_err-events-clause-shelf : goal.returns-in_err-events-clause-shelf
 returns-in_err-events-clause-shelf g c =
@@ -29,7 +29,7 @@ returns-in_err-events-clause-shelf g c =
     stops_behind (args.schedule ∷ []) _ _ _ _ _ c.in_err-events.field-0.0
     c.from_residual-in_err-events.result c.from_residual-in_err-events.ensures.1
     (among_behind (option_to_list args.net) args.schedule args.policies)
-    (reads_then (net_reads args.net) 1 _ _ _ _ most net.after events.after)
+    (reads_then (command_net_reads args.net) 1 _ _ _ _ most net.after events.after)
     net.after net.calm events.after events.calm events.stops
 
 pub returns-in_err-files-clause-shelf : goal.returns-in_err-files-clause-shelf
@@ -44,7 +44,7 @@ returns-in_err-files-clause-shelf g c =
     (all_reads args c.in_ok-net.net c.in_ok-events.events.items _ _ _ _ _ _
     (as_many _ _ c.deref-names.ensures.value) c.port_mask.ensures c.in_ok-net.ensures.read
     c.in_ok-events.ensures.read net.after events.after files.after)
-    (reads_then (net_reads args.net) 1 (net_reads args.net + 1) _ _ _ (omega arith) net.after
+    (reads_then (command_net_reads args.net) 1 (command_net_reads args.net + 1) _ _ _ (omega arith) net.after
     events.after) (events.calm ∙ net.calm) files.after files.calm files.stops
 
 -- the network, the schedule and the policies are all that is read
@@ -88,7 +88,7 @@ returns-in_err-files-clause-read g c =
 
 -- all is read, and the first policy is left to be planned
 left_to_plan : (g : Over) (c : In_ok-files g) → ForSome (g.F.Shelf.state c.args.shelf.now).files
-    (λ files. inputs_of files (replay_named c.args.args.now) ≡ planned_inputs (replay_named
+    (λ files. replay_inputs_of files (replay_named c.args.args.now) ≡ planned_inputs (replay_named
     c.args.args.now) c.in_ok-net.net c.in_ok-files.files.items c.in_ok-events.events.items)
 left_to_plan g c = let net_files = c.in_ok-net.ensures.shelf.after.same_files in
     inputs_then _ _ _ (replay_named c.args.args.now) c.in_ok-net.net c.in_ok-files.files.items
@@ -111,7 +111,7 @@ returns-in_err-world-clause-read g c =
 pub returns-clause-read : goal.returns-clause-read
 returns-clause-read g c =
     inputs_are _ (replay_named c.args.args.now) c.in_ok-net.net c.in_ok-files.files.items
-    c.in_ok-events.events.items (setting_at c.in_ok-world.world)
+    c.in_ok-events.events.items (world_setting_at c.in_ok-world.world)
     (left_to_plan g (goal.at.returns-clause-read g c).In_ok-files)
     (rw c.deref-names.ensures.value at c.in_ok-world.ensures.planned) c.in_ok-world.ensures.begun.own
 
@@ -130,7 +130,7 @@ returns-clause-ready g c = let begun = c.in_ok-world.ensures.begun in record {
 
 pub returns-clause-asked : goal.returns-clause-asked
 returns-clause-asked g c = asked_for (replay_named c.args.args.now) c.in_ok-net.net
-    c.in_ok-files.files.items c.in_ok-events.events.items (setting_at c.in_ok-world.world)
+    c.in_ok-files.files.items c.in_ok-events.events.items (world_setting_at c.in_ok-world.world)
     c.in_ok-net.ensures.named c.in_ok-world.ensures.begun.own
     (c.in_ok-files.ensures.many ∙ as_many _ _ c.deref-names.ensures.value)
     (few_named c.args.args.now.policies.items c.requires) c.in_ok-events.ensures.sound.few

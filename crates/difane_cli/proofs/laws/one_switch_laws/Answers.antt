@@ -1,4 +1,4 @@
-use Rattle.difane_cli.proofs.OneSwitch.{one_partition}
+use Rattle.difane_cli.proofs.ProgramOneSwitch.{one_partition}
 use Rattle.difane_cli.proofs.laws.one_switch_laws.Goals as goal
 
 pub returns : goal.returns

@@ -1,7 +1,7 @@
 use Rattle.std.proofs.Common.{◌∙◌, ◌≡◌, ◌≢◌, List, ap, length, rules, subst, sym, ℕ}
 use Rattle.shelf.specs.Exports.{IsAfterWrite}
 use Rattle.difane_cli.specs.Exports.{meter_line, notes_line}
-use Rattle.difane_cli.proofs.MeterLines.{line_some}
+use Rattle.difane_cli.proofs.ProgramMeterLines.{line_some}
 use Rattle.difane_cli.proofs.meter_lines.write_meter.Goals as goal
 
 pub returns-in-true-clause-after : goal.returns-in-true-clause-after
@@ -13,5 +13,5 @@ returns-in-true-clause-after g c =
     ∙ ap (notes_line meter.port) c.notes-notes.ensures
     ∙ sym (line_some meter.port meter.held some) in
     subst (λ (bytes : List ℕ). IsAfterWrite bytes g.K.Sink.takes_memory
-    (g.K.Sink.state c.args.out.now) (g.K.Sink.state c.write_notes.new.out) c.write_notes.result)
-    line c.write_notes.ensures
+    (g.K.Sink.state c.args.out.now) (g.K.Sink.state c.write_meter_notes.new.out) c.write_meter_notes.result)
+    line c.write_meter_notes.ensures

@@ -1,8 +1,8 @@
 use Rattle.std.proofs.Common.{◌∙◌, ◌≡◌, ap, arith, drop, flat_map, get_or, suc, sym, take, take_all}
 use Rattle.base.proofs.Exports.{err_from_is_err_and, flat_map-one, flat_map-there, middle_none}
-use Rattle.shelf.specs.Exports.{gained-gained, with_gained}
+use Rattle.shelf.specs.Exports.{gained-gained, sink_with_gained}
 use Rattle.difane_cli.specs.Exports.{meter_line}
-use Rattle.difane_cli.proofs.MeterLines.{lines_of, piece_cut}
+use Rattle.difane_cli.proofs.ProgramMeterLines.{lines_of, piece_cut}
 use Rattle.difane_cli.proofs.meter_lines.write_meters.Goals as goal
 
 pub loop-meter-preserved : goal.loop-meter-preserved
@@ -15,9 +15,9 @@ loop-meter-preserved g c =
     let before = (g.K.Sink.state c.args.out.now).bytes in
     let so_far = c.loop-meter.invariant in record {
       written = c.in_ok-write_meter.ensures.after.whole
-          ∙ ap (λ bytes. with_gained bytes (line item)) so_far.written
+          ∙ ap (λ bytes. sink_with_gained bytes (line item)) so_far.written
           ∙ gained-gained before (flat_map line (take i meters)) _
-          ∙ ap (with_gained before) (flat_map-one line meters i item c.loop-meter-test.true own);
+          ∙ ap (sink_with_gained before) (flat_map-one line meters i item c.loop-meter-test.true own);
       untouched = λ none. c.in_ok-write_meter.ensures.no_line
           (middle_none (flat_map line (take i meters)) _ (flat_map line (drop (suc i) meters))
           (flat_map-there line meters i item c.loop-meter-test.true own
@@ -31,7 +31,7 @@ returns-clause-after g c =
     let i = c.loop-meter.meter-index in
     let line = λ (meter : g.row.M.Denot). meter_line (g.M.Meter.seen meter) in
     let before = (g.K.Sink.state c.args.out.now).bytes in record {
-      whole = c.loop-meter.invariant.written ∙ ap (with_gained before)
+      whole = c.loop-meter.invariant.written ∙ ap (sink_with_gained before)
           (ap (flat_map line) (take_all i meters (omega (arith, c.loop-meter-test.false)))
           ∙ lines_of g.M.Meter.seen meters);
       part = tt;

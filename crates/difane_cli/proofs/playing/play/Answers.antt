@@ -3,13 +3,13 @@ use Rattle.meters.specs.Exports.{gone_records, kept_meters}
 use Rattle.meters.specs.declared.flows.FlowRecord.{FlowRecord}
 use Rattle.update_machine.specs.Exports.{Event, IsPlay, Net}
 use Rattle.replay.specs.Leavings.{left_in, kept_by}
-use Rattle.difane_cli.specs.Exports.{IsAfterText, gone_by, inputs_stated, is_asked, is_made, play_text}
-use Rattle.difane_cli.proofs.PlayOutcomes.{judged, played, told, unjudged}
-use Rattle.difane_cli.proofs.WorkStatus.{after_work, by_failed, by_memory, of_failed, on_err, out_of_judging, out_of_writing}
+use Rattle.difane_cli.specs.Exports.{IsAfterText, gone_records_by, task_inputs_stated, is_asked, is_output_made, play_text}
+use Rattle.difane_cli.proofs.ProgramPlayOutcomes.{judged, played, told, unjudged}
+use Rattle.difane_cli.proofs.ProgramStatus.{after_work, by_failed, by_memory, of_failed, on_err, out_of_judging, out_of_writing}
 use Rattle.difane_cli.proofs.playing.play.Goals as goal
 
 pub returns-clause-outcome : goal.returns-clause-outcome
-returns-clause-outcome g c = λ command files asked read. let inputs = inputs_stated c.args.inputs in
+returns-clause-outcome g c = λ command files asked read. let inputs = task_inputs_stated c.args.inputs in
     let full = c.in-Ok.played.full in
     let journal = c.in-Ok.played.journal in
     let said = c.in-Ok-judge.answer in
@@ -27,7 +27,7 @@ returns-clause-outcome g c = λ command files asked read. let inputs = inputs_st
     let before = g.K.Sink.state c.args.out.now in
     let now = g.K.Sink.state c.write_report-written.new.out in
     let written = c.write_report-written.result in
-    let in_memory = is_made inputs.report full in
+    let in_memory = is_output_made inputs.report full in
     let takes_memory = g.K.Sink.takes_memory in
     let kept = c.in-Ok.ensures.kept
     ∙ ap (λ (ports : ℕ). kept_meters ports (left_in journal) taken) c.port_mask.ensures
@@ -35,7 +35,7 @@ returns-clause-outcome g c = λ command files asked read. let inputs = inputs_st
     let gone = c.in-Ok.ensures.gone
     ∙ ap (λ (ports : ℕ). gone_records ports (left_in journal) taken) c.port_mask.ensures in
     let after = subst (λ (net : Net). IsAfterText (play_text inputs.report net journal full
-    (gone_by net journal taken) given said) in_memory takes_memory before now written)
+    (gone_records_by net journal taken) given said) in_memory takes_memory before now written)
     (sym c.requires.ready.net) (subst (λ (records : List FlowRecord). IsAfterText
     (play_text inputs.report c.args.inputs.net journal full records given said) in_memory
     takes_memory before now written) gone c.write_report-written.ensures) in
@@ -44,7 +44,7 @@ returns-clause-outcome g c = λ command files asked read. let inputs = inputs_st
 
 pub returns-in_default-judge-clause-outcome : goal.returns-in_default-judge-clause-outcome
 returns-in_default-judge-clause-outcome g c = λ command files asked read.
-    let inputs = inputs_stated c.args.inputs in
+    let inputs = task_inputs_stated c.args.inputs in
     let full = c.in-Ok.played.full in
     let journal = c.in-Ok.played.journal in
     let laws = c.answer_laws.ensures in
@@ -73,12 +73,12 @@ returns-clause-ended g c =
 
 pub returns-clause-no_memory : goal.returns-clause-no_memory
 returns-clause-no_memory g c = λ command own is. out_of_writing command
-    (inputs_stated c.args.inputs) c.in-Ok.played.full g.K.Sink.takes_memory _ _ _ own
+    (task_inputs_stated c.args.inputs) c.in-Ok.played.full g.K.Sink.takes_memory _ _ _ own
     (c.write_report-written.ensures.no_memory (by_memory c.write_report-written.result
     c.in-Ok.played.full (rw c.after.ensures at is)))
 
 pub returns-in_default-judge-clause-no_memory : goal.returns-in_default-judge-clause-no_memory
 returns-in_default-judge-clause-no_memory g c = λ command own is. let full = c.in-Ok.played.full in
     let wants = on_err c.judge.result _ c.judge.ensures.wants c.in_default-judge.not-Ok in
-    out_of_judging command (inputs_stated c.args.inputs) full g.K.Sink.takes_memory _ _ own
+    out_of_judging command (task_inputs_stated c.args.inputs) full g.K.Sink.takes_memory _ _ own
     (subst (λ (asked : Bool). IsTrue (is_asked asked full)) c.asks_quiet.ensures wants)

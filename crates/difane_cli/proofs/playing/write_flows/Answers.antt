@@ -1,6 +1,6 @@
 use Rattle.std.proofs.Common.{◌∙◌, List, ap, map, subst, true, ℕ}
 use Rattle.difane_cli.specs.Exports.{IsAfterText, flow_text}
-use Rattle.difane_cli.proofs.AfterTexts.{text_written}
+use Rattle.difane_cli.proofs.ProgramAfterTexts.{text_written}
 use Rattle.difane_cli.proofs.playing.write_flows.Goals as goal
 
 pub returns-in-Ok : goal.returns-in-Ok

@@ -1,7 +1,7 @@
 use Rattle.std.proofs.Common.{◌∙◌, List, ap, subst, true, ℕ}
 use Rattle.journal_reports.specs.Exports.{summary_text}
 use Rattle.difane_cli.specs.Exports.{IsAfterText}
-use Rattle.difane_cli.proofs.AfterTexts.{text_written}
+use Rattle.difane_cli.proofs.ProgramAfterTexts.{text_written}
 use Rattle.difane_cli.proofs.playing.write_summary.Goals as goal
 
 pub returns-in-Ok : goal.returns-in-Ok

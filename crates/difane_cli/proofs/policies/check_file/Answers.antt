@@ -1,7 +1,7 @@
 use Rattle.std.proofs.Common.{◌≡◌, Ok, arith, false, true}
 use Rattle.base.proofs.Exports.{common_steps}
 use Rattle.policy_file.specs.Exports.{is_change_text, policy_file_of}
-use Rattle.difane_cli.proofs.FileChecks.{is_whole, stated_so}
+use Rattle.difane_cli.proofs.ProgramFileChecks.{is_whole, stated_so}
 use Rattle.difane_cli.proofs.policies.check_file.Goals as goal
 
 pub returns-in_err-file-clause-stopped : goal.returns-in_err-file-clause-stopped

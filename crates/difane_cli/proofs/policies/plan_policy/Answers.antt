@@ -1,6 +1,6 @@
 use Rattle.std.proofs.Common.{arith}
 use Rattle.base.proofs.Exports.{common_steps}
-use Rattle.difane_cli.proofs.RefusedNames.{plan_read}
+use Rattle.difane_cli.proofs.ProgramRefusedNames.{plan_read}
 use Rattle.difane_cli.proofs.policies.plan_policy.Goals as goal
 
 pub returns-clause-stops : goal.returns-clause-stops

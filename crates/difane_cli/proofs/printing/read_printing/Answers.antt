@@ -1,9 +1,9 @@
 use Rattle.std.proofs.Common.{[], ◌∙◌, ◌∷◌, option_to_list}
 use Rattle.command_line.specs.Exports.{print_named}
-use Rattle.difane_cli.specs.Exports.{net_reads}
-use Rattle.difane_cli.proofs.CalmReads.{stops_behind, stops_with}
-use Rattle.difane_cli.proofs.RefusedNames.{among_behind, among_front, among_last}
-use Rattle.difane_cli.proofs.ShelfReads.{both_reads, fewer_reads, net_asked_read}
+use Rattle.difane_cli.specs.Exports.{command_net_reads}
+use Rattle.difane_cli.proofs.ProgramCalmReads.{stops_behind, stops_with}
+use Rattle.difane_cli.proofs.ProgramRefusedNames.{among_behind, among_front, among_last}
+use Rattle.difane_cli.proofs.ProgramShelfReads.{both_reads, fewer_reads, net_asked_read}
 use Rattle.difane_cli.proofs.printing.read_printing.Goals as goal
 
 pub returns-in_err-net-clause-shelf : goal.returns-in_err-net-clause-shelf
@@ -13,7 +13,7 @@ returns-in_err-net-clause-shelf g c =
     stops_with (option_to_list args.net) _ _ _ _ c.in_err-net.field-0.0 c.from_residual.result
     c.from_residual.ensures.1
     (among_front (option_to_list args.net) (args.policy ∷ option_to_list args.switch))
-    (fewer_reads (net_reads args.net) _ _ _ (net_asked_read _ args) net.after) net.calm net.stops
+    (fewer_reads (command_net_reads args.net) _ _ _ (net_asked_read _ args) net.after) net.calm net.stops
 
 pub returns-in_err-switch-clause-shelf : goal.returns-in_err-switch-clause-shelf
 returns-in_err-switch-clause-shelf g c =
@@ -22,7 +22,7 @@ returns-in_err-switch-clause-shelf g c =
     stops_with (option_to_list args.switch) _ _ _ _ c.in_err-switch.field-0.0
     c.from_residual-in_err-switch.result c.from_residual-in_err-switch.ensures.1
     (among_last (option_to_list args.net) args.policy (option_to_list args.switch))
-    (fewer_reads (net_reads args.net) _ _ _ (net_asked_read _ args) net.after)
+    (fewer_reads (command_net_reads args.net) _ _ _ (net_asked_read _ args) net.after)
     (λ may. net.calm) c.in_err-switch.ensures.stops
 
 pub returns-in_err-policy-clause-shelf : goal.returns-in_err-policy-clause-shelf

@@ -2,19 +2,19 @@
 use Rattle.std.proofs.Common.{◌∙◌, List, Option, subst, sym, ℕ}
 use Rattle.update_machine.specs.Exports.{Event, IsPlay, Net}
 use Rattle.command_line.specs.Commands as grammar
-use Rattle.partition.specs.Plan.{IsPlan}
-use Rattle.difane_cli.specs.Exports.{IsAfterProposing, inputs_stated}
-use Rattle.difane_cli.proofs.PlayOutcomes.{played}
+use Rattle.partition.specs.Plan.{IsPartitionPlan}
+use Rattle.difane_cli.specs.Exports.{IsAfterProposing, task_inputs_stated}
+use Rattle.difane_cli.proofs.ProgramPlayOutcomes.{played}
 use Rattle.difane_cli.proofs.ProposalOutcomes.{out_of_proposing, proposing_ends, whole_told}
 use Rattle.difane_cli.proofs.proposing.propose.Goals as goal
 
 pub write_proposal-written-requires-clause-plan : goal.write_proposal-written-requires-clause-plan
 write_proposal-written-requires-clause-plan g c = let plan = c.in-Ok.played.plan in
-    subst (λ (net : Net). IsPlan plan.policy net plan.hosted) c.requires.net
+    subst (λ (net : Net). IsPartitionPlan plan.policy net plan.hosted) c.requires.net
     c.in-Ok.ensures.plan.parts
 
 pub returns-clause-outcome : goal.returns-clause-outcome
-returns-clause-outcome g c = λ command files own read. let inputs = inputs_stated c.args.inputs in
+returns-clause-outcome g c = λ command files own read. let inputs = task_inputs_stated c.args.inputs in
     let full = c.in-Ok.played.full in
     let journal = c.in-Ok.played.journal in
     let plan = c.in-Ok.played.plan in

@@ -9,4 +9,4 @@ returns g c =
     ∙ c.format.ensures.text in
     let row : c.as_bytes-row.result.now ≡ decimal c.args.row = c.as_bytes-row.ensures.value
     ∙ c.format-2.ensures.text in
-    rw (name, code, row) at c.write_pieces.ensures
+    rw (name, code, row) at c.write_output_pieces.ensures

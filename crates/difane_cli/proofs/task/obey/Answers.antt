@@ -8,11 +8,11 @@ use Rattle.difane_cli.proofs.task.obey.Goals as goal
 pub returns-in-Err-clause-performed : goal.returns-in-Err-clause-performed
 returns-in-Err-clause-performed g c = rw (c.from.ensures, c.new.ensures)
     (stopped (command_named c.args.command.now) g.K.Sink.takes_memory c.in-Err.stop
-    (map g.M.Meter.seen c.args.meters.items) (map g.M.Meter.seen c.unplayed.result.items)
+    (map g.M.Meter.seen c.args.meters.items) (map g.M.Meter.seen c.unplayed_meters.result.items)
     (g.F.Shelf.state c.args.shelf.now) (g.F.Shelf.state c.read_task.new.shelf)
     (g.K.Sink.state c.args.out.now) c.in-Err.ensures.read.0 c.in-Err.ensures.read.1
     c.in-Err.ensures.shelf.after c.in-Err.ensures.shelf.calm c.in-Err.ensures.shelf.stops
-    c.in-Err.ensures.unread (λ keeps. rw (c.unplayed.ensures.none keeps) refl))
+    c.in-Err.ensures.unread (λ keeps. rw (c.unplayed_meters.ensures.none keeps) refl))
 
 pub returns-in-Ok-clause-performed : goal.returns-in-Ok-clause-performed
 returns-in-Ok-clause-performed g c =

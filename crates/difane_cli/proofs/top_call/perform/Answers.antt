@@ -1,7 +1,7 @@
 use Rattle.std.proofs.Common.{◌∙◌, ◌≡◌, Global, List, None, Option, Some, String, ap, map, option_map, rules, string_bytes, subst, sym}
 use Rattle.command_line.specs.Exports.{command_named, command_of}
 use Rattle.command_line.specs.declared.command.Command.{Command}
-use Rattle.difane_cli.specs.Exports.{GivesBack}
+use Rattle.difane_cli.specs.Exports.{CommandGivesBackMeters}
 use Rattle.difane_cli.proofs.PerformedCommands.{no_command, not_read, performed_as}
 use Rattle.difane_cli.proofs.top_call.perform.Goals as goal
 
@@ -19,11 +19,9 @@ returns-in-Err-clause-performed g c = rw c.new.ensures
     (g.K.Sink.state c.args.out.now) (rw c.deref.ensures.value at c.in-Err.ensures.needless))
 
 pub returns-in-Ok-None-clause-performed : goal.returns-in-Ok-None-clause-performed
-returns-in-Ok-None-clause-performed g c =
-    let found : c.in-Ok-None.field-0 ≡ None = search rules in
-    rw c.new-in-Ok-None.ensures (performed_as _ _ _ _ _ _ _ _ _ _ _
-    (command_is c.in-Ok-None.field-0 None _ _ found c.in-Ok-None.ensures.value
-    c.deref.ensures.value)
+returns-in-Ok-None-clause-performed g c = let found : c.in-Ok-None.field-0 ≡ None = search rules in
+    rw c.new-in-Ok-None.ensures (performed_as _ _ _ _ _ _ _ _ _ _ _ (command_is c.in-Ok-None.field-0
+    None _ _ found c.in-Ok-None.ensures.value c.deref.ensures.value)
     (no_command g.K.Sink.takes_memory (map g.M.Meter.seen c.args.meters.items)
     (g.F.Shelf.state c.args.shelf.now) (g.K.Sink.state c.args.out.now)))
 
@@ -37,9 +35,7 @@ returns-in-Ok-Some-clause-performed g c =
     c.obey.ensures.performed
 
 pub returns-in-Ok-Some-clause-meters : goal.returns-in-Ok-Some-clause-meters
-returns-in-Ok-Some-clause-meters g c = λ back.
-    let command = c.in-Ok-Some.command in
+returns-in-Ok-Some-clause-meters g c = λ back. let command = c.in-Ok-Some.command in
     let found : c.in-Ok-Some.field-0 ≡ Some command = search rules in
-    c.obey.ensures.meters (subst GivesBack
-    (sym (command_is c.in-Ok-Some.field-0 (Some command) _ _ found c.in-Ok-Some.ensures.value
-    c.deref.ensures.value)) back)
+    c.obey.ensures.meters (subst CommandGivesBackMeters (sym (command_is c.in-Ok-Some.field-0
+    (Some command) _ _ found c.in-Ok-Some.ensures.value c.deref.ensures.value)) back)

@@ -1,5 +1,5 @@
-use Rattle.failover.proofs.HeldAdverts.{by_origin-none, by_origin-first, by_origin-hearing, held-first, held_heard, held_others}
-use Rattle.failover.proofs.NewestAdvert.{held_newest}
+use Rattle.failover.proofs.FailoverHeldAdverts.{by_origin-none, by_origin-first, by_origin-hearing, held-first, held_heard, held_others}
+use Rattle.failover.proofs.FailoverNewestAdvert.{held_newest}
 use Rattle.failover.proofs.laws.advert_laws.Goals as goal
 
 pub returns : goal.returns

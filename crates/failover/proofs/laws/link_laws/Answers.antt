@@ -1,4 +1,4 @@
-use Rattle.failover.proofs.KnownLinkRows.{has_known, own_link, link_elsewhere, known_turned, isolated_tells}
+use Rattle.failover.proofs.FailoverKnownLinks.{has_known, own_link, link_elsewhere, known_turned, isolated_tells}
 use Rattle.failover.proofs.laws.link_laws.Goals as goal
 
 pub returns : goal.returns

@@ -1,4 +1,4 @@
-use Rattle.failover.proofs.LinkSets.{none_is_link_set, has_link-none, with_link_is_link_set, has_link-with_link, has_link-turned, same_link_sets}
+use Rattle.failover.proofs.FailoverLinkSets.{none_is_link_set, has_link-none, with_link_is_link_set, has_link-with_link, has_link-turned, same_link_sets}
 use Rattle.failover.proofs.laws.link_set_laws.Goals as goal
 
 pub returns : goal.returns

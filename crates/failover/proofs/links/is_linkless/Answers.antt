@@ -1,8 +1,8 @@
 use Rattle.std.proofs.Common.{◌==◌, ◌∙◌, ap}
 use Rattle.failover.specs.Exports.{is_link, links_at}
 use Rattle.base.proofs.Exports.{mask_of_lt}
-use Rattle.failover.proofs.KnownLinkRows.{no_row_past}
-use Rattle.failover.proofs.RowLoop.{and_all}
+use Rattle.failover.proofs.FailoverKnownLinks.{no_row_past}
+use Rattle.failover.proofs.RouteRowLoop.{and_all}
 use Rattle.failover.proofs.links.is_linkless.Goals as goal
 
 pub returns-then-one-ge-MAX_SWITCHES : goal.returns-then-one-ge-MAX_SWITCHES

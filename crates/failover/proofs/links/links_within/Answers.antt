@@ -1,7 +1,7 @@
 use Rattle.std.proofs.Common.{◌∙◌, ap, arith}
 use Rattle.base.specs.Exports.{least_in, only_if}
 use Rattle.base.proofs.Exports.{least_lt}
-use Rattle.failover.proofs.RowLoop.{row_begins, row_ends, row_goes_on, fewer_left, first_left}
+use Rattle.failover.proofs.RouteRowLoop.{row_begins, row_ends, row_goes_on, fewer_left, first_left}
 use Rattle.failover.proofs.links.links_within.Goals as goal
 
 pub loop-rest-init : goal.loop-rest-init

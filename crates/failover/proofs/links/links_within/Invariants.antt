@@ -1,4 +1,4 @@
-use Rattle.failover.proofs.RowLoop.{IsRowSoFar}
+use Rattle.failover.proofs.RouteRowLoop.{IsRowSoFar}
 use Rattle.failover.proofs.links.links_within.Given as goal
 
 abbrev pub invariant-loop-rest : goal.invariant-loop-rest

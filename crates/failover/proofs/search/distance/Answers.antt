@@ -1,9 +1,9 @@
 use Rattle.std.proofs.Common.{◌<◌, ◌∙◌, ◌≡◌, List, ap, arith, bit_and, get_or, length-set, subst, sym, ℕ}
 use Rattle.failover.specs.Exports.{links_at, links_of_each}
-use Rattle.failover.proofs.KnownLinkRows.{length-link_rows, row_of, row_turned}
+use Rattle.failover.proofs.FailoverKnownLinks.{length-link_rows, row_of, row_turned}
 use Rattle.failover.proofs.RouteSearch.{none_after}
 use Rattle.failover.proofs.RouteWriting.{first_ball, next_ball, no_balls, more_balls, no_more, before_more, next_away}
-use Rattle.failover.proofs.WiderLoop.{edge_first, edge_next}
+use Rattle.failover.proofs.RouteWiderLoop.{edge_first, edge_next}
 use Rattle.failover.proofs.search.distance.Goals as goal
 
 pub loop-k-init : goal.loop-k-init

@@ -1,6 +1,6 @@
 use Rattle.std.proofs.Common.{◌∙◌, Some, ap, arith, sym}
 use Rattle.failover.specs.Exports.{links_of_each}
-use Rattle.failover.proofs.KnownLinkRows.{length-link_rows}
+use Rattle.failover.proofs.FailoverKnownLinks.{length-link_rows}
 use Rattle.failover.proofs.RouteSearch.{route_to-above, route_to-out}
 use Rattle.failover.proofs.RouteWriting.{is_route_list, route_to-along}
 use Rattle.failover.proofs.search.route_to.Goals as goal

@@ -1,7 +1,7 @@
 use Rattle.std.proofs.Common.{◌++◌, ◌+◌, ◌-◌, ◌∙◌, ◌∷◌, ◌≡◌, List, ap, arith, bit_and, get_or, length, replicate, sym, take, ℕ}
 use Rattle.failover.specs.Exports.{least_neighbour_in, links_of_each, path_by_balls}
 use Rattle.base.specs.Exports.{least_in}
-use Rattle.failover.proofs.KnownLinkRows.{row_of}
+use Rattle.failover.proofs.FailoverKnownLinks.{row_of}
 use Rattle.failover.proofs.RouteWriting.{length-along, left_at, below_in, along-next, written_more, written_route}
 use Rattle.failover.proofs.search.walk.Goals as goal
 

@@ -2,9 +2,9 @@ use Rattle.std.proofs.Common.{◌<◌, ◌^◌, ◌∙◌, ap, arith, bit_and, b
 use Rattle.base.proofs.Exports.{bit_not, least_lt, mask_of_lt}
 use Rattle.base.specs.Exports.{least_in}
 use Rattle.failover.specs.Exports.{is_link, links_of_each}
-use Rattle.failover.proofs.RowLoop.{fewer_left, first_left, or_others}
-use Rattle.failover.proofs.KnownLinkRows.{length-link_rows, row_of, row_turned}
-use Rattle.failover.proofs.WiderLoop.{IsWideSoFar, wide_begins, wide_ends, wide_goes_on}
+use Rattle.failover.proofs.RouteRowLoop.{fewer_left, first_left, or_others}
+use Rattle.failover.proofs.FailoverKnownLinks.{length-link_rows, row_of, row_turned}
+use Rattle.failover.proofs.RouteWiderLoop.{IsWideSoFar, wide_begins, wide_ends, wide_goes_on}
 use Rattle.failover.proofs.search.wider.Goals as goal
 
 pub loop-rest-init : goal.loop-rest-init

@@ -1,5 +1,5 @@
 use Rattle.failover.specs.Exports.{links_of_each}
-use Rattle.failover.proofs.WiderLoop.{IsWideSoFar}
+use Rattle.failover.proofs.RouteWiderLoop.{IsWideSoFar}
 use Rattle.failover.proofs.search.wider.Given as goal
 
 abbrev pub invariant-loop-rest : goal.invariant-loop-rest

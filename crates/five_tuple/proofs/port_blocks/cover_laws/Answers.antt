@@ -1,4 +1,4 @@
-use Rattle.five_tuple.proofs.CoverOf.{is_cover_of, greedy, only}
+use Rattle.five_tuple.proofs.PortCoverBlocks.{is_cover_of, greedy, only}
 use Rattle.five_tuple.proofs.port_blocks.cover_laws.Goals as goal
 
 pub returns : goal.returns

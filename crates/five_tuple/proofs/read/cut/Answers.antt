@@ -1,6 +1,6 @@
 use Rattle.std.proofs.Common.{sym}
 use Rattle.std.proofs.lemmas.List.{take_rest}
-use Rattle.five_tuple.proofs.SplitParts.{parts_at, parts_none}
+use Rattle.five_tuple.proofs.HeaderSplitParts.{parts_at, parts_none}
 use Rattle.five_tuple.proofs.read.cut.Goals as goal
 
 pub returns-in_err-at : goal.returns-in_err-at

@@ -1,6 +1,6 @@
 use Rattle.std.proofs.Common.{◌∙◌, Option, Some, ap, rules, sym, ℕ}
 use Rattle.five_tuple.specs.Exports.{address_from}
-use Rattle.five_tuple.proofs.DottedParts.{four_parts, lacks_first, lacks_second, lacks_third}
+use Rattle.five_tuple.proofs.HeaderDottedParts.{four_parts, lacks_first, lacks_second, lacks_third}
 use Rattle.five_tuple.proofs.read.read_address.Goals as goal
 
 pub returns-in_err-first : goal.returns-in_err-first

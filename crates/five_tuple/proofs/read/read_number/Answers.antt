@@ -2,7 +2,7 @@ use Rattle.std.proofs.Common.{◌+◌, ◌∙◌, arith, rules, take_all}
 use Rattle.std.proofs.lemmas.Bool.{and_from}
 use Rattle.std.proofs.lemmas.List.Folds.{list_all_more}
 use Rattle.std.specs.Char.{is_ascii_digit}
-use Rattle.five_tuple.proofs.WrittenNumbers.{no_digit, leading_zero, other_byte, too_large, accepted, next_digit}
+use Rattle.five_tuple.proofs.HeaderWrittenNumbers.{no_digit, leading_zero, other_byte, too_large, accepted, next_digit}
 use Rattle.five_tuple.proofs.read.read_number.Goals as goal
 
 pub returns-then-is_empty-clause-value : goal.returns-then-is_empty-clause-value

@@ -1,6 +1,6 @@
 use Rattle.std.proofs.Common.{rules}
 use Rattle.five_tuple.specs.Exports.{prefix_of}
-use Rattle.five_tuple.proofs.PartReadings.{block_reads}
+use Rattle.five_tuple.proofs.HeaderPartReadings.{block_reads}
 use Rattle.five_tuple.proofs.read.read_prefix.Goals as goal
 
 pub returns-in_err-len-in-Some-clause-value : goal.returns-in_err-len-in-Some-clause-value

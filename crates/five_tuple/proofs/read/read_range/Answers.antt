@@ -1,6 +1,6 @@
 use Rattle.std.proofs.Common.{rules}
 use Rattle.five_tuple.specs.Exports.{range_of}
-use Rattle.five_tuple.proofs.PartReadings.{range_reads}
+use Rattle.five_tuple.proofs.HeaderPartReadings.{range_reads}
 use Rattle.five_tuple.proofs.read.read_range.Goals as goal
 
 pub returns-in-Some-clause-value : goal.returns-in-Some-clause-value

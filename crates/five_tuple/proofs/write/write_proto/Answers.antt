@@ -2,7 +2,7 @@ use Rattle.std.proofs.Common.{◌≡◌, arith, codes}
 use Rattle.std.proofs.lemmas.Result.{IfOk-weaker}
 use Rattle.five_tuple.specs.declared.matching.Proto.TheVariants.{Any, Is}
 use Rattle.five_tuple.specs.Exports.{proto_text}
-use Rattle.five_tuple.proofs.RoundTrip.{proto_back}
+use Rattle.five_tuple.proofs.HeaderTextRoundTrip.{proto_back}
 use Rattle.five_tuple.proofs.write.write_proto.Goals as goal
 
 pub returns-in-Any-clause-read_back : goal.returns-in-Any-clause-read_back

@@ -1,4 +1,4 @@
-use Rattle.flow_export.proofs.CountedLaws.{laws_hold}
+use Rattle.flow_export.proofs.FlowCountLaws.{laws_hold}
 use Rattle.flow_export.proofs.laws.flow_laws.Goals as goal
 
 pub returns : goal.returns

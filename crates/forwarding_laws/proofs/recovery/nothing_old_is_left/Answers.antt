@@ -1,4 +1,4 @@
-use Rattle.forwarding_laws.proofs.SecondRounds.{nothing_old}
+use Rattle.forwarding_laws.proofs.RecoverySecondRounds.{nothing_old}
 use Rattle.forwarding_laws.proofs.recovery.nothing_old_is_left.Goals as goal
 
 pub returns : goal.returns

@@ -1,4 +1,4 @@
-use Rattle.forwarding_laws.proofs.SecondRounds.{recovered_caches}
+use Rattle.forwarding_laws.proofs.RecoverySecondRounds.{recovered_caches}
 use Rattle.forwarding_laws.proofs.recovery.recovered_caches_are_new.Goals as goal
 
 pub returns : goal.returns

@@ -1,4 +1,4 @@
-use Rattle.forwarding_laws.proofs.DroppedNothing.{none_is_stuck}
+use Rattle.forwarding_laws.proofs.RolloutDropsNothing.{none_is_stuck}
 use Rattle.forwarding_laws.proofs.rollout.connected_rollouts_leave_none_stuck.Goals as goal
 
 pub returns : goal.returns

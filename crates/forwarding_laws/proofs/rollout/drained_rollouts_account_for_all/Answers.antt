@@ -1,4 +1,4 @@
-use Rattle.forwarding_laws.proofs.DrainedAccounts.{all_accounted}
+use Rattle.forwarding_laws.proofs.RolloutDrains.{all_accounted}
 use Rattle.forwarding_laws.proofs.rollout.drained_rollouts_account_for_all.Goals as goal
 
 pub returns : goal.returns

@@ -1,4 +1,4 @@
-use Rattle.forwarding_laws.proofs.DrainedAccounts.{accounted_or_cut_off}
+use Rattle.forwarding_laws.proofs.RolloutDrains.{accounted_or_cut_off}
 use Rattle.forwarding_laws.proofs.rollout.drained_rollouts_account_or_cut_off.Goals as goal
 
 pub returns : goal.returns

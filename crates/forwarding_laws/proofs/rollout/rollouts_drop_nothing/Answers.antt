@@ -1,4 +1,4 @@
-use Rattle.forwarding_laws.proofs.DroppedNothing.{rollouts}
+use Rattle.forwarding_laws.proofs.RolloutDropsNothing.{rollouts}
 use Rattle.forwarding_laws.proofs.rollout.rollouts_drop_nothing.Goals as goal
 
 pub returns : goal.returns

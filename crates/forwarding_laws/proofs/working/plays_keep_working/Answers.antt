@@ -1,4 +1,4 @@
-use Rattle.forwarding_laws.proofs.SecondRounds.{keep_working}
+use Rattle.forwarding_laws.proofs.RecoverySecondRounds.{keep_working}
 use Rattle.forwarding_laws.proofs.working.plays_keep_working.Goals as goal
 
 pub returns : goal.returns

@@ -1,6 +1,6 @@
 use Rattle.std.proofs.Common.{[], ◌++◌, ◌∙◌, ◌∷◌, ◌≡◌, List, ap, get_or, length-append}
 use Rattle.journal_reports.specs.declared.bucket.Bucket.{Bucket}
-use Rattle.journal_reports.proofs.MessageBuckets.{empty_more}
+use Rattle.journal_reports.proofs.QuietMessageBuckets.{empty_more}
 use Rattle.journal_reports.proofs.bucket.empty_buckets.Goals as goal
 
 pub loop-bucket-preserved : goal.loop-bucket-preserved

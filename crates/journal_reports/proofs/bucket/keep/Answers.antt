@@ -2,7 +2,7 @@ use Rattle.std.proofs.Common.{[], ◌++◌, ◌∙◌, ◌∷◌, ap, arith, ref
 use Rattle.update_machine.specs.Exports.{Message}
 use Rattle.journal_reports.specs.Exports.{bucket_of}
 use Rattle.journal_reports.specs.declared.bucket.Bucket.{Bucket}
-use Rattle.journal_reports.proofs.MessageBuckets.{kept_more}
+use Rattle.journal_reports.proofs.QuietMessageBuckets.{kept_more}
 use Rattle.journal_reports.proofs.bucket.keep.Goals as goal
 
 pub returns-clause-kept : goal.returns-clause-kept

@@ -1,5 +1,5 @@
 use Rattle.std.proofs.Common.{◌||◌, ◌≡◌, ◌≤◌, All, IsTrue, drop, length, not, ℕ}
-use Rattle.update_machine.specs.Exports.{AreReceived, Setting, is_up, is_waited_for, switches_of, was_delivered}
+use Rattle.update_machine.specs.Exports.{AreMessagesReceived, Setting, is_up, is_waited_for, switches_of, was_delivered}
 use Rattle.journal_reports.specs.Exports.{AreTraffic, has_mark}
 use Rattle.journal_reports.proofs.judge.quiet.Given as goal
 
@@ -11,7 +11,7 @@ invariant-loop-place l = record {
   count : length l.rows.items ≡ l.count;
   rows : AreTraffic l.items (drop l.place l.items) l.rows.items;
   received : (setting : Setting) → length setting.net.switches ≡ l.count
-      → AreReceived setting l.items (drop l.place l.items);
+      → AreMessagesReceived setting l.items (drop l.place l.items);
   switches : (setting : Setting) → length setting.net.switches ≡ l.count
       → All (λ s. IsTrue (is_up l.items s || not (is_waited_for l.items s))) (switches_of setting);
 }

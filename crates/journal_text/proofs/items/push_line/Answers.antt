@@ -2,8 +2,8 @@ use Rattle.std.proofs.Common.{[], ◌++◌, ◌∙◌, ◌∷◌, List, ap, arit
 use Rattle.lines.proofs.CallerLemmas.{pushed_append}
 use Rattle.lines.specs.Pushes.{line_with}
 use Rattle.journal_text.specs.Lines.{item_line}
-use Rattle.journal_text.proofs.LineGains.{held_whole}
-use Rattle.journal_text.proofs.LineLengths.{line_within}
+use Rattle.journal_text.proofs.JournalLineGains.{held_whole}
+use Rattle.journal_text.proofs.JournalLineLengths.{line_within}
 use Rattle.journal_text.proofs.items.push_line.Goals as goal
 
 pub returns-clause-text : goal.returns-clause-text
@@ -11,7 +11,7 @@ returns-clause-text c =
     let net = c.args.net.now in
     let line = c.args.line.now in
     let own : List ℕ = item_line net c.args.item.now in
-    let within = line_within c.name_laws.ensures net c.requires.net c.args.item.now
+    let within = line_within c.switch_name_laws.ensures net c.requires.net c.args.item.now
     c.push_item.ensures.of_type in
     c.push.ensures ∙ ap (λ l. line_with l (10 ∷ [])) c.push_item.ensures.text
     ∙ pushed_append line own (10 ∷ [])

@@ -1,7 +1,7 @@
 use Rattle.std.proofs.Common.{[], ◌++◌, ◌∙◌, ◌∷◌, ◌≡◌, refl, take}
 use Rattle.base.proofs.Exports.{err_from_is_err_and}
 use Rattle.journal_text.specs.Lines.{item_line, journal_text}
-use Rattle.journal_text.proofs.LineGains.{IsHeld, gathers_no_more, held_first, held_more, held_nothing, lines_more, some_items}
+use Rattle.journal_text.proofs.JournalLineGains.{IsHeld, gathers_no_more, held_first, held_more, held_nothing, lines_more, some_items}
 use Rattle.journal_text.proofs.write.write_text.Goals.{then-bytes-gt-ROOMY_BYTES+in_ok-push, else-bytes-gt-ROOMY_BYTES}
 use Rattle.journal_text.proofs.write.write_text.Goals as goal
 

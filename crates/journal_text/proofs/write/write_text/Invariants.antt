@@ -1,7 +1,7 @@
 use Rattle.std.proofs.Common.{◌≡◌, take}
 use Rattle.journal_text.specs.Lines.{journal_text}
 use Rattle.journal_text.specs.AdvertTexts.{AreAdvertTexts}
-use Rattle.journal_text.proofs.LineGains.{IsHeld}
+use Rattle.journal_text.proofs.JournalLineGains.{IsHeld}
 use Rattle.journal_text.proofs.write.write_text.Given as goal
 
 abbrev pub invariant-loop-item : goal.invariant-loop-item

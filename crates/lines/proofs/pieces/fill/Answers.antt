@@ -1,6 +1,6 @@
 use Rattle.std.proofs.Common.{◌-◌, ◌∙◌, ◌≡◌, arith, length, length-take-le, take}
 use Rattle.std.proofs.lemmas.Slice.{take-put_mid}
-use Rattle.lines.proofs.PieceLemmas.{part}
+use Rattle.lines.proofs.LinePieceLemmas.{part}
 use Rattle.lines.proofs.pieces.fill.Goals as goal
 
 pub returns : goal.returns

@@ -1,5 +1,5 @@
 use Rattle.std.proofs.Common.{◌∙◌, ◌≡◌, arith, length, length-take-le, take}
-use Rattle.lines.proofs.PieceLemmas.{whole}
+use Rattle.lines.proofs.LinePieceLemmas.{whole}
 use Rattle.lines.proofs.pieces.put.Goals as goal
 
 pub returns-then-piece-len-clause-held : goal.returns-then-piece-len-clause-held
@@ -7,4 +7,4 @@ returns-then-piece-len-clause-held c =
     let len = c.args.len in
     let bytes = c.args.bytes.now in
     let held : length (take len bytes) ≡ len = length-take-le len bytes (omega arith) in
-    c.put_whole.ensures ∙ whole (take len bytes) c.args.piece.now (omega arith)
+    c.put_whole_piece.ensures ∙ whole (take len bytes) c.args.piece.now (omega arith)

@@ -1,4 +1,4 @@
-use Rattle.message_bag.proofs.InstallationSpelling.{installed}
+use Rattle.message_bag.proofs.BagInstallationSpelling.{installed}
 use Rattle.message_bag.proofs.laws.frames_behind_the_first_carry_the_tables.Goals as goal
 
 pub returns : goal.returns

@@ -1,4 +1,4 @@
-use Rattle.message_bag.proofs.FrameArrivals.{all_come, taken, whole}
+use Rattle.message_bag.proofs.BagFrameArrivals.{all_come, taken, whole}
 use Rattle.message_bag.proofs.laws.frames_come_in_any_order.Goals as goal
 
 pub returns : goal.returns

@@ -1,4 +1,4 @@
-use Rattle.message_bag.proofs.FramesOfReceivers.{of_another_receiver}
+use Rattle.message_bag.proofs.BagFramesOfReceivers.{of_another_receiver}
 use Rattle.message_bag.proofs.laws.frames_of_another_receiver.Goals as goal
 
 pub returns : goal.returns

@@ -1,4 +1,4 @@
-use Rattle.message_bag.proofs.TablesRestamped.{of_another_version}
+use Rattle.message_bag.proofs.BagTablesRestamped.{of_another_version}
 use Rattle.message_bag.proofs.laws.frames_of_another_version.Goals as goal
 
 pub returns : goal.returns

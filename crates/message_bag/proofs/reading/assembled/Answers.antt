@@ -1,7 +1,7 @@
 use Rattle.std.proofs.Common.{◌∙◌, IfSome, ap, arith, is_some, refl, subst, sym}
 use Rattle.base.proofs.Exports.{false_not_true}
 use Rattle.wire.specs.Exports.{AreFrames}
-use Rattle.message_bag.proofs.ComingOut.{begins, comes_out, goes_on, never_past, never_short, not_refused}
+use Rattle.message_bag.proofs.BagMessagesOut.{begins, comes_out, goes_on, never_past, never_short, not_refused}
 use Rattle.message_bag.proofs.reading.assembled.Goals as goal
 
 pub loop-place-init : goal.loop-place-init

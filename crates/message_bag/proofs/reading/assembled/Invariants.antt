@@ -1,5 +1,5 @@
 use Rattle.ctrl_msg.specs.declared.message.Message.{Message}
-use Rattle.message_bag.proofs.ComingOut.{IsFedTo}
+use Rattle.message_bag.proofs.BagMessagesOut.{IsFedTo}
 use Rattle.message_bag.proofs.reading.assembled.Given as goal
 
 abbrev pub invariant-loop-place : goal.invariant-loop-place

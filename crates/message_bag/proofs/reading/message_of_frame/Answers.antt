@@ -1,6 +1,6 @@
 use Rattle.std.proofs.Common.{arith, subst, sym}
 use Rattle.wire.specs.Exports.{IsSpelling}
-use Rattle.message_bag.proofs.ComingOut.{alone_are, long_alone, rest_is, spelled_alone}
+use Rattle.message_bag.proofs.BagMessagesOut.{alone_are, long_alone, rest_is, spelled_alone}
 use Rattle.message_bag.proofs.reading.message_of_frame.Goals as goal
 
 pub slice_bounds-decode-count : goal.slice_bounds-decode-count

@@ -1,5 +1,5 @@
 use Rattle.std.proofs.Common.{refl}
-use Rattle.message_bag.proofs.InstallationFrames.{cloned_say, not_alone, out_says}
+use Rattle.message_bag.proofs.BagInstallationFrames.{cloned_say, not_alone, out_says}
 use Rattle.message_bag.proofs.reading.tables_in.Goals as goal
 
 pub unreachable-requires-in-None-tables_of : goal.unreachable-requires-in-None-tables_of

@@ -3,7 +3,7 @@ use Rattle.base.proofs.Exports.{get_or_read}
 use Rattle.wire.specs.Exports.{frame, spelled_front}
 use Rattle.switch_table.specs.declared.tables.Tables.{Tables}
 use Rattle.message_bag.specs.Exports.{CarryTables}
-use Rattle.message_bag.proofs.PostedMessages.{tables_are, tables_fit}
+use Rattle.message_bag.proofs.BagPostedMessages.{tables_are, tables_fit}
 use Rattle.message_bag.proofs.tables.spell.Goals as goal
 
 its : (c : goal.In_ok-put_first) → CarryTables c.args.tables.now

@@ -1,4 +1,4 @@
-use Rattle.net_file.proofs.RowPlaces.{links}
+use Rattle.net_file.proofs.NetFileRowPlaces.{links}
 use Rattle.net_file.proofs.laws.link_laws.Goals as goal
 
 pub returns : goal.returns

@@ -1,9 +1,9 @@
 use Rattle.std.proofs.Common.{◌||◌, ◌∙◌, ap, filter_map, nat_eq, sym}
 use Rattle.base.proofs.Exports.{list_any, or-false}
-use Rattle.net_file.specs.Exports.{port_read}
-use Rattle.net_file.proofs.MaskBits.{in_mask, mask_of_is}
-use Rattle.net_file.proofs.FreshPorts.{any_next, are_fresh, are_new_is, fresh_next, fresh_stop, ports_less, ports_more}
-use Rattle.net_file.proofs.ValueItems.{values_end, values_more}
+use Rattle.net_file.specs.Exports.{toml_port_read}
+use Rattle.net_file.proofs.NetFilePortMasks.{in_mask, mask_of_is}
+use Rattle.net_file.proofs.NetFileFreshPorts.{any_next, are_fresh, are_new_is, fresh_next, fresh_stop, ports_less, ports_more}
+use Rattle.net_file.proofs.NetFileValueItems.{values_end, values_more}
 use Rattle.net_file.proofs.switches.new_ports.Goals as goal
 use Rattle.net_file.proofs.switches.new_ports.Goals.{in-Some+else-has, in_default}
 
@@ -18,7 +18,7 @@ returns-then-has-clause-new c =
 pub returns-clause-new : goal.returns-clause-new
 returns-clause-new c = let inv = c.loop-value.invariant in
     sym (are_new_is c.args.taken c.args.earlier.now _ c.requires ∙ inv.fresh
-    ∙ ap (λ ds. are_fresh c.loop-value.seen (filter_map port_read ds))
+    ∙ ap (λ ds. are_fresh c.loop-value.seen (filter_map toml_port_read ds))
     (values_end c.args.values.now c.loop-value.value-index c.loop-value-test.false))
 
 pub returns-clause-mask : goal.returns-clause-mask
@@ -26,16 +26,15 @@ returns-clause-mask c =
     let inv = c.loop-value.invariant in
     let ended = values_end c.args.values.now c.loop-value.value-index c.loop-value-test.false in
     mask_of_is c.loop-value.ports _ inv.small
-    (λ k. sym (inv.ports k ∙ ap
-    (λ ds. in_mask c.loop-value.ports k || list_any (nat_eq k) (filter_map port_read ds)) ended
-    ∙ or-false (in_mask c.loop-value.ports k)))
+    (λ k. sym (inv.ports k ∙ ap (λ ds. in_mask c.loop-value.ports k || list_any (nat_eq k)
+    (filter_map toml_port_read ds)) ended ∙ or-false (in_mask c.loop-value.ports k)))
 
 pub loop-value-preserved : goal.loop-value-preserved
 loop-value-preserved c =
     let inv = c.loop-value.invariant in
     let left = values_more c.args.values.now c.loop-value.value-index c.value-item.result
     c.loop-value-test.true c.value-item.is in
-    elim c.match-port_of.branch [
+    elim c.match-toml_port_of.branch [
       | in-Some+else-has w ↦
           let more = ports_more _ _ _ w.in-Some.port left w.in-Some.ensures.port in record {
             fresh = rw (w.seen-is, w.with-seen.ensures.bits)

@@ -1,6 +1,6 @@
 use Rattle.std.proofs.Common.{refl}
 use Rattle.toml.specs.View.{table_view}
-use Rattle.net_file.proofs.FreshPorts.{ports_tested}
+use Rattle.net_file.proofs.NetFileFreshPorts.{ports_tested}
 use Rattle.net_file.proofs.switches.read_ports.Goals as goal
 
 pub returns-then-not-are_integers : goal.returns-then-not-are_integers

@@ -1,5 +1,5 @@
-use Rattle.packet_laws.proofs.RestingPackets.{reached}
-use Rattle.packet_laws.proofs.MachineRuns.{caused_is_run}
+use Rattle.packet_laws.proofs.PacketsAtRest.{reached}
+use Rattle.packet_laws.proofs.PacketMachineRuns.{caused_is_run}
 use Rattle.packet_laws.proofs.laws.answers_are_runs.Goals as goal
 
 pub returns : goal.returns

@@ -1,6 +1,6 @@
-use Rattle.packet_laws.proofs.AllKept.{all_kept}
-use Rattle.packet_laws.proofs.RestingPackets.{reached}
-use Rattle.packet_laws.proofs.HopAnswers.{rules_right}
+use Rattle.packet_laws.proofs.PacketsAllKept.{all_kept}
+use Rattle.packet_laws.proofs.PacketsAtRest.{reached}
+use Rattle.packet_laws.proofs.PacketHopAnswers.{rules_right}
 use Rattle.packet_laws.proofs.laws.cache_rules_are_right.Goals as goal
 
 pub returns : goal.returns

@@ -1,5 +1,5 @@
-use Rattle.packet_laws.proofs.RestingPackets.{reached}
-use Rattle.packet_laws.proofs.StronglyCaused.{strongly_caused}
+use Rattle.packet_laws.proofs.PacketsAtRest.{reached}
+use Rattle.packet_laws.proofs.PacketStrongCauses.{strongly_caused}
 use Rattle.packet_laws.proofs.laws.causes_are_strong.Goals as goal
 
 pub returns : goal.returns

@@ -1,5 +1,5 @@
-use Rattle.packet_laws.proofs.StronglyCaused.{changes_leave}
-use Rattle.packet_laws.proofs.RestingPackets.{reached}
+use Rattle.packet_laws.proofs.PacketStrongCauses.{changes_leave}
+use Rattle.packet_laws.proofs.PacketsAtRest.{reached}
 use Rattle.packet_laws.proofs.laws.changes_leave_other_headers.Goals as goal
 
 pub returns : goal.returns

@@ -1,4 +1,4 @@
-use Rattle.packet_laws.proofs.WaitingMessages.{numbers_rise}
+use Rattle.packet_laws.proofs.PacketFlushMessages.{numbers_rise}
 use Rattle.packet_laws.proofs.laws.deliveries_rise.Goals as goal
 
 pub returns : goal.returns

@@ -1,4 +1,4 @@
-use Rattle.packet_laws.proofs.DrainHops.{drain_ends, drain_falls, drain_short, reached_ready}
+use Rattle.packet_laws.proofs.PacketDrainHops.{drain_ends, drain_falls, drain_short, reached_ready}
 use Rattle.packet_laws.proofs.laws.drains_end.Goals as goal
 
 pub returns : goal.returns

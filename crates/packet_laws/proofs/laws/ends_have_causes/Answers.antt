@@ -1,5 +1,5 @@
-use Rattle.packet_laws.proofs.StronglyCaused.{ends_caused}
-use Rattle.packet_laws.proofs.RestingPackets.{reached}
+use Rattle.packet_laws.proofs.PacketStrongCauses.{ends_caused}
+use Rattle.packet_laws.proofs.PacketsAtRest.{reached}
 use Rattle.packet_laws.proofs.laws.ends_have_causes.Goals as goal
 
 pub returns : goal.returns

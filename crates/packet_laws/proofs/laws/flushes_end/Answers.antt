@@ -1,4 +1,4 @@
-use Rattle.packet_laws.proofs.PlayExistence.{flush_goes}
+use Rattle.packet_laws.proofs.PacketPlayExistence.{flush_goes}
 use Rattle.packet_laws.proofs.laws.flushes_end.Goals as goal
 
 pub returns : goal.returns

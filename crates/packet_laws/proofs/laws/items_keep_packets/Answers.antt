@@ -1,5 +1,5 @@
-use Rattle.packet_laws.proofs.AllKept.{all_kept}
-use Rattle.packet_laws.proofs.RestingPackets.{reached}
+use Rattle.packet_laws.proofs.PacketsAllKept.{all_kept}
+use Rattle.packet_laws.proofs.PacketsAtRest.{reached}
 use Rattle.packet_laws.proofs.laws.items_keep_packets.Goals as goal
 
 pub returns : goal.returns

@@ -1,4 +1,4 @@
-use Rattle.packet_laws.proofs.PlayExistence.{together}
+use Rattle.packet_laws.proofs.PacketPlayExistence.{together}
 use Rattle.packet_laws.proofs.laws.items_keep_versions_whole.Goals as goal
 
 pub returns : goal.returns

@@ -1,5 +1,5 @@
 use Rattle.std.proofs.Common.{[]}
-use Rattle.packet_laws.proofs.RestingPackets.{reached, ways_of_all}
+use Rattle.packet_laws.proofs.PacketsAtRest.{reached, ways_of_all}
 use Rattle.packet_laws.proofs.laws.packet_items_have_causes.Goals as goal
 
 pub returns : goal.returns

@@ -1,6 +1,6 @@
-use Rattle.packet_laws.proofs.AllKept.{all_kept}
-use Rattle.packet_laws.proofs.StronglyCaused.{packets_arrive}
-use Rattle.packet_laws.proofs.RestingPackets.{reached}
+use Rattle.packet_laws.proofs.PacketsAllKept.{all_kept}
+use Rattle.packet_laws.proofs.PacketStrongCauses.{packets_arrive}
+use Rattle.packet_laws.proofs.PacketsAtRest.{reached}
 use Rattle.packet_laws.proofs.laws.packets_arrive.Goals as goal
 
 pub returns : goal.returns

@@ -1,4 +1,4 @@
-use Rattle.packet_laws.proofs.RestingPackets.{between}
+use Rattle.packet_laws.proofs.PacketsAtRest.{between}
 use Rattle.packet_laws.proofs.laws.packets_rest.Goals as goal
 
 pub returns : goal.returns

@@ -1,5 +1,5 @@
-use Rattle.packet_laws.proofs.DrainHops.{reached}
-use Rattle.packet_laws.proofs.RouteHops.{hops_few, within_each, within_routes}
+use Rattle.packet_laws.proofs.PacketDrainHops.{reached}
+use Rattle.packet_laws.proofs.PacketRouteHops.{hops_few, within_each, within_routes}
 use Rattle.packet_laws.proofs.laws.packets_take_few_hops.Goals as goal
 
 pub returns : goal.returns

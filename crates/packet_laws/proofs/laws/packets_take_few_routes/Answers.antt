@@ -1,5 +1,5 @@
-use Rattle.packet_laws.proofs.RestingPackets.{reached}
-use Rattle.packet_laws.proofs.FewRoutes.{detoured_few, finds_few, routes_few, searched_few, taken_few}
+use Rattle.packet_laws.proofs.PacketsAtRest.{reached}
+use Rattle.packet_laws.proofs.PacketFewRoutes.{detoured_few, finds_few, routes_few, searched_few, taken_few}
 use Rattle.packet_laws.proofs.laws.packets_take_few_routes.Goals as goal
 
 pub returns : goal.returns

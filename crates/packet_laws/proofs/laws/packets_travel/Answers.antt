@@ -1,5 +1,5 @@
-use Rattle.packet_laws.proofs.RestingPackets.{between}
-use Rattle.packet_laws.proofs.HopAnswers.{packets_travel}
+use Rattle.packet_laws.proofs.PacketsAtRest.{between}
+use Rattle.packet_laws.proofs.PacketHopAnswers.{packets_travel}
 use Rattle.packet_laws.proofs.laws.packets_travel.Goals as goal
 
 pub returns : goal.returns

@@ -1,4 +1,4 @@
-use Rattle.packet_laws.proofs.PlayExistence.{has_play}
+use Rattle.packet_laws.proofs.PacketPlayExistence.{has_play}
 use Rattle.packet_laws.proofs.laws.plays_exist.Goals as goal
 
 pub returns : goal.returns

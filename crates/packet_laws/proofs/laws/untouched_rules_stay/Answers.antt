@@ -1,5 +1,5 @@
-use Rattle.packet_laws.proofs.RestingPackets.{reached}
-use Rattle.packet_laws.proofs.RouteHops.{untouched_stay}
+use Rattle.packet_laws.proofs.PacketsAtRest.{reached}
+use Rattle.packet_laws.proofs.PacketRouteHops.{untouched_stay}
 use Rattle.packet_laws.proofs.laws.untouched_rules_stay.Goals as goal
 
 pub returns : goal.returns

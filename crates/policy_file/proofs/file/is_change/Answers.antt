@@ -1,7 +1,7 @@
 use Rattle.std.proofs.Common.{◌∙◌, ap, sym}
 use Rattle.csv.specs.Records.{fields_of}
 use Rattle.policy_file.specs.Exports.{has_change_heading, is_change_text}
-use Rattle.policy_file.proofs.StatedRows.{first_heads, none_heads}
+use Rattle.policy_file.proofs.PolicyFileRows.{first_heads, none_heads}
 use Rattle.policy_file.proofs.file.is_change.Goals as goal
 
 pub returns-then-not-branch : goal.returns-then-not-branch

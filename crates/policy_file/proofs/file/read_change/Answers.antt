@@ -2,7 +2,7 @@ use Rattle.std.proofs.Common.{◌+◌, ◌∙◌, Err, Ok, ap, arith, subst, sym
 use Rattle.policy_file.specs.declared.error.PolicyRefusal.TheVariants as why
 use Rattle.policy_rules.proofs.CallerLemmas.{fresh_edits}
 use Rattle.policy_file.specs.Exports.{IsReadUpTo, change_of, change_rows}
-use Rattle.policy_file.proofs.StatedRows.{all_fresh_edits, all_read, refused_next, repeated}
+use Rattle.policy_file.proofs.PolicyFileRows.{all_fresh_edits, all_read, refused_next, repeated}
 use Rattle.policy_file.proofs.file.read_change.Goals as goal
 
 pub returns-in-Err-Refused-clause-refused : goal.returns-in-Err-Refused-clause-refused

@@ -1,4 +1,4 @@
-use Rattle.policy_file.proofs.AddedPorts.{only_ports}
+use Rattle.policy_file.proofs.PolicyFilePorts.{only_ports}
 use Rattle.policy_file.proofs.ports.check_change_ports.Goals as goal
 
 pub returns-in-None-clause-all : goal.returns-in-None-clause-all

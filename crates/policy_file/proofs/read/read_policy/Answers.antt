@@ -1,7 +1,7 @@
 use Rattle.std.proofs.Common.{◌+◌, ◌∙◌, Err, Ok, ap, arith, subst, sym}
 use Rattle.policy_file.specs.declared.error.PolicyRefusal.TheVariants as why
 use Rattle.policy_file.specs.Exports.{IsReadUpTo, policy_of, policy_rows}
-use Rattle.policy_file.proofs.StatedRows.{all_fresh_rows, all_read, fresh_rows, refused_next, repeated}
+use Rattle.policy_file.proofs.PolicyFileRows.{all_fresh_rows, all_read, fresh_rows, refused_next, repeated}
 use Rattle.policy_file.proofs.read.read_policy.Goals as goal
 
 pub returns-in-Err-Refused-clause-refused : goal.returns-in-Err-Refused-clause-refused

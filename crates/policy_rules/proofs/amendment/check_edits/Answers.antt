@@ -1,7 +1,7 @@
 use Rattle.std.proofs.Common.{[], ◌++◌, ◌+◌, ◌∙◌, ◌∷◌, ◌≡◌, All, ap, arith, false, nat_cmp, subst, sym, take, take_all}
 use Rattle.base.proofs.Exports.{All-more, contains, not-true, take_more}
-use Rattle.policy_rules.specs.Exports.{AreDistinctEdits, AreSeen, IsSoundEdit}
-use Rattle.policy_rules.proofs.EditLists.{distinct_edits_push}
+use Rattle.policy_rules.specs.Exports.{AreDistinctEdits, AreEditsSeen, IsSoundEdit}
+use Rattle.policy_rules.proofs.AmendmentEdits.{distinct_edits_push}
 use Rattle.policy_rules.proofs.amendment.check_edits.Goals as goal
 
 pub loop-edit-preserved : goal.loop-edit-preserved
@@ -14,7 +14,7 @@ loop-edit-preserved c =
     let more : take (i + 1) edits ≡ take i edits ++ edit ∷ [] = take_more edits i edit within
     ∙ ap (λ next. take i edits ++ next ∷ []) (sym c.edit-item.is) in record {
       counts = ap (λ n. n + 1) known.counts;
-      seen = subst (AreSeen (contains nat_cmp c.is_new.new.removed)
+      seen = subst (AreEditsSeen (contains nat_cmp c.is_new.new.removed)
           (contains nat_cmp c.is_new.new.added)) (sym more)
           (c.in_ok-is_new.ensures.seen (take i edits) known.seen);
       sound = All-more IsSoundEdit edits i edit within known.sound

@@ -1,7 +1,7 @@
 use Rattle.std.proofs.Common.{[], nat_cmp}
 use Rattle.base.proofs.Exports.{contains}
-use Rattle.policy_rules.proofs.EditLists.{seen_add, seen_remove}
-use Rattle.policy_rules.proofs.PrioritySets.{set_with}
+use Rattle.policy_rules.proofs.AmendmentEdits.{seen_add, seen_remove}
+use Rattle.policy_rules.proofs.PolicyPrioritySets.{set_with}
 use Rattle.policy_rules.proofs.amendment.is_new.Goals as goal
 
 pub returns-in_ok-insert-in-Remove-clause-seen : goal.returns-in_ok-insert-in-Remove-clause-seen

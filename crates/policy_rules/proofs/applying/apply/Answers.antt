@@ -1,6 +1,6 @@
 use Rattle.std.proofs.Common.{◌+◌, ◌<◌, ◌∙◌, ◌≡◌, ◌≤◌, Err, List, Ok, ap, arith, false, le-ltb, length, lt-ltb, ltb, nat_cmp, subst, sym, rules}
 use Rattle.base.proofs.Exports.{contains, list_any}
-use Rattle.policy_rules.specs.Exports.{IsPolicy, adds_taken, amended_rows, removals, removes_absent, staying_rows}
+use Rattle.policy_rules.specs.Exports.{IsPolicy, adds_taken, amended_rows, removals, removes_absent, rows_after_removal}
 use Rattle.policy_rules.specs.declared.applying.Inapplicable.TheVariants.{TooManyRows}
 use Rattle.policy_rules.specs.declared.amendment.Edit.{Edit}
 use Rattle.policy_rules.specs.declared.policy.Row.{Row}
@@ -11,7 +11,7 @@ use Rattle.policy_rules.proofs.applying.apply.Goals.{In_ok-amended, In_ok-new, I
 -- ---- the rows that stay
 
 staying_is : (c : In_ok-amended) → c.in_ok-amended.amended.items
-    ≡ staying_rows c.args.policy.now c.args.change.now
+    ≡ rows_after_removal c.args.policy.now c.args.change.now
 staying_is c = search rules
 
 absent_is : (c : In_ok-amended) → removes_absent c.args.policy.now c.args.change.now
@@ -37,7 +37,7 @@ returns-then-rows-len-clause-refused c =
 
 taken_is : (c : In_ok-new) → adds_taken c.args.policy.now c.args.change.now
     ≡ list_any (λ (row : Row). contains nat_cmp c.in_ok-new.new row.priority)
-    (staying_rows c.args.policy.now c.args.change.now)
+    (rows_after_removal c.args.policy.now c.args.change.now)
 taken_is c = let new = contains nat_cmp c.in_ok-new.new in
     taken_by new c.args.policy.now c.args.change.now
     (rw c.added-added.ensures.rows at c.in_ok-new.ensures)
@@ -59,11 +59,11 @@ record Applies (rows : List Row) (change : List Edit) (amended : List Row) : Typ
   is : amended_rows rows change ≡ amended
 
 applies : (c : In_ok-extend_from_slice)
-    → c.in_ok-amended.amended.items ≡ staying_rows c.args.policy.now c.args.change.now
+    → c.in_ok-amended.amended.items ≡ rows_after_removal c.args.policy.now c.args.change.now
     → removes_absent c.args.policy.now c.args.change.now ≡ ltb (length c.rows-rows.result.now)
     (length c.in_ok-amended.amended.items + length c.removed-removed.result.now)
     → adds_taken c.args.policy.now c.args.change.now ≡ list_any (λ (row : Row). contains nat_cmp
-    c.in_ok-new.new row.priority) (staying_rows c.args.policy.now c.args.change.now)
+    c.in_ok-new.new row.priority) (rows_after_removal c.args.policy.now c.args.change.now)
     → Applies c.args.policy.now c.args.change.now c.extend_from_slice.new.self.items
 applies c staying absent taken = search (rules, le-ltb)
 

@@ -1,5 +1,5 @@
 use Rattle.policy_rules.proofs.AmendmentCases.{IsPolicy-applied, can_apply, rows-applied}
-use Rattle.policy_rules.proofs.TouchedHeaders.{first_match-amended, scan-apart, scan-untouched}
+use Rattle.policy_rules.proofs.AmendmentTouchedHeaders.{first_match-amended, scan-apart, scan-untouched}
 use Rattle.policy_rules.proofs.laws.amendment_laws.Goals as goal
 
 pub returns : goal.returns

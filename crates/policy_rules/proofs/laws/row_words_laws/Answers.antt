@@ -1,7 +1,7 @@
 use Rattle.std.proofs.Common.{rules}
-use Rattle.policy_rules.proofs.RuleRanks.{length-words_of_row}
-use Rattle.policy_rules.proofs.RuleLaw.{holds-words_of_row}
-use Rattle.policy_rules.proofs.RuleShape.{IsWord-words_of_row}
+use Rattle.policy_rules.proofs.PolicyRuleRanks.{length-words_of_row}
+use Rattle.policy_rules.proofs.PolicyRuleLaw.{holds-words_of_row}
+use Rattle.policy_rules.proofs.PolicyRuleShape.{IsWord-words_of_row}
 use Rattle.policy_rules.proofs.laws.row_words_laws.Goals as goal
 
 pub returns : goal.returns

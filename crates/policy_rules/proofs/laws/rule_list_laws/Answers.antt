@@ -1,6 +1,6 @@
 use Rattle.std.proofs.Common.{rules}
-use Rattle.policy_rules.proofs.RuleLaw.{first_rule-rules_of}
-use Rattle.policy_rules.proofs.RuleShape.{IsRuleList-rules_of, length-rules_of}
+use Rattle.policy_rules.proofs.PolicyRuleLaw.{first_rule-rules_of}
+use Rattle.policy_rules.proofs.PolicyRuleShape.{IsRuleList-rules_of, length-rules_of}
 use Rattle.policy_rules.proofs.laws.rule_list_laws.Goals as goal
 
 pub returns : goal.returns

@@ -2,7 +2,7 @@ use Rattle.std.proofs.Common.{[], ◌++◌, ◌∙◌, ◌∷◌, ◌≡◌, Boo
 use Rattle.std.proofs.lemmas.List.Elements.{filter_more}
 use Rattle.policy_rules.specs.Exports.{row_matches}
 use Rattle.policy_rules.specs.declared.policy.Row.{Row}
-use Rattle.policy_rules.proofs.FirstMatch.{IsBest, best_keeps, best_takes}
+use Rattle.policy_rules.proofs.PolicyFirstMatch.{IsBest, best_keeps, best_takes}
 use Rattle.policy_rules.proofs.policy.highest_match.Goals as goal
 use Rattle.policy_rules.proofs.policy.highest_match.Goals.{then-matches+then-exceeds, else-matches, else-matches-via-then-matches+else-exceeds, else-matches-via-else-matches}
 

@@ -10,4 +10,4 @@ unfolding action_of
 back number action small = search rules
 
 pub returns : goal.returns
-returns c = back c.printed_forms_are_read_back.ensures.number
+returns c = back c.printed_fields_are_read_back.ensures.number

@@ -1,7 +1,7 @@
 use Rattle.std.proofs.Common.{rules, ℕ}
 use Rattle.base.proofs.Exports.{Reverse, answers_always}
 use Rattle.policy_rules.specs.declared.policy.Row.{Row}
-use Rattle.policy_rules.proofs.FallingRows.{falling_from_sorted, same_sorted}
+use Rattle.policy_rules.proofs.PolicyFallingRows.{falling_from_sorted, same_sorted}
 use Rattle.policy_rules.proofs.rule_list.by_falling_priority.Goals as goal
 
 pub returns : goal.returns

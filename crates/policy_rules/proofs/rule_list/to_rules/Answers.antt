@@ -1,7 +1,7 @@
 use Rattle.std.proofs.Common.{◌∙◌, All, ap, arith, option_map, subst, sym}
 use Rattle.base.proofs.Exports.{All-permutation, sum_by-IsPermutation}
 use Rattle.policy_rules.specs.Exports.{IsSoundRow, by_falling_priority, first_rule, hit_of_rule, ranked_from, rules_of, with_default, word_count, word_total}
-use Rattle.policy_rules.proofs.FallingRows.{IsPermutation-by_falling_priority}
+use Rattle.policy_rules.proofs.PolicyFallingRows.{IsPermutation-by_falling_priority}
 use Rattle.policy_rules.proofs.rule_list.to_rules.Goals as goal
 
 pub list_rules-requires-clause-few : goal.list_rules-requires-clause-few
@@ -12,7 +12,7 @@ list_rules-requires-clause-few c = let rows = c.args.policy.now in
           c.rows.ensures.rows),
       sum_by-IsPermutation word_count rows (by_falling_priority rows)
           (IsPermutation-by_falling_priority rows c.rows.ensures.policy.sound),
-      c.count_words-words.ensures,
+      c.count_match_words-words.ensures,
     )
 
 pub list_rules-requires-clause-sound : goal.list_rules-requires-clause-sound

@@ -1,4 +1,4 @@
-use Rattle.rebalance.proofs.SpreadLemmas.{spread_laws_hold}
+use Rattle.rebalance.proofs.RebalanceSpread.{spread_laws_hold}
 use Rattle.rebalance.proofs.laws.spread_laws.Goals as goal
 
 pub returns : goal.returns

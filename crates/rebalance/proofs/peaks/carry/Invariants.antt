@@ -1,6 +1,6 @@
 use Rattle.std.proofs.Common.{◌<◌, ◌≡◌, get_or, length, sum_by, ℕ}
 use Rattle.base.proofs.Exports.{range_with_len}
-use Rattle.rebalance.proofs.LoadLemmas.{carried}
+use Rattle.rebalance.proofs.RebalanceLoads.{carried}
 use Rattle.rebalance.proofs.peaks.carry.Given as goal
 
 abbrev pub invariant-loop-partition : goal.invariant-loop-partition

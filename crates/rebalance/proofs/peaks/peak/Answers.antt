@@ -1,6 +1,6 @@
 use Rattle.std.proofs.Common.{◌∙◌, ◌≡◌, arith, length, refl, replicate}
 use Rattle.placement.proofs.CallerLemmas.{none_yet}
-use Rattle.rebalance.proofs.LoadLemmas.{greatest-is}
+use Rattle.rebalance.proofs.RebalanceLoads.{greatest-is}
 use Rattle.rebalance.proofs.peaks.peak.Goals as goal
 
 pub carry-requires-clause-none : goal.carry-requires-clause-none

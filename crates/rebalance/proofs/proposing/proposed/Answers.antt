@@ -1,6 +1,6 @@
 use Rattle.std.proofs.Common.{◌∙◌, ◌≡◌, ◌≤◌, ap, arith, inr}
 use Rattle.rebalance.specs.Loads.{peak}
-use Rattle.rebalance.proofs.SpreadLemmas.{kept_by_lack, kept_by_peak}
+use Rattle.rebalance.proofs.RebalanceSpread.{kept_by_lack, kept_by_peak}
 use Rattle.rebalance.proofs.proposing.proposed.Goals as goal
 
 pub returns-in_default : goal.returns-in_default

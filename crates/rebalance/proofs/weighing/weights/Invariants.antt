@@ -1,5 +1,5 @@
 use Rattle.std.proofs.Common.{◌<◌, ◌≡◌, get_or, length, take, ℕ}
-use Rattle.rebalance.proofs.WeightLemmas.{asked_count}
+use Rattle.rebalance.proofs.RebalanceWeights.{asked_count}
 use Rattle.rebalance.proofs.weighing.weights.Given as goal
 
 abbrev pub invariant-loop-item : goal.invariant-loop-item

@@ -1,4 +1,4 @@
-use Rattle.refinement.proofs.SwitchSteps.{calls_refine}
+use Rattle.refinement.proofs.RefinedSwitchSteps.{calls_refine}
 use Rattle.refinement.proofs.switch_laws.calls_are_counted.Goals as goal
 
 pub returns : goal.returns

@@ -1,4 +1,4 @@
-use Rattle.refinement.proofs.SwitchLinkChanges.{links_refine}
+use Rattle.refinement.proofs.RefinedSwitchLinks.{links_refine}
 use Rattle.refinement.proofs.switch_laws.links_change_switches.Goals as goal
 
 pub returns : goal.returns

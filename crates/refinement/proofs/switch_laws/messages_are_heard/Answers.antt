@@ -1,4 +1,4 @@
-use Rattle.refinement.proofs.DeliveredRecords.{hearing_refines}
+use Rattle.refinement.proofs.RefinedDeliveredRecords.{hearing_refines}
 use Rattle.refinement.proofs.switch_laws.messages_are_heard.Goals as goal
 
 pub returns : goal.returns

@@ -1,4 +1,4 @@
-use Rattle.refinement.proofs.SwitchLinkChanges.{lives_refine}
+use Rattle.refinement.proofs.RefinedSwitchLinks.{lives_refine}
 use Rattle.refinement.proofs.switch_laws.switches_forget.Goals as goal
 
 pub returns : goal.returns

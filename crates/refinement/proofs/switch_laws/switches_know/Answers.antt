@@ -1,4 +1,4 @@
-use Rattle.refinement.proofs.SwitchKnowledge.{knowledge_refines}
+use Rattle.refinement.proofs.RefinedSwitchKnowledge.{knowledge_refines}
 use Rattle.refinement.proofs.switch_laws.switches_know.Goals as goal
 
 pub returns : goal.returns

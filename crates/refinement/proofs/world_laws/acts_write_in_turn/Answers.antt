@@ -1,4 +1,4 @@
-use Rattle.refinement.proofs.KeptController.{posted, written_append}
+use Rattle.refinement.proofs.RefinedKeptController.{posted, written_append}
 use Rattle.refinement.proofs.world_laws.acts_write_in_turn.Goals as goal
 
 pub returns-clause-parts : goal.returns-clause-parts

@@ -1,4 +1,4 @@
-use Rattle.refinement.proofs.ControllerCalls.{begins}
+use Rattle.refinement.proofs.RefinedControllerCalls.{begins}
 use Rattle.refinement.proofs.world_laws.controllers_begin.Goals as goal
 
 pub returns : goal.returns

@@ -1,5 +1,5 @@
-use Rattle.refinement.proofs.ControllerCalls.{hears}
-use Rattle.refinement.proofs.ControllerResends.{names_there}
+use Rattle.refinement.proofs.RefinedControllerCalls.{hears}
+use Rattle.refinement.proofs.RefinedControllerResends.{names_there}
 use Rattle.refinement.proofs.world_laws.controllers_hear.Goals as goal
 
 pub returns-clause-items : goal.returns-clause-items

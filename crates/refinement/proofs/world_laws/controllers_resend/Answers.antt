@@ -1,4 +1,4 @@
-use Rattle.refinement.proofs.ControllerResends.{resends, resends_nothing, resends_some}
+use Rattle.refinement.proofs.RefinedControllerResends.{resends, resends_nothing, resends_some}
 use Rattle.refinement.proofs.world_laws.controllers_resend.Goals as goal
 
 pub returns : goal.returns

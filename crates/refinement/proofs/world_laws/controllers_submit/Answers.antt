@@ -1,4 +1,4 @@
-use Rattle.refinement.proofs.ControllerPlans.{newest_in}
+use Rattle.refinement.proofs.RefinedControllerPlans.{newest_in}
 use Rattle.refinement.proofs.RefinedSubmissions.{submits, too_many_live, too_many_versions}
 use Rattle.refinement.proofs.world_laws.controllers_submit.Goals as goal
 

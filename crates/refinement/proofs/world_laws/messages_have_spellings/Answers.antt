@@ -1,4 +1,4 @@
-use Rattle.refinement.proofs.TableSpellings.{reached_spelled}
+use Rattle.refinement.proofs.RefinedTableSpellings.{reached_spelled}
 use Rattle.refinement.proofs.world_laws.messages_have_spellings.Goals as goal
 
 pub returns : goal.returns

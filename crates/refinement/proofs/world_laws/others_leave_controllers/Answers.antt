@@ -1,4 +1,4 @@
-use Rattle.refinement.proofs.ControllerResends.{items_leave, steps_leave}
+use Rattle.refinement.proofs.RefinedControllerResends.{items_leave, steps_leave}
 use Rattle.refinement.proofs.world_laws.others_leave_controllers.Goals as goal
 
 pub returns-clause-items : goal.returns-clause-items

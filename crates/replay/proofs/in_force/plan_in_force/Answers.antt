@@ -1,15 +1,15 @@
 use Rattle.std.proofs.Common.{◌∙◌, Some, ap, subst, sym}
 use Rattle.control_laws.specs.Exports.{MarksAreBounded, VersionsArePlanned}
 use Rattle.controller.specs.Exports.{current_plan}
-use Rattle.world.specs.Exports.{setting_at}
-use Rattle.replay.proofs.PlanInForce.{kept_in_force}
+use Rattle.world.specs.Exports.{world_setting_at}
+use Rattle.replay.proofs.ReplayPlanInForce.{kept_in_force}
 use Rattle.replay.proofs.ReplayedWorld.{tie_of}
 use Rattle.replay.proofs.in_force.plan_in_force.Goals as goal
 
 pub returns : goal.returns
 returns c =
     let world = c.args.world.now in
-    let setting = setting_at world in
+    let setting = world_setting_at world in
     let tie = tie_of world (c.refines.ensures c.requires) in
     let bounds : MarksAreBounded setting world.journal =
     subst (MarksAreBounded setting) (sym tie.reached.written)

@@ -1,14 +1,14 @@
-use Rattle.world.specs.Exports.{setting_at}
+use Rattle.world.specs.Exports.{world_setting_at}
 use Rattle.std.proofs.Common.{[], ◌+◌, ◌∙◌, ◌≡◌, Err, List, None, Some, ap, arith, map, refl, subst, sym}
 use Rattle.base.proofs.Exports.{drop_all}
 use Rattle.update_machine.specs.Exports.{Item, next_packet}
 use Rattle.meters.specs.Exports.{BoardValue, Seen, board_after, seen_board}
 use Rattle.update_machine.proofs.Exports.{start_laws}
 use Rattle.replay.specs.Leavings.{left_in}
-use Rattle.replay.proofs.AskedStep.{brought_few}
-use Rattle.replay.proofs.EventPlays.{PlaysOn, plays_from_start, plays_no_more, plays_on_by, stops_by}
+use Rattle.replay.proofs.ReplayAskedStep.{brought_few}
+use Rattle.replay.proofs.ReplayEventPlays.{PlaysOn, plays_from_start, plays_no_more, plays_on_by, stops_by}
 use Rattle.replay.specs.InForce.{IsPlanInForce}
-use Rattle.replay.proofs.BoardKept.{kept_up}
+use Rattle.replay.proofs.ReplayBoard.{kept_up}
 use Rattle.replay.proofs.ReplayedWorld.{tie_of}
 use Rattle.replay.proofs.playing.play.Goals as goal
 use Rattle.replay.proofs.playing.play.Given.{Over}
@@ -31,7 +31,7 @@ loop-event-init g c =
         start_laws.packets,
       );
       plays_on = λ whole stop rest.
-          subst (λ journal. PlaysOn (setting_at world) journal 1 c.args.events.now whole stop)
+          subst (λ journal. PlaysOn (world_setting_at world) journal 1 c.args.events.now whole stop)
           begun.silent rest;
       board = board_is (seen_board g.M.Meter.seen c.new-board.result)
           (board_after c.args.ports [] (map g.M.Meter.seen c.args.meters.items))
@@ -46,8 +46,8 @@ loop-event-preserved g c = let so_far = c.loop-event.invariant in record {
   setting = c.in-Ok.ensures.setting ∙ so_far.setting;
   able = c.in-Ok.ensures.able;
   packets = omega (arith, c.in-Ok.ensures.packets, brought_few, so_far.packets);
-  plays_on = λ whole stop rest. so_far.plays_on whole stop (plays_on_by (setting_at c.args.world)
-      c.loop-event.world.journal c.take_steps.new.world.journal whole
+  plays_on = λ whole stop rest. so_far.plays_on whole stop (plays_on_by (world_setting_at c.args.world)
+      c.loop-event.world.journal c.take_event_steps.new.world.journal whole
       (c.loop-event.row + 1) c.args.events.now c.loop-event.event-index _ stop
       c.loop-event-test.true (rw so_far.setting at c.in-Ok.ensures.happens) rest);
   board = kept_up _ _ _ _ c.args.ports (map g.M.Meter.seen c.args.meters.items)
@@ -56,10 +56,10 @@ loop-event-preserved g c = let so_far = c.loop-event.invariant in record {
 
 pub returns-in-Err-Refused-clause-play : goal.returns-in-Err-Refused-clause-play
 returns-in-Err-Refused-clause-play g c =
-    let setting = setting_at c.args.world in
+    let setting = world_setting_at c.args.world in
     let so_far = c.loop-event.invariant in
     let row = c.loop-event.row + 1 in
-    let after = c.take_steps.new.world.journal in
+    let after = c.take_event_steps.new.world.journal in
     let stops = rw so_far.setting at c.in-Err-Refused.ensures.stops (ap Err c.in-Err-Refused.field-0-is)
     in
     rw (c.ended.ensures.journal, c.ended.ensures.full)
@@ -69,7 +69,7 @@ returns-in-Err-Refused-clause-play g c =
 
 pub returns-clause-play : goal.returns-clause-play
 returns-clause-play g c =
-    let setting = setting_at c.args.world in
+    let setting = world_setting_at c.args.world in
     let journal = c.loop-event.world.journal in
     let row = c.loop-event.row + 1 in
     let none = drop_all c.loop-event.event-index c.args.events.now c.loop-event-test.false in
@@ -80,8 +80,8 @@ returns-clause-play g c =
 
 -- a full journal's board is the one that it says
 full_board : (g : Over) (c : goal.After-ended g)
-    → seen_board g.M.Meter.seen c.take_steps.new.board ≡ board_after c.args.ports
-    (left_in c.take_steps.new.world.journal) (map g.M.Meter.seen c.args.meters.items)
+    → seen_board g.M.Meter.seen c.take_event_steps.new.board ≡ board_after c.args.ports
+    (left_in c.take_event_steps.new.world.journal) (map g.M.Meter.seen c.args.meters.items)
 full_board g c = kept_up _ _ _ _ c.args.ports (map g.M.Meter.seen c.args.meters.items)
     (c.in-Err-Refused.ensures.kept_full (ap Err c.in-Err-Refused.field-0-is))
     c.loop-event.invariant.board
@@ -103,13 +103,13 @@ returns-clause-gone g c = rw (c.ended-2.ensures.journal, c.ended-2.ensures.gone)
     (ap (λ (board : BoardValue Seen). board.gone) c.loop-event.invariant.board)
 
 pub returns-in-Err-Refused-clause-held : goal.returns-in-Err-Refused-clause-held
-returns-in-Err-Refused-clause-held g c = c.plays_held_on_the_way.ensures (setting_at c.args.world)
+returns-in-Err-Refused-clause-held g c = c.plays_held_on_the_way.ensures (world_setting_at c.args.world)
     c.args.events.now c.ended.result.journal c.ended.result.full
     (tie_of c.args.world (c.refines.ensures c.requires.begun.able)).sound c.requires.events
     (returns-in-Err-Refused-clause-play g c)
 
 pub returns-clause-held : goal.returns-clause-held
-returns-clause-held g c = c.plays_held_on_the_way.ensures (setting_at c.args.world)
+returns-clause-held g c = c.plays_held_on_the_way.ensures (world_setting_at c.args.world)
     c.args.events.now c.ended-2.result.journal c.ended-2.result.full
     (tie_of c.args.world (c.refines.ensures c.requires.begun.able)).sound c.requires.events
     (returns-clause-play g c)
@@ -118,7 +118,7 @@ pub returns-in-Err-Refused-clause-plan : goal.returns-in-Err-Refused-clause-plan
 returns-in-Err-Refused-clause-plan g c =
     let same = c.in-Err-Refused.ensures.setting ∙ c.loop-event.invariant.setting in
     rw (c.ended.ensures.journal, c.ended.ensures.plan)
-    (subst (λ setting. IsPlanInForce setting c.take_steps.new.world.journal c.in_ok-plan-in-Err-Refused.plan) same
+    (subst (λ setting. IsPlanInForce setting c.take_event_steps.new.world.journal c.in_ok-plan-in-Err-Refused.plan) same
     c.in_ok-plan-in-Err-Refused.ensures)
 
 pub returns-clause-plan : goal.returns-clause-plan

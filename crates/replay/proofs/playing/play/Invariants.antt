@@ -1,20 +1,20 @@
-use Rattle.world.specs.Exports.{setting_at}
+use Rattle.world.specs.Exports.{world_setting_at}
 use Rattle.std.proofs.Common.{[], ◌+◌, ◌≡◌, ◌≤◌, List, Option, drop, false, map, ℕ}
 use Rattle.update_machine.specs.Exports.{Item}
 use Rattle.meters.specs.Exports.{board_after, seen_board}
 use Rattle.replay.specs.Leavings.{left_in}
-use Rattle.replay.proofs.EventPlays.{PlaysOn}
+use Rattle.replay.proofs.ReplayEventPlays.{PlaysOn}
 use Rattle.replay.proofs.playing.play.Given as goal
 
 abbrev pub invariant-loop-event : goal.invariant-loop-event
 invariant-loop-event g l = record {
   rows : l.row ≡ l.event-index;
-  setting : setting_at l.world ≡ setting_at l.fn.world;
+  setting : world_setting_at l.world ≡ world_setting_at l.fn.world;
   able : l.world.is_spent ≡ false;
   packets : l.world.packets ≤ l.row;
   plays_on : (whole : List Item) (stop : Option ℕ)
-      → PlaysOn (setting_at l.fn.world) l.world.journal (l.row + 1) (drop l.event-index l.events) whole
-      stop → PlaysOn (setting_at l.fn.world) [] 1 l.events whole stop;
+      → PlaysOn (world_setting_at l.fn.world) l.world.journal (l.row + 1) (drop l.event-index l.events) whole
+      stop → PlaysOn (world_setting_at l.fn.world) [] 1 l.events whole stop;
   board : seen_board g.M.Meter.seen l.board
       ≡ board_after l.fn.ports (left_in l.world.journal) (map g.M.Meter.seen l.fn.meters.items);
 }

@@ -1,4 +1,4 @@
-use Rattle.schedule.proofs.LoadCases.{case_playable}
+use Rattle.schedule.proofs.LoadCaseDraws.{case_playable}
 use Rattle.schedule.proofs.case.load_case.Goals as goal
 
 pub returns-clause-playable : goal.returns-clause-playable

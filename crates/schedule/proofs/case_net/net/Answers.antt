@@ -1,6 +1,6 @@
 use Rattle.std.proofs.Common.{subst, sym}
 use Rattle.net_file.specs.Exports.{IsNet}
-use Rattle.schedule.proofs.CaseNetworks.{load_net_sound}
+use Rattle.schedule.proofs.LoadCaseNetworks.{load_net_sound}
 use Rattle.schedule.proofs.case_net.net.Goals as goal
 
 pub returns-clause-sound : goal.returns-clause-sound

@@ -1,6 +1,6 @@
 use Rattle.std.proofs.Common.{ap, arith, length, subst}
 use Rattle.policy_rules.specs.Exports.{IsFirstRepeat}
-use Rattle.schedule.proofs.LoadCases.{no_repeat, rows_count}
+use Rattle.schedule.proofs.LoadCaseDraws.{no_repeat, rows_count}
 use Rattle.schedule.proofs.case_policies.policy.Goals as goal
 
 pub new-requires : goal.new-requires

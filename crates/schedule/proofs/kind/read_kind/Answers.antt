@@ -1,7 +1,7 @@
 use Rattle.std.proofs.Common.{◌∙◌, ap, sym}
 use Rattle.base.proofs.Exports.{bytes_eq-Decides}
 use Rattle.schedule.specs.Kinds.{kind_of, keyword_of}
-use Rattle.schedule.proofs.KindKeywords.{kind_back}
+use Rattle.schedule.proofs.ScheduleKeywords.{kind_back}
 use Rattle.schedule.proofs.kind.read_kind.Goals as goal
 
 pub returns-in-Some : goal.returns-in-Some

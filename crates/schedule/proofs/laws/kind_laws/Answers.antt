@@ -1,4 +1,4 @@
-use Rattle.schedule.proofs.KindKeywords.{kind_back, keyword_back}
+use Rattle.schedule.proofs.ScheduleKeywords.{kind_back, keyword_back}
 use Rattle.schedule.proofs.laws.kind_laws.Goals as goal
 
 pub returns : goal.returns

@@ -1,6 +1,6 @@
 use Rattle.csv_records.specs.Texts.{records_of}
 use Rattle.schedule.specs.Reading.{schedule_of}
-use Rattle.schedule.proofs.SoundEvents.{text_sound}
+use Rattle.schedule.proofs.ScheduleSoundEvents.{text_sound}
 use Rattle.schedule.proofs.laws.schedule_laws.Goals as goal
 
 pub returns : goal.returns

@@ -1,6 +1,6 @@
 use Rattle.std.proofs.Common.{◌-◌, ◌≡◌, ◌≤◌, length}
 use Rattle.schedule.specs.Reading.{schedule_of}
-use Rattle.schedule.proofs.RowsInTurn.{goes_on}
+use Rattle.schedule.proofs.ScheduleRowsInTurn.{goes_on}
 use Rattle.schedule.proofs.read.read_schedule.Given as goal
 
 -- what is left gives what the whole text gives

@@ -1,5 +1,5 @@
 use Rattle.std.proofs.Common.{◌-◌, ap, arith, length, length-drop, length-take, ℕ}
-use Rattle.shelf.proofs.PieceWrites.{gained_more}
+use Rattle.shelf.proofs.SinkPieceWrites.{gained_more}
 use Rattle.shelf.proofs.output.write_whole.Goals as goal
 
 pub loop-written-preserved : goal.loop-written-preserved

@@ -1,5 +1,5 @@
 use Rattle.std.proofs.Common.{◌∙◌, sym}
-use Rattle.switch_core.proofs.NeighbourBodies.{told_all, told_none}
+use Rattle.switch_core.proofs.SwitchNeighbourBodies.{told_all, told_none}
 use Rattle.switch_core.proofs.hearing.flood.Goals as goal
 
 pub loop-other-init : goal.loop-other-init

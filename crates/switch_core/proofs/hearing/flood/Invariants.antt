@@ -1,6 +1,6 @@
 use Rattle.std.proofs.Common.{◌≡◌}
 use Rattle.ctrl_msg.specs.declared.message.Body.TheVariants.{Advertise}
-use Rattle.switch_core.proofs.NeighbourBodies.{told}
+use Rattle.switch_core.proofs.SwitchNeighbourBodies.{told}
 use Rattle.switch_core.proofs.hearing.flood.Given as goal
 
 abbrev pub invariant-loop-other : goal.invariant-loop-other

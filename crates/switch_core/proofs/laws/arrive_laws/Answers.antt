@@ -1,5 +1,5 @@
 use Rattle.switch_core.proofs.SwitchArrivals.{arrive_anew, arrive_held, arrive_out}
-use Rattle.switch_core.proofs.OnlyAnswers.{one_arrival}
+use Rattle.switch_core.proofs.SwitchOnlyAnswers.{one_arrival}
 use Rattle.switch_core.proofs.laws.arrive_laws.Goals as goal
 
 pub returns : goal.returns

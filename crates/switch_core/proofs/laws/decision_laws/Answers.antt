@@ -1,4 +1,4 @@
-use Rattle.switch_core.proofs.PolicyDecisions.{decided_on_arrival, decided_on_entry, decides_as_policy}
+use Rattle.switch_core.proofs.SwitchDecisions.{decided_on_arrival, decided_on_entry, decides_as_policy}
 use Rattle.switch_core.proofs.laws.decision_laws.Goals as goal
 
 pub returns : goal.returns

@@ -1,5 +1,5 @@
 use Rattle.switch_core.proofs.SwitchArrivals.{entry_is}
-use Rattle.switch_core.proofs.OnlyAnswers.{one_entry}
+use Rattle.switch_core.proofs.SwitchOnlyAnswers.{one_entry}
 use Rattle.switch_core.proofs.laws.enter_laws.Goals as goal
 
 pub returns : goal.returns

@@ -1,5 +1,5 @@
-use Rattle.switch_core.proofs.LeavingPackets.{next_dropped, next_exit, next_no_owner, next_out}
-use Rattle.switch_core.proofs.OnlyAnswers.{one_way_on}
+use Rattle.switch_core.proofs.SwitchLeavings.{next_dropped, next_exit, next_no_owner, next_out}
+use Rattle.switch_core.proofs.SwitchOnlyAnswers.{one_way_on}
 use Rattle.switch_core.proofs.laws.exit_laws.Goals as goal
 
 pub returns : goal.returns

@@ -1,5 +1,5 @@
 use Rattle.switch_core.proofs.SwitchHops.{down_is, hop_arrives, hop_ends, hop_moves, hop_same, hop_stands, hop_stays, hop_stuck, hop_turns, hop_usable}
-use Rattle.switch_core.proofs.OnlyAnswers.{one_hop}
+use Rattle.switch_core.proofs.SwitchOnlyAnswers.{one_hop}
 use Rattle.switch_core.proofs.laws.hop_laws.Goals as goal
 
 pub returns : goal.returns

@@ -1,5 +1,5 @@
-use Rattle.switch_core.proofs.LookupAnswers.{lookup_is}
-use Rattle.switch_core.proofs.OnlyAnswers.{one_answer}
+use Rattle.switch_core.proofs.SwitchLookupAnswers.{lookup_is}
+use Rattle.switch_core.proofs.SwitchOnlyAnswers.{one_answer}
 use Rattle.switch_core.proofs.laws.lookup_laws.Goals as goal
 
 pub returns : goal.returns

@@ -1,5 +1,5 @@
 use Rattle.switch_core.proofs.SwitchLaws.{stuck_without_route, no_authority_left, own_first, heard_keeps, not_obeyed}
-use Rattle.switch_core.proofs.HeardState.{held_once_installed, held_once_collected, stamp_once_raised, stamp_once_told, database_once_informed}
+use Rattle.switch_core.proofs.SwitchHeardState.{held_once_installed, held_once_collected, stamp_once_raised, stamp_once_told, database_once_informed}
 use Rattle.switch_core.proofs.laws.switch_laws.Goals as goal
 
 pub returns : goal.returns

@@ -1,5 +1,5 @@
 use Rattle.switch_table.proofs.CacheLemmas.{cache_accepted, cache_begun, cache_cleared, cache_expired, cache_raised}
-use Rattle.switch_table.proofs.CarryLemmas.{cache_carried}
+use Rattle.switch_table.proofs.CacheCarryLemmas.{cache_carried}
 use Rattle.switch_table.proofs.cache.cache_laws.Goals as goal
 
 pub returns : goal.returns

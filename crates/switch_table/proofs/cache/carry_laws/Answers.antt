@@ -1,4 +1,4 @@
-use Rattle.switch_table.proofs.CarryLemmas.{all_carried, only_carried, untouched_stays}
+use Rattle.switch_table.proofs.CacheCarryLemmas.{all_carried, only_carried, untouched_stays}
 use Rattle.switch_table.proofs.cache.carry_laws.Goals as goal
 
 pub returns : goal.returns

@@ -1,5 +1,5 @@
 use Rattle.std.proofs.Common.{◌*◌, ◌≤◌, arith, subst, sym}
-use Rattle.switch_table.proofs.LiveLemmas.{filled}
+use Rattle.switch_table.proofs.CacheLiveCounts.{filled}
 use Rattle.switch_table.proofs.live.fill.Goals as goal
 
 pub returns : goal.returns

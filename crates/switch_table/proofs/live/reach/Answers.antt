@@ -1,4 +1,4 @@
-use Rattle.switch_table.proofs.LiveLemmas.{grown}
+use Rattle.switch_table.proofs.CacheLiveCounts.{grown}
 use Rattle.switch_table.proofs.live.reach.Goals as goal
 
 pub loop-counts-preserved : goal.loop-counts-preserved

@@ -1,5 +1,5 @@
 use Rattle.std.proofs.Common.{ap, arith, length}
-use Rattle.switch_table.proofs.TableLemmas.{place_fits}
+use Rattle.switch_table.proofs.SwitchTableLemmas.{place_fits}
 use Rattle.switch_table.proofs.search.authority.Goals as goal
 
 pub overflow_cast-result : goal.overflow_cast-result

@@ -2,7 +2,7 @@ use Rattle.std.proofs.Common.{◌∙◌, ◌≡◌, Some, ap, find}
 use Rattle.ternary.specs.Exports.{holds}
 use Rattle.policy_rules.specs.Exports.{is_in}
 use Rattle.policy_rules.specs.declared.rules.Partition.{Partition}
-use Rattle.switch_table.proofs.TableLemmas.{own_found}
+use Rattle.switch_table.proofs.SwitchTableLemmas.{own_found}
 use Rattle.switch_table.proofs.search.lookup.Goals as goal
 
 pub authority-requires : goal.authority-requires

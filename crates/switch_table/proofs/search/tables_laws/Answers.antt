@@ -1,4 +1,4 @@
-use Rattle.switch_table.proofs.TableLemmas.{auth_decides, tables_are_sound, tables_lead, tables_planned}
+use Rattle.switch_table.proofs.SwitchTableLemmas.{auth_decides, tables_are_sound, tables_lead, tables_planned}
 use Rattle.switch_table.proofs.search.tables_laws.Goals as goal
 
 pub returns : goal.returns

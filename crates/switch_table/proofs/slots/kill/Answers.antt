@@ -1,4 +1,4 @@
-use Rattle.switch_table.proofs.SlotRemoveLemmas.{set_at_killed}
+use Rattle.switch_table.proofs.CacheSlotRemovals.{set_at_killed}
 use Rattle.switch_table.proofs.slots.kill.Goals as goal
 
 pub returns-in-Some : goal.returns-in-Some

@@ -1,5 +1,5 @@
 use Rattle.std.proofs.Common.{arith}
-use Rattle.table_tree.proofs.TreeBitMasks.{lowest_of}
+use Rattle.table_tree.proofs.TableTreeMasks.{lowest_of}
 use Rattle.table_tree.proofs.bits.lowest.Goals as goal
 
 pub returns-else-bits-eq0-clause-some : goal.returns-else-bits-eq0-clause-some

@@ -1,6 +1,6 @@
 use Rattle.std.proofs.Common.{◌∙◌, sym}
 use Rattle.table_tree.specs.Regions.{candidate_meets}
-use Rattle.table_tree.proofs.NodeLemmas.{kept_more}
+use Rattle.table_tree.proofs.TableTreeNodes.{kept_more}
 use Rattle.table_tree.proofs.node.meeting.Goals as goal
 
 pub loop-candidate-preserved : goal.loop-candidate-preserved

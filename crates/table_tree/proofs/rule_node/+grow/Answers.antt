@@ -1,6 +1,6 @@
 use Rattle.std.proofs.Common.{◌∙◌, ap, map, sym}
 use Rattle.table_tree.specs.LookupTrees.{Leaf}
-use Rattle.table_tree.proofs.RuleTreeLemmas.{rank_of, within_cut, within_end}
+use Rattle.table_tree.proofs.TableTreeRules.{rank_of, within_cut, within_end}
 use Rattle.table_tree.proofs.rule_node.+grow.Goals as goal
 
 pub returns-in_default : goal.returns-in_default

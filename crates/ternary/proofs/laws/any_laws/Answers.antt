@@ -1,6 +1,6 @@
 use Rattle.std.proofs.Common.{arith, refl}
-use Rattle.ternary.proofs.WordLemmas.{any_holds}
-use Rattle.ternary.proofs.FreeBits.{any_unfixed}
+use Rattle.ternary.proofs.TernaryWords.{any_holds}
+use Rattle.ternary.proofs.TernaryFreeBits.{any_unfixed}
 use Rattle.ternary.proofs.laws.any_laws.Goals as goal
 
 pub returns : goal.returns

@@ -1,4 +1,4 @@
-use Rattle.ternary.proofs.WordLemmas.{covers_decides, covers_held, covers_reflexive, covers_transitive, covers_antisymmetric, any_covers, covers_exact, covers_full}
+use Rattle.ternary.proofs.TernaryWords.{covers_decides, covers_held, covers_reflexive, covers_transitive, covers_antisymmetric, any_covers, covers_exact, covers_full}
 use Rattle.ternary.proofs.laws.covers_laws.Goals as goal
 
 pub returns : goal.returns

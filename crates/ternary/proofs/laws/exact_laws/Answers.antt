@@ -1,5 +1,5 @@
-use Rattle.ternary.proofs.WordLemmas.{exact_holds, exact_is_word}
-use Rattle.ternary.proofs.FreeBits.{exact_fixed}
+use Rattle.ternary.proofs.TernaryWords.{exact_holds, exact_is_word}
+use Rattle.ternary.proofs.TernaryFreeBits.{exact_fixed}
 use Rattle.ternary.proofs.laws.exact_laws.Goals as goal
 
 pub returns : goal.returns

@@ -1,4 +1,4 @@
-use Rattle.ternary.proofs.WordLemmas.{fix_holds, halves_split, halves_apart, fix_within, fix_word, fix_fixed, fix_other, held_admits, meets_half, covers_half}
+use Rattle.ternary.proofs.TernaryWords.{fix_holds, halves_split, halves_apart, fix_within, fix_word, fix_fixed, fix_other, held_admits, meets_half, covers_half}
 use Rattle.ternary.proofs.laws.fix_laws.Goals as goal
 
 pub returns : goal.returns

@@ -1,4 +1,4 @@
-use Rattle.ternary.proofs.FreeBits.{free_bits_member, free_bits_ascending, any_free_bits, exact_free_bits, free_bits_fixed, free_bits_shorter}
+use Rattle.ternary.proofs.TernaryFreeBits.{free_bits_member, free_bits_ascending, any_free_bits, exact_free_bits, free_bits_fixed, free_bits_shorter}
 use Rattle.ternary.proofs.laws.free_bits_laws.Goals as goal
 
 pub returns : goal.returns

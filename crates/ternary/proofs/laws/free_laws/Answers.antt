@@ -1,5 +1,5 @@
-use Rattle.ternary.proofs.WordLemmas.{free_holds, free_wider, free_monotone, free_word, free_free, free_other}
-use Rattle.ternary.proofs.FreedBits.{free_unfixed, free_fix, fix_free, meets_bit, covers_bit, meets_others, covers_others, meets_freed, covers_freed, freed_covered}
+use Rattle.ternary.proofs.TernaryWords.{free_holds, free_wider, free_monotone, free_word, free_free, free_other}
+use Rattle.ternary.proofs.TernaryFreedBits.{free_unfixed, free_fix, fix_free, meets_bit, covers_bit, meets_others, covers_others, meets_freed, covers_freed, freed_covered}
 use Rattle.ternary.proofs.laws.free_laws.Goals as goal
 
 pub returns : goal.returns

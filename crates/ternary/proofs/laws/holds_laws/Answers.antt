@@ -1,4 +1,4 @@
-use Rattle.ternary.proofs.WordLemmas.{holds_decides, holds_value, value_below, same_headers, word_eq_decides}
+use Rattle.ternary.proofs.TernaryWords.{holds_decides, holds_value, value_below, same_headers, word_eq_decides}
 use Rattle.ternary.proofs.laws.holds_laws.Goals as goal
 
 pub returns : goal.returns

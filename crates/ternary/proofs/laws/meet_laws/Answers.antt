@@ -1,4 +1,4 @@
-use Rattle.ternary.proofs.WordLemmas.{meets_decides, meet_both, meet_disjoint, meet_is_some, meet_word, meet_covered, covers_reflexive, meets_comm, meet_comm, meet_assoc, meet_any, meet_exact, meet_within, meet_greatest, meets_cover, meet_monotone, meet_narrowed}
+use Rattle.ternary.proofs.TernaryWords.{meets_decides, meet_both, meet_disjoint, meet_is_some, meet_word, meet_covered, covers_reflexive, meets_comm, meet_comm, meet_assoc, meet_any, meet_exact, meet_within, meet_greatest, meets_cover, meet_monotone, meet_narrowed}
 use Rattle.ternary.proofs.laws.meet_laws.Goals as goal
 
 pub returns : goal.returns

@@ -1,10 +1,10 @@
 use Rattle.std.proofs.Common.{[], ◌∙◌, ap, arith, length, subst, sym}
-use Rattle.trace_audit.specs.Exports.{IsAuditVerdict, IsLineRead, Open, Whole, lines_of, state_seen}
+use Rattle.trace_audit.specs.Exports.{IsAuditVerdict, IsLineRead, Open, Whole, lines_of, trace_state_seen}
 use Rattle.trace_audit.specs.declared.trace.Verdict.TheVariants.{No, Yes}
-use Rattle.trace_audit.proofs.KnownPackets.{verdict_justified}
-use Rattle.trace_audit.proofs.TraceLines.{lines_next, lines_nil, lines_open}
-use Rattle.trace_audit.proofs.TraceRuns.{verdict_run}
-use Rattle.trace_audit.proofs.TraceVerdicts.{IsSoFar, all_good, bad_here, good_here, nil_left, some_left, verdict_exact}
+use Rattle.trace_audit.proofs.AuditKnownPackets.{verdict_justified}
+use Rattle.trace_audit.proofs.AuditTraceLines.{lines_next, lines_nil, lines_open}
+use Rattle.trace_audit.proofs.AuditTraceRuns.{verdict_run}
+use Rattle.trace_audit.proofs.AuditVerdicts.{IsSoFar, all_good, bad_here, good_here, nil_left, some_left, verdict_exact}
 use Rattle.trace_audit.proofs.trace.audit.Goals as goal
 
 pub returns-in-None : goal.returns-in-None
@@ -13,8 +13,8 @@ returns-in-None c =
     let lines = lines_of c.args.trace.now in
     let verdict = No c.saturating_add-line.result in
     let is : IsAuditVerdict c.args.files.now lines verdict =
-    bad_here c.args.files.now c.args.trace.now rest c.loop-rest.line (state_seen c.loop-rest.auditor)
-    (Open rest) [] c.files_are_sound.ensures c.loop-rest.invariant
+    bad_here c.args.files.now c.args.trace.now rest c.loop-rest.line (trace_state_seen c.loop-rest.auditor)
+    (Open rest) [] c.audited_files_are_sound.ensures c.loop-rest.invariant
     (lines_open rest (some_left rest (sym c.is_empty.ensures ∙ c.loop-rest-test.true))
     c.in-None.ensures) (λ other r. absurd r) _ c.saturating_add-line.ensures in record {
       verdict = is;
@@ -29,11 +29,11 @@ returns-then-not-good c =
     let lines = lines_of c.args.trace.now in
     let verdict = No c.saturating_add-line.result in
     let is : IsAuditVerdict c.args.files.now lines verdict = bad_here c.args.files.now
-    c.args.trace.now rest c.loop-rest.line (state_seen c.loop-rest.auditor)
-    (Whole c.in-Some.text.now) (lines_of c.in-Some.next.now) c.files_are_sound.ensures
+    c.args.trace.now rest c.loop-rest.line (trace_state_seen c.loop-rest.auditor)
+    (Whole c.in-Some.text.now) (lines_of c.in-Some.next.now) c.audited_files_are_sound.ensures
     c.loop-rest.invariant (lines_next rest c.in-Some.text.now c.in-Some.next.now c.in-Some.ensures)
-    (subst (λ good. IsLineRead c.args.files.now (state_seen c.loop-rest.auditor)
-    (Whole c.in-Some.text.now) (state_seen c.take_line.new.auditor) good) c.if-not-good.true
+    (subst (λ good. IsLineRead c.args.files.now (trace_state_seen c.loop-rest.auditor)
+    (Whole c.in-Some.text.now) (trace_state_seen c.take_trace_line.new.auditor) good) c.if-not-good.true
     c.in_ok-good-in-Some.ensures) _ c.saturating_add-line.ensures in record {
       verdict = is;
       exactly = verdict_exact c.args.files.now lines verdict is;
@@ -51,7 +51,7 @@ loop-rest-smaller c = omega (
 pub loop-rest-preserved : goal.loop-rest-preserved
 loop-rest-preserved c = let rest = c.loop-rest.rest.now in
     good_here c.args.files.now c.args.trace.now rest c.in-Some.next.now c.loop-rest.line
-    (state_seen c.loop-rest.auditor) (state_seen c.take_line.new.auditor)
+    (trace_state_seen c.loop-rest.auditor) (trace_state_seen c.take_trace_line.new.auditor)
     (Whole c.in-Some.text.now) c.loop-rest.invariant
     (lines_next rest c.in-Some.text.now c.in-Some.next.now c.in-Some.ensures)
     (rw c.if-not-good.false at c.in_ok-good-in-Some.ensures) _ c.saturating_add-line.ensures
@@ -61,8 +61,8 @@ returns c =
     let rest = c.loop-rest.rest.now in
     let lines = lines_of c.args.trace.now in
     let is : IsAuditVerdict c.args.files.now lines Yes = all_good c.args.files.now c.args.trace.now
-    c.loop-rest.line (state_seen c.loop-rest.auditor) lines_nil (subst (λ left. IsSoFar
-    c.args.files.now c.args.trace.now left c.loop-rest.line (state_seen c.loop-rest.auditor))
+    c.loop-rest.line (trace_state_seen c.loop-rest.auditor) lines_nil (subst (λ left. IsSoFar
+    c.args.files.now c.args.trace.now left c.loop-rest.line (trace_state_seen c.loop-rest.auditor))
     (nil_left rest (sym c.is_empty.ensures ∙ c.loop-rest-test.false)) c.loop-rest.invariant) in
     record {
       verdict = is;

@@ -1,10 +1,10 @@
 use Rattle.std.proofs.Common.{length}
-use Rattle.trace_audit.specs.Exports.{lines_of, state_seen}
-use Rattle.trace_audit.proofs.TraceVerdicts.{IsSoFar}
+use Rattle.trace_audit.specs.Exports.{lines_of, trace_state_seen}
+use Rattle.trace_audit.proofs.AuditVerdicts.{IsSoFar}
 use Rattle.trace_audit.proofs.trace.audit.Given as goal
 
 abbrev pub invariant-loop-rest : goal.invariant-loop-rest
-invariant-loop-rest l = IsSoFar l.fn.files l.fn.trace l.rest l.line (state_seen l.auditor)
+invariant-loop-rest l = IsSoFar l.fn.files l.fn.trace l.rest l.line (trace_state_seen l.auditor)
 
 abbrev pub decreases-loop-rest : goal.decreases-loop-rest
 decreases-loop-rest l = length (lines_of l.rest)

@@ -1,6 +1,6 @@
 use Rattle.std.proofs.Common.{◌∙◌, ◌∷◌, ◌≡◌, ap, arith, get_or, length, length-append, refl, subst, take, take_all}
 use Rattle.base.proofs.Exports.{get_or_append_left, get_or_at, take_rest}
-use Rattle.trace_audit.proofs.FirstWords.{not_begun, word_before}
+use Rattle.trace_audit.proofs.AuditFirstWords.{not_begun, word_before}
 use Rattle.trace_audit.proofs.words.after.Goals as goal
 
 pub returns-then-text-word : goal.returns-then-text-word

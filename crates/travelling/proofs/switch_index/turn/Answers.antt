@@ -1,6 +1,6 @@
 use Rattle.std.proofs.Common.{◌*◌, ◌+◌, ◌/◌, ◌<◌, ◌∙◌, ◌≡◌, arith, get_or, length}
 use Rattle.base.proofs.Exports.{get_or_default_zero}
-use Rattle.travelling.proofs.StandingMasks.{changes, turns}
+use Rattle.travelling.proofs.TravellingMasks.{changes, turns}
 use Rattle.travelling.proofs.switch_index.turn.Goals as goal
 use Rattle.travelling.proofs.switch_index.turn.Goals.{After-index-old}
 

@@ -1,5 +1,5 @@
 use Rattle.std.proofs.Common.{arith}
-use Rattle.travelling.proofs.PacketTable.{pushed_same}
+use Rattle.travelling.proofs.TravellingTable.{pushed_same}
 use Rattle.travelling.proofs.travelling.make_room.Goals as goal
 
 pub loop-slots-preserved : goal.loop-slots-preserved

@@ -1,4 +1,4 @@
-use Rattle.update_machine.proofs.PacketNumbering.{begun_is_numbered}
+use Rattle.update_machine.proofs.JournalItemNumbers.{begun_is_numbered}
 use Rattle.update_machine.proofs.laws.answers_are_numbered.Goals as goal
 
 pub returns : goal.returns

@@ -1,5 +1,5 @@
-use Rattle.update_machine.proofs.FirstSteps.{one_answer, one_by_steps}
-use Rattle.update_machine.proofs.SomePlay.{answers_so_far, begins_itself}
+use Rattle.update_machine.proofs.JournalFirstSteps.{one_answer, one_by_steps}
+use Rattle.update_machine.proofs.JournalSomePlay.{answers_so_far, begins_itself}
 use Rattle.update_machine.proofs.laws.answers_are_one.Goals as goal
 
 pub returns : goal.returns

@@ -1,4 +1,4 @@
-use Rattle.update_machine.proofs.AnswerExistence.{answer_goes_on, answered_where, steps_answered}
+use Rattle.update_machine.proofs.JournalAnswerExistence.{answer_goes_on, answered_where, steps_answered}
 use Rattle.update_machine.proofs.laws.answers_exist.Goals as goal
 
 pub returns : goal.returns

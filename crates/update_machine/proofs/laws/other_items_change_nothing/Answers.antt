@@ -1,6 +1,6 @@
-use Rattle.update_machine.proofs.SilentController.{controller_keeps}
-use Rattle.update_machine.proofs.SilentLinks.{known_keeps, links_keep, lookup_stays, message_keeps, messages_keep, packets_keep, policies_keep, step_stays, waited_stays}
-use Rattle.update_machine.proofs.SilentSteps.{calls_stay, packet_keeps, switch_keeps}
+use Rattle.update_machine.proofs.JournalSilentController.{controller_keeps}
+use Rattle.update_machine.proofs.JournalSilentLinks.{known_keeps, links_keep, lookup_stays, message_keeps, messages_keep, packets_keep, policies_keep, step_stays, waited_stays}
+use Rattle.update_machine.proofs.JournalSilentSteps.{calls_stay, packet_keeps, switch_keeps}
 use Rattle.update_machine.proofs.laws.other_items_change_nothing.Goals as goal
 
 pub returns : goal.returns

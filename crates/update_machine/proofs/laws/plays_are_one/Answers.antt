@@ -1,5 +1,5 @@
 use Rattle.std.proofs.Common.{refl}
-use Rattle.update_machine.proofs.SomePlay.{full_by_count, one_play, play_exists, stop_begins, stop_so_far}
+use Rattle.update_machine.proofs.JournalSomePlay.{full_by_count, one_play, play_exists, stop_begins, stop_so_far}
 use Rattle.update_machine.proofs.laws.plays_are_one.Goals as goal
 
 pub returns : goal.returns

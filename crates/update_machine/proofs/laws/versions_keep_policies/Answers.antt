@@ -1,5 +1,5 @@
-use Rattle.update_machine.proofs.VersionPolicies.{first_is, next_is, of_its_policy, plan_stays, policy_stays, version_kept}
-use Rattle.update_machine.proofs.PolicySettings.{versions_own}
+use Rattle.update_machine.proofs.JournalVersionPolicies.{first_is, next_is, of_its_policy, plan_stays, policy_stays, version_kept}
+use Rattle.update_machine.proofs.JournalSettings.{versions_own}
 use Rattle.update_machine.proofs.laws.versions_keep_policies.Goals as goal
 
 pub returns : goal.returns

@@ -1,5 +1,5 @@
-use Rattle.version_update.proofs.OneResult.{one_result, one_answer, settled_stay, least_of_numbers}
-use Rattle.version_update.proofs.TestMasks.{named}
+use Rattle.version_update.proofs.VersionOneSettling.{one_result, one_answer, settled_stay, least_of_numbers}
+use Rattle.version_update.proofs.VersionTestMasks.{named}
 use Rattle.version_update.proofs.laws.settling_laws.Goals as goal
 
 pub returns : goal.returns

@@ -1,5 +1,5 @@
 use Rattle.std.proofs.Common.{ap, eqb, sym}
-use Rattle.wire.proofs.FramesHeld.{agree_first}
+use Rattle.wire.proofs.WireFramesHeld.{agree_first}
 use Rattle.wire.proofs.assembler.agree.Goals as goal
 
 pub returns-in-Some : goal.returns-in-Some

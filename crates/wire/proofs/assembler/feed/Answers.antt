@@ -1,7 +1,7 @@
 use Rattle.std.proofs.Common.{subst}
 use Rattle.wire.specs.declared.assembler.FrameCheck.TheVariants.{Held, New}
-use Rattle.wire.specs.Exports.{IsAssembled, IsFrameCheck, count_in_frame}
-use Rattle.wire.proofs.FramesHeld.{fed_held, fed_new}
+use Rattle.wire.specs.Exports.{IsMessageAssembled, IsFrameCheck, count_in_frame}
+use Rattle.wire.proofs.WireFramesHeld.{fed_held, fed_new}
 use Rattle.wire.proofs.assembler.feed.Goals as goal
 
 pub returns-in-Held : goal.returns-in-Held
@@ -9,9 +9,9 @@ returns-in-Held c =
     let held = c.args.frames.now.items in
     let f = c.args.frame.now in
     let r = c.message_of.result in
-    let answer : IsAssembled held (count_in_frame f) r =
-    subst (λ n. IsAssembled held n r) c.count_of.ensures
-    (subst (λ fs. IsAssembled fs c.count_of.result r) c.deref-in-Held.ensures.value c.message_of.ensures) in
+    let answer : IsMessageAssembled held (count_in_frame f) r =
+    subst (λ n. IsMessageAssembled held n r) c.count_of.ensures
+    (subst (λ fs. IsMessageAssembled fs c.count_of.result r) c.deref-in-Held.ensures.value c.message_of.ensures) in
     fed_held held f r c.requires
     (subst (λ fs. IsFrameCheck fs f Held) c.deref.ensures.value c.in-Held.ensures) answer
 

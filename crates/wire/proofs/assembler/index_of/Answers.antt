@@ -1,4 +1,4 @@
-use Rattle.wire.proofs.FramesHeld.{index_found, index_past}
+use Rattle.wire.proofs.WireFramesHeld.{index_found, index_past}
 use Rattle.wire.proofs.assembler.index_of.Goals as goal
 
 pub returns-in-Some : goal.returns-in-Some

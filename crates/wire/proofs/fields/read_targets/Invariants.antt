@@ -1,6 +1,6 @@
 use Rattle.std.proofs.Common.{◌-◌, ◌≡◌, ◌≤◌, length, take}
 use Rattle.wire.specs.Exports.{read_items, switch}
-use Rattle.wire.proofs.ItemLoops.{with_front}
+use Rattle.wire.proofs.WireItemLoops.{with_front}
 use Rattle.wire.proofs.fields.read_targets.Given as goal
 
 abbrev pub invariant-loop-place : goal.invariant-loop-place

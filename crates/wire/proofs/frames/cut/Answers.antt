@@ -1,7 +1,7 @@
 use Rattle.std.proofs.Common.{map}
 use Rattle.base.proofs.Exports.{map_push}
 use Rattle.wire.specs.Exports.{chunks_behind_head, most_of_chunk}
-use Rattle.wire.proofs.SpellingCuts.{goes_on}
+use Rattle.wire.proofs.WireSpellingCuts.{goes_on}
 use Rattle.wire.proofs.frames.cut.Goals as goal
 
 pub loop-preserved : goal.loop-preserved

@@ -1,7 +1,7 @@
 use Rattle.std.proofs.Common.{[], ◌≡◌, length, map, sym}
 use Rattle.base.proofs.Exports.{get_or-map, length-map}
 use Rattle.wire.specs.Exports.{frames_of}
-use Rattle.wire.proofs.SpellingCuts.{frames_go_on}
+use Rattle.wire.proofs.WireSpellingCuts.{frames_go_on}
 use Rattle.wire.proofs.frames.framed.Goals as goal
 
 pub loop-place-preserved : goal.loop-place-preserved

@@ -1,5 +1,5 @@
 use Rattle.base.proofs.Exports.{err_from_is_err_and}
-use Rattle.wire.proofs.ItemLoops.{goes_on, stops, is_done}
+use Rattle.wire.proofs.WireItemLoops.{goes_on, stops, is_done}
 use Rattle.wire.specs.Exports.{read_items}
 use Rattle.wire.proofs.list.read_items.Goals as goal
 

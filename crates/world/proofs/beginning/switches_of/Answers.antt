@@ -7,7 +7,7 @@ use Rattle.net_file.specs.Exports.{links_of}
 use Rattle.switch_table.specs.Exports.{tables_of}
 use Rattle.update_machine.specs.Exports.{Tables}
 use Rattle.refinement.specs.Exports.{switch_begun}
-use Rattle.refinement.proofs.TakenLegs.{first_near, first_tables}
+use Rattle.refinement.proofs.RefinedTakenLegs.{first_near, first_tables}
 use Rattle.world.proofs.beginning.switches_of.Goals as goal
 
 pub begin-requires-clause-own : goal.begin-requires-clause-own

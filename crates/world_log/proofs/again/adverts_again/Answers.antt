@@ -1,5 +1,5 @@
 use Rattle.std.proofs.Common.{◌∙◌, ◌≡◌, arith, sym}
-use Rattle.world_log.proofs.RelinkingAdverts.{again_all, again_none}
+use Rattle.world_log.proofs.LogRelinking.{again_all, again_none}
 use Rattle.world_log.proofs.again.adverts_again.Goals as goal
 
 pub returns-then-not-is_up : goal.returns-then-not-is_up

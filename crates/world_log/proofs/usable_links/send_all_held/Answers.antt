@@ -1,5 +1,5 @@
 use Rattle.std.proofs.Common.{◌≡◌, arith, ℕ}
-use Rattle.world_log.proofs.RelinkingAdverts.{held_all}
+use Rattle.world_log.proofs.LogRelinking.{held_all}
 use Rattle.world_log.proofs.usable_links.send_all_held.Goals as goal
 
 pub returns : goal.returns

@@ -1,5 +1,5 @@
 use Rattle.std.proofs.Common.{◌++◌, ◌≡◌}
-use Rattle.world_log.proofs.RelinkingAdverts.{held_below}
+use Rattle.world_log.proofs.LogRelinking.{held_below}
 use Rattle.world_log.proofs.usable_links.send_all_held.Given as goal
 
 -- the adverts of the origins so far

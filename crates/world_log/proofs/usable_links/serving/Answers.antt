@@ -1,6 +1,6 @@
 use Rattle.std.proofs.Common.{◌∙◌, Bool, ap, arith}
 use Rattle.base.specs.Exports.{only_if}
-use Rattle.world_log.proofs.RelinkingAdverts.{serve_all, serve_none, serve_one}
+use Rattle.world_log.proofs.LogRelinking.{serve_all, serve_none, serve_one}
 use Rattle.world_log.proofs.usable_links.serving.Goals as goal
 
 pub loop-s-init : goal.loop-s-init

@@ -1,4 +1,4 @@
-use Rattle.world_log.proofs.RelinkingAdverts.{ServeBelow}
+use Rattle.world_log.proofs.LogRelinking.{ServeBelow}
 use Rattle.world_log.proofs.usable_links.serving.Given as goal
 
 -- those of the switches so far

@@ -1,8 +1,8 @@
 use Rattle.std.proofs.Common.{[], ◌++◌, ◌+◌, ◌∙◌, ◌∷◌, ◌≡◌, ap, map, not, refl, ℕ}
 use Rattle.version_update.specs.Exports.{is_over, with_version}
-use Rattle.controller.specs.Exports.{ControllerValue, KeptPlan, StaysController, SubmitsPlan, boot_recorded, current_touched, install_act, plans_from, settling_acts, submit_acts, switches_where}
-use Rattle.controller.proofs.NewestPolicy.{newest_added}
-use Rattle.controller.proofs.KeptPlanVersions.{IsWhole, whole_more, stays_more}
+use Rattle.controller.specs.Exports.{ControllerValue, KeptPlan, StaysController, SubmitsPlan, boot_recorded, current_touched, install_act, kept_plans_from, settling_acts, submit_acts, switches_by_record}
+use Rattle.controller.proofs.ControllerNewestPolicy.{newest_added}
+use Rattle.controller.proofs.ControllerKeptVersions.{IsWhole, whole_more, stays_more}
 use Rattle.controller.proofs.controller.Controller.add.Goals as goal
 use Rattle.controller.proofs.controller.Controller.add.Goals.{After-settle}
 
@@ -49,7 +49,7 @@ returns-clause-newest c =
     let at = (goal.at.returns-clause-newest c).After-settle in
     let submits : SubmitsPlan old (Next at c.self.inside.marks.count) new = record {
       marks = (_, c.add_version-settled.ensures.settled);
-      plans = c.settle.ensures.versions ∙ ap (plans_from marks.current) (pushed at);
+      plans = c.settle.ensures.versions ∙ ap (kept_plans_from marks.current) (pushed at);
     } in
     newest_added old new (Next at c.self.inside.marks.count) c.self.invariant (whole at) refl submits
 
@@ -64,7 +64,7 @@ returns-clause-sends c =
     c.from_items.ensures ∙ c.in_ok-settle.ensures.acts _ c.add_version-settled.ensures.settled
     ∙ ap (λ l. l ++ settling_acts (current_touched new) (with_version old) new.marks)
     (c.in_ok-acts.ensures ∙ ap (λ (version : KeptPlan). map (λ s. install_act s (boot_recorded old
-    s) version) (switches_where (λ known. not (is_over known.phase)) old.switches)) (next_is at))
+    s) version) (switches_by_record (λ known. not (is_over known.phase)) old.switches)) (next_is at))
     ∙ ap (λ (value : ControllerValue). submit_acts value.marks (Next at value.marks.count) new)
     c.self.view_is
 

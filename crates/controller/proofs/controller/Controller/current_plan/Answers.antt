@@ -1,7 +1,7 @@
 -- The plan of the current version comes first.
 use Rattle.std.proofs.Common.{◌∙◌, Some, ap, arith, sym}
 use Rattle.controller.specs.Exports.{ControllerValue, current_plan}
-use Rattle.controller.proofs.KeptPlans.{current_kept, current_there}
+use Rattle.controller.proofs.ControllerKeptPlans.{current_kept, current_there}
 use Rattle.controller.proofs.controller.Controller.current_plan.Goals as goal
 
 pub index-requires : goal.index-requires

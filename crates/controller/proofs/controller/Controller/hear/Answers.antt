@@ -1,8 +1,8 @@
 use Rattle.std.proofs.Common.{[], ◌++◌, ◌∙◌, ap, refl, subst, sym}
 use Rattle.version_update.specs.Exports.{MarksValue}
 use Rattle.controller.specs.Exports.{SettlesWith}
-use Rattle.controller.proofs.NewestPolicy.{newest_stays}
-use Rattle.controller.proofs.UnheardMarks.{is_unheard}
+use Rattle.controller.proofs.ControllerNewestPolicy.{newest_stays}
+use Rattle.controller.proofs.ControllerUnheardMarks.{is_unheard}
 use Rattle.controller.proofs.controller.Controller.hear.Goals as goal
 
 pub returns-in_default : goal.returns-in_default

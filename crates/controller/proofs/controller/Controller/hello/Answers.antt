@@ -2,8 +2,8 @@ use Rattle.std.proofs.Common.{[], ◌++◌, ◌∙◌, ◌≡◌, List, ap, cond
 use Rattle.base.proofs.Exports.{IfOk-weaker}
 use Rattle.ctrl_msg.specs.declared.message.Body.TheVariants.{Hello}
 use Rattle.version_update.specs.Exports.{at_switch, hello_recorded, record_of, takes_hello}
-use Rattle.controller.specs.Exports.{ControllerValue, KeptPlan, hear_acts, install_act, kept_touched, plans_from, settling_acts}
-use Rattle.controller.proofs.KeptPlanVersions.{plans_twice, whole_at, settles_at, stays_at}
+use Rattle.controller.specs.Exports.{ControllerValue, KeptPlan, hear_acts, install_act, kept_touched, kept_plans_from, settling_acts}
+use Rattle.controller.proofs.ControllerKeptVersions.{plans_twice, whole_at, settles_at, stays_at}
 use Rattle.controller.proofs.controller.Controller.hello.Goals as goal
 
 pub invariant_of-self : goal.invariant_of-self
@@ -18,7 +18,7 @@ returns c =
     let kept = c.hello_sends.new.versions.items in
     let told = settling_acts (kept_touched kept marks.current) (at_switch s (hello_recorded boot) old)
     marks in
-    let once : plans_from marks.current kept ≡ kept = ap (plans_from marks.current)
+    let once : kept_plans_from marks.current kept ≡ kept = ap (kept_plans_from marks.current)
     c.hello_sends.ensures.versions ∙ plans_twice marks.current c.self.inside.versions.items
     ∙ sym c.hello_sends.ensures.versions in record {
       after = search settles_at;

@@ -1,8 +1,8 @@
 use Rattle.std.proofs.Common.{refl}
 use Rattle.version_update.specs.Exports.{after_over, at_switch}
 use Rattle.controller.specs.Exports.{ControllerValue, SettlesWith, StaysController}
-use Rattle.controller.proofs.NewestPolicy.{newest_stays}
-use Rattle.controller.proofs.KeptPlanVersions.{whole_at, settles_at, settles_seen, stays_at}
+use Rattle.controller.proofs.ControllerNewestPolicy.{newest_stays}
+use Rattle.controller.proofs.ControllerKeptVersions.{whole_at, settles_at, settles_seen, stays_at}
 use Rattle.controller.proofs.controller.Controller.over.Goals as goal
 
 pub invariant_of-self : goal.invariant_of-self

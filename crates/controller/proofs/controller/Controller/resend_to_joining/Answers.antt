@@ -1,4 +1,4 @@
-use Rattle.controller.proofs.KeptPlanVersions.{versions_within}
+use Rattle.controller.proofs.ControllerKeptVersions.{versions_within}
 use Rattle.controller.proofs.controller.Controller.resend_to_joining.Goals as goal
 
 pub install_missing-requires-clause-versions : goal.install_missing-requires-clause-versions

@@ -3,7 +3,7 @@ use Rattle.std.proofs.Common.{◌-◌, ◌∙◌, ◌≡◌, ◌≤◌, Some, ap
 use Rattle.base.proofs.Exports.{IfOk-weaker}
 use Rattle.switch_table.specs.Exports.{AreSoundTables}
 use Rattle.controller.specs.Exports.{ControllerValue, KeptPlan, kept_tables}
-use Rattle.controller.proofs.KeptPlans.{kept_sound, kept_tables_are, kept_there}
+use Rattle.controller.proofs.ControllerKeptPlans.{kept_sound, kept_tables_are, kept_there}
 use Rattle.controller.proofs.controller.Controller.tables.Goals as goal
 use Rattle.controller.proofs.controller.Controller.tables.Goals.{After-tables}
 

@@ -1,7 +1,7 @@
 use Rattle.std.proofs.Common.{◌∙◌, ap, arith, subst, sym, true}
-use Rattle.version_update.specs.Exports.{nothing_rose}
+use Rattle.version_update.specs.Exports.{no_mark_rose}
 use Rattle.controller.specs.Exports.{ControllerValue, IsController, SettlesWith, current_touched, settling_acts}
-use Rattle.controller.proofs.UnheardMarks.{nothing_sent, all_kept}
+use Rattle.controller.proofs.ControllerUnheardMarks.{nothing_sent, all_kept}
 use Rattle.controller.proofs.controller.Controller.unheard.Goals as goal
 
 pub returns : goal.returns
@@ -14,7 +14,7 @@ returns c =
       idle = ap (λ (value : ControllerValue). settling_acts (current_touched value) value.marks
           value.marks) (sym c.self.view_is) ∙ nothing_sent _ marks is.marks;
       after = subst Stay c.self.view_is (record {
-        marks = (nothing_rose true, c.settling_laws.ensures.idle marks true is.marks);
+        marks = (no_mark_rose true, c.settling_laws.ensures.idle marks true is.marks);
         plans = sym (all_kept marks.current marks.current _ c.self.inside.versions.items
             (omega arith) is.versions);
       });

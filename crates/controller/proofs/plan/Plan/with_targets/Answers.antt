@@ -1,6 +1,6 @@
 use Rattle.std.proofs.Common.{◌∙◌, ap, map, zip}
 use Rattle.switch_table.specs.Exports.{part_of}
-use Rattle.controller.proofs.CompiledPlans.{retargeted_leads, retargeted_sound}
+use Rattle.controller.proofs.ControllerCompiledPlans.{retargeted_leads, retargeted_sound}
 use Rattle.controller.proofs.plan.Plan.with_targets.Goals as goal
 
 pub new-requires-clause-sound : goal.new-requires-clause-sound

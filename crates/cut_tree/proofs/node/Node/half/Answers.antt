@@ -1,7 +1,7 @@
 use Rattle.std.proofs.Common.{arith}
 use Rattle.ternary.specs.Exports.{fix_of}
-use Rattle.cut_tree.proofs.NarrowLemmas.{narrow_few}
-use Rattle.cut_tree.proofs.TreeLemmas.{side_node}
+use Rattle.cut_tree.proofs.CutNarrowing.{narrow_few}
+use Rattle.cut_tree.proofs.CutTreeLemmas.{side_node}
 use Rattle.cut_tree.proofs.node.Node.half.Goals as goal
 
 pub narrow_half-requires : goal.narrow_half-requires

@@ -2,7 +2,7 @@ use Rattle.std.proofs.Common.{◌∙◌, List, ap, arith, sym}
 use Rattle.policy_rules.specs.declared.rules.Rule.{Rule}
 use Rattle.cut_tree.specs.Exports.{least_below}
 use Rattle.cut_tree.proofs.CutLemmas.{least_cuts}
-use Rattle.cut_tree.proofs.TreeLemmas.{never_stuck}
+use Rattle.cut_tree.proofs.CutTreeLemmas.{never_stuck}
 use Rattle.cut_tree.proofs.node.Node.least_cut.Goals as goal
 
 pub unreachable-requires : goal.unreachable-requires

@@ -1,5 +1,5 @@
 use Rattle.std.proofs.Common.{arith}
-use Rattle.cut_tree.proofs.NarrowLemmas.{narrow_node, narrow_few}
+use Rattle.cut_tree.proofs.CutNarrowing.{narrow_node, narrow_few}
 use Rattle.cut_tree.proofs.node.Node.new.Goals as goal
 
 pub invariant_of-result : goal.invariant_of-result

@@ -2,7 +2,7 @@ use Rattle.std.proofs.Common.{◌∙◌, None, arith}
 use Rattle.base.proofs.Exports.{fill_by_all}
 use Rattle.base.specs.Exports.{switches}
 use Rattle.failover.specs.Exports.{first_adverts, first_of}
-use Rattle.failover.proofs.HeldAdverts.{by_origin-first}
+use Rattle.failover.proofs.FailoverHeldAdverts.{by_origin-first}
 use Rattle.failover.proofs.database.Database.begin.Goals as goal
 
 pub of-requires : goal.of-requires

@@ -1,4 +1,4 @@
-use Rattle.failover.proofs.HeldAdverts.{by_origin-none}
+use Rattle.failover.proofs.FailoverHeldAdverts.{by_origin-none}
 use Rattle.failover.proofs.database.Database.empty.Goals as goal
 
 pub of-requires : goal.of-requires

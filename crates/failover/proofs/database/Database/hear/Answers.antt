@@ -1,7 +1,7 @@
 use Rattle.std.proofs.Common.{◌∙◌, Some, ap, set, sym}
 use Rattle.base.proofs.Exports.{map-set}
 use Rattle.failover.specs.Exports.{neighbours_named}
-use Rattle.failover.proofs.HeldAdverts.{after_no_news, after_news, by_origin-set}
+use Rattle.failover.proofs.FailoverHeldAdverts.{after_no_news, after_news, by_origin-set}
 use Rattle.failover.proofs.database.Database.hear.Goals as goal
 
 pub invariant_of-self : goal.invariant_of-self

@@ -1,4 +1,4 @@
-use Rattle.failover.proofs.LinkSets.{with_link_is_link_set, with_link-rows, has_link-with_link}
+use Rattle.failover.proofs.FailoverLinkSets.{with_link_is_link_set, with_link-rows, has_link-with_link}
 use Rattle.failover.proofs.down_set.DownSet.add.Goals as goal
 
 pub invariant_of-self : goal.invariant_of-self

@@ -1,4 +1,4 @@
-use Rattle.failover.proofs.LinkSets.{none_is_link_set, has_link-none}
+use Rattle.failover.proofs.FailoverLinkSets.{none_is_link_set, has_link-none}
 use Rattle.failover.proofs.down_set.DownSet.empty.Goals as goal
 
 pub invariant_of-result : goal.invariant_of-result

@@ -1,5 +1,5 @@
 use Rattle.std.proofs.Common.{◌∙◌, arith, sym}
-use Rattle.failover.proofs.LinkSets.{has_link-first, has_link-second, has_link-above}
+use Rattle.failover.proofs.FailoverLinkSets.{has_link-first, has_link-second, has_link-above}
 use Rattle.failover.proofs.down_set.DownSet.has.Goals as goal
 use Rattle.failover.proofs.down_set.DownSet.has.Goals.{then-one-ge-MAX_SWITCHES-via-then-one-ge-MAX_SWITCHES, then-one-ge-MAX_SWITCHES-via-else-one-ge-MAX_SWITCHES+then-two-ge-MAX_SWITCHES}
 

@@ -1,5 +1,5 @@
 use Rattle.std.proofs.Common.{arith}
-use Rattle.five_tuple.proofs.BitFields.{or_of_fields, header_numbered-number_of}
+use Rattle.five_tuple.proofs.HeaderBitFields.{or_of_fields, header_numbered-number_of}
 use Rattle.five_tuple.proofs.header.Header.number.Goals as goal
 
 pub returns-clause-number : goal.returns-clause-number

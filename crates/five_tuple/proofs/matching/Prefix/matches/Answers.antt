@@ -1,5 +1,5 @@
 use Rattle.std.proofs.Common.{◌-◌}
-use Rattle.five_tuple.proofs.BitFields.{same_high_bits}
+use Rattle.five_tuple.proofs.HeaderBitFields.{same_high_bits}
 use Rattle.five_tuple.proofs.matching.Prefix.matches.Goals as goal
 
 pub returns-else-self-eq0 : goal.returns-else-self-eq0

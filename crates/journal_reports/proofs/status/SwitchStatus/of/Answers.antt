@@ -1,5 +1,5 @@
 use Rattle.std.proofs.Common.{sym}
-use Rattle.journal_reports.proofs.SwitchStatus.{status_at_first, status_of_item}
+use Rattle.journal_reports.proofs.QuietSwitchStatus.{status_at_first, status_of_item}
 use Rattle.journal_reports.proofs.status.SwitchStatus.of.Goals as goal
 
 pub loop-item-init : goal.loop-item-init

@@ -1,7 +1,7 @@
 use Rattle.std.proofs.Common.{◌∙◌, ap, subst}
 use Rattle.failover.specs.declared.advert.Advert.{Advert}
 use Rattle.journal_text.specs.Lines.{advert_text}
-use Rattle.journal_text.proofs.HeldTexts.{held_text}
+use Rattle.journal_text.proofs.JournalLineTexts.{held_text}
 use Rattle.journal_text.proofs.advert_texts.AdvertTexts.push.Goals as goal
 use Rattle.lines.specs.Sizes.{IsNumber}
 use Rattle.lines.specs.Pushes.{line_with}

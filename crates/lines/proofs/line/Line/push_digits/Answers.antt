@@ -1,11 +1,11 @@
 use Rattle.std.proofs.Common.{arith, decimal, length-take, take}
-use Rattle.lines.proofs.ShortNumbers.{held_whole}
+use Rattle.lines.proofs.LineShortNumbers.{held_whole}
 use Rattle.lines.proofs.line.Line.push_digits.Goals as goal
 
 pub returns-then-self : goal.returns-then-self
 returns-then-self c =
-    let end = c.put_short-self-inside.result in
-    let bytes = c.put_short-self-inside.new.bytes in
+    let end = c.put_short_number-self-inside.result in
+    let bytes = c.put_short_number-self-inside.new.bytes in
     rw (← c.self.view_is)
     (held_whole (take c.self.inside.len c.self.inside.bytes) (decimal c.args.n) (take end bytes)
-    (omega (arith, length-take end bytes)) c.put_short-self-inside.ensures.held)
+    (omega (arith, length-take end bytes)) c.put_short_number-self-inside.ensures.held)

@@ -1,5 +1,5 @@
 use Rattle.std.proofs.Common.{arith, decimal, length-take, take}
-use Rattle.lines.proofs.ShortNumbers.{held_whole}
+use Rattle.lines.proofs.LineShortNumbers.{held_whole}
 use Rattle.lines.proofs.line.Line.push_number.Goals as goal
 
 pub returns-then-self-lt-LINE_BYTES : goal.returns-then-self-lt-LINE_BYTES

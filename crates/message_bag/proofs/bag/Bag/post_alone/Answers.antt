@@ -1,11 +1,11 @@
 use Rattle.std.proofs.Common.{[], ◌++◌, ◌∙◌, ◌∷◌, ◌≡◌, List, None, ap, ℕ}
 use Rattle.wire.specs.Exports.{frames, message}
-use Rattle.message_bag.specs.Exports.{HasFrames, frames_in}
-use Rattle.message_bag.proofs.PostedMessages.{alone_is, kept_after, posted_after}
+use Rattle.message_bag.specs.Exports.{HasFrames, bag_frames_in}
+use Rattle.message_bag.proofs.BagPostedMessages.{alone_is, kept_after, posted_after}
 use Rattle.message_bag.proofs.bag.Bag.post_alone.Goals as goal
 
 its : (c : goal.After-push)
-    → frames_in c.self.inside.tables.items (c.deref.result.now, None) ≡ frames c.args.message.now
+    → bag_frames_in c.self.inside.tables.items (c.deref.result.now, None) ≡ frames c.args.message.now
 its c =
     alone_is c.args.message.now c.self.inside.tables.items c.deref.result.now
     c.requires.message_of_frame

@@ -1,9 +1,9 @@
 use Rattle.std.proofs.Common.{◌++◌, ◌∙◌, ◌≡◌, List, ap, arith, length, ℕ}
 use Rattle.base.proofs.Exports.{common_steps, on_ok}
 use Rattle.wire.specs.Exports.{begun_for, frames}
-use Rattle.message_bag.specs.Exports.{HasFrames, frames_in}
-use Rattle.message_bag.proofs.CopiedMessages.{AreLike, copied, found, has, long}
-use Rattle.message_bag.proofs.PostedMessages.{kept_after, posted_after}
+use Rattle.message_bag.specs.Exports.{HasFrames, bag_frames_in}
+use Rattle.message_bag.proofs.BagCopiedMessages.{AreLike, copied, found, has, long}
+use Rattle.message_bag.proofs.BagPostedMessages.{kept_after, posted_after}
 use Rattle.message_bag.proofs.bag.Bag.post_like.Goals as goal
 
 pub set_receiver-requires-clause-long : goal.set_receiver-requires-clause-long
@@ -26,9 +26,9 @@ has_frames c = has c.self.inside.tables.items _ c.args.message.now (like c)
     c.set_receiver.ensures.fits c.requires.spelling
 
 its : (c : goal.After-push)
-    → frames_in c.self.inside.tables.items (c.deref.result.now, c.in-Some.tables) ≡ frames c.args.message.now
+    → bag_frames_in c.self.inside.tables.items (c.deref.result.now, c.in-Some.tables) ≡ frames c.args.message.now
 its c = let written : c.deref.result.now ≡ c.set_receiver.new.frame = grind (arith, common_steps) in
-    ap (λ (b : List ℕ). frames_in c.self.inside.tables.items (b, c.in-Some.tables))
+    ap (λ (b : List ℕ). bag_frames_in c.self.inside.tables.items (b, c.in-Some.tables))
     (written ∙ c.set_receiver.ensures.written
     ∙ ap (begun_for c.args.message.now.to) (c.deref_mut.ensures.value ∙ c.in_ok-extend_from_slice.ensures.items
     ∙ ap (λ (b : List ℕ). b ++ c.in-Some.frame.now) c.clear.ensures.items))

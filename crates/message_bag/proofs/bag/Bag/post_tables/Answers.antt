@@ -1,8 +1,8 @@
 use Rattle.std.proofs.Common.{◌∙◌, ◌≡◌, Some}
 use Rattle.wire.specs.Exports.{frames}
-use Rattle.message_bag.specs.Exports.{HasFrames, frames_in}
-use Rattle.message_bag.proofs.NumberedPosts.{post_failed}
-use Rattle.message_bag.proofs.PostedMessages.{all_stay, kept_after, posted_after, still_kept}
+use Rattle.message_bag.specs.Exports.{HasFrames, bag_frames_in}
+use Rattle.message_bag.proofs.BagNumberedPosts.{post_failed}
+use Rattle.message_bag.proofs.BagPostedMessages.{all_stay, kept_after, posted_after, still_kept}
 use Rattle.message_bag.proofs.bag.Bag.post_tables.Goals as goal
 
 pub invariant_of-self : goal.invariant_of-self
@@ -15,7 +15,7 @@ returns-in_err-number-clause-posted c = post_failed _ _ _ _ c.from_residual.ensu
     c.spell.ensures.grown c.self.invariant ∙ c.self.view_is)
 
 its : (c : goal.After-push)
-    → frames_in c.spell.new.kept.items (c.deref.result.now, Some c.in_ok-number.number) ≡ frames c.args.message.now
+    → bag_frames_in c.spell.new.kept.items (c.deref.result.now, Some c.in_ok-number.number) ≡ frames c.args.message.now
 its c = cc (c.deref.ensures.value, c.in_ok-number.ensures.own)
 
 has : (c : goal.After-push) → HasFrames c.args.message.now

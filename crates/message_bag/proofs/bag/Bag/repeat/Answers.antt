@@ -1,4 +1,4 @@
-use Rattle.message_bag.proofs.RepeatedMessages.{repeated, repeated_kept}
+use Rattle.message_bag.proofs.BagRepeatedMessages.{repeated, repeated_kept}
 use Rattle.message_bag.proofs.bag.Bag.repeat.Goals as goal
 
 pub invariant_of-self : goal.invariant_of-self

@@ -1,6 +1,6 @@
 use Rattle.std.proofs.Common.{◌∙◌, arith, subst, sym}
-use Rattle.message_bag.specs.Exports.{ArePassed}
-use Rattle.message_bag.proofs.WaitingStatuses.{taken_back, without_last}
+use Rattle.message_bag.specs.Exports.{ArePassedMessages}
+use Rattle.message_bag.proofs.BagWaitingStatuses.{taken_back, without_last}
 use Rattle.message_bag.proofs.deliveries.Deliveries.take_back.Goals as goal
 
 pub invariant_of-self : goal.invariant_of-self
@@ -9,9 +9,9 @@ invariant_of-self c =
     let passed = c.self.inside.passed in
     let before = c.requires.0 in
     let is = c.self.view_is ∙ c.requires.1 in
-    subst (ArePassed passed)
+    subst (ArePassedMessages passed)
     (sym (c.truncate.ensures.items ∙ without_last _ all before is (omega arith)))
-    (taken_back passed before (subst (ArePassed passed) is c.self.invariant))
+    (taken_back passed before (subst (ArePassedMessages passed) is c.self.invariant))
 
 pub returns : goal.returns
 returns c = λ before is. c.truncate.ensures.items

@@ -2,8 +2,8 @@ use Rattle.std.proofs.Common.{[], ◌++◌, ◌∙◌, ◌∷◌, ◌≡◌, Lis
 use Rattle.base.proofs.Exports.{common_steps, length-map}
 use Rattle.message_bag.specs.Exports.{First, first_in}
 use Rattle.message_bag.specs.declared.firsts.Span.{Span}
-use Rattle.message_bag.proofs.FirstFrameSpans.{all_stay, pushed}
-use Rattle.message_bag.proofs.NumberedPosts.{post_failed}
+use Rattle.message_bag.proofs.BagFirstFrameSpans.{all_stay, pushed}
+use Rattle.message_bag.proofs.BagNumberedPosts.{post_failed}
 use Rattle.message_bag.proofs.firsts.Firsts.push.Goals as goal
 
 pub returns-in_err-push : goal.returns-in_err-push

@@ -1,8 +1,8 @@
 use Rattle.std.proofs.Common.{arith}
 use Rattle.base.proofs.Exports.{common_steps}
 use Rattle.message_bag.specs.Exports.{first_in}
-use Rattle.message_bag.proofs.FirstFrameSpans.{added_again}
-use Rattle.message_bag.proofs.NumberedPosts.{mapped_again}
+use Rattle.message_bag.proofs.BagFirstFrameSpans.{added_again}
+use Rattle.message_bag.proofs.BagNumberedPosts.{mapped_again}
 use Rattle.message_bag.proofs.firsts.Firsts.repeat.Goals as goal
 
 pub returns : goal.returns

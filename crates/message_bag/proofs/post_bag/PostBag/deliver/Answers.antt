@@ -1,5 +1,5 @@
 use Rattle.message_bag.specs.Exports.{delivered_status}
-use Rattle.message_bag.proofs.FramesByStatus.{posts_changed}
+use Rattle.message_bag.proofs.BagFramesByStatus.{posts_changed}
 use Rattle.message_bag.proofs.post_bag.PostBag.deliver.Goals as goal
 
 pub returns : goal.returns

@@ -1,5 +1,5 @@
 use Rattle.message_bag.specs.Exports.{forgotten_status}
-use Rattle.message_bag.proofs.FramesByStatus.{posts_changed}
+use Rattle.message_bag.proofs.BagFramesByStatus.{posts_changed}
 use Rattle.message_bag.proofs.post_bag.PostBag.forget.Goals as goal
 
 pub returns : goal.returns

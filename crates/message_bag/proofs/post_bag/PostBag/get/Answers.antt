@@ -1,7 +1,7 @@
 use Rattle.std.proofs.Common.{◌∙◌, ◌≡◌, ap, length, sym, true, zip}
 use Rattle.message_bag.specs.Deliveries as statuses
-use Rattle.message_bag.proofs.TakenMessages.{found_known, found_there}
-use Rattle.message_bag.proofs.FramesByStatus.{deliverable_as}
+use Rattle.message_bag.proofs.BagTakenMessages.{found_known, found_there}
+use Rattle.message_bag.proofs.BagFramesByStatus.{deliverable_as}
 use Rattle.message_bag.proofs.post_bag.PostBag.get.Goals as goal
 
 same : (c : goal.After-take) → length c.bag.result.now ≡ length c.self.inside.deliveries

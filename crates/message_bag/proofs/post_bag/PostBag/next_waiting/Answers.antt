@@ -1,7 +1,7 @@
 use Rattle.std.proofs.Common.{◌∙◌, ap, sym}
 use Rattle.message_bag.specs.Deliveries as statuses
 use Rattle.message_bag.specs.Exports.{next_waiting_post}
-use Rattle.message_bag.proofs.FramesByStatus.{statuses_of_zip}
+use Rattle.message_bag.proofs.BagFramesByStatus.{statuses_of_zip}
 use Rattle.message_bag.proofs.post_bag.PostBag.next_waiting.Goals as goal
 
 pub returns : goal.returns

@@ -1,4 +1,4 @@
-use Rattle.message_bag.proofs.FramesByStatus.{one_more}
+use Rattle.message_bag.proofs.BagFramesByStatus.{one_more}
 use Rattle.message_bag.proofs.post_bag.PostBag.post_shared.Goals as goal
 
 pub returns-in-Ok-clause-posted : goal.returns-in-Ok-clause-posted

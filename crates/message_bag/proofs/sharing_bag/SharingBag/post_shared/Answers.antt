@@ -1,4 +1,4 @@
-use Rattle.message_bag.proofs.RepeatedMessages.{again_posted}
+use Rattle.message_bag.proofs.BagRepeatedMessages.{again_posted}
 use Rattle.message_bag.proofs.sharing_bag.SharingBag.post_shared.Goals as goal
 
 pub invariant_of-self-then-eq : goal.invariant_of-self-then-eq

@@ -2,8 +2,8 @@ use Rattle.std.proofs.Common.{◌∙◌, ◌∷◌, ◌≡◌, List, ap, arith, 
 use Rattle.ctrl_msg.specs.declared.message.Body.TheVariants.{Install}
 use Rattle.switch_table.specs.declared.tables.Tables.{Tables}
 use Rattle.message_bag.specs.Exports.{AreOfMessage, table_frames}
-use Rattle.message_bag.proofs.ComingOut.{rest_is}
-use Rattle.message_bag.proofs.InstallationFrames.{again_installed, has_front, long_installed}
+use Rattle.message_bag.proofs.BagMessagesOut.{rest_is}
+use Rattle.message_bag.proofs.BagInstallationFrames.{again_installed, has_front, long_installed}
 use Rattle.wire.specs.Exports.{AreFrames}
 use Rattle.message_bag.proofs.tables.TableFrames.message.Goals as goal
 use Rattle.message_bag.proofs.tables.TableFrames.message.Goals.{In_ok-tables}

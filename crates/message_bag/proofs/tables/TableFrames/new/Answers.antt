@@ -1,4 +1,4 @@
-use Rattle.message_bag.proofs.InstallationFrames.{says}
+use Rattle.message_bag.proofs.BagInstallationFrames.{says}
 use Rattle.message_bag.proofs.tables.TableFrames.new.Goals as goal
 
 pub invariant_of-result : goal.invariant_of-result

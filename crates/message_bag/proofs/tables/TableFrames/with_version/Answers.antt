@@ -1,7 +1,7 @@
 use Rattle.std.proofs.Common.{◌<◌, ◌^◌, arith, subst, sym}
 use Rattle.switch_table.specs.declared.tables.Tables.{Tables}
 use Rattle.message_bag.specs.Exports.{CarryTables}
-use Rattle.message_bag.proofs.InstallationFrames.{says_too}
+use Rattle.message_bag.proofs.BagInstallationFrames.{says_too}
 use Rattle.message_bag.proofs.tables.TableFrames.with_version.Goals as goal
 
 said_too : (c : goal.In_ok-frames) (t : Tables) → CarryTables t c.self.inside.frames

@@ -8,12 +8,12 @@ use Rattle.meters.proofs.board.Board.note.Given.{Over}
 pub loop-at-preserved-in-Stay : goal.loop-at-preserved-in-Stay
 loop-at-preserved-in-Stay g c = record {
   noted = c.loop-at.invariant.noted ∙ after_stay g.M.Meter.seen ((c.args.port, c.args.leaving.now)
-      ∷ []) c.loop-at.self-inside.meters.items c.loop-at.at c.index_mut.result.now c.offer.new.meter
-      (search rules) (sym c.index_mut.ensures.value) (c.offer.ensures.stay c.in-Stay.is);
+      ∷ []) c.loop-at.self-inside.meters.items c.loop-at.at c.index_mut.result.now c.offer_leaving.new.meter
+      (search rules) (sym c.index_mut.ensures.value) (c.offer_leaving.ensures.stay c.in-Stay.is);
   told = c.loop-at.invariant.told ∙ told_stay g.M.Meter.seen (c.args.port, c.args.leaving.now)
       c.loop-at.self-inside.gone c.loop-at.self-inside.meters.items c.loop-at.at
-      c.index_mut.result.now c.offer.new.meter (search rules) (sym c.index_mut.ensures.value)
-      (c.offer.ensures.silent c.in-Stay.is);
+      c.index_mut.result.now c.offer_leaving.new.meter (search rules) (sym c.index_mut.ensures.value)
+      (c.offer_leaving.ensures.silent c.in-Stay.is);
 }
 
 -- the records of the meter that leaves
@@ -22,21 +22,21 @@ its_records : (g : Over) (c : goal.After-drop-meter-in-Leave g)
     ≡ c.in_ok-records-in-Leave.field-0
 its_records g c =
     let within : c.loop-at.at < length c.loop-at.self-inside.meters.items = search rules in
-    let it : c.remove-meter.result ≡ c.offer.new.meter =
+    let it : c.remove-meter.result ≡ c.offer_leaving.new.meter =
     c.remove-meter.ensures.value ∙ get_or-set_same c.loop-at.self-inside.meters.items c.loop-at.at
-    c.offer.new.meter c.remove-meter.result within in
-    c.offer.ensures.told c.in-Leave.is ∙ ap (λ m. flow_records_of (g.M.Meter.seen m)) (sym it)
+    c.offer_leaving.new.meter c.remove-meter.result within in
+    c.offer_leaving.ensures.told c.in-Leave.is ∙ ap (λ m. flow_records_of (g.M.Meter.seen m)) (sym it)
     ∙ sym c.in_ok-records-in-Leave.ensures
 
 pub loop-at-preserved : goal.loop-at-preserved
 loop-at-preserved g c = record {
   noted = c.loop-at.invariant.noted ∙ after_leave g.M.Meter.seen ((c.args.port, c.args.leaving.now)
-      ∷ []) c.loop-at.self-inside.meters.items c.loop-at.at c.index_mut.result.now c.offer.new.meter
+      ∷ []) c.loop-at.self-inside.meters.items c.loop-at.at c.index_mut.result.now c.offer_leaving.new.meter
       c.remove-meter.new.self.items (search rules) (sym c.index_mut.ensures.value)
-      (c.offer.ensures.leave c.in-Leave.is) c.remove-meter.ensures.items;
+      (c.offer_leaving.ensures.leave c.in-Leave.is) c.remove-meter.ensures.items;
   told = c.loop-at.invariant.told ∙ told_leave g.M.Meter.seen (c.args.port, c.args.leaving.now)
       c.loop-at.self-inside.gone c.in_ok-records-in-Leave.field-0 c.loop-at.self-inside.meters.items
-      c.remove-meter.new.self.items c.loop-at.at c.index_mut.result.now c.offer.new.meter
+      c.remove-meter.new.self.items c.loop-at.at c.index_mut.result.now c.offer_leaving.new.meter
       (search rules) (sym c.index_mut.ensures.value) (its_records g c) c.remove-meter.ensures.items
       ∙ ap (λ gone. gone ++ flat_map (leaving_records (c.args.port, c.args.leaving.now))
       (map g.M.Meter.seen (drop c.loop-at.at c.remove-meter.new.self.items)))

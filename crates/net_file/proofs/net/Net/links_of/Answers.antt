@@ -1,7 +1,7 @@
 use Rattle.std.proofs.Common.{◌||◌, ◌∙◌, ap, nat_eq, sym, take, take_all}
 use Rattle.base.proofs.Exports.{list_any_more, or-false}
 use Rattle.net_file.specs.Exports.{are_linked, joins}
-use Rattle.net_file.proofs.MaskBits.{in_mask_with, mask_of_is}
+use Rattle.net_file.proofs.NetFilePortMasks.{in_mask_with, mask_of_is}
 use Rattle.net_file.proofs.net.Net.links_of.Goals as goal
 use Rattle.net_file.proofs.net.Net.links_of.Goals.{in-Some, in_default}
 

@@ -1,7 +1,7 @@
 use Rattle.std.proofs.Common.{◌||◌, ◌∙◌, ap, sym, take, take_all}
 use Rattle.base.proofs.Exports.{Fits-lt-pow, list_any_more}
 use Rattle.net_file.specs.Exports.{has_port, have_port}
-use Rattle.net_file.proofs.MaskBits.{in_mask_or, mask_of_is}
+use Rattle.net_file.proofs.NetFilePortMasks.{in_mask_or, mask_of_is}
 use Rattle.net_file.proofs.net.Net.port_mask.Goals as goal
 
 pub loop-row-preserved : goal.loop-row-preserved

@@ -1,6 +1,6 @@
 use Rattle.std.proofs.Common.{◌∙◌, inl, inr, sym}
 use Rattle.base.proofs.Exports.{cases_lt}
-use Rattle.net_file.proofs.RowPlaces.{no_owner}
+use Rattle.net_file.proofs.NetFileRowPlaces.{no_owner}
 use Rattle.net_file.proofs.net.Net.ports.Goals as goal
 
 pub returns : goal.returns

@@ -1,38 +1,38 @@
 use Rattle.std.proofs.Common.{[], ◌+◌, ◌<◌, ◌∙◌, ◌∷◌, ◌≡◌, All, AllPairs, List, ap, arith, cond, drop, eqb, get_or, get_or-take, length, length-take, refl, rules, subst, sym, take, ℕ}
 use Rattle.base.proofs.Exports.{drop_all, drop_more, list_any, take_more}
-use Rattle.placement.specs.Placement.{AreFirst, loaded_by, turn_rule}
+use Rattle.placement.specs.Placement.{AreLightestSwitches, placement_loaded_by, placement_turn_rule}
 use Rattle.placement.specs.declared.turns.Load.{Load}
 use Rattle.placement.specs.declared.turns.Load.TheVariants as load
-use Rattle.placement.proofs.FirstLemmas.{fewer_in_order, first_distinct, first_of_order, first_room, first_there, none_of, order_along}
-use Rattle.placement.proofs.TurnLemmas.{Loaded, carried-room, loaded_more, loaded_none, loaded_refused, none_yet, overwritten, taken_all, taken_within}
+use Rattle.placement.proofs.PlacementFirsts.{fewer_in_order, first_distinct, first_of_order, first_room, first_there, none_of, order_along}
+use Rattle.placement.proofs.PlacementTurns.{Loaded, carried-room, loaded_more, loaded_none, loaded_refused, none_yet, overwritten, taken_all, taken_within}
 use Rattle.placement.proofs.turns.Load.take_turns.Goals as goal
 use Rattle.placement.proofs.turns.Load.take_turns.Goals.{After-items, After-number_at-key}
 
 -- what is true of all targets is true of those that are loaded
-all_loaded : (load : Load) (P : ℕ → Type 0) (xs : List ℕ) → All P xs → All P (loaded_by load xs)
+all_loaded : (load : Load) (P : ℕ → Type 0) (xs : List ℕ) → All P xs → All P (placement_loaded_by load xs)
 all_loaded load P xs all = search (rules, length-take, get_or-take)
 
 distinct_loaded : (load : Load) (xs : List ℕ) → AllPairs (λ a b. a ≡ b → ⊥) xs
-    → AllPairs (λ a b. a ≡ b → ⊥) (loaded_by load xs)
+    → AllPairs (λ a b. a ≡ b → ⊥) (placement_loaded_by load xs)
 distinct_loaded load xs distinct = search (rules, length-take)
 
 -- the turn that the loop has come to
 turn : (c : After-number_at-key) → let order = c.deref-partition-items.result.now in
     let k = c.loop-partition.partition-index in
-    Loaded (turn_rule c.args.self c.args.keys.now c.args.sizes.now c.args.rooms.now c.args.backups)
+    Loaded (placement_turn_rule c.args.self c.args.keys.now c.args.sizes.now c.args.rooms.now c.args.backups)
     c.loop-partition.held.items c.loop-partition.loads.items c.loop-partition.placement.items
     (take k order) (get_or order k 0 ∷ drop (k + 1) order)
 turn c =
     let order = c.deref-partition-items.result.now in
     let k = c.loop-partition.partition-index in
-    subst (Loaded (turn_rule c.args.self c.args.keys.now c.args.sizes.now c.args.rooms.now
+    subst (Loaded (placement_turn_rule c.args.self c.args.keys.now c.args.sizes.now c.args.rooms.now
     c.args.backups) c.loop-partition.held.items c.loop-partition.loads.items
     c.loop-partition.placement.items (take k order))
     (drop_more order k 0 c.loop-partition-test.true) c.loop-partition.invariant
 
 pub loop-partition-init : goal.loop-partition-init
 loop-partition-init c =
-    let rule = turn_rule c.args.self c.args.keys.now c.args.sizes.now c.args.rooms.now c.args.backups
+    let rule = placement_turn_rule c.args.self c.args.keys.now c.args.sizes.now c.args.rooms.now c.args.backups
     in
     subst (Loaded rule c.in_ok-held.held.items c.in_ok-loads.loads.items
     c.in_ok-placement.placement.items [])
@@ -54,7 +54,7 @@ returns-in_default-clause-refused c =
     c.args.rooms.now _ _ _ c.deref.ensures.value c.deref-in-loop-partition.ensures.value refl
     (c.deref-in-loop-partition-2.ensures.value ∙ c.in_ok-switches.ensures)) (none_of c.front.result
     _ _ c.front.ensures.enough (λ targets is. c.in_default.not-Some targets is)) in
-    loaded_refused (turn_rule c.args.self c.args.keys.now c.args.sizes.now c.args.rooms.now
+    loaded_refused (placement_turn_rule c.args.self c.args.keys.now c.args.sizes.now c.args.rooms.now
     c.args.backups) c.loop-partition.held.items c.loop-partition.loads.items
     c.loop-partition.placement.items (take k order) (get_or order k 0) (drop (k + 1) order)
     (turn (goal.at.returns-in_default-clause-refused c).After-number_at-key)
@@ -63,7 +63,7 @@ returns-in_default-clause-refused c =
 -- the targets of this turn
 first_of : (c : After-items) → let held : ℕ → ℕ = λ s. get_or c.loop-partition.held.items s 0 in
     let load : ℕ → ℕ = λ s. get_or c.loop-partition.loads.items s 0 in
-    AreFirst held load c.args.rooms.now c.number_at-size.result (1 + c.args.backups)
+    AreLightestSwitches held load c.args.rooms.now c.number_at-size.result (1 + c.args.backups)
     c.in-Some.targets
 first_of c = first_of_order _ _ c.args.rooms.now c.number_at-size.result
     (1 + c.args.backups) c.deref-in-loop-partition-2.result.now c.in-Some.targets (order_along _ _ _
@@ -71,8 +71,8 @@ first_of c = first_of_order _ _ c.args.rooms.now c.number_at-size.result
     (c.deref-in-loop-partition-2.ensures.value ∙ c.in_ok-switches.ensures)) c.in-Some.ensures.enough
     c.in-Some.ensures.targets
 
-pub add_load-requires-clause-there : goal.add_load-requires-clause-there
-add_load-requires-clause-there c = rw c.items.ensures.list (λ k d within. omega (
+pub add_switch_load-requires-clause-there : goal.add_switch_load-requires-clause-there
+add_switch_load-requires-clause-there c = rw c.items.ensures.list (λ k d within. omega (
   arith,
   (first_there _ _ c.args.rooms.now c.number_at-size.result
       (1 + c.args.backups) c.in-Some.targets (first_of c)) k d within,
@@ -80,21 +80,21 @@ add_load-requires-clause-there c = rw c.items.ensures.list (λ k d within. omega
   c.loop-partition.invariant.held_switches,
 ))
 
-pub add_load-requires-clause-fits : goal.add_load-requires-clause-fits
-add_load-requires-clause-fits c =
+pub add_switch_load-requires-clause-fits : goal.add_switch_load-requires-clause-fits
+add_switch_load-requires-clause-fits c =
     let room = first_room _ _ c.args.rooms.now c.number_at-size.result (1 + c.args.backups)
     c.in-Some.targets (first_of c) in
     rw (c.items.ensures.list, c.deref_mut.ensures.value) (λ k d within.
     omega (arith, room k d within, c.type_inv.rooms (get_or c.in-Some.targets k d)))
 
-pub add_load-requires-clause-distinct : goal.add_load-requires-clause-distinct
-add_load-requires-clause-distinct c = rw c.items.ensures.list (first_distinct _ _ c.args.rooms.now
+pub add_switch_load-requires-clause-distinct : goal.add_switch_load-requires-clause-distinct
+add_switch_load-requires-clause-distinct c = rw c.items.ensures.list (first_distinct _ _ c.args.rooms.now
     c.number_at-size.result (1 + c.args.backups) c.in-Some.targets (first_of c))
 
-pub add_load-requires-in-loop-partition-clause-there : goal.add_load-requires-in-loop-partition-clause-there
-add_load-requires-in-loop-partition-clause-there c =
+pub add_switch_load-requires-in-loop-partition-clause-there : goal.add_switch_load-requires-in-loop-partition-clause-there
+add_switch_load-requires-in-loop-partition-clause-there c =
     let there = first_there _ _ c.args.rooms.now c.number_at-size.result (1 + c.args.backups)
-    c.in-Some.targets (first_of (goal.at.add_load-requires-in-loop-partition-clause-there c).After-items) in
+    c.in-Some.targets (first_of (goal.at.add_switch_load-requires-in-loop-partition-clause-there c).After-items) in
     rw c.loaded.ensures (all_loaded c.args.self
     (λ s. s < length c.deref_mut-in-loop-partition.result.now) c.in-Some.targets (λ k d within.
     omega (
@@ -104,32 +104,32 @@ add_load-requires-in-loop-partition-clause-there c =
       c.loop-partition.invariant.loads_switches,
     )))
 
-pub add_load-requires-in-loop-partition-clause-fits : goal.add_load-requires-in-loop-partition-clause-fits
-add_load-requires-in-loop-partition-clause-fits c =
+pub add_switch_load-requires-in-loop-partition-clause-fits : goal.add_switch_load-requires-in-loop-partition-clause-fits
+add_switch_load-requires-in-loop-partition-clause-fits c =
     let order = c.deref-partition-items.result.now in
     let k = c.loop-partition.partition-index in
     rw c.deref_mut-in-loop-partition.ensures.value (λ i d within. omega (
       arith,
-      carried-room (turn_rule c.args.self c.args.keys.now c.args.sizes.now c.args.rooms.now
+      carried-room (placement_turn_rule c.args.self c.args.keys.now c.args.sizes.now c.args.rooms.now
           c.args.backups) c.loop-partition.held.items c.loop-partition.loads.items
           c.loop-partition.placement.items (take k order) (get_or order k 0) (drop (k + 1) order)
-          (turn (goal.at.add_load-requires-in-loop-partition-clause-fits c).After-number_at-key)
+          (turn (goal.at.add_switch_load-requires-in-loop-partition-clause-fits c).After-number_at-key)
           (get_or c.loaded.result.now i d),
       c.number_at-key.ensures,
       c.requires.small,
     ))
 
-pub add_load-requires-in-loop-partition-clause-distinct : goal.add_load-requires-in-loop-partition-clause-distinct
-add_load-requires-in-loop-partition-clause-distinct c =
+pub add_switch_load-requires-in-loop-partition-clause-distinct : goal.add_switch_load-requires-in-loop-partition-clause-distinct
+add_switch_load-requires-in-loop-partition-clause-distinct c =
     let distinct = first_distinct _ _ c.args.rooms.now c.number_at-size.result (1 + c.args.backups)
-    c.in-Some.targets (first_of (goal.at.add_load-requires-in-loop-partition-clause-distinct c).After-items) in
+    c.in-Some.targets (first_of (goal.at.add_switch_load-requires-in-loop-partition-clause-distinct c).After-items) in
     rw c.loaded.ensures (distinct_loaded c.args.self c.in-Some.targets distinct)
 
 pub index_mut-requires : goal.index_mut-requires
 index_mut-requires c =
     let order = c.deref-partition-items.result.now in
     let k = c.loop-partition.partition-index in
-    let within = taken_within (turn_rule c.args.self c.args.keys.now c.args.sizes.now
+    let within = taken_within (placement_turn_rule c.args.self c.args.keys.now c.args.sizes.now
     c.args.rooms.now c.args.backups) c.loop-partition.placement.items (take k order)
     (get_or order k 0) (drop (k + 1) order)
     (turn (goal.at.index_mut-requires c).After-number_at-key).taken in
@@ -144,33 +144,33 @@ loop-partition-preserved c =
     let sizes = c.args.sizes.now in
     let keys = c.args.keys.now in
     let p = get_or order k 0 in
-    let first : AreFirst (λ s. get_or held s 0) (λ s. get_or loads s 0) c.args.rooms.now
+    let first : AreLightestSwitches (λ s. get_or held s 0) (λ s. get_or loads s 0) c.args.rooms.now
     (get_or sizes p 0) (1 + c.args.backups) c.in-Some.targets =
-    subst (λ size. AreFirst (λ s. get_or held s 0) (λ s. get_or loads s 0) c.args.rooms.now size
+    subst (λ size. AreLightestSwitches (λ s. get_or held s 0) (λ s. get_or loads s 0) c.args.rooms.now size
     (1 + c.args.backups) c.in-Some.targets) c.number_at-size.ensures
     (first_of (goal.at.loop-partition-preserved c).After-items) in
-    let added : (s : ℕ) → get_or c.add_load.new.loads s 0 ≡ get_or held s 0 + cond
+    let added : (s : ℕ) → get_or c.add_switch_load.new.loads s 0 ≡ get_or held s 0 + cond
     (list_any (eqb s) c.in-Some.targets) (get_or sizes p 0) 0 =
     rw (← c.deref_mut.ensures.value, ← c.items.ensures.list, ← c.number_at-size.ensures)
-    c.add_load.ensures in
-    let more : (s : ℕ) → get_or c.add_load-in-loop-partition.new.loads s 0 ≡ get_or loads s 0 + cond
-    (list_any (eqb s) (loaded_by c.args.self c.in-Some.targets)) (get_or keys p 0) 0 =
+    c.add_switch_load.ensures in
+    let more : (s : ℕ) → get_or c.add_switch_load-in-loop-partition.new.loads s 0 ≡ get_or loads s 0 + cond
+    (list_any (eqb s) (placement_loaded_by c.args.self c.in-Some.targets)) (get_or keys p 0) 0 =
     rw (← c.deref_mut-in-loop-partition.ensures.value, ← c.loaded.ensures, ← c.number_at-key.ensures)
-    c.add_load-in-loop-partition.ensures in
-    let held_len : length c.add_load.new.loads ≡ length held = c.add_load.auto.loads
+    c.add_switch_load-in-loop-partition.ensures in
+    let held_len : length c.add_switch_load.new.loads ≡ length held = c.add_switch_load.auto.loads
     ∙ ap length c.deref_mut.ensures.value in
-    let loads_len : length c.add_load-in-loop-partition.new.loads ≡ length loads =
-    c.add_load-in-loop-partition.auto.loads ∙ ap length c.deref_mut-in-loop-partition.ensures.value in
+    let loads_len : length c.add_switch_load-in-loop-partition.new.loads ≡ length loads =
+    c.add_switch_load-in-loop-partition.auto.loads ∙ ap length c.deref_mut-in-loop-partition.ensures.value in
     rw (
-      overwritten c.loop-partition.held.len c.add_load.new.loads held held_len
+      overwritten c.loop-partition.held.len c.add_switch_load.new.loads held held_len
           (omega (arith, c.loop-partition.held.ok.0)),
-      overwritten c.loop-partition.loads.len c.add_load-in-loop-partition.new.loads loads loads_len
+      overwritten c.loop-partition.loads.len c.add_switch_load-in-loop-partition.new.loads loads loads_len
           (omega (arith, c.loop-partition.loads.ok.0)),
       take_more order k 0 c.loop-partition-test.true,
     )
-    (loaded_more (turn_rule c.args.self keys sizes c.args.rooms.now c.args.backups) held loads
+    (loaded_more (placement_turn_rule c.args.self keys sizes c.args.rooms.now c.args.backups) held loads
     c.loop-partition.placement.items (take k order) p (drop (k + 1) order) c.in-Some.targets
-    c.add_load.new.loads c.add_load-in-loop-partition.new.loads
+    c.add_switch_load.new.loads c.add_switch_load-in-loop-partition.new.loads
     (turn (goal.at.loop-partition-preserved c).After-number_at-key) first added more held_len
     loads_len)
 
@@ -178,7 +178,7 @@ pub returns-clause-hosted : goal.returns-clause-hosted
 returns-clause-hosted c =
     let order = c.deref-partition-items.result.now in
     let k = c.loop-partition.partition-index in
-    let rule = turn_rule c.args.self c.args.keys.now c.args.sizes.now c.args.rooms.now c.args.backups
+    let rule = placement_turn_rule c.args.self c.args.keys.now c.args.sizes.now c.args.rooms.now c.args.backups
     in
     taken_all rule c.loop-partition.placement.items (take k order)
     (subst (Loaded rule c.loop-partition.held.items c.loop-partition.loads.items

@@ -1,6 +1,6 @@
 use Rattle.std.proofs.Common.{◌∙◌, ◌≡◌, ap, subst, sym}
 use Rattle.policy_rules.specs.Exports.{IsAmendment, additions, edits_of, removals}
-use Rattle.policy_rules.proofs.EditLists.{additions_of, removals_of}
+use Rattle.policy_rules.proofs.AmendmentEdits.{additions_of, removals_of}
 use Rattle.policy_rules.proofs.amendment.Amendment.new.Goals as goal
 use Rattle.policy_rules.proofs.amendment.Amendment.new.Goals.{In_ok-edits}
 

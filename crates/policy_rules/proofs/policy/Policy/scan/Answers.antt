@@ -2,7 +2,7 @@ use Rattle.std.proofs.Common.{◌∙◌, ◌≢◌, ap, filter, subst, sym}
 use Rattle.base.proofs.Exports.{AllPairs-filter}
 use Rattle.policy_rules.specs.declared.policy.Row.{Row}
 use Rattle.policy_rules.specs.Exports.{HaveDistinctPriorities, hit_of, row_matches, scan_by}
-use Rattle.policy_rules.proofs.FirstMatch.{highest_is}
+use Rattle.policy_rules.proofs.PolicyFirstMatch.{highest_is}
 use Rattle.policy_rules.proofs.policy.Policy.scan.Goals as goal
 
 pub returns-in-Some-clause-value : goal.returns-in-Some-clause-value

@@ -1,4 +1,4 @@
-use Rattle.shelf.proofs.BlockWrites.{part_if_failed}
+use Rattle.shelf.proofs.SinkBlockWrites.{part_if_failed}
 use Rattle.shelf.proofs.block.Block.finish.Goals as goal
 
 pub returns-clause-part : goal.returns-clause-part

@@ -1,5 +1,5 @@
 use Rattle.std.proofs.Common.{rules}
-use Rattle.switch_core.proofs.OwnTables.{IsOwnFirst, own_first, same_place}
+use Rattle.switch_core.proofs.SwitchOwnLookups.{IsOwnFirst, own_first, same_place}
 use Rattle.switch_core.proofs.kept.KeptTables.first_place.Goals as goal
 use Rattle.switch_core.proofs.kept.KeptTables.first_place.Goals.{After-first}
 

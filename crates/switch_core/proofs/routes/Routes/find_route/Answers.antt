@@ -1,6 +1,6 @@
 use Rattle.std.proofs.Common.{◌∙◌, sym}
 use Rattle.failover.specs.Exports.{no_links}
-use Rattle.switch_core.proofs.FirstTargets.{to_any}
+use Rattle.switch_core.proofs.SwitchFirstTargets.{to_any}
 use Rattle.switch_core.proofs.routes.Routes.find_route.Goals as goal
 
 pub returns-clause-route : goal.returns-clause-route

@@ -1,6 +1,6 @@
 use Rattle.std.proofs.Common.{◌∙◌, Some, ap, option_copied, sym, unwrap_or}
 use Rattle.failover.specs.Exports.{no_links, route_of}
-use Rattle.switch_core.proofs.FirstTargets.{to_any}
+use Rattle.switch_core.proofs.SwitchFirstTargets.{to_any}
 use Rattle.switch_core.proofs.routes.Routes.to_first.Goals as goal
 
 pub returns-in-Some-kept_route-clause-route : goal.returns-in-Some-kept_route-clause-route

@@ -1,8 +1,8 @@
 use Rattle.std.proofs.Common.{◌∙◌, ap, sym}
 use Rattle.failover.specs.Exports.{no_links}
 use Rattle.switch_core.specs.Exports.{SwitchValue, incoming_packet}
-use Rattle.switch_core.proofs.AdmittedPackets.{not_admitted, was_admitted}
-use Rattle.switch_core.proofs.LookupAnswers.{entry_uncached}
+use Rattle.switch_core.proofs.SwitchAdmissions.{not_admitted, was_admitted}
+use Rattle.switch_core.proofs.SwitchLookupAnswers.{entry_uncached}
 use Rattle.switch_core.proofs.switch.Switch.admit.Goals as goal
 
 pub returns-then-not-serves-clause-answer : goal.returns-then-not-serves-clause-answer

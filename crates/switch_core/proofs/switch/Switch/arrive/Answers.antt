@@ -1,5 +1,5 @@
 use Rattle.std.proofs.Common.{◌∙◌, ap}
-use Rattle.switch_core.specs.Exports.{answer_of, around, arrival_of, received}
+use Rattle.switch_core.specs.Exports.{answer_of, around, switch_arrival_of, received}
 use Rattle.switch_core.specs.declared.tunnel_calls.Packet.{Packet}
 use Rattle.switch_core.proofs.switch.Switch.arrive.Goals as goal
 
@@ -7,7 +7,7 @@ pub returns-clause-answer : goal.returns-clause-answer
 unfolding received
 returns-clause-answer c = let site = around c.args.near c.args.ports.now in
     c.answer_arrival.ensures
-    ∙ ap (λ (p : Packet). arrival_of (answer_of c.receive-forwarding.new.self site p
+    ∙ ap (λ (p : Packet). switch_arrival_of (answer_of c.receive-forwarding.new.self site p
     c.receive-forwarding.result)) c.carried.ensures
-    ∙ ap arrival_of
+    ∙ ap switch_arrival_of
     (rw c.t.view_is at (c.receive-forwarding.ensures.answer site c.t.inside.packet c.t.inside.down))

@@ -1,7 +1,7 @@
 use Rattle.std.proofs.Common.{◌≡◌, None, Option, ap, option_map, rules}
 use Rattle.switch_core.specs.Exports.{Answer, Answered, SwitchValue, admitted, around, entry_of, incoming_packet}
-use Rattle.switch_core.proofs.AdmittedPackets.{answered, by_lookup}
-use Rattle.switch_core.proofs.LookupAnswers.{entry_uncached}
+use Rattle.switch_core.proofs.SwitchAdmissions.{answered, by_lookup}
+use Rattle.switch_core.proofs.SwitchLookupAnswers.{entry_uncached}
 use Rattle.switch_core.proofs.switch.Switch.enter.Goals as goal
 
 -- a packet that isn't looked up finds the switch closed

@@ -1,7 +1,7 @@
 use Rattle.std.proofs.Common.{◌∙◌, ◌≡◌, ap, rules}
 use Rattle.switch_core.specs.Exports.{Moved, hop_answer, rerouted_here}
-use Rattle.tunnel.specs.Exports.{marked_down}
-use Rattle.switch_core.proofs.NextSwitch.{hop_down, is_down}
+use Rattle.tunnel.specs.Exports.{tunnel_marked_down}
+use Rattle.switch_core.proofs.SwitchOnwardHops.{hop_down, is_down}
 use Rattle.switch_core.proofs.switch.Switch.hop.Goals as goal
 use Rattle.switch_core.proofs.switch.Switch.hop.Goals.{After-reroute}
 

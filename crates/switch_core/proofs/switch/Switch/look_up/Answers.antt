@@ -1,7 +1,7 @@
 use Rattle.std.proofs.Common.{subst}
 use Rattle.switch_core.specs.Exports.{IsSwitch}
-use Rattle.switch_core.proofs.OwnTables.{lookup_is_found}
-use Rattle.switch_core.proofs.LookupAnswers.{stamp_sound}
+use Rattle.switch_core.proofs.SwitchOwnLookups.{lookup_is_found}
+use Rattle.switch_core.proofs.SwitchLookupAnswers.{stamp_sound}
 use Rattle.switch_core.proofs.switch.Switch.look_up.Goals as goal
 
 pub by_found-requires : goal.by_found-requires

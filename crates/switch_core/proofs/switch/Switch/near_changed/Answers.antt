@@ -1,6 +1,6 @@
 use Rattle.std.proofs.Common.{◌+◌, ◌≡◌, true}
 use Rattle.failover.specs.Exports.{is_news}
-use Rattle.failover.proofs.HeldAdverts.{after_news}
+use Rattle.failover.proofs.FailoverHeldAdverts.{after_news}
 use Rattle.switch_core.specs.Exports.{own_advert}
 use Rattle.switch_core.proofs.SwitchOwnAdverts.{next_is_news, own_next}
 use Rattle.switch_core.proofs.switch.Switch.near_changed.Goals as goal

@@ -1,5 +1,5 @@
 use Rattle.std.proofs.Common.{◌<◌, ◌∙◌, ◌≡◌, ◌≢◌, subst, sym}
-use Rattle.switch_core.proofs.NextSwitch.{next_apart}
+use Rattle.switch_core.proofs.SwitchOnwardHops.{next_apart}
 use Rattle.switch_core.proofs.switch.Switch.pass.Goals as goal
 
 pub returns-in-Some-2-clause-other : goal.returns-in-Some-2-clause-other

@@ -2,7 +2,7 @@ use Rattle.std.proofs.Common.{[], ◌++◌, ◌∙◌, ◌∷◌, ap, arith, dro
 use Rattle.base.proofs.Exports.{length-map, list_any}
 use Rattle.switch_table.specs.Exports.{CacheValue, after_accept, kept_entries, kept_entry, same_key}
 use Rattle.switch_table.proofs.CacheLemmas.{first_evicted, length-rest}
-use Rattle.switch_table.proofs.PairLemmas.{entries_pushed, entries_removed, first_removed, holds_pushed, holds_removed}
+use Rattle.switch_table.proofs.CachePairs.{entries_pushed, entries_removed, first_removed, holds_pushed, holds_removed}
 use Rattle.switch_table.proofs.cache.Cache.accept.Goals as goal
 
 pub invariant_of-self-then-len-self : goal.invariant_of-self-then-len-self

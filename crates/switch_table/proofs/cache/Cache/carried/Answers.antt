@@ -1,6 +1,6 @@
 use Rattle.std.proofs.Common.{[], ◌++◌, ◌∙◌, ◌∷◌, ◌≡◌, ap, append_assoc, filter_map, subst, sym}
 use Rattle.switch_table.specs.Exports.{IsCache, after_accept, carried_entry}
-use Rattle.switch_table.proofs.CarryLemmas.{cache_carried, left_in, left_out}
+use Rattle.switch_table.proofs.CacheCarryLemmas.{cache_carried, left_in, left_out}
 use Rattle.switch_table.proofs.cache.Cache.carried.Goals as goal
 use Rattle.switch_table.proofs.cache.Cache.carried.Goals.{After-carried_entry}
 

@@ -1,8 +1,8 @@
 use Rattle.std.proofs.Common.{◌-◌, ◌<◌, ◌∙◌, ◌≡◌, ap, arith, filter_map, subst, sym, rules}
-use Rattle.switch_table.specs.Exports.{HaveVersions, HoldsEntries, after_carry, carried_entry, kept_entries}
-use Rattle.switch_table.proofs.CarryLemmas.{left_few}
-use Rattle.switch_table.proofs.OverLemmas.{below_newest, carried_pairs, masked_carried, pairs_over, up_to_carried, versions_over}
-use Rattle.switch_table.proofs.PairLemmas.{holds_of}
+use Rattle.switch_table.specs.Exports.{KeysHaveVersions, HoldsEntries, after_carry, carried_entry, kept_entries}
+use Rattle.switch_table.proofs.CacheCarryLemmas.{left_few}
+use Rattle.switch_table.proofs.CacheCarryShift.{below_newest, carried_pairs, masked_carried, pairs_over, up_to_carried, versions_over}
+use Rattle.switch_table.proofs.CachePairs.{holds_of}
 use Rattle.switch_table.proofs.cache.Cache.carry.Goals as goal
 use Rattle.switch_table.proofs.cache.Cache.carry.Goals.{After-keep_carried}
 
@@ -31,7 +31,7 @@ invariant_of-self c =
     (holds_of c.self.inside.masks (shift - 1) version c.self.inside.capacity c.keep_carried.new.self
     _ (omega (arith, c.self.invariant.fits))
     (omega (arith, c.self.invariant.falls, c.if-self-version.true, c.ranges.version.fits))
-    (subst (HaveVersions (shift - 1)) (sym (kept here)) (versions_over shift version touched
+    (subst (KeysHaveVersions (shift - 1)) (sym (kept here)) (versions_over shift version touched
     c.self.inside.slots (some here) (omega (arith, c.ranges.version.fits)))) (gone_over here)
     (up_to_carried version c.self.inside.newest version touched entries c.self.invariant.up_to
     (omega (arith, c.if-self-version.true)) (omega arith))

@@ -1,6 +1,6 @@
 use Rattle.std.proofs.Common.{subst}
 use Rattle.switch_table.specs.Exports.{IsCache}
-use Rattle.switch_table.proofs.PairLemmas.{entries_distinct}
+use Rattle.switch_table.proofs.CachePairs.{entries_distinct}
 use Rattle.switch_table.proofs.cache.Cache.entries.Goals as goal
 
 pub returns-clause-cache : goal.returns-clause-cache

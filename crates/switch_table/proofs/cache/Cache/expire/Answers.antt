@@ -2,7 +2,7 @@ use Rattle.std.proofs.Common.{◌∙◌, ap, arith, option_map, slice_get, sym}
 use Rattle.base.proofs.Exports.{slice_get-map}
 use Rattle.switch_table.specs.Exports.{CacheValue, kept_entries, kept_entry}
 use Rattle.switch_table.specs.declared.cache.CacheEntry.{CacheEntry}
-use Rattle.switch_table.proofs.PairLemmas.{few_removed, holds_removed}
+use Rattle.switch_table.proofs.CachePairs.{few_removed, holds_removed}
 use Rattle.switch_table.proofs.cache.Cache.expire.Goals as goal
 
 pub invariant_of-self : goal.invariant_of-self

@@ -1,6 +1,6 @@
 use Rattle.std.proofs.Common.{◌+◌, ◌∙◌, ◌≡◌, ap, filter, leb, rules}
 use Rattle.switch_table.specs.Exports.{Pair, after_raise, kept_entries}
-use Rattle.switch_table.proofs.PairLemmas.{entries_from, holds_from}
+use Rattle.switch_table.proofs.CachePairs.{entries_from, holds_from}
 use Rattle.switch_table.proofs.cache.Cache.raise.Goals as goal
 use Rattle.switch_table.proofs.cache.Cache.raise.Goals.{After-keep_from}
 

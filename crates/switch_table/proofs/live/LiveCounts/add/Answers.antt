@@ -1,5 +1,5 @@
 use Rattle.std.proofs.Common.{arith}
-use Rattle.switch_table.proofs.LiveLemmas.{added, all_added}
+use Rattle.switch_table.proofs.CacheLiveCounts.{added, all_added}
 use Rattle.switch_table.proofs.live.LiveCounts.add.Goals as goal
 
 pub returns : goal.returns

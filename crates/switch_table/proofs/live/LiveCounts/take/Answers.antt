@@ -1,6 +1,6 @@
 use Rattle.std.proofs.Common.{arith, false, true}
 use Rattle.base.proofs.Exports.{get_or_from_slice_get, slice_get_within}
-use Rattle.switch_table.proofs.LiveLemmas.{all_taken, taken}
+use Rattle.switch_table.proofs.CacheLiveCounts.{all_taken, taken}
 use Rattle.switch_table.proofs.live.LiveCounts.take.Goals as goal
 
 pub returns : goal.returns

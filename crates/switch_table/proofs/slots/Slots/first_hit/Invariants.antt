@@ -1,6 +1,6 @@
 use Rattle.std.proofs.Common.{◌≡◌, take}
 use Rattle.base.proofs.Exports.{position_or_len}
-use Rattle.switch_table.proofs.SlotHitLemmas.{hit_live}
+use Rattle.switch_table.proofs.CacheSlotHits.{hit_live}
 use Rattle.switch_table.proofs.slots.Slots.first_hit.Given as goal
 
 -- the first place of a live key of the masks so far

@@ -1,7 +1,7 @@
 use Rattle.std.proofs.Common.{◌∙◌, ap, subst}
 use Rattle.switch_table.specs.Exports.{HaveOwnKeys, equal_keys, live_pairs}
-use Rattle.switch_table.proofs.SlotPushLemmas.{distinct_live}
-use Rattle.switch_table.proofs.SlotRemoveLemmas.{past_dead}
+use Rattle.switch_table.proofs.CacheSlotPushes.{distinct_live}
+use Rattle.switch_table.proofs.CacheSlotRemovals.{past_dead}
 use Rattle.switch_table.proofs.slots.Slots.iter.Goals as goal
 
 pub returns-clause-pairs : goal.returns-clause-pairs

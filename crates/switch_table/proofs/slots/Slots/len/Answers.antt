@@ -1,6 +1,6 @@
 use Rattle.std.proofs.Common.{ap, arith, length, subst}
 use Rattle.switch_table.specs.Exports.{HaveOwnKeys, equal_keys}
-use Rattle.switch_table.proofs.SlotPushLemmas.{count_live, distinct_live, live_fit}
+use Rattle.switch_table.proofs.CacheSlotPushes.{count_live, distinct_live, live_fit}
 use Rattle.switch_table.proofs.slots.Slots.len.Goals as goal
 
 pub returns-clause-len : goal.returns-clause-len

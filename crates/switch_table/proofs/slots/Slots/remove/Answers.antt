@@ -1,13 +1,13 @@
 use Rattle.std.proofs.Common.{◌∙◌, ◌≡◌, ap, arith, inl, inr, length, refl, remove, slice_get, subst, sym}
 use Rattle.switch_table.specs.Exports.{AreNamed, AreSlots, is_live, live_pairs}
-use Rattle.switch_table.proofs.SlotKeyLemmas.{named_kept}
-use Rattle.switch_table.proofs.SlotPushLemmas.{count_live, swept_pairs, swept_slots}
-use Rattle.switch_table.proofs.SlotRemoveLemmas.{all_fit, nth_killed, nth_pair, slots_killed}
+use Rattle.switch_table.proofs.CacheSlotKeys.{named_kept}
+use Rattle.switch_table.proofs.CacheSlotPushes.{count_live, swept_pairs, swept_slots}
+use Rattle.switch_table.proofs.CacheSlotRemovals.{all_fit, nth_killed, nth_pair, slots_killed}
 use Rattle.switch_table.proofs.slots.Slots.remove.Goals as goal
 use Rattle.switch_table.proofs.slots.Slots.remove.Goals.{After-all, then-place-eq0, else-place-eq0}
 
-pub place_of_live-at-requires-clause-some : goal.place_of_live-at-requires-clause-some
-place_of_live-at-requires-clause-some c =
+pub place_of_live_slot-at-requires-clause-some : goal.place_of_live_slot-at-requires-clause-some
+place_of_live_slot-at-requires-clause-some c =
     omega (arith, c.len.ensures.len, ap length c.self.view_is, count_live c.self.inside.map.entries)
 
 -- the slots once the one is dead
@@ -15,15 +15,15 @@ left : (c : After-all) → AreSlots c.if-place-eq0.self-inside.live
     c.if-place-eq0.self-inside.first c.if-place-eq0.self-inside.map.entries
 left c =
     let old = c.self.inside in
-    let at = c.place_of_live-at.result in
+    let at = c.place_of_live_slot-at.result in
     elim c.if-place-eq0.branch [
       | then-place-eq0 w ↦ rw w.self-inside-is (slots_killed old.live c.take.new.self old.first at
           c.args.place at old.map.entries c.kill.new.map.entries c.self.invariant
-          c.place_of_live-at.ensures c.kill.ensures c.take.ensures
+          c.place_of_live_slot-at.ensures c.kill.ensures c.take.ensures
           (inl (w.if-place-eq0.true, refl)))
       | else-place-eq0 w ↦ rw w.self-inside-is (slots_killed old.live c.take.new.self old.first
           old.first c.args.place at old.map.entries c.kill.new.map.entries c.self.invariant
-          c.place_of_live-at.ensures c.kill.ensures c.take.ensures (inr refl))
+          c.place_of_live_slot-at.ensures c.kill.ensures c.take.ensures (inr refl))
     ]
 
 -- and its pairs
@@ -31,7 +31,7 @@ rest : (c : After-all) → live_pairs c.if-place-eq0.self-inside.map.entries
     ≡ remove c.args.self.now c.args.place
 rest c =
     let made = nth_killed c.self.inside.map.entries c.kill.new.map.entries c.args.place
-    c.place_of_live-at.result c.place_of_live-at.ensures c.kill.ensures
+    c.place_of_live_slot-at.result c.place_of_live_slot-at.ensures c.kill.ensures
     ∙ ap (λ pairs. remove pairs c.args.place) c.self.view_is in
     elim c.if-place-eq0.branch [
       | then-place-eq0 w ↦ rw w.self-inside-is made
@@ -57,13 +57,13 @@ overflow_add-all c = let inside = c.if-place-eq0.self-inside in
       all_fit inside.live inside.map.entries (left (goal.at.overflow_add-all c).After-all).counted,
     )
 
-pub sweep-requires : goal.sweep-requires
-sweep-requires c = (left (goal.at.sweep-requires c).After-all).counted
+pub sweep_dead_slots-requires : goal.sweep_dead_slots-requires
+sweep_dead_slots-requires c = (left (goal.at.sweep_dead_slots-requires c).After-all).counted
 
 pub invariant_of-self : goal.invariant_of-self
 invariant_of-self c = let are = left (goal.at.invariant_of-self c).After-all in
-    swept_slots c.sweep.new.live c.sweep.new.map.entries c.sweep.ensures.counts
-    (subst (AreNamed 0) (sym c.sweep.ensures.slots)
+    swept_slots c.sweep_dead_slots.new.live c.sweep_dead_slots.new.map.entries c.sweep_dead_slots.ensures.counts
+    (subst (AreNamed 0) (sym c.sweep_dead_slots.ensures.slots)
     (named_kept is_live (λ slot is. is) 0 0 c.if-place-eq0.self-inside.map.entries are.named))
 
 pub invariant_of-self-else-len-all : goal.invariant_of-self-else-len-all
@@ -72,7 +72,7 @@ invariant_of-self-else-len-all c = left (goal.at.invariant_of-self-else-len-all 
 -- what was there
 taken : (c : After-all) → c.pair_at-pair.result ≡ slice_get c.args.self.now c.args.place
 taken c = c.pair_at-pair.ensures ∙ nth_pair c.self.inside.map.entries c.args.place
-    c.place_of_live-at.result c.place_of_live-at.ensures
+    c.place_of_live_slot-at.result c.place_of_live_slot-at.ensures
     ∙ ap (λ pairs. slice_get pairs c.args.place) c.self.view_is
 
 pub returns-then-len-all-clause-pair : goal.returns-then-len-all-clause-pair
@@ -83,7 +83,7 @@ returns-else-len-all-clause-pair c = taken (goal.at.returns-else-len-all-clause-
 
 pub returns-then-len-all-clause-rest : goal.returns-then-len-all-clause-rest
 returns-then-len-all-clause-rest c =
-    ap live_pairs c.sweep.ensures.slots ∙ swept_pairs c.if-place-eq0.self-inside.map.entries
+    ap live_pairs c.sweep_dead_slots.ensures.slots ∙ swept_pairs c.if-place-eq0.self-inside.map.entries
     ∙ rest (goal.at.returns-then-len-all-clause-rest c).After-all
 
 pub returns-else-len-all-clause-rest : goal.returns-else-len-all-clause-rest

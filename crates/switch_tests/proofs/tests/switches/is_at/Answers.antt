@@ -1,4 +1,4 @@
-use Rattle.switch_tests.proofs.TestTables.{stands}
+use Rattle.switch_tests.proofs.SwitchTestTables.{stands}
 use Rattle.switch_tests.proofs.tests.switches.is_at.Goals as goal
 
 pub returns : goal.returns

@@ -3,7 +3,7 @@ use Rattle.policy_rules.specs.Exports.{is_in}
 use Rattle.policy_rules.specs.declared.rules.Partition.{Partition}
 use Rattle.switch_table.specs.declared.tables.Tables.{Tables}
 use Rattle.table_tree.specs.Finding.{FinderValue}
-use Rattle.table_tree.proofs.FinderLemmas.{first_in, none_there, one_read}
+use Rattle.table_tree.proofs.TableTreeFinder.{first_in, none_there, one_read}
 use Rattle.table_tree.proofs.finder.Finder.first.Goals as goal
 
 pub returns-in-None-clause-place : goal.returns-in-None-clause-place

@@ -4,7 +4,7 @@ use Rattle.policy_rules.specs.Exports.{is_held}
 use Rattle.switch_table.specs.declared.tables.Tables.{Tables}
 use Rattle.table_tree.specs.declared.trees.Trees.{Trees}
 use Rattle.table_tree.specs.Finding.{FinderValue}
-use Rattle.table_tree.proofs.FinderLemmas.{IsThere, first_in, is_there}
+use Rattle.table_tree.proofs.TableTreeFinder.{IsThere, first_in, is_there}
 use Rattle.table_tree.proofs.finder.Finder.first_at.Goals as goal
 use Rattle.table_tree.proofs.finder.Finder.first_at.Goals.{After-items-2}
 

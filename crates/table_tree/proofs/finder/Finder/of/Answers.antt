@@ -1,4 +1,4 @@
-use Rattle.table_tree.proofs.FinderLemmas.{finder_tree}
+use Rattle.table_tree.proofs.TableTreeFinder.{finder_tree}
 use Rattle.table_tree.proofs.finder.Finder.of.Goals as goal
 
 pub returns-clause-tree : goal.returns-clause-tree

@@ -6,7 +6,7 @@ use Rattle.switch_table.specs.declared.search.Found.TheVariants.{Authority, Redi
 use Rattle.switch_table.specs.declared.tables.PartRow.{PartRow}
 use Rattle.switch_table.specs.declared.tables.Tables.{Tables}
 use Rattle.table_tree.specs.Finding.{FinderValue}
-use Rattle.table_tree.proofs.FinderLemmas.{first_in, none_there, own_decides, own_has, place_is, place_within, row_decides}
+use Rattle.table_tree.proofs.TableTreeFinder.{first_in, none_there, own_decides, own_has, place_is, place_within, row_decides}
 use Rattle.table_tree.proofs.finder.Finder.table_lookup.Goals as goal
 
 pub first_at-requires : goal.first_at-requires

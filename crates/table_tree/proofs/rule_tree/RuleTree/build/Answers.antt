@@ -1,5 +1,5 @@
 use Rattle.std.proofs.Common.{ap, arith, length}
-use Rattle.table_tree.proofs.RuleTreeLemmas.{length_ranked}
+use Rattle.table_tree.proofs.TableTreeRules.{length_ranked}
 use Rattle.table_tree.proofs.rule_tree.RuleTree.build.Goals as goal
 
 pub new-requires-clause-few : goal.new-requires-clause-few

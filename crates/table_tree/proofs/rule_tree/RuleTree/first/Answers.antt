@@ -1,5 +1,5 @@
 use Rattle.five_tuple.specs.Exports.{number_of}
-use Rattle.table_tree.proofs.RuleTreeLemmas.{first_is}
+use Rattle.table_tree.proofs.TableTreeRules.{first_is}
 use Rattle.table_tree.proofs.rule_tree.RuleTree.first.Goals as goal
 
 pub returns-in-Some-clause-place : goal.returns-in-Some-clause-place

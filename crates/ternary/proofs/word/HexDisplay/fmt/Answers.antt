@@ -1,4 +1,4 @@
-use Rattle.ternary.proofs.HexDigits.{hex_halves}
+use Rattle.ternary.proofs.TernaryHexDigits.{hex_halves}
 use Rattle.ternary.proofs.word.HexDisplay.fmt.Goals as goal
 
 pub returns-clause-writes : goal.returns-clause-writes

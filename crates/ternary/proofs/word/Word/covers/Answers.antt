@@ -1,6 +1,6 @@
 use Rattle.std.proofs.Common.{rules}
 use Rattle.ternary.specs.Exports.{covers_of}
-use Rattle.ternary.proofs.WordLemmas.{inclusion_as}
+use Rattle.ternary.proofs.TernaryWords.{inclusion_as}
 use Rattle.ternary.proofs.word.Word.covers.Goals as goal
 
 pub returns-then-self-other-clause-inclusion : goal.returns-then-self-other-clause-inclusion

@@ -1,4 +1,4 @@
-use Rattle.ternary.proofs.WordLemmas.{exact_holds}
+use Rattle.ternary.proofs.TernaryWords.{exact_holds}
 use Rattle.ternary.proofs.word.Word.exact.Goals as goal
 
 pub returns-clause-alone : goal.returns-clause-alone

@@ -1,6 +1,6 @@
 use Rattle.std.proofs.Common.{◌∙◌, ap}
 use Rattle.ternary.specs.Exports.{holds}
-use Rattle.ternary.proofs.WordLemmas.{set_fix, fix_holds, fix_word}
+use Rattle.ternary.proofs.TernaryWords.{set_fix, fix_holds, fix_word}
 use Rattle.ternary.proofs.word.Word.fix.Goals as goal
 
 pub returns-clause-pair : goal.returns-clause-pair

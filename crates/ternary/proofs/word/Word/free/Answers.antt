@@ -1,6 +1,6 @@
 use Rattle.std.proofs.Common.{◌∙◌, ap}
 use Rattle.ternary.specs.Exports.{holds}
-use Rattle.ternary.proofs.WordLemmas.{cleared_free, free_holds, free_word}
+use Rattle.ternary.proofs.TernaryWords.{cleared_free, free_holds, free_word}
 use Rattle.ternary.proofs.word.Word.free.Goals as goal
 
 pub returns-clause-pair : goal.returns-clause-pair

@@ -1,4 +1,4 @@
-use Rattle.ternary.proofs.WordLemmas.{masked_holds, holds_decides}
+use Rattle.ternary.proofs.TernaryWords.{masked_holds, holds_decides}
 use Rattle.ternary.proofs.word.Word.holds.Goals as goal
 
 pub returns-clause-test : goal.returns-clause-test

@@ -1,4 +1,4 @@
-use Rattle.ternary.proofs.WordLemmas.{tested_bit}
+use Rattle.ternary.proofs.TernaryWords.{tested_bit}
 use Rattle.ternary.proofs.word.Word.is_fixed.Goals as goal
 
 pub returns : goal.returns

@@ -1,5 +1,5 @@
 use Rattle.std.proofs.Common.{sym}
-use Rattle.ternary.proofs.WordLemmas.{sum_meet, sum_word, no_meet, meet_both, disjoint_as}
+use Rattle.ternary.proofs.TernaryWords.{sum_meet, sum_word, no_meet, meet_both, disjoint_as}
 use Rattle.ternary.proofs.word.Word.meet.Goals as goal
 
 pub invariant_of-result : goal.invariant_of-result

@@ -2,7 +2,7 @@ use Rattle.std.proofs.Common.{◌∙◌, List, Some, ap, refl, set, subst, sym}
 use Rattle.base.proofs.Exports.{slice_get_read}
 use Rattle.trace_audit.specs.Exports.{HasShape, slot_of_row}
 use Rattle.trace_audit.specs.declared.index.Shape.{Shape}
-use Rattle.trace_audit.proofs.IndexedRows.{has_shape, next_indexed}
+use Rattle.trace_audit.proofs.AuditIndexedRows.{has_shape, next_indexed}
 use Rattle.trace_audit.proofs.index.Index.add.Goals as goal
 
 pub slot_of_row-slot-requires : goal.slot_of_row-slot-requires

@@ -1,4 +1,4 @@
-use Rattle.trace_audit.proofs.IndexedRows.{IsSought}
+use Rattle.trace_audit.proofs.AuditIndexedRows.{IsSought}
 use Rattle.trace_audit.proofs.index.Index.best.Given as goal
 
 abbrev pub invariant-loop-place : goal.invariant-loop-place

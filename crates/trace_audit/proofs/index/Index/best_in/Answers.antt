@@ -1,5 +1,5 @@
 use Rattle.std.proofs.Common.{rules, subst}
-use Rattle.trace_audit.proofs.IndexedRows.{IsWalked, walk_ends, walk_falls, walk_on}
+use Rattle.trace_audit.proofs.AuditIndexedRows.{IsWalked, walk_ends, walk_falls, walk_on}
 use Rattle.trace_audit.proofs.index.Index.best_in.Goals as goal
 
 pub loop-at-smaller : goal.loop-at-smaller

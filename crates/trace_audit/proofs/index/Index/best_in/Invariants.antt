@@ -1,4 +1,4 @@
-use Rattle.trace_audit.proofs.IndexedRows.{IsWalked, places_left}
+use Rattle.trace_audit.proofs.AuditIndexedRows.{IsWalked, places_left}
 use Rattle.trace_audit.proofs.index.Index.best_in.Given as goal
 
 abbrev pub invariant-loop-at : goal.invariant-loop-at

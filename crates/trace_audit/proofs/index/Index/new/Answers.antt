@@ -1,5 +1,5 @@
 use Rattle.std.proofs.Common.{rules}
-use Rattle.trace_audit.proofs.IndexedRows.{none_indexed}
+use Rattle.trace_audit.proofs.AuditIndexedRows.{none_indexed}
 use Rattle.trace_audit.proofs.index.Index.new.Goals as goal
 
 pub returns : goal.returns

@@ -1,6 +1,6 @@
 use Rattle.std.proofs.Common.{◌∙◌, subst, sym}
 use Rattle.policy_rules.specs.Exports.{IsFirstMatch, IsPolicy}
-use Rattle.trace_audit.proofs.IndexedRows.{best_first}
+use Rattle.trace_audit.proofs.AuditIndexedRows.{best_first}
 use Rattle.trace_audit.proofs.index.IndexedPolicy.first_match.Goals as goal
 
 indexed : (c : goal.After-best) → IsFirstMatch c.args.self.now c.args.header.now c.best.result

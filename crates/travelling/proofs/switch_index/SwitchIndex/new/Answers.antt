@@ -1,4 +1,4 @@
-use Rattle.travelling.proofs.MarkBlocks.{no_levels}
+use Rattle.travelling.proofs.TravellingMarkBlocks.{no_levels}
 use Rattle.travelling.proofs.switch_index.SwitchIndex.new.Goals as goal
 
 pub invariant_of-result : goal.invariant_of-result

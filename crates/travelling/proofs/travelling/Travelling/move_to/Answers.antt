@@ -1,9 +1,9 @@
 use Rattle.std.proofs.Common.{ap, arith, length}
-use Rattle.travelling.specs.Travelling.{HasPlace}
-use Rattle.travelling.proofs.StandingMasks.{within_and}
+use Rattle.travelling.specs.Travelling.{FlightHasPlace}
+use Rattle.travelling.proofs.TravellingMasks.{within_and}
 use Rattle.travelling.proofs.travelling.Travelling.move_to.Goals as goal
 
-pub move_slot-requires-clause-room : goal.move_slot-requires-clause-room
-move_slot-requires-clause-room c =
-    let there = within_and (HasPlace c.args.place) c.args.self.now c.args.packet c.requires in
+pub move_packet_slot-requires-clause-room : goal.move_packet_slot-requires-clause-room
+move_packet_slot-requires-clause-room c =
+    let there = within_and (FlightHasPlace c.args.place) c.args.self.now c.args.packet c.requires in
     c.self.invariant.room c.args.packet (omega (arith, there, ap length c.self.view_is))

@@ -1,7 +1,7 @@
 use Rattle.std.proofs.Common.{◌∙◌, ap, arith, length, sym}
 use Rattle.travelling.specs.SwitchIndex.{is_marked}
 use Rattle.travelling.specs.Travelling.{Flights, stands_at, flight}
-use Rattle.travelling.proofs.StandingMasks.{none_marked}
+use Rattle.travelling.proofs.TravellingMasks.{none_marked}
 use Rattle.travelling.proofs.travelling.Travelling.new.Goals as goal
 
 pub invariant_of-result : goal.invariant_of-result

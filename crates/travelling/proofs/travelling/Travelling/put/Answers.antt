@@ -1,7 +1,7 @@
 use Rattle.std.proofs.Common.{◌<◌, ◌∙◌, ◌≡◌, ◌≤◌, None, ap, arith, get_or-set_other, inl, inr, length, length-set, refl, ℕ}
 use Rattle.base.proofs.Exports.{cases_lt, get_or_past}
 use Rattle.travelling.specs.Travelling.{Flights, stands_at, flight}
-use Rattle.travelling.proofs.StandingMasks.{marked_on, room_on}
+use Rattle.travelling.proofs.TravellingMasks.{marked_on, room_on}
 use Rattle.travelling.proofs.travelling.Travelling.put.Goals.{then-self-len, else-self-len}
 use Rattle.travelling.proofs.travelling.Travelling.put.Goals as goal
 
@@ -29,19 +29,19 @@ invariant_of-self-in_err-make_room c = record {
       ∙ c.self.invariant.below i s past;
 }
 
-pub set_slot-requires-clause-marked : goal.set_slot-requires-clause-marked
-set_slot-requires-clause-marked c = marked_on c.self.inside.slots.items c.make_room.new.slots.items
+pub set_packet_slot-requires-clause-marked : goal.set_packet_slot-requires-clause-marked
+set_packet_slot-requires-clause-marked c = marked_on c.self.inside.slots.items c.make_room.new.slots.items
     c.self.inside.by_switch c.make_bits.new.self c.self.invariant.marked c.make_room.ensures.same
     c.make_bits.ensures.same
 
-pub set_slot-requires-clause-below : goal.set_slot-requires-clause-below
-set_slot-requires-clause-below c = λ i s past.
+pub set_packet_slot-requires-clause-below : goal.set_packet_slot-requires-clause-below
+set_packet_slot-requires-clause-below c = λ i s past.
     ap (stands_at s) (c.make_room.ensures.same i) ∙ c.self.invariant.below i s past
 
 pub invariant_of-self-2 : goal.invariant_of-self-2
 invariant_of-self-2 c =
-    let long : length c.set_slot.new.slots.items ≡ length c.make_room.new.slots.items =
-    ap length c.set_slot.ensures.slots ∙ length-set c.make_room.new.slots.items c.args.packet _ in
+    let long : length c.set_packet_slot.new.slots.items ≡ length c.make_room.new.slots.items =
+    ap length c.set_packet_slot.ensures.slots ∙ length-set c.make_room.new.slots.items c.args.packet _ in
     let low : c.if-self-len.first ≤ c.args.packet = elim c.if-self-len.branch [
       | then-self-len w ↦ omega (arith, w.first-is, w.min-first.ensures)
       | else-self-len w ↦ omega (arith, w.first-is)
@@ -58,10 +58,10 @@ invariant_of-self-2 c =
     c.self.inside.by_switch c.make_bits.new.self c.args.packet c.self.invariant.room
     c.make_room.ensures.few c.make_bits.ensures.grown c.in_ok-make_bits.ensures.room in record {
       few = omega (arith, c.make_room.ensures.few, c.self.invariant.few, c.ranges.packet.fits);
-      none = λ i below. ap (λ (slots : Flights). flight slots i) c.set_slot.ensures.slots
+      none = λ i below. ap (λ (slots : Flights). flight slots i) c.set_packet_slot.ensures.slots
           ∙ get_or-set_other c.make_room.new.slots.items c.args.packet i _ None
           (λ e. absurd (omega arith)) ∙ c.make_room.ensures.same i ∙ before i below;
-      room = λ i below. omega (arith, all i (omega (arith, below, long)), c.set_slot.ensures.room);
-      marked = c.set_slot.ensures.marked;
-      below = c.set_slot.ensures.below;
+      room = λ i below. omega (arith, all i (omega (arith, below, long)), c.set_packet_slot.ensures.room);
+      marked = c.set_packet_slot.ensures.marked;
+      below = c.set_packet_slot.ensures.below;
     }

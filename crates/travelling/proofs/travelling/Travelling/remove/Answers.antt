@@ -1,9 +1,9 @@
 use Rattle.std.proofs.Common.{◌<◌, ap, arith, length}
-use Rattle.travelling.proofs.StandingMasks.{within_some}
+use Rattle.travelling.proofs.TravellingMasks.{within_some}
 use Rattle.travelling.proofs.travelling.Travelling.remove.Goals as goal
 
-pub set_slot-requires-clause-room : goal.set_slot-requires-clause-room
-set_slot-requires-clause-room c =
+pub set_packet_slot-requires-clause-room : goal.set_packet_slot-requires-clause-room
+set_packet_slot-requires-clause-room c =
     let so = c.has.ensures in
     let held = c.if-not-has.false in
     let there : c.args.packet < length c.args.self.now =

@@ -1,6 +1,6 @@
 use Rattle.std.proofs.Common.{subst, sym}
 use Rattle.version_update.specs.Exports.{AreMarksSettled}
-use Rattle.version_update.proofs.OpenedSwitches.{first-settled}
+use Rattle.version_update.proofs.VersionOpenings.{first-settled}
 use Rattle.version_update.proofs.marks.Marks.begin.Goals as goal
 
 pub invariant_of-result : goal.invariant_of-result

@@ -1,7 +1,7 @@
 use Rattle.std.proofs.Common.{ap, arith, subst, sym}
 use Rattle.version_update.specs.declared.record.SwitchRecord.{SwitchRecord}
 use Rattle.version_update.specs.Exports.{IsSoundRecord, MarksValue}
-use Rattle.version_update.proofs.OpenedSwitches.{installed-sound}
+use Rattle.version_update.proofs.VersionOpenings.{installed-sound}
 use Rattle.version_update.proofs.marks.Marks.installed.Goals as goal
 
 pub set_record-requires-clause-sound : goal.set_record-requires-clause-sound

@@ -1,5 +1,5 @@
 use Rattle.std.proofs.Common.{arith}
-use Rattle.world.proofs.KeptFiles.{kept_first}
+use Rattle.world.proofs.WorldKeptFiles.{kept_first}
 use Rattle.world.proofs.files.Files.new.Goals as goal
 
 pub invariant_of-result : goal.invariant_of-result

@@ -3,11 +3,11 @@ use Rattle.controller.specs.Exports.{ControllerValue, current_touched, settling_
 use Rattle.controller.specs.declared.sends.Act.{Act}
 use Rattle.journal.specs.declared.item.Item.TheVariants as item
 use Rattle.version_update.specs.Exports.{after_over, at_switch}
-use Rattle.world_log.specs.Exports.{MayNote}
+use Rattle.world_log.specs.Exports.{LogMayNote}
 use Rattle.world.proofs.WorldStepClauses.{follows, goes_nothing, net_stays, none_in, nothing_goes}
 use Rattle.world.proofs.WorldActingSteps.{goes_acting}
-use Rattle.world.proofs.OverSwitches.{known_in, place_in}
-use Rattle.refinement.proofs.GoneSwitches.{gone_may, gone_piece, gone_refines, still_up}
+use Rattle.world.proofs.WorldSwitchParts.{known_in, place_in}
+use Rattle.refinement.proofs.RefinedGoneSwitches.{gone_may, gone_piece, gone_refines, still_up}
 use Rattle.world.proofs.parts.Parts.confirm.Goals as goal
 
 pub index-requires : goal.index-requires
@@ -38,7 +38,7 @@ pub note_acts-requires : goal.note_acts-requires
 note_acts-requires c =
     let self = c.args.self.now in
     let ready = c.requires.begins.ready in
-    subst (MayNote self.log.bag) (sym (c.into_items.ensures ∙ c.in_ok-sends.ensures.sends))
+    subst (LogMayNote self.log.bag) (sym (c.into_items.ensures ∙ c.in_ok-sends.ensures.sends))
     (gone_may ready.refines c.requires.row c.args.switch c.index.result.now ready.may
     c.index.ensures c.over.new.self (sym c.is_up.ensures ∙ c.if-is_up.false) c.over.ensures.after
     ready.room)

@@ -5,15 +5,15 @@ use Rattle.update_machine.specs.Exports.{Crash, Message, sent_from}
 use Rattle.controller.specs.Exports.{newest_policy}
 use Rattle.journal.specs.declared.item.Item.TheVariants as item
 use Rattle.switch_core.specs.Exports.{SwitchValue}
-use Rattle.world_log.specs.Exports.{IsPart, all_adverts_sent, near_all}
-use Rattle.world.specs.Exports.{setting_in, state_in}
+use Rattle.world_log.specs.Exports.{IsLogPart, all_adverts_sent, near_all}
+use Rattle.world.specs.Exports.{world_setting_in, world_state_in}
 use Rattle.refinement.specs.Exports.{RefineJournal}
-use Rattle.travelling.specs.Travelling.{WithoutAt, numbers_at}
+use Rattle.travelling.specs.Travelling.{TravellingWithoutAt, numbers_at}
 use Rattle.refinement.proofs.RefinedCrashes.{crash_may, crash_next, crash_piece, crash_refines, same_switch, stays_down}
 use Rattle.world.proofs.WorldStepClauses.{follows, goes, goes_nothing, net_stays, nothing_goes}
 use Rattle.world.proofs.WorldActingSteps.{relinked_refines}
-use Rattle.world.proofs.OverSwitches.{few_in, place_in, switch_in}
-use Rattle.world_log.proofs.StepWrites.{part_of_first, part_of_rest, step_part, step_written}
+use Rattle.world.proofs.WorldSwitchParts.{few_in, place_in, switch_in}
+use Rattle.world_log.proofs.LogStepWrites.{part_of_first, part_of_rest, step_part, step_written}
 use Rattle.world.proofs.parts.Parts.crash.Goals as goal
 use Rattle.world.proofs.parts.Parts.crash.Goals.{After-index_mut}
 
@@ -118,14 +118,14 @@ returns c = λ before row begins. let self = c.args.self.now in
     (step_part r self.log.journal down new.log.journal (losses ++ sends) (item.Down s
     ∷ losses ++ sends) (item.Down s) refl c.in_ok-push.ensures.pushed (on_err_weaker r (λ part.
     part_of_rest down behind.journal losses sends new.log.journal c.in_ok-lose_at.ensures.written
-    (subst (λ bag. IsPart behind.journal (sent_from (length bag + 1) messages) new.log.journal)
+    (subst (λ bag. IsLogPart behind.journal (sent_from (length bag + 1) messages) new.log.journal)
     c.lose_at.ensures.unsent part)) c.change_links.ensures.part))
     (three_ok r (λ near_is are posts_are. let posts = self.log.bag ++ map new_post messages in
-    subst (λ bag. RefineJournal (setting_in self)
-    (before ++ (item.Row row (Crash s) ∷ item.Down s ∷ losses ++ sends)) (record (state_in new)
+    subst (λ bag. RefineJournal (world_setting_in self)
+    (before ++ (item.Row row (Crash s) ∷ item.Down s ∷ losses ++ sends)) (record (world_state_in new)
     { posts = bag }))
     (sym (posts_are ∙ ap (λ bag. bag ++ map new_post messages) c.lose_at.ensures.unsent))
     (relinked_refines rest near_is (crash_refines ready.refines row s own changed ready.may within
     c.index_mut.ensures.value c.crash.ensures is_up new.switches.items new.log.travelling are
-    (subst (WithoutAt self.log.travelling s) (sym rest.travelling) c.in_ok-lose_at.ensures.lost))))
+    (subst (TravellingWithoutAt self.log.travelling s) (sym rest.travelling) c.in_ok-lose_at.ensures.lost))))
     c.change_links.ensures.near c.change_links.ensures.switches c.change_links.ensures.posted)

@@ -1,19 +1,19 @@
 use Rattle.std.proofs.Common.{◌+◌, ◌<◌, ◌∙◌, ◌∷◌, List, ap, arith, get_or, is_some, length, length-set, map, refl, set, subst, sym}
-use Rattle.message_bag.specs.Exports.{delivered_status, new_post, with_delivered, with_status}
+use Rattle.message_bag.specs.Exports.{delivered_status, new_post, posts_with_delivered, post_with_status}
 use Rattle.base.proofs.Exports.{both_ok, on_ok_weaker}
-use Rattle.message_bag.proofs.NumberedPosts.{length_changed}
+use Rattle.message_bag.proofs.BagNumberedPosts.{length_changed}
 use Rattle.controller.specs.Exports.{ControllerValue, hear_acts, newest_policy}
 use Rattle.update_machine.specs.Exports.{Message, sent_from}
 use Rattle.journal.specs.declared.item.Item.TheVariants as item
 use Rattle.switch_core.specs.Exports.{IsSoundBody, replies}
-use Rattle.world_log.specs.Exports.{MayNote, MaySend, act_items, act_posts, all_adverts_sent, near_all}
-use Rattle.refinement.proofs.BagDeliveries.{found_there, hear_ready, usable_here}
+use Rattle.world_log.specs.Exports.{LogMayNote, LogMaySend, log_act_items, log_act_posts, all_adverts_sent, near_all}
+use Rattle.refinement.proofs.RefinedBagDeliveries.{found_there, hear_ready, usable_here}
 use Rattle.world.proofs.WorldActingSteps.{first_goes, goes_told, relinked_refines}
 use Rattle.refinement.proofs.RefinedDeliveries.{control_may, control_piece, control_refines, first_piece, names_known, shut_may, shut_piece, shut_refines, undelivered}
-use Rattle.world.proofs.OverSwitches.{few_in}
+use Rattle.world.proofs.WorldSwitchParts.{few_in}
 use Rattle.refinement.proofs.RefinedOpenings.{opening_may, opening_next, opening_piece, opening_refines}
 use Rattle.world.proofs.WorldStepClauses.{follows, goes_nothing, net_stays, none_in, nothing_goes}
-use Rattle.world_log.proofs.StepWrites.{step_part, step_written}
+use Rattle.world_log.proofs.LogStepWrites.{step_part, step_written}
 use Rattle.world.proofs.parts.Parts.deliver.Goals as goal
 use Rattle.world.proofs.parts.Parts.deliver.Goals.{In-Switch}
 
@@ -43,7 +43,7 @@ deliver_to_controller-requires-clause-there c = let self = c.args.self.now in
 pub deliver_to_controller-requires-clause-may : goal.deliver_to_controller-requires-clause-may
 deliver_to_controller-requires-clause-may c = λ new settles. let self = c.args.self.now in
     let ready = c.requires.begins.ready in
-    subst (λ bag. MayNote bag (hear_acts c.in-Some.message.body self.controller.marks new))
+    subst (λ bag. LogMayNote bag (hear_acts c.in-Some.message.body self.controller.marks new))
     (sym c.deliver.ensures)
     (control_may ready.refines c.requires.row c.args.number c.in-Some.message new ready.may
     (found_there _ _ _ _ c.in-Some.is c.in_ok-get.ensures.message) c.in-Controller.is settles
@@ -58,15 +58,15 @@ returns-in-Controller c = λ before row begins. let self = c.args.self.now in
     let there = found_there _ _ _ _ c.in-Some.is c.in_ok-get.ensures.message in
     let ready = begins.ready in
     goes_told (item.Delivered n)
-    (λ k. act_items k acts) c.push-2.new.self (length c.deliver.new.self)
-    (with_delivered self.log.bag n) (act_posts acts) begins
+    (λ k. log_act_items k acts) c.push-2.new.self (length c.deliver.new.self)
+    (posts_with_delivered self.log.bag n) (log_act_posts acts) begins
     (follows begins refl refl c.deliver_to_controller.ensures.newest) (record {
       piece_is = control_piece ready.refines row n message new ready.may there c.in-Controller.is
           c.deliver_to_controller.ensures.after;
       counted = none_in _;
       pushed = c.in_ok-push.ensures.pushed;
       number_is = ap length c.deliver.ensures
-          ∙ length_changed (with_status delivered_status) self.log.bag n;
+          ∙ length_changed (post_with_status delivered_status) self.log.bag n;
       travelling = c.deliver_to_controller.ensures.travelling;
       written = c.deliver_to_controller.ensures.written;
       part = c.deliver_to_controller.ensures.part;
@@ -110,7 +110,7 @@ send_all-requires c =
     let ready = c.requires.begins.ready in
     let there = found_there _ _ _ _ c.in-Some.is c.in_ok-get.ensures.message in
     let within = hears (goal.at.send_all-requires c).In-Switch in
-    subst (MaySend c.deliver.new.self) (sym (c.into_items.ensures ∙ c.in_ok-heard.ensures.replies))
+    subst (LogMaySend c.deliver.new.self) (sym (c.into_items.ensures ∙ c.in_ok-heard.ensures.replies))
     (rw c.deliver.ensures (shut_may ready.refines c.requires.row c.args.number c.in-Switch.switch
     c.in-Some.message c.index_mut.result.now c.hear.new.self (get_or self.near c.in-Switch.switch 0)
     ready.may there c.in-Switch.is within.0 c.index_mut.ensures.value
@@ -133,14 +133,14 @@ returns-in-None-opened c = λ before row begins. let self = c.args.self.now in
     let are = c.into_items.ensures ∙ c.in_ok-heard.ensures.replies in
     goes_told (item.Delivered n)
     (λ k. sent_from k messages) c.push-2.new.self (length c.deliver.new.self)
-    (with_delivered self.log.bag n) (map new_post messages) begins
+    (posts_with_delivered self.log.bag n) (map new_post messages) begins
     (follows begins refl refl refl) (record {
       piece_is = shut_piece ready.refines row n s message own c.hear.new.self near ready.may there
           c.in-Switch.is within.0 c.index_mut.ensures.value usable c.in_ok-heard.ensures.after shut;
       counted = none_in _;
       pushed = c.in_ok-push.ensures.pushed;
       number_is = ap length c.deliver.ensures
-          ∙ length_changed (with_status delivered_status) self.log.bag n;
+          ∙ length_changed (post_with_status delivered_status) self.log.bag n;
       travelling = c.send_all.ensures.travelling;
       written = rw are at c.send_all.ensures.written;
       part = rw are at c.send_all.ensures.part;
@@ -204,14 +204,14 @@ returns c = λ before row begins. let self = c.args.self.now in
     let behind = c.push-in-Some-opened.new.self in
     let sends = sent_from (length c.deliver.new.self + 1) messages in
     goes_told (item.Delivered n) (λ k. item.Opened s stamp ∷ sent_from k messages) c.push-2.new.self
-    (length c.deliver.new.self) (with_delivered self.log.bag n) (map new_post messages) begins
+    (length c.deliver.new.self) (posts_with_delivered self.log.bag n) (map new_post messages) begins
     (follows begins rest.files rest.ports (ap newest_policy rest.controller)) (record {
       piece_is = opening_piece ready.refines row n s stamp message own c.hear.new.self ready.may
           there c.in-Switch.is within.0 c.index_mut.ensures.value c.in_ok-heard.ensures.after opens;
       counted = omega (arith, rest.packets);
       pushed = c.in_ok-push.ensures.pushed;
       number_is = ap length c.deliver.ensures
-          ∙ length_changed (with_status delivered_status) self.log.bag n;
+          ∙ length_changed (post_with_status delivered_status) self.log.bag n;
       travelling = rest.travelling;
       written = step_written c.change_links.result c.push-2.new.self behind new.log.journal sends
           (item.Opened s stamp ∷ sends) (item.Opened s stamp) refl

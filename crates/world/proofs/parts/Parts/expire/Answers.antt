@@ -2,7 +2,7 @@ use Rattle.std.proofs.Common.{◌∙◌, None, Some, refl, sym}
 use Rattle.journal.specs.declared.item.Item.TheVariants as item
 use Rattle.refinement.proofs.RefinedCrashes.{expired_refines}
 use Rattle.world.proofs.WorldStepClauses.{files_stay, goes_one, none_in, plane_stays}
-use Rattle.world.proofs.OverSwitches.{place_in}
+use Rattle.world.proofs.WorldSwitchParts.{place_in}
 use Rattle.world.proofs.parts.Parts.expire.Goals as goal
 
 pub index_mut-requires : goal.index_mut-requires

@@ -3,8 +3,8 @@ use Rattle.std.proofs.Common.{◌++◌, ◌≡◌, arith, drop, length, refl, su
 use Rattle.base.proofs.Exports.{take-append_seam}
 use Rattle.tunnel.specs.Exports.{here}
 use Rattle.travelling.specs.Travelling.{flight}
-use Rattle.refinement.proofs.HopPieces.{within_here}
-use Rattle.world.proofs.OverParts.{hop_goes, may_go_on}
+use Rattle.refinement.proofs.RefinedHopPieces.{within_here}
+use Rattle.world.proofs.WorldPacketParts.{hop_goes, may_go_on}
 use Rattle.world.proofs.parts.Parts.hop.Goals as goal
 
 pub hop-requires-clause-there : goal.hop-requires-clause-there

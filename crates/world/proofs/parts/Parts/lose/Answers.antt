@@ -2,9 +2,9 @@ use Rattle.std.proofs.Common.{[], ◌∙◌, ◌∷◌, ap, refl, sym}
 use Rattle.base.proofs.Exports.{on_err_weaker, on_ok_weaker}
 use Rattle.journal.specs.declared.item.Item.TheVariants as item
 use Rattle.world.proofs.WorldStepClauses.{goes_nothing, goes_quiet, files_stay, none_in, plane_stays}
-use Rattle.world_log.proofs.StepWrites.{part_none}
+use Rattle.world_log.proofs.LogStepWrites.{part_none}
 use Rattle.world_log.specs.declared.log.Log.{Log}
-use Rattle.refinement.proofs.HopRefines.{lost, lost_piece, not_lost}
+use Rattle.refinement.proofs.RefinedHops.{lost, lost_piece, not_lost}
 use Rattle.world.proofs.parts.Parts.lose.Goals as goal
 
 pub returns-then-not-has : goal.returns-then-not-has

@@ -1,8 +1,8 @@
 use Rattle.std.proofs.Common.{arith, refl}
-use Rattle.refinement.proofs.HopPieces.{can_look_up}
-use Rattle.refinement.proofs.IncomingTie.{come_fits}
-use Rattle.world.proofs.OverParts.{packet_goes}
-use Rattle.world.proofs.OverSwitches.{place_in}
+use Rattle.refinement.proofs.RefinedHopPieces.{can_look_up}
+use Rattle.refinement.proofs.RefinedIncomingTie.{come_fits}
+use Rattle.world.proofs.WorldPacketParts.{packet_goes}
+use Rattle.world.proofs.WorldSwitchParts.{place_in}
 use Rattle.world.proofs.parts.Parts.packet.Goals as goal
 
 pub overflow_add-self : goal.overflow_add-self

@@ -4,13 +4,13 @@ use Rattle.controller.specs.Exports.{resend_acts}
 use Rattle.controller.specs.declared.sends.Act.{Act}
 use Rattle.controller.specs.declared.sends.Act.TheVariants.{Post}
 use Rattle.journal.specs.declared.item.Item.TheVariants as item
-use Rattle.world_log.specs.Exports.{MayNote, act_items, adverts_again}
+use Rattle.world_log.specs.Exports.{LogMayNote, log_act_items, adverts_again}
 use Rattle.world.proofs.WorldStepClauses.{files_stay, goes_nothing, goes_quiet, net_stays, none_in, nothing_goes, plane_stays}
 use Rattle.world.proofs.WorldActingSteps.{as_noted}
-use Rattle.world.proofs.OverSwitches.{few_in, known_in, place_in, switch_in}
+use Rattle.world.proofs.WorldSwitchParts.{few_in, known_in, place_in, switch_in}
 use Rattle.refinement.proofs.RefinedResends.{acts_same, again_may, again_piece, again_refines, sent_refines, silent}
 use Rattle.world.proofs.parts.Parts.resend.Goals as goal
-use Rattle.world.proofs.parts.Parts.resend.Goals.{After-are_none}
+use Rattle.world.proofs.parts.Parts.resend.Goals.{After-are_sends_none}
 
 -- ---- its switch
 
@@ -36,7 +36,7 @@ returns-in_err-sends c = λ before row begins.
     nothing_goes begins (net_stays refl refl) c.from_residual-in_err-sends.ensures.0 refl
 
 -- what the switch and the controller have to say, as acts
-said : (c : After-are_none)
+said : (c : After-are_sends_none)
     → map Post c.in_ok-messages.messages.items ++ c.into_items-acts.result.items
     ≡ map Post (adverts_again c.args.switch (length c.args.self.now.switches.items)
     (get_or c.args.self.now.near c.args.switch 0) c.index.result.now)
@@ -48,21 +48,21 @@ said c = let self = c.args.self.now in
     (c.into_items-acts.ensures ∙ c.in_ok-sends.ensures)
 
 -- and whether there is nothing of it
-none_said : (c : After-are_none) (b : Bool) → c.are_none.result ≡ b
+none_said : (c : After-are_sends_none) (b : Bool) → c.are_sends_none.result ≡ b
     → (length (map Post (adverts_again c.args.switch (length c.args.self.now.switches.items)
     (get_or c.args.self.now.near c.args.switch 0) c.index.result.now)
     ++ resend_acts c.args.self.now.controller c.args.switch) == 0) ≡ b
 none_said c b is =
-    cc (c.as_slice.ensures.value, c.as_slice-2.ensures.value, said c, c.are_none.ensures, is)
+    cc (c.as_slice.ensures.value, c.as_slice-2.ensures.value, said c, c.are_sends_none.ensures, is)
 
 -- ---- nothing is sent
 
-pub returns-then-are_none : goal.returns-then-are_none
-returns-then-are_none c = λ before row begins. let self = c.args.self.now in
-    let none = none_said (goal.at.returns-then-are_none c).After-are_none in
+pub returns-then-are_sends_none : goal.returns-then-are_sends_none
+returns-then-are_sends_none c = λ before row begins. let self = c.args.self.now in
+    let none = none_said (goal.at.returns-then-are_sends_none c).After-are_sends_none in
     goes_nothing begins refl
     (silent begins.ready.refines row c.args.switch c.index.result.now begins.ready.may
-    c.index.ensures (none true c.if-are_none.true)) c.push.ensures.pushed c.push.ensures.unchanged
+    c.index.ensures (none true c.if-are_sends_none.true)) c.push.ensures.pushed c.push.ensures.unchanged
 
 -- ---- what the switch and the controller have to say is sent
 
@@ -73,17 +73,17 @@ pub send_and_note-requires : goal.send_and_note-requires
 send_and_note-requires c =
     let ready = c.requires.begins.ready in
     let own = c.index.result.now in
-    let before = (goal.at.send_and_note-requires c).After-are_none in
-    subst (MayNote c.args.self.now.log.bag) (sym (said before))
+    let before = (goal.at.send_and_note-requires c).After-are_sends_none in
+    subst (LogMayNote c.args.self.now.log.bag) (sym (said before))
     (again_may ready.refines c.requires.row c.args.switch own ready.may c.index.ensures
-    (none_said before false c.if-are_none.false) ready.room)
+    (none_said before false c.if-are_sends_none.false) ready.room)
 
 pub returns : goal.returns
 returns c = λ before row begins. let self = c.args.self.now in
     let s = c.args.switch in
     let ready = begins.ready in
-    let sent = (goal.at.returns c).After-are_none in
-    let some = none_said sent false c.if-are_none.false in
+    let sent = (goal.at.returns c).After-are_sends_none in
+    let some = none_said sent false c.if-are_sends_none.false in
     let acts : List Act = map Post (adverts_again s (length self.switches.items)
     (get_or self.near s 0) c.index.result.now) ++ resend_acts self.controller s in
     let r = c.send_and_note.result in
@@ -91,7 +91,7 @@ returns c = λ before row begins. let self = c.args.self.now in
     c.send_and_note.new.self _ acts (said sent) c.send_and_note.ensures.written
     c.send_and_note.ensures.posted c.send_and_note.ensures.part in
     goes_quiet begins (files_stay refl refl)
-    (act_items (length self.log.bag + 1) acts) (plane_stays refl refl refl)
+    (log_act_items (length self.log.bag + 1) acts) (plane_stays refl refl refl)
     (again_piece ready.refines row s _ ready.may c.index.ensures some)
     (on_ok_weaker r (λ done. none_in _) noted.written) noted.written noted.part (on_ok_weaker r
     (λ post. sent_refines (again_refines ready.refines row s _ ready.may c.index.ensures some)

@@ -9,8 +9,8 @@ use Rattle.refinement.proofs.RefinedActs.{hello_spelled}
 use Rattle.refinement.proofs.RefinedBoots.{boot_next, boot_piece, boot_refines, up_already}
 use Rattle.world.proofs.WorldStepClauses.{follows, goes_nothing, net_stays, none_in, nothing_goes}
 use Rattle.world.proofs.WorldActingSteps.{goes_told}
-use Rattle.world.proofs.OverSwitches.{few_in, place_in, switch_in}
-use Rattle.world_log.proofs.StepWrites.{part_none}
+use Rattle.world.proofs.WorldSwitchParts.{few_in, place_in, switch_in}
+use Rattle.world_log.proofs.LogStepWrites.{part_none}
 use Rattle.world.proofs.parts.Parts.restart.Goals as goal
 use Rattle.world.proofs.parts.Parts.restart.Goals.{After-index_mut}
 

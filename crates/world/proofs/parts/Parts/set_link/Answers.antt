@@ -6,12 +6,12 @@ use Rattle.controller.specs.Exports.{newest_policy}
 use Rattle.journal.specs.declared.item.Item.TheVariants as item
 use Rattle.refinement.specs.Exports.{link_step}
 use Rattle.world_log.specs.Exports.{all_adverts_sent, near_all}
-use Rattle.world.specs.Exports.{HasBegun, comes_in}
+use Rattle.world.specs.Exports.{WorldStepHasBegun, comes_in}
 use Rattle.world.specs.declared.parts.Parts.{Parts}
 use Rattle.world.proofs.WorldStepClauses.{follows, goes_nothing, net_stays, nothing_goes}
 use Rattle.world.proofs.WorldActingSteps.{goes_told, relinked_refines}
-use Rattle.world.proofs.OverSwitches.{few_in}
-use Rattle.refinement.proofs.LinksChange.{numbers_left}
+use Rattle.world.proofs.WorldSwitchParts.{few_in}
+use Rattle.refinement.proofs.RefinedLinkChanges.{numbers_left}
 use Rattle.refinement.proofs.RefinedLinkSteps.{ends_below, same_refines, set_may, set_piece, set_refines}
 use Rattle.world.proofs.parts.Parts.set_link.Goals as goal
 
@@ -21,7 +21,7 @@ none_come one two true = refl
 none_come one two false = refl
 
 -- both ends are switches
-ends : (self : Parts) (one two : ℕ) (up : Bool) (begun : HasBegun (link_step up one two) self)
+ends : (self : Parts) (one two : ℕ) (up : Bool) (begun : WorldStepHasBegun (link_step up one two) self)
     → (one < 64) × (two < 64)
 ends self one two up begun = ends_below begun.begins.ready.refines begun.row one two up
     begun.begins.ready.may
@@ -32,11 +32,11 @@ bounds-self-one c = (ends c.args.self.now c.args.one c.args.two c.args.up c.requ
 pub has-requires : goal.has-requires
 has-requires c = (ends c.args.self.now c.args.one c.args.two c.args.up c.requires).1
 
-pub set_ends-requires-clause-one : goal.set_ends-requires-clause-one
-set_ends-requires-clause-one c = (ends c.args.self.now c.args.one c.args.two c.args.up c.requires).0
+pub set_link_ends-requires-clause-one : goal.set_link_ends-requires-clause-one
+set_link_ends-requires-clause-one c = (ends c.args.self.now c.args.one c.args.two c.args.up c.requires).0
 
-pub set_ends-requires-clause-two : goal.set_ends-requires-clause-two
-set_ends-requires-clause-two c = (ends c.args.self.now c.args.one c.args.two c.args.up c.requires).1
+pub set_link_ends-requires-clause-two : goal.set_link_ends-requires-clause-two
+set_link_ends-requires-clause-two c = (ends c.args.self.now c.args.one c.args.two c.args.up c.requires).1
 
 -- ---- it is so already
 
@@ -69,8 +69,8 @@ change_links-requires-clause-may c =
     let self = c.args.self.now in
     let ready = c.requires.begins.ready in
     set_may ready.refines c.requires.row c.args.one c.args.two c.args.up ready.may
-    c.set_ends.new.links (ap (λ b. beq b c.args.up) (sym c.has.ensures.has) ∙ c.if-has-up.false)
-    c.set_ends.ensures.set c.set_ends.ensures.fits ready.room
+    c.set_link_ends.new.links (ap (λ b. beq b c.args.up) (sym c.has.ensures.has) ∙ c.if-has-up.false)
+    c.set_link_ends.ensures.set c.set_link_ends.ensures.fits ready.room
 
 pub returns : goal.returns
 returns c = λ before row begins. let self = c.args.self.now in
@@ -78,7 +78,7 @@ returns c = λ before row begins. let self = c.args.self.now in
     let two = c.args.two in
     let up = c.args.up in
     let ready = begins.ready in
-    let links = c.set_ends.new.links in
+    let links = c.set_link_ends.new.links in
     let other = ap (λ b. beq b up) (sym c.has.ensures.has) ∙ c.if-has-up.false in
     let near = near_all links self.switches.items in
     let messages : List Message = all_adverts_sent self.near near self.switches.items in
@@ -87,8 +87,8 @@ returns c = λ before row begins. let self = c.args.self.now in
     goes_told told (λ k. sent_from k messages) c.push-2.new.self (length self.log.bag) self.log.bag
     (map new_post messages) begins
     (follows begins rest.files rest.ports (ap newest_policy rest.controller)) (record {
-      piece_is = set_piece ready.refines row one two up ready.may links other c.set_ends.ensures.set
-          c.set_ends.ensures.fits;
+      piece_is = set_piece ready.refines row one two up ready.may links other c.set_link_ends.ensures.set
+          c.set_link_ends.ensures.fits;
       counted = omega (arith, rest.packets, none_come one two up);
       pushed = cc (c.in_ok-push.ensures.pushed, c.min.ensures, c.max.ensures);
       number_is = refl;
@@ -97,7 +97,7 @@ returns c = λ before row begins. let self = c.args.self.now in
       part = c.change_links.ensures.part;
       posted = c.change_links.ensures.posted;
       refines = both_ok c.change_links.result (λ near_is are. relinked_refines rest near_is
-          (set_refines ready.refines row one two up ready.may links other c.set_ends.ensures.set
-          c.set_ends.ensures.fits c.change_links.new.self.switches.items are))
+          (set_refines ready.refines row one two up ready.may links other c.set_link_ends.ensures.set
+          c.set_link_ends.ensures.fits c.change_links.new.self.switches.items are))
           c.change_links.ensures.near c.change_links.ensures.switches;
     })

@@ -2,14 +2,14 @@ use Rattle.std.proofs.Common.{[], ◌++◌, ◌+◌, ◌-◌, ◌∙◌, ◌∷�
 use Rattle.refinement.specs.Exports.{IsPlanOfNext}
 use Rattle.update_machine.specs.Exports.{Inapplicable, Item, Refused, Row, Update, made_by, piece, touched_of, update_code}
 use Rattle.base.proofs.Exports.{ok_is_not_err}
-use Rattle.controller.specs.Exports.{ControllerValue, PlanValue, next_kept, submit_acts}
+use Rattle.controller.specs.Exports.{ControllerValue, PlanValue, next_kept_plan, submit_acts}
 use Rattle.controller.specs.declared.sends.Act.{Act}
 use Rattle.journal.specs.declared.item.Item.TheVariants as item
 use Rattle.version_update.specs.declared.marks.SubmitError.TheVariants.{TooManyLive, TooManyVersions}
-use Rattle.world.specs.Exports.{BeginsStep, FilesValue, Goes, IsMade, KeepNet, Making, made_at, setting_in}
+use Rattle.world.specs.Exports.{BeginsStep, FilesValue, Goes, IsFileMade, PartsKeepNet, Making, file_made_at, world_setting_in}
 use Rattle.world.specs.declared.parts.Parts.{Parts}
-use Rattle.world_log.specs.Exports.{MayNote}
-use Rattle.world.proofs.KeptFiles.{file_there}
+use Rattle.world_log.specs.Exports.{LogMayNote}
+use Rattle.world.proofs.WorldKeptFiles.{file_there}
 use Rattle.world.proofs.WorldStepClauses.{files_stay, goes_one, net_stays, none_in, nothing_goes, plane_stays}
 use Rattle.world.proofs.WorldActingSteps.{goes_acting}
 use Rattle.refinement.proofs.RefinedUpdates.{live_piece, newest_refines, planned_next, refused_piece, refused_refines, submitted_may, submitted_piece, submitted_refines, unapplied_next, unplanned_next, versions_piece}
@@ -18,10 +18,10 @@ use Rattle.world.proofs.parts.Parts.update.Goals.{In-Planned, in-Err-Refused-Too
 
 -- what the file makes of the newest policy
 abbrev made_of : Parts → ℕ → Result (List Row) Inapplicable
-made_of self file = (made_at self.files.files self.files.newest (file - 1)).0
+made_of self file = (file_made_at self.files.files self.files.newest (file - 1)).0
 
 abbrev making_of : Parts → ℕ → Making
-making_of self file = made_at self.files.files self.files.newest (file - 1)
+making_of self file = file_made_at self.files.files self.files.newest (file - 1)
 
 -- as that of a file which is there
 made_there : (self : Parts) (file : ℕ) → 1 ≤ file → file ≤ length self.files.files
@@ -33,7 +33,7 @@ made_there self file first last = ap (λ o. made_by o (Some self.files.newest))
 refused : {T E : Type 0} {r : Result T E} {before : List Item} {row file : ℕ} (code : ℕ)
     {self : Parts} {files : FilesValue} {controller : ControllerValue} {journal : List Item}
     → BeginsStep before row (Update file) self → files ≡ self.files → controller ≡ self.controller
-    → piece (setting_in self) before row (Update file)
+    → piece (world_setting_in self) before row (Update file)
     ≡ item.Row row (Update file) ∷ item.Refused file code ∷ []
     → OnOk r (journal ≡ self.log.journal ++ item.Refused file code ∷ [])
     → OnErr r (journal ≡ self.log.journal) → Goes r before row (Update file) self (record self {
@@ -59,18 +59,18 @@ returns-in-Refused c = λ before row begins. let self = c.args.self.now in
     let file = c.args.file in
     let code = c.in-Refused.code in
     let ready = begins.ready in
-    let cause = subst (IsMade self.files.net (making_of self file)) c.in-Refused.is
+    let cause = subst (IsFileMade self.files.net (making_of self file)) c.in-Refused.is
     c.in_ok-code.ensures.compiled in
     let own = newest_refines ready.refines row (Update file) self.files.newest ready.newest in
     let there = made_there self file ready.may.0 ready.may.1 in
-    let coded : update_code (setting_in self) (before ++ item.Row row (Update file) ∷ []) file
+    let coded : update_code (world_setting_in self) (before ++ item.Row row (Update file) ∷ []) file
     ≡ Some code = elim cause [
       | inl why ↦ unapplied_next self.files.net self.files.files _ file self.files.newest why.0
           ready.may.0 own.1 (there ∙ why.1) ∙ ap Some why.2
       | inr rows ↦ unplanned_next self.files.net self.files.files _ file self.files.newest rows.0
           rows.2.why ready.may.0 own.1 (there ∙ rows.1) rows.2.none ∙ ap Some rows.2.code_is
     ] in
-    let is = refused_piece (setting_in self) before row file code coded in
+    let is = refused_piece (world_setting_in self) before row file code coded in
     refused code begins
     c.in_ok-code.ensures.same refl is c.push.ensures.pushed c.push.ensures.unchanged
 
@@ -79,7 +79,7 @@ returns-in-Refused c = λ before row begins. let self = c.args.self.now in
 -- the network and the files stay
 changed_net : (self new : Parts) (files : FilesValue) (rows : List Row)
     → new.files ≡ record files { newest = rows } → files ≡ self.files → new.ports ≡ self.ports
-    → KeepNet self new
+    → PartsKeepNet self new
 changed_net self new files rows changed same ports = record {
   same_net = ap (λ (f : FilesValue). f.net) changed ∙ ap (λ (f : FilesValue). f.net) same;
   same_files = ap (λ (f : FilesValue). f.files) changed ∙ ap (λ (f : FilesValue). f.files) same;
@@ -88,13 +88,13 @@ changed_net self new files rows changed same ports = record {
 
 -- the plan is that of the next version
 planned : (c : In-Planned) (before : List Item) (row : ℕ) → BeginsStep before row
-    (Update c.args.file) c.args.self.now → IsPlanOfNext (setting_in c.args.self.now) before
+    (Update c.args.file) c.args.self.now → IsPlanOfNext (world_setting_in c.args.self.now) before
     c.args.file c.in-Planned.plan c.in-Planned.touched
 planned c before row begins =
     let self = c.args.self.now in
     let file = c.args.file in
     let ready = begins.ready in
-    let made = subst (IsMade self.files.net (making_of self file)) c.in-Planned.is
+    let made = subst (IsFileMade self.files.net (making_of self file)) c.in-Planned.is
     c.in_ok-code.ensures.compiled in
     let own = newest_refines ready.refines row (Update file) self.files.newest ready.newest in
     planned_next self.files.net self.files.files before file self.files.newest c.in-Planned.plan
@@ -118,7 +118,7 @@ note_acts-requires c =
     let ready = c.requires.begins.ready in
     let of_next = planned (goal.at.note_acts-requires c).In-Planned c.requires.before c.requires.row
     c.requires.begins in
-    subst (MayNote c.args.self.now.log.bag) (sym (c.into_items.ensures ∙ c.in-Ok.ensures.sends))
+    subst (LogMayNote c.args.self.now.log.bag) (sym (c.into_items.ensures ∙ c.in-Ok.ensures.sends))
     (submitted_may ready.refines c.requires.row file ready.may c.in-Planned.plan
     c.in-Planned.touched c.submit.new.self of_next (λ e. ok_is_not_err _ _ (c.in-Ok.ensures.live.1 e))
     (λ e. ok_is_not_err _ _ (c.in-Ok.ensures.versions.1 (
@@ -137,7 +137,7 @@ returns-in-Ok c = λ before row begins. let self = c.args.self.now in
     λ e. ok_is_not_err _ _ (c.in-Ok.ensures.versions.1 (live, e)) in
     let new : ControllerValue = c.submit.new.self in
     let acts : List Act = submit_acts self.controller.marks
-    (next_kept self.controller c.in-Planned.plan c.in-Planned.touched) new in
+    (next_kept_plan self.controller c.in-Planned.plan c.in-Planned.touched) new in
     let one = item.Submitted file (self.controller.marks.count + 1) in
     let its = c.note_acts.ensures in
     goes_acting one acts c.into_items.result.items c.push-in-Ok.new.self begins (record {
@@ -164,7 +164,7 @@ returns c = λ before row begins. let self = c.args.self.now in
     let submitted = c.submit.ensures in
     let of_next = planned (goal.at.returns c).In-Planned before row begins in
     let is : (c.submit.new.self ≡ self.controller)
-    × (piece (setting_in self) before row (Update file)
+    × (piece (world_setting_in self) before row (Update file)
     ≡ item.Row row (Update file) ∷ item.Refused file code ∷ []) = elim c.match-this-2.branch [
       | in-Err-Refused-TooManyLive w ↦
           let live : c.submit.result ≡ Err (Refused TooManyLive) = search rules in (

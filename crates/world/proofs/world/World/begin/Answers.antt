@@ -3,7 +3,7 @@ use Rattle.controller.specs.Exports.{PlanValue, newest_policy}
 use Rattle.partition.specs.Plan.{plan_of}
 use Rattle.world.specs.Exports.{FilesValue, first_policy}
 use Rattle.world.proofs.BegunWorld.{as_begun, plan_copied, net_begun, owners_begun}
-use Rattle.world.proofs.KeptFiles.{first_whole}
+use Rattle.world.proofs.WorldKeptFiles.{first_whole}
 use Rattle.refinement.proofs.RefinedUpdates.{begun_refines}
 use Rattle.world.proofs.world.World.begin.Goals as goal
 use Rattle.world.proofs.world.World.begin.Goals.{In_ok-plan}

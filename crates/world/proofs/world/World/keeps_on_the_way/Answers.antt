@@ -1,4 +1,4 @@
-use Rattle.world.proofs.SoFar.{kept_in, so_far_in}
+use Rattle.world.proofs.WorldSoFar.{kept_in, so_far_in}
 use Rattle.world.proofs.world.World.keeps_on_the_way.Goals as goal
 
 pub returns-clause-so_far : goal.returns-clause-so_far

@@ -2,7 +2,7 @@ use Rattle.std.proofs.Common.{◌≡◌}
 use Rattle.update_machine.specs.Exports.{next_travelling, travels}
 use Rattle.world.specs.Exports.{IsLeastFrom, world_value}
 use Rattle.world.proofs.WorldLeastPacket.{least_from_in, least_travels_in}
-use Rattle.world.proofs.ViewedParts.{by_view}
+use Rattle.world.proofs.WorldViewedParts.{by_view}
 use Rattle.world.proofs.world.World.next_travelling.Goals as goal
 
 pub returns-clause-first : goal.returns-clause-first

@@ -2,7 +2,7 @@ use Rattle.std.proofs.Common.{◌∙◌, ◌≡◌}
 use Rattle.update_machine.specs.Exports.{is_waiting, next_waiting}
 use Rattle.world.specs.Exports.{IsLeastFrom, world_value}
 use Rattle.world.proofs.WorldLeastMessage.{least_from_in, least_waits_in}
-use Rattle.world.proofs.ViewedParts.{by_view}
+use Rattle.world.proofs.WorldViewedParts.{by_view}
 use Rattle.world.proofs.world.World.next_waiting.Goals as goal
 
 pub returns-clause-first : goal.returns-clause-first

@@ -1,5 +1,5 @@
 use Rattle.world.specs.Exports.{RefinesJournal}
-use Rattle.world.proofs.ViewedParts.{by_view}
+use Rattle.world.proofs.WorldViewedParts.{by_view}
 use Rattle.world.proofs.world.World.refines.Goals as goal
 
 pub returns : goal.returns

@@ -1,26 +1,26 @@
 use Rattle.std.proofs.Common.{◌∙◌, ◌≡◌, ◌≤◌, List, ap, arith, length, subst, sym}
 use Rattle.update_machine.specs.Exports.{HasRoom, IsFull, Item, next_packet}
 use Rattle.steps.specs.Exports.{IsStep}
-use Rattle.world.specs.Exports.{KeepNet, WorldValue, setting_at, setting_in, world_value}
-use Rattle.world.proofs.JournalRoom.{has_room, is_full, not_full}
-use Rattle.world.proofs.SoFar.{part_so_far, so_far_in, step_so_far}
+use Rattle.world.specs.Exports.{PartsKeepNet, WorldValue, world_setting_at, world_setting_in, world_value}
+use Rattle.world.proofs.WorldJournalRoom.{has_room, is_full, not_full}
+use Rattle.world.proofs.WorldSoFar.{part_so_far, so_far_in, step_so_far}
 use Rattle.world.specs.declared.parts.Parts.{Parts}
 use Rattle.packet_laws.specs.Exports.{HoldsSoFar}
 use Rattle.world.proofs.world.World.step.Goals as goal
 use Rattle.world.proofs.world.World.step.Goals.{After-play}
 
 -- the network and the files stay
-setting_kept : (old new : Parts) → KeepNet old new → setting_in new ≡ setting_in old
+setting_kept : (old new : Parts) → PartsKeepNet old new → world_setting_in new ≡ world_setting_in old
 setting_kept old new keeps = cc (keeps.same_net, keeps.same_files)
 
 pub returns-in_err-play-clause-setting : goal.returns-in_err-play-clause-setting
 returns-in_err-play-clause-setting c =
     setting_kept c.self.inside.parts c.play.new.self c.in_err-play.ensures.net
-    ∙ ap setting_at c.self.view_is
+    ∙ ap world_setting_at c.self.view_is
 
 pub returns-clause-setting : goal.returns-clause-setting
 returns-clause-setting c = setting_kept c.self.inside.parts c.play.new.self c.in_ok-play.ensures.net
-    ∙ ap setting_at c.self.view_is
+    ∙ ap world_setting_at c.self.view_is
 
 pub play-requires : goal.play-requires
 play-requires c =
@@ -68,13 +68,13 @@ returns-clause-refused c = λ able full. absurd (omega (arith, room))
 
 pub returns-then-sent-ge-FULL_AT-clause-so_far : goal.returns-then-sent-ge-FULL_AT-clause-so_far
 returns-then-sent-ge-FULL_AT-clause-so_far c = λ able. subst
-    (λ (w : WorldValue). HoldsSoFar (setting_at w) w.journal) c.self.view_is
+    (λ (w : WorldValue). HoldsSoFar (world_setting_at w) w.journal) c.self.view_is
     (so_far_in c.journals_hold_so_far.ensures (world_value c.self.inside.parts
     c.self.inside.is_spent) (c.self.invariant.refines c.if-self.false))
 
 pub returns-in_err-play-clause-so_far : goal.returns-in_err-play-clause-so_far
 returns-in_err-play-clause-so_far c = λ able. let after : List Item = c.play.new.self.log.journal in
-    subst (λ (w : WorldValue). HoldsSoFar (setting_at w) after) c.self.view_is
+    subst (λ (w : WorldValue). HoldsSoFar (world_setting_at w) after) c.self.view_is
     (part_so_far c.journals_hold_so_far.ensures
     (world_value c.self.inside.parts c.self.inside.is_spent)
     c.args.row c.args.step.now after (c.self.invariant.refines c.if-self.false)
@@ -82,7 +82,7 @@ returns-in_err-play-clause-so_far c = λ able. let after : List Item = c.play.ne
 
 pub returns-clause-so_far : goal.returns-clause-so_far
 returns-clause-so_far c = λ able. let after : List Item = c.play.new.self.log.journal in
-    subst (λ (w : WorldValue). HoldsSoFar (setting_at w) after) c.self.view_is
+    subst (λ (w : WorldValue). HoldsSoFar (world_setting_at w) after) c.self.view_is
     (step_so_far c.journals_hold_so_far.ensures
     (world_value c.self.inside.parts c.self.inside.is_spent)
     c.args.row c.args.step.now after (c.self.invariant.refines c.if-self.false)

@@ -3,33 +3,33 @@ use Rattle.std.proofs.Common.{[], ◌+◌, ◌∙◌, ◌≡◌, None, Option, R
 use Rattle.base.proofs.Exports.{on_ok_weaker, slice_get_within}
 use Rattle.journal.specs.declared.item.Item.TheVariants as item
 use Rattle.update_machine.specs.Exports.{Ports}
-use Rattle.switch_core.specs.Exports.{IsAtAuthority, StandsAt, SwitchValue, around, move_answer}
-use Rattle.travelling.specs.Travelling.{Flight, Standing, placed_at, standing_at, standing_kept}
+use Rattle.switch_core.specs.Exports.{IsAtAuthority, PacketStandsAt, SwitchValue, around, move_answer}
+use Rattle.travelling.specs.Travelling.{Flight, Standing, flight_placed_at, standing_at, standing_kept}
 use Rattle.tunnel.specs.Exports.{next}
-use Rattle.world_log.specs.Exports.{LogAfter, ended_flight, ended_items, ended_posts, ended_switch, followed, followed_flight, followed_items, followed_posts}
+use Rattle.world_log.specs.Exports.{LogAfter, log_ended_flight, log_ended_items, log_ended_posts, log_ended_switch, log_followed, log_followed_flight, log_followed_items, log_followed_posts}
 use Rattle.world_log.specs.declared.log.Log.{Log}
 use Rattle.world_log.proofs.LogCalls.{log_one, log_unwritten}
-use Rattle.world_log.proofs.HopLogs.{arrival_log, placed}
+use Rattle.world_log.proofs.LogHops.{arrival_log, placed}
 use Rattle.world_log.proofs.log.Log.follow.Goals as goal
 
 -- by the next switch of its route
 module _ {T E : Type 0} (r : Result T E) (number : ℕ) (s : SwitchValue) (near : ℕ) (ports : Ports)
     (t : Flight) (packet : ℕ) (old new : Log) where
   by_next : (onward : Option ℕ) → next t.tunnel ≡ onward → (let m = move_answer t.tunnel onward in
-      LogAfter r (ended_items number s near ports (record t { tunnel = m.tunnel }) m.end)
-      (ended_posts s near ports (record t { tunnel = m.tunnel }) m.end) packet
-      (ended_flight s near ports (record t { tunnel = m.tunnel }) m.end) old new)
-      → LogAfter r (followed_items number s near ports t) (followed_posts s near ports t) packet
-      (followed_flight s near ports t) old new
+      LogAfter r (log_ended_items number s near ports (record t { tunnel = m.tunnel }) m.end)
+      (log_ended_posts s near ports (record t { tunnel = m.tunnel }) m.end) packet
+      (log_ended_flight s near ports (record t { tunnel = m.tunnel }) m.end) old new)
+      → LogAfter r (log_followed_items number s near ports t) (log_followed_posts s near ports t) packet
+      (log_followed_flight s near ports t) old new
   by_next onward is log = subst (λ o. let m = move_answer t.tunnel o in
-      LogAfter r (ended_items number s near ports (record t { tunnel = m.tunnel }) m.end)
-      (ended_posts s near ports (record t { tunnel = m.tunnel }) m.end) packet
-      (ended_flight s near ports (record t { tunnel = m.tunnel }) m.end) old new) (sym is) log
+      LogAfter r (log_ended_items number s near ports (record t { tunnel = m.tunnel }) m.end)
+      (log_ended_posts s near ports (record t { tunnel = m.tunnel }) m.end) packet
+      (log_ended_flight s near ports (record t { tunnel = m.tunnel }) m.end) old new) (sym is) log
 
 -- the switch was asked so often
 asked : (s : SwitchValue) (t : Flight) (onward : Option ℕ) → next t.tunnel ≡ onward
-    → ended_switch s (move_answer t.tunnel onward).end ≡ ended_switch s (followed t).end
-asked s t onward is = ap (λ o. ended_switch s (move_answer t.tunnel o).end) (sym is)
+    → log_ended_switch s (move_answer t.tunnel onward).end ≡ log_ended_switch s (log_followed t).end
+asked s t onward is = ap (λ o. log_ended_switch s (move_answer t.tunnel o).end) (sym is)
 
 -- ---- it moves on
 
@@ -46,13 +46,13 @@ returns-in_ok-put-in-Some-clause-log c =
     let t = c.args.kept in
     let self = c.args.self.now in
     let now : Log = record self { journal = c.push.new.self; travelling = c.put.new.self } in
-    let moved : c.move_to.new.self ≡ placed_at (t.tunnel.place + 1) t =
-    c.move_to.ensures ∙ ap (λ place. placed_at (place + 1) t) c.place-place.ensures.place in
+    let moved : c.move_to.new.self ≡ flight_placed_at (t.tunnel.place + 1) t =
+    c.move_to.ensures ∙ ap (λ place. flight_placed_at (place + 1) t) c.place-place.ensures.place in
     by_next c.push.result (length self.bag + 1) c.args.switch.now c.args.site.near
     c.args.site.ports.now t t.tunnel.packet self now (Some c.in-Some.next)
     (sym c.next.ensures ∙ c.in-Some.is)
     (rw c.packet-packet.ensures at (log_one c.push.result (item.Hopped c.packet-packet.result
-    c.in-Some.next) c.packet-packet.result (Some (placed_at (t.tunnel.place + 1) t)) self now
+    c.in-Some.next) c.packet-packet.result (Some (flight_placed_at (t.tunnel.place + 1) t)) self now
     c.push.ensures.pushed c.push.ensures.unchanged refl (rw moved at c.in_ok-put-in-Some.ensures)))
 
 pub returns-in_ok-put-in-Some-clause-asked : goal.returns-in_ok-put-in-Some-clause-asked
@@ -63,7 +63,7 @@ returns-in_ok-put-in-Some-clause-asked c = on_ok_weaker c.push.result (λ _. ask
 
 pub receive-forwarding-requires-clause-here : goal.receive-forwarding-requires-clause-here
 receive-forwarding-requires-clause-here c = let t = c.args.kept.tunnel in
-    placed (StandsAt c.args.switch.now) c.route.result.now c.place-place.result t
+    placed (PacketStandsAt c.args.switch.now) c.route.result.now c.place-place.result t
     c.route.ensures c.place-place.ensures.place
     (c.requires.last (sym c.next.ensures ∙ c.in-None.is)).0
 

@@ -3,17 +3,17 @@ use Rattle.std.proofs.Common.{[], ◌++◌, ◌+◌, ◌∙◌, ◌∷◌, ◌�
 use Rattle.base.proofs.Exports.{both_written, on_ok_failed, on_ok_weaker}
 use Rattle.base.specs.Exports.{IfRefused}
 use Rattle.failover.specs.Exports.{no_links, route_of}
-use Rattle.switch_core.specs.Exports.{IsAtAuthority, StandsAt, SwitchValue, cause_of}
+use Rattle.switch_core.specs.Exports.{IsAtAuthority, PacketStandsAt, SwitchValue, cause_of}
 use Rattle.update_machine.specs.Exports.{Item, Leg}
 use Rattle.journal.specs.declared.item.Item.TheVariants as item
-use Rattle.travelling.specs.Travelling.{Flight, Standing, begun_at, marked_at, standing_kept, travels_by}
+use Rattle.travelling.specs.Travelling.{Flight, Standing, flight_begun_at, flight_marked_at, standing_kept, travels_by}
 use Rattle.travelling.specs.declared.standing.Standing as packet
 use Rattle.tunnel.specs.Exports.{next}
-use Rattle.world_log.specs.Exports.{HasHopped, LogAfter, MeetsDownLink, ended_switch, followed, followed_flight, followed_items, followed_posts}
+use Rattle.world_log.specs.Exports.{LogHasHopped, LogAfter, MeetsDownLink, log_ended_switch, log_followed, log_followed_flight, log_followed_items, log_followed_posts}
 use Rattle.world_log.specs.declared.log.Log.{Log}
 use Rattle.world_log.proofs.LogDetours.{last_here, stuck_log, stuck_switch, turned_log, turned_switch}
 use Rattle.world_log.proofs.LogCalls.{log_failed, log_unwritten}
-use Rattle.world_log.proofs.HopLogs.{found_part}
+use Rattle.world_log.proofs.LogHops.{found_part}
 use Rattle.world_log.proofs.log.Log.go_around.Goals as goal
 use Rattle.world_log.proofs.log.Log.go_around.Goals.{After-push, In_ok-mark_down}
 
@@ -22,7 +22,7 @@ fails : (c : After-push) {T E : Type 0} (r : Result T E) (now : Log) (switch : S
     → IsErr r → now.journal ≡ c.args.self.now.journal ++ item.FoundDown c.args.at.packet
     c.args.at.switch c.args.other ∷ [] → (before : SwitchValue) (t : Flight)
     → MeetsDownLink (standing_kept c.args.at) c.args.at.version c.args.at.rule c.args.leg
-    c.args.targets c.args.other before c.args.switch.now c.args.site.near t → HasHopped r
+    c.args.targets c.args.other before c.args.switch.now c.args.site.near t → LogHasHopped r
     c.args.at.packet before c.args.site.near c.args.site.ports.now c.args.self.now switch now t
 fails c r now switch failed grown before t met = record {
   log = log_failed r _ _ c.args.at.packet _ c.args.self.now now failed
@@ -38,7 +38,7 @@ out_of_memory : (c : After-push) {T E : Type 0} {e : E} (now : Log) (switch : Sw
     c.args.other ∷ [] → (before : SwitchValue) (t : Flight)
     → MeetsDownLink (standing_kept c.args.at) c.args.at.version c.args.at.rule c.args.leg
     c.args.targets c.args.other before c.args.switch.now c.args.site.near t
-    → HasHopped {T = T} (Err e) c.args.at.packet before c.args.site.near c.args.site.ports.now
+    → LogHasHopped {T = T} (Err e) c.args.at.packet before c.args.site.near c.args.site.ports.now
     c.args.self.now switch now t
 out_of_memory c {T} {E} {e} now switch = fails c {T = T} {E = E} (Err e) now switch refl
 
@@ -89,14 +89,14 @@ returns-in-Err-Refused c = λ before t met. let at = standing_kept c.args.at in
 
 -- what is kept of it is the packet at the beginning of that route
 kept_is : (c : In_ok-mark_down) (leg : Leg) (targets route : List ℕ) (kept : Flight)
-    → kept ≡ travels_by (begun_at (standing_kept c.mark_down.new.self) leg targets route)
+    → kept ≡ travels_by (flight_begun_at (standing_kept c.mark_down.new.self) leg targets route)
     c.mark_down.new.self.version c.mark_down.new.self.rule
-    → kept ≡ travels_by (begun_at (marked_at (standing_kept c.args.at) c.args.other) leg targets route)
+    → kept ≡ travels_by (flight_begun_at (flight_marked_at (standing_kept c.args.at) c.args.other) leg targets route)
     c.args.at.version c.args.at.rule
 kept_is c leg targets route kept is =
-    is ∙ ap (λ (a : Standing). travels_by (begun_at a leg targets route)
+    is ∙ ap (λ (a : Standing). travels_by (flight_begun_at a leg targets route)
     c.mark_down.new.self.version c.mark_down.new.self.rule) c.in_ok-mark_down.ensures.marked
-    ∙ ap (λ (a : packet.Standing). travels_by (begun_at (marked_at (standing_kept c.args.at)
+    ∙ ap (λ (a : packet.Standing). travels_by (flight_begun_at (flight_marked_at (standing_kept c.args.at)
     c.args.other) leg targets route) a.version a.rule) c.mark_down.ensures.rest
 
 pub follow-requires-clause-last : goal.follow-requires-clause-last
@@ -107,7 +107,7 @@ follow-requires-clause-last c =
     let t = c.requires.met.1.0 in
     let met = c.requires.met.1.1 in
     let links : List ℕ = unwrap_or (option_copied c.links.result) no_links in
-    let links_are : links ≡ (marked_at at c.args.other).down =
+    let links_are : links ≡ (flight_marked_at at c.args.other).down =
     c.links.ensures ∙ ap (λ (a : Standing). a.down) c.in_ok-mark_down.ensures.marked in
     let route : List ℕ = c.in-Ok.route in
     let some : ◌≡◌ {A = Option (List ℕ)}
@@ -115,7 +115,7 @@ follow-requires-clause-last c =
     let its = kept_is (goal.at.follow-requires-clause-last c).In_ok-mark_down c.args.leg
     c.args.targets route c.begin-kept.result c.begin-kept.ensures in
     let Q : SwitchValue → Flight → Type 0 = λ w k. next k.tunnel ≡ None
-    → StandsAt w k.tunnel.route k.tunnel.place × IsAtAuthority w k.tunnel.header k.tunnel.leg in
+    → PacketStandsAt w k.tunnel.route k.tunnel.place × IsAtAuthority w k.tunnel.header k.tunnel.leg in
     subst (λ w. Q w c.begin-kept.result) (sym c.shared_route.ensures.same)
     (subst (Q s) (sym its) (last_here at c.args.at.version c.args.at.rule c.args.leg c.args.targets
     c.args.other c.requires.met.0 s near t met links links_are route some))
@@ -128,7 +128,7 @@ returns-in_ok-push-in-Ok c = λ before t met. let at = standing_kept c.args.at i
     let self = c.args.self.now in
     let n = length self.bag + 1 in
     let links : List ℕ = unwrap_or (option_copied c.links.result) no_links in
-    let links_are : links ≡ (marked_at at c.args.other).down =
+    let links_are : links ≡ (flight_marked_at at c.args.other).down =
     c.links.ensures ∙ ap (λ (a : Standing). a.down) c.in_ok-mark_down.ensures.marked in
     let route : List ℕ = c.in-Ok.route in
     let some = c.in-Ok.ensures.route in
@@ -141,8 +141,8 @@ returns-in_ok-push-in-Ok c = λ before t met. let at = standing_kept c.args.at i
     (c.in_ok-push-in-Ok.ensures.pushed ∙ ap (λ way. c.push.new.self ++ item.Rerouted at.packet way
     ∷ []) c.in_ok-clone-in-Ok.ensures.cases) in
     let P : SwitchValue → Flight → Type 0 = λ w k. LogAfter c.follow.result
-    (followed_items n w near ports k) (followed_posts w near ports k) k.tunnel.packet
-    (followed_flight w near ports k) mid c.follow.new.self in
+    (log_followed_items n w near ports k) (log_followed_posts w near ports k) k.tunnel.packet
+    (log_followed_flight w near ports k) mid c.follow.new.self in
     let log = turned_log at c.args.at.version c.args.at.rule c.args.leg c.args.targets c.args.other
     before s near t met links links_are route some c.follow.result ports n self mid
     c.follow.new.self grown refl refl (subst (P s) its
@@ -152,6 +152,6 @@ returns-in_ok-push-in-Ok c = λ before t met. let at = standing_kept c.args.at i
       counted = on_ok_weaker c.follow.result (λ is. turned_switch at c.args.at.version
           c.args.at.rule c.args.leg c.args.targets c.args.other before s near t met links links_are
           route some c.follow.new.switch (is
-          ∙ ap (λ w. ended_switch w (followed c.begin-kept.result).end) c.shared_route.ensures.same
-          ∙ ap (λ (k : Flight). ended_switch s (followed k).end) its)) c.follow.ensures.asked;
+          ∙ ap (λ w. log_ended_switch w (log_followed c.begin-kept.result).end) c.shared_route.ensures.same
+          ∙ ap (λ (k : Flight). log_ended_switch s (log_followed k).end) its)) c.follow.ensures.asked;
     }

@@ -1,15 +1,15 @@
 -- A packet goes on as it is kept.
 use Rattle.std.proofs.Common.{◌+◌, ◌<◌, ◌∙◌, ◌≡◌, IsErr, IsSomeAnd, None, Option, Result, Some, ap, get_or, length, option_copied, refl, set, slice_get, slice_index, subst, sym, ℕ}
 use Rattle.base.proofs.Exports.{on_ok_failed, slice_get-get_or, slice_get_within}
-use Rattle.switch_core.specs.Exports.{IsAtAuthority, Moved, StandsAt, SwitchValue, around, call_counted, onward_to}
+use Rattle.switch_core.specs.Exports.{IsAtAuthority, Moved, PacketStandsAt, SwitchValue, around, call_counted, onward_by_switch}
 use Rattle.switch_core.specs.declared.packet.Onward.{Onward}
-use Rattle.switch_core.proofs.NextSwitch.{ends, goes, is_down}
-use Rattle.travelling.specs.Travelling.{Flight, HasPlace, Standing, standing_at, standing_kept, flight}
+use Rattle.switch_core.proofs.SwitchOnwardHops.{ends, goes, is_down}
+use Rattle.travelling.specs.Travelling.{Flight, FlightHasPlace, Standing, standing_at, standing_kept, flight}
 use Rattle.tunnel.specs.Exports.{here, next}
-use Rattle.world_log.specs.Exports.{HasHopped, Hops, MayGoOn, MeetsDownLink}
+use Rattle.world_log.specs.Exports.{LogHasHopped, Hops, MayGoOn, MeetsDownLink}
 use Rattle.world_log.specs.declared.log.Log.{Log}
 use Rattle.world_log.proofs.LogPacketMoves.{authority_counted}
-use Rattle.world_log.proofs.HopLogs.{arrival_log, free_hop, move_hop, passed_by, passed_hop, placed}
+use Rattle.world_log.proofs.LogHops.{arrival_log, free_hop, move_hop, passed_by, passed_hop, placed}
 use Rattle.world_log.proofs.LogCalls.{log_unwritten}
 use Rattle.world_log.proofs.log.Log.hop.Goals as goal
 use Rattle.world_log.proofs.log.Log.hop.Goals.{After-place-place, In_ok-at-in-LinkDown}
@@ -52,19 +52,19 @@ module _ (c : After-place-place) where
   may = subst (λ n. MayGoOn c.args.packet asked (slice_index c.args.near.now n) kept)
       (sym c.here-here.ensures.here) (c.requires.may kept asked (sym its) own)
 
-  stands : StandsAt asked c.route-route.result.now c.place-place.result
-  stands = placed (StandsAt asked) c.route-route.result.now c.place-place.result kept.tunnel
+  stands : PacketStandsAt asked c.route-route.result.now c.place-place.result
+  stands = placed (PacketStandsAt asked) c.route-route.result.now c.place-place.result kept.tunnel
       c.route-route.ensures c.place-place.ensures.place may.here
 
   passed : (answer : Onward)
-      → answer ≡ onward_to links (slice_get c.route-route.result.now (c.place-place.result + 1))
-      → answer ≡ onward_to links (next kept.tunnel)
+      → answer ≡ onward_by_switch links (slice_get c.route-route.result.now (c.place-place.result + 1))
+      → answer ≡ onward_by_switch links (next kept.tunnel)
   passed answer = passed_by links answer c.route-route.result.now c.place-place.result kept.tunnel
       c.route-route.ensures c.place-place.ensures.place
 
   -- what the packet does there is what the hop does
   hops : {T E : Type 0} (r : Result T E) (after : SwitchValue) (new : Log)
-      → HasHopped r c.args.packet asked links c.args.ports.now c.args.self.now after new kept
+      → LogHasHopped r c.args.packet asked links c.args.ports.now c.args.self.now after new kept
       → Hops r c.args.packet c.args.near.now c.args.ports.now c.args.self.now c.args.switches.now
       new (set c.args.switches.now c.here-here.result after)
       (flight c.args.self.now.travelling c.args.packet)
@@ -75,7 +75,7 @@ module _ (c : After-place-place) where
         asked = after;
         own = own;
         only = ap (λ n. set c.args.switches.now n after) c.here-here.ensures.here;
-        hopped = subst (λ n. HasHopped r c.args.packet asked (slice_index c.args.near.now n)
+        hopped = subst (λ n. LogHasHopped r c.args.packet asked (slice_index c.args.near.now n)
             c.args.ports.now c.args.self.now after new kept) c.here-here.ensures.here hopped;
       })
 
@@ -100,7 +100,7 @@ move_on-requires c =
     let k = kept before in
     let on = goes (links before) (next k.tunnel) c.in-Next.next
     (sym (passed before c.pass.result c.pass.ensures.onward) ∙ c.in-Next.is) in
-    subst (λ o. IsSomeAnd o (HasPlace (c.place-place.result + 1))) (its before)
+    subst (λ o. IsSomeAnd o (FlightHasPlace (c.place-place.result + 1))) (its before)
     (subst (λ place. place + 1 < length k.tunnel.route) (sym c.place-place.ensures.place)
     (slice_get_within k.tunnel.route (k.tunnel.place + 1) c.in-Next.next on.0))
 
@@ -176,7 +176,7 @@ returns-in_ok-at-in-AtEnd c =
 
 met : (before : After-place-place) (c : In_ok-at-in-LinkDown)
     → MayGoOn c.args.packet (asked before) (links before) c.in-Some.kept.now
-    → c.pass.result ≡ onward_to (links before) (next c.in-Some.kept.now.tunnel)
+    → c.pass.result ≡ onward_by_switch (links before) (next c.in-Some.kept.now.tunnel)
     → c.pass.new.self ≡ call_counted (asked before)
     → MeetsDownLink (standing_kept c.in_ok-at-in-LinkDown.at) c.in_ok-at-in-LinkDown.at.version
     c.in_ok-at-in-LinkDown.at.rule c.leg-leg-in-LinkDown.result c.targets-targets.result.now

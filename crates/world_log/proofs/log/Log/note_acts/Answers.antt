@@ -1,6 +1,6 @@
 use Rattle.std.proofs.Common.{◌∙◌, arith, map-id, refl, subst, sym}
-use Rattle.world_log.specs.Exports.{MayNote}
-use Rattle.world_log.proofs.MessageLogs.{AreDone, done_begun, noting_all, noting_failed, noting_few, noting_more, noting_spelled, noting_stopped}
+use Rattle.world_log.specs.Exports.{LogMayNote}
+use Rattle.world_log.proofs.LogMessages.{AreDone, done_begun, noting_all, noting_failed, noting_few, noting_more, noting_spelled, noting_stopped}
 use Rattle.world_log.proofs.log.Log.note_acts.Goals as goal
 
 pub loop-act-init : goal.loop-act-init
@@ -12,7 +12,7 @@ loop-act-init c = let came = c.into_iter-act-iterator.ensures.into_iter_gives in
 
 pub note-requires : goal.note-requires
 note-requires c =
-    let may = subst (MayNote c.args.self.now.bag) (sym (map-id c.args.acts.items)) c.requires in
+    let may = subst (LogMayNote c.args.self.now.bag) (sym (map-id c.args.acts.items)) c.requires in
     record {
       few = noting_few _ _ _ _ _ _ _ c.loop-act.invariant _ c.in-Some.act
           c.in-Some.ensures.steps.0 may;
@@ -27,9 +27,8 @@ loop-act-preserved c = noting_more _ _ _ _ _ _ _ c.loop-act.invariant _ c.in-Som
 
 pub returns-in_err-note : goal.returns-in_err-note
 returns-in_err-note c = noting_failed c.from_residual.result c.args.acts.items c.args.self.now
-    c.note.new.self c.from_residual.ensures.0
-    (rw (map-id c.args.acts.items) at (noting_stopped _ _ _ _ _ _ _ c.loop-act.invariant
-    c.note.new.self.journal c.in_err-note.ensures.unwritten))
+    c.note.new.self c.from_residual.ensures.0 (rw (map-id c.args.acts.items) at (noting_stopped _ _
+    _ _ _ _ _ c.loop-act.invariant c.note.new.self.journal c.in_err-note.ensures.unwritten))
     (c.in_err-note.ensures.travelling ∙ c.loop-act.invariant.travelling)
 
 pub returns : goal.returns

@@ -1,5 +1,5 @@
 use Rattle.base.proofs.Exports.{into_iter_items, into_iter_len}
-use Rattle.world_log.proofs.MessageLogs.{IsNoting}
+use Rattle.world_log.proofs.LogMessages.{IsNoting}
 use Rattle.world_log.proofs.log.Log.note_acts.Given as goal
 
 abbrev pub invariant-loop-act : goal.invariant-loop-act

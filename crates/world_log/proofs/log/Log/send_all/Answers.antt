@@ -1,6 +1,6 @@
 use Rattle.std.proofs.Common.{◌+◌, arith, length, refl}
 use Rattle.base.proofs.Exports.{on_err}
-use Rattle.world_log.proofs.MessageLogs.{done_begun, may_as_acts, noting_all, noting_few, noting_more, noting_spelled, noting_stopped, posts_as_acts, sent_as_acts}
+use Rattle.world_log.proofs.LogMessages.{done_begun, may_as_acts, noting_all, noting_few, noting_more, noting_spelled, noting_stopped, posts_as_acts, sent_as_acts}
 use Rattle.world_log.proofs.log.Log.send_all.Goals as goal
 
 pub loop-message-init : goal.loop-message-init
@@ -29,9 +29,8 @@ loop-message-preserved c = noting_more _ _ _ _ _ _ _ c.loop-message.invariant _ 
 
 pub returns-in_err-send-clause-part : goal.returns-in_err-send-clause-part
 returns-in_err-send-clause-part c = on_err c.from_residual.result
-    (rw (sent_as_acts (length c.args.self.now.bag + 1) c.args.messages.items) at
-    (noting_stopped _ _ _ _ _ _ _ c.loop-message.invariant c.send.new.self.journal
-    c.in_err-send.ensures.unwritten))
+    (rw (sent_as_acts (length c.args.self.now.bag + 1) c.args.messages.items) at (noting_stopped _ _
+    _ _ _ _ _ c.loop-message.invariant c.send.new.self.journal c.in_err-send.ensures.unwritten))
 
 pub returns-clause-written : goal.returns-clause-written
 returns-clause-written c = rw (sent_as_acts (length c.args.self.now.bag + 1) c.args.messages.items)

@@ -1,6 +1,6 @@
 use Rattle.base.proofs.Exports.{into_iter_items, into_iter_len}
 use Rattle.controller.specs.declared.sends.Act.TheVariants.{Post}
-use Rattle.world_log.proofs.MessageLogs.{IsNoting}
+use Rattle.world_log.proofs.LogMessages.{IsNoting}
 use Rattle.world_log.proofs.log.Log.send_all.Given as goal
 
 -- messages are noted as acts

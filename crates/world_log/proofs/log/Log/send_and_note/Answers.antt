@@ -1,7 +1,7 @@
 use Rattle.std.proofs.Common.{◌++◌, ◌+◌, ◌∙◌, OnOk, length, map}
 use Rattle.base.proofs.Exports.{both_ok, on_err_weaker, on_ok_weaker}
 use Rattle.controller.specs.declared.sends.Act.TheVariants.{Post}
-use Rattle.world_log.proofs.MessageLogs.{AreDone, done_both, first_part, later_part, may_later, may_sent, noting_failed, posts_as_acts, sent_as_acts}
+use Rattle.world_log.proofs.LogMessages.{AreDone, done_both, first_part, later_part, may_later, may_sent, noting_failed, posts_as_acts, sent_as_acts}
 use Rattle.world_log.proofs.log.Log.send_and_note.Goals as goal
 
 -- the messages are done as acts

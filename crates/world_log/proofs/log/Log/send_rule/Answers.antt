@@ -4,9 +4,9 @@ use Rattle.update_machine.specs.Exports.{Body, sent_from}
 use Rattle.ctrl_msg.specs.declared.message.Place.TheVariants as receiver
 use Rattle.journal.specs.declared.item.Item.TheVariants as item
 use Rattle.message_bag.specs.Exports.{HasShortSpelling, new_post}
-use Rattle.switch_core.specs.Exports.{cached_by}
+use Rattle.switch_core.specs.Exports.{rule_cached_by}
 use Rattle.ternary.specs.Exports.{WordValue}
-use Rattle.world_log.specs.Exports.{cache_message, message_list}
+use Rattle.world_log.specs.Exports.{cache_message, log_message_list}
 use Rattle.world_log.proofs.LogForwarding.{rule_spelled}
 use Rattle.world_log.proofs.log.Log.send_rule.Goals as goal
 
@@ -25,7 +25,7 @@ unfolding sent_from
 returns-in-Some-clause-written c =
     let P : Option WordValue → Type 0 = λ word. OnOk c.send.result (c.send.new.self.journal
     ≡ c.args.self.now.journal ++ sent_from (length c.args.self.now.bag + 1)
-    (message_list (cache_message c.args.ingress (cached_by c.args.decision.now word)))) in
+    (log_message_list (cache_message c.args.ingress (rule_cached_by c.args.decision.now word)))) in
     let Q : Body → Type 0 = λ body. OnOk c.send.result (c.send.new.self.journal
     ≡ c.args.self.now.journal ++ item.Sent (length c.args.self.now.bag + 1) (record {
       to = receiver.Switch c.args.ingress;
@@ -37,7 +37,7 @@ pub returns-in-Some-clause-posted : goal.returns-in-Some-clause-posted
 returns-in-Some-clause-posted c =
     let P : Option WordValue → Type 0 =
     λ word. OnOk c.send.result (c.send.new.self.bag ≡ c.args.self.now.bag ++ map new_post
-    (message_list (cache_message c.args.ingress (cached_by c.args.decision.now word)))) in
+    (log_message_list (cache_message c.args.ingress (rule_cached_by c.args.decision.now word)))) in
     let Q : Body → Type 0 = λ body. OnOk c.send.result (c.send.new.self.bag
     ≡ c.args.self.now.bag ++ new_post (record {
       to = receiver.Switch c.args.ingress;
@@ -50,12 +50,12 @@ unfolding sent_from
 returns-in-None-clause-written c =
     let P : Option WordValue → Type 0 = λ word. c.args.self.now.journal
     ≡ c.args.self.now.journal ++ sent_from (length c.args.self.now.bag + 1)
-    (message_list (cache_message c.args.ingress (cached_by c.args.decision.now word))) in
+    (log_message_list (cache_message c.args.ingress (rule_cached_by c.args.decision.now word))) in
     subst P (sym c.in-None.is) (sym (append-nil c.args.self.now.journal))
 
 pub returns-in-None-clause-posted : goal.returns-in-None-clause-posted
 returns-in-None-clause-posted c =
     let P : Option WordValue → Type 0 = λ word. c.args.self.now.bag ≡ c.args.self.now.bag
-    ++ map new_post (message_list (cache_message c.args.ingress
-    (cached_by c.args.decision.now word))) in
+    ++ map new_post (log_message_list (cache_message c.args.ingress
+    (rule_cached_by c.args.decision.now word))) in
     subst P (sym c.in-None.is) (sym (append-nil c.args.self.now.bag))

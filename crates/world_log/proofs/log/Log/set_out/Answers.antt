@@ -5,9 +5,9 @@ use Rattle.failover.specs.Exports.{no_links, route_of}
 use Rattle.update_machine.specs.Exports.{Cause, takes_route}
 use Rattle.switch_core.specs.Exports.{cause_of}
 use Rattle.world_log.specs.declared.log.Log.{Log}
-use Rattle.travelling.specs.Travelling.{Flight, begun_at, standing_kept, travels_by}
+use Rattle.travelling.specs.Travelling.{Flight, flight_begun_at, standing_kept, travels_by}
 use Rattle.tunnel.specs.Exports.{TunnelValue}
-use Rattle.world_log.specs.Exports.{LogAfter, packet_standing, set_flight, set_item}
+use Rattle.world_log.specs.Exports.{LogAfter, log_packet_standing, log_set_flight, log_set_item}
 use Rattle.world_log.proofs.LogForwarding.{none_known, route_known}
 use Rattle.world_log.proofs.LogCalls.{log_one}
 use Rattle.world_log.proofs.log.Log.set_out.Goals as goal
@@ -23,9 +23,9 @@ returns-in-Err-Refused-clause-log c =
     × (cause ≡ cause_of s c.args.near links c.args.leg c.args.targets))) c.in-Err-Refused.field-0-is
     c.in-Err-Refused.ensures.refused in
     let Q : Result TunnelValue Cause → Type 0 = λ found.
-    LogAfter c.stuck.result (set_item at c.args.leg found ∷ []) [] c.args.at.packet
-    (set_flight c.args.at.version c.args.at.rule found) c.args.self.now c.stuck.new.self in
-    subst Q (none_known s c.args.near (packet_standing at) c.args.leg c.args.targets links cause
+    LogAfter c.stuck.result (log_set_item at c.args.leg found ∷ []) [] c.args.at.packet
+    (log_set_flight c.args.at.version c.args.at.rule found) c.args.self.now c.stuck.new.self in
+    subst Q (none_known s c.args.near (log_packet_standing at) c.args.leg c.args.targets links cause
     c.links.ensures both.0 both.1) (rw c.in-Err-Refused.field-0-is at c.stuck.ensures)
 
 pub returns-in_ok-put-in-Ok-clause-log : goal.returns-in_ok-put-in-Ok-clause-log
@@ -34,15 +34,15 @@ returns-in_ok-put-in-Ok-clause-log c =
     let s = c.args.switch.now in
     let links : List ℕ = unwrap_or (option_copied c.links.result) no_links in
     let route : List ℕ = c.in-Ok.route in
-    let kept : Flight = travels_by (begun_at at c.args.leg c.args.targets route) c.args.at.version
+    let kept : Flight = travels_by (flight_begun_at at c.args.leg c.args.targets route) c.args.at.version
     c.args.at.rule in
     let now : Log = record c.args.self.now { journal = c.push.new.self; travelling = c.put.new.self } in
     let item_is : c.takes_route-item.result ≡ takes_route c.args.at.packet c.args.leg route =
     c.takes_route-item.ensures ∙ ap (takes_route c.args.at.packet c.args.leg) c.in_ok-clone-in-Ok.ensures.cases in
     let Q : Result TunnelValue Cause → Type 0 = λ found.
-    LogAfter c.push.result (set_item at c.args.leg found ∷ []) [] c.args.at.packet
-    (set_flight c.args.at.version c.args.at.rule found) c.args.self.now now in
-    subst Q (route_known s c.args.near (packet_standing at) c.args.leg c.args.targets links route
+    LogAfter c.push.result (log_set_item at c.args.leg found ∷ []) [] c.args.at.packet
+    (log_set_flight c.args.at.version c.args.at.rule found) c.args.self.now now in
+    subst Q (route_known s c.args.near (log_packet_standing at) c.args.leg c.args.targets links route
     c.links.ensures c.in-Ok.ensures.route)
     (rw item_is at (log_one c.push.result c.takes_route-item.result c.args.at.packet (Some kept)
     c.args.self.now now c.push.ensures.pushed c.push.ensures.unchanged refl

@@ -4,24 +4,24 @@ use Rattle.base.proofs.Exports.{both_written}
 use Rattle.update_machine.specs.Exports.{Item, sent_from}
 use Rattle.journal.specs.declared.item.Item.TheVariants as item
 use Rattle.message_bag.specs.Exports.{Post, new_post}
-use Rattle.switch_core.specs.Exports.{answer_of, cached_by, set_out, site_of}
+use Rattle.switch_core.specs.Exports.{answer_of, rule_cached_by, set_out, switch_site_of}
 use Rattle.switch_core.specs.declared.forwarding.Forwarding.{Forwarding}
 use Rattle.travelling.specs.Travelling.{standing_kept}
-use Rattle.world_log.specs.Exports.{LogAfter, arrived_flight, arrived_items, arrived_posts, cache_message, message_list, packet_standing}
+use Rattle.world_log.specs.Exports.{LogAfter, log_arrived_flight, log_arrived_items, log_arrived_posts, cache_message, log_message_list, log_packet_standing}
 use Rattle.world_log.proofs.LogForwarding.{sought}
 use Rattle.world_log.proofs.LogCalls.{log_ends, log_failed, log_unwritten}
-use Rattle.world_log.proofs.StepWrites.{part_first}
+use Rattle.world_log.proofs.LogStepWrites.{part_first}
 use Rattle.world_log.proofs.log.Log.settle.Goals as goal
 
 pub returns-in-Out-clause-log : goal.returns-in-Out-clause-log
 returns-in-Out-clause-log c =
     let at = standing_kept c.args.at in
     let P : Forwarding → Type 0 = λ forwarding.
-    let what = answer_of c.args.switch.now (site_of c.args.site) (packet_standing at) forwarding in
+    let what = answer_of c.args.switch.now (switch_site_of c.args.site) (log_packet_standing at) forwarding in
     LogAfter c.end.result
-    (arrived_items (length c.args.self.now.bag + 1) at c.args.at.version c.args.at.rule what)
-    (arrived_posts at what) c.args.at.packet
-    (arrived_flight c.args.at.version c.args.at.rule what) c.args.self.now c.end.new.self in
+    (log_arrived_items (length c.args.self.now.bag + 1) at c.args.at.version c.args.at.rule what)
+    (log_arrived_posts at what) c.args.at.packet
+    (log_arrived_flight c.args.at.version c.args.at.rule what) c.args.self.now c.end.new.self in
     subst P (sym c.in-Out.is)
     (rw c.leaves.ensures at c.end.ensures)
 
@@ -33,11 +33,11 @@ pub returns-in_err-send_rule-in-Decided-clause-log : goal.returns-in_err-send_ru
 returns-in_err-send_rule-in-Decided-clause-log c =
     let at = standing_kept c.args.at in
     let P : Forwarding → Type 0 = λ forwarding.
-    let what = answer_of c.args.switch.now (site_of c.args.site) (packet_standing at) forwarding in
+    let what = answer_of c.args.switch.now (switch_site_of c.args.site) (log_packet_standing at) forwarding in
     LogAfter c.from_residual-in_err-send_rule-in-Decided.result
-    (arrived_items (length c.args.self.now.bag + 1) at c.args.at.version c.args.at.rule what)
-    (arrived_posts at what) c.args.at.packet
-    (arrived_flight c.args.at.version c.args.at.rule what) c.args.self.now
+    (log_arrived_items (length c.args.self.now.bag + 1) at c.args.at.version c.args.at.rule what)
+    (log_arrived_posts at what) c.args.at.packet
+    (log_arrived_flight c.args.at.version c.args.at.rule what) c.args.self.now
     c.send_rule.new.self in
     subst P (sym c.in-Decided.is)
     (log_failed c.from_residual-in_err-send_rule-in-Decided.result _ _ _ _ _ _
@@ -48,17 +48,17 @@ pub returns-in_ok-send_rule-in-Decided-clause-log : goal.returns-in_ok-send_rule
 returns-in_ok-send_rule-in-Decided-clause-log c =
     let at = standing_kept c.args.at in
     let decision = c.in-Decided.decision in
-    let message = cache_message at.ingress (cached_by decision c.in-Decided.word) in
+    let message = cache_message at.ingress (rule_cached_by decision c.in-Decided.word) in
     let decided : Item = item.Decided at.packet decision.version decision.rule decision.action
     decision.how in
-    let sends : List Item = sent_from (length c.args.self.now.bag + 1) (message_list message) in
-    let posts : List Post = map new_post (message_list message) in
+    let sends : List Item = sent_from (length c.args.self.now.bag + 1) (log_message_list message) in
+    let posts : List Post = map new_post (log_message_list message) in
     let P : Forwarding → Type 0 = λ forwarding.
-    let what = answer_of c.args.switch.now (site_of c.args.site) (packet_standing at) forwarding in
+    let what = answer_of c.args.switch.now (switch_site_of c.args.site) (log_packet_standing at) forwarding in
     LogAfter c.leave.result
-    (arrived_items (length c.args.self.now.bag + 1) at c.args.at.version c.args.at.rule what)
-    (arrived_posts at what) c.args.at.packet
-    (arrived_flight c.args.at.version c.args.at.rule what) c.args.self.now
+    (log_arrived_items (length c.args.self.now.bag + 1) at c.args.at.version c.args.at.rule what)
+    (log_arrived_posts at what) c.args.at.packet
+    (log_arrived_flight c.args.at.version c.args.at.rule what) c.args.self.now
     c.leave.new.self in
     subst P (sym c.in-Decided.is)
     (log_ends c.leave.result (decided ∷ sends) _ posts c.args.at.packet _ c.args.self.now
@@ -70,17 +70,17 @@ returns-in_ok-send_rule-in-Decided-clause-log c =
 pub returns-in-Seek-clause-log : goal.returns-in-Seek-clause-log
 returns-in-Seek-clause-log c =
     let at = standing_kept c.args.at in
-    let site = site_of c.args.site in
+    let site = switch_site_of c.args.site in
     let s = c.args.switch.now in
     let leg = c.in-Seek.leg in
     let P : Forwarding → Type 0 = λ forwarding.
-    let what = answer_of s site (packet_standing at) forwarding in
+    let what = answer_of s site (log_packet_standing at) forwarding in
     LogAfter c.set_out.result
-    (arrived_items (length c.args.self.now.bag + 1) at c.args.at.version c.args.at.rule what)
-    (arrived_posts at what) c.args.at.packet
-    (arrived_flight c.args.at.version c.args.at.rule what) c.args.self.now
+    (log_arrived_items (length c.args.self.now.bag + 1) at c.args.at.version c.args.at.rule what)
+    (log_arrived_posts at what) c.args.at.packet
+    (log_arrived_flight c.args.at.version c.args.at.rule what) c.args.self.now
     c.set_out.new.self in
     subst P (sym c.in-Seek.is)
     (sought c.set_out.result at c.args.at.packet c.args.self.now c.set_out.new.self
     (length c.args.self.now.bag + 1) leg c.args.at.version c.args.at.rule
-    (set_out s site.near (packet_standing at) leg c.in-Seek.targets) c.set_out.ensures.log)
+    (set_out s site.near (log_packet_standing at) leg c.in-Seek.targets) c.set_out.ensures.log)

@@ -1,0 +1,441 @@
+-- What one more item makes of each fact of switches, messages and the controller.
+use Rattle.std.proofs.Common.{[], ◌++◌, ◌+◌, ◌<◌, ◌==◌, ◌||◌, ◌∙◌, ◌∷◌, ◌≡◌, ◌≤◌, ◌⊎◌, Bool, IsTrue, List, None, Option, Some, ap, append-nil, append_assoc, arith, eq-eqb, eqb-true, false, filter_map, fold, if◌then◌else◌, inl, inr, max, nat_lt, option_and_then, option_to_list, refl, subst, sym, true, unwrap_or, zero-add, ℕ}
+use Rattle.base.proofs.Exports.{IfSome_then, filter_map-append, fold-append, nat_tests, option_map_or, option_or}
+use Rattle.update_machine.specs.Exports.{Advertise, Body, CacheRule, HaveCauses, Hello, Installed, Item, Message, OpenAt, Place, Setting, Stamped, Step, all_given, body_to_controller, body_to_switch, boot_of, changes_controller_heard, changes_heard, changes_over, controller_heard, count_of, current_mark, first_open_number, first_stamp, gives_boot, gives_current, gives_message, gives_retired, gives_serving, gives_up, greatest_stamp_number, heard, hello_boot, is_over, is_submission, is_up, known_boot, last_given, message_of, open_sent, opened_at, piece, raises_known, retired_mark, serves, speaking_in_body, stamp_in, stamp_of, step_items, to_switch, version_count}
+use Rattle.update_machine.proofs.Exports.{all_given_append, count_of_append, folded_append, have_first, last_given_append, start_laws}
+pub use Rattle.update_machine.proofs.CallerLemmas.{steps_have}
+use Rattle.control_laws.specs.Exports.{BootsAreKnown, HasItemCause, HasPastBoot, IsRightMessage}
+use Rattle.ctrl_msg.specs.Exports.{body_boot, to_controller}
+
+-- the last item tells, or else those before it
+pub last_more : {X : Type 0} (tells : Item → Option X) (before : List Item) (item : Item)
+    (other : X) → unwrap_or (last_given tells (before ++ item ∷ [])) other
+    ≡ unwrap_or (tells item) (unwrap_or (last_given tells before) other)
+last_more {X = X} tells before item other = ap (λ o. unwrap_or o other)
+    (last_given_append tells before (item ∷ [])) ∙ by_told (tells item) (last_given tells before)
+  where
+    by_told : (now earlier : Option X) → unwrap_or (option_or now earlier) other
+        ≡ unwrap_or now (unwrap_or earlier other)
+    by_told None earlier = refl
+    by_told (Some x) earlier = refl
+
+pub boot_more : (before : List Item) (item : Item) (s : ℕ)
+    → boot_of (before ++ item ∷ []) s ≡ unwrap_or (gives_boot s item) (boot_of before s)
+unfolding boot_of
+boot_more before item s = last_more (gives_boot s) before item 1
+
+pub up_more : (before : List Item) (item : Item) (s : ℕ)
+    → is_up (before ++ item ∷ []) s ≡ unwrap_or (gives_up s item) (is_up before s)
+unfolding is_up
+up_more before item s = last_more (gives_up s) before item true
+
+pub serving_more : (before : List Item) (item : Item) (s : ℕ)
+    → serves (before ++ item ∷ []) s ≡ unwrap_or (gives_serving s item) (serves before s)
+unfolding serves
+serving_more before item s = last_more (gives_serving s) before item true
+
+pub current_more : (before : List Item) (item : Item)
+    → current_mark (before ++ item ∷ []) ≡ unwrap_or (gives_current item) (current_mark before)
+unfolding current_mark
+current_more before item = last_more gives_current before item 1
+
+pub retired_more : (before : List Item) (item : Item)
+    → retired_mark (before ++ item ∷ []) ≡ unwrap_or (gives_retired item) (retired_mark before)
+unfolding retired_mark
+retired_more before item = last_more gives_retired before item 0
+
+-- a count from one, with one more item
+pub counted_more : (test : Item → Bool) (before : List Item) (item : Item)
+    → count_of test (before ++ item ∷ []) + 1
+    ≡ (if test item then count_of test before + 1 + 1 else count_of test before + 1)
+counted_more test before item = by_test (test item) refl where
+  by_test : (b : Bool) → test item ≡ b → count_of test (before ++ item ∷ []) + 1
+      ≡ (if b then count_of test before + 1 + 1 else count_of test before + 1)
+  by_test true e = let one : count_of test (item ∷ []) ≡ 1 = rw e refl in
+      omega (arith, one, count_of_append test before (item ∷ []))
+  by_test false e = let none : count_of test (item ∷ []) ≡ 0 = rw e refl in
+      omega (arith, none, count_of_append test before (item ∷ []))
+
+-- whether some item passes a test, with one more item
+pub some_more : (test : Item → Bool) (before : List Item) (item : Item) → nat_lt 0
+    (count_of test (before ++ item ∷ [])) ≡ (test item || nat_lt 0 (count_of test before))
+some_more test before item = by_test (test item) refl where
+  by_test : (b : Bool) → test item ≡ b → nat_lt 0 (count_of test (before ++ item ∷ []))
+      ≡ (b || nat_lt 0 (count_of test before))
+  by_test b is = grind (arith, nat_tests, count_of_append test before (item ∷ []))
+
+pub count_more : (before : List Item) (item : Item) → version_count (before ++ item ∷ [])
+    ≡ (if is_submission item then version_count before + 1 else version_count before)
+unfolding version_count
+count_more before item = counted_more is_submission before item
+
+pub message_more : (before : List Item) (item : Item) (n : ℕ)
+    → message_of (before ++ item ∷ []) n ≡ option_or (gives_message n item) (message_of before n)
+unfolding message_of
+message_more before item n = last_given_append (gives_message n) before (item ∷ [])
+
+pub heard_more : (before : List Item) (item : Item) (s : ℕ)
+    → heard (before ++ item ∷ []) s ≡ changes_heard s before (heard before s) item
+unfolding heard
+heard_more before item s = folded_append (changes_heard s) [] before (item ∷ [])
+
+pub told_more : (before : List Item) (item : Item) → controller_heard (before ++ item ∷ [])
+    ≡ changes_controller_heard before (controller_heard before) item
+unfolding controller_heard
+told_more before item = folded_append changes_controller_heard [] before (item ∷ [])
+
+pub over_more : (before : List Item) (item : Item) (s : ℕ)
+    → is_over (before ++ item ∷ []) s ≡ changes_over s before (is_over before s) item
+unfolding is_over
+over_more before item s = folded_append (changes_over s) false before (item ∷ [])
+
+pub sent_more : (before : List Item) (item : Item) (s boot : ℕ) → all_given (open_sent s boot)
+    (before ++ item ∷ []) ≡ all_given (open_sent s boot) before ++ open_sent s boot item
+sent_more before item s boot = all_given_append (open_sent s boot) before (item ∷ [])
+    ∙ ap (λ xs. all_given (open_sent s boot) before ++ xs) (append-nil (open_sent s boot item))
+
+-- ---- the known boot
+
+-- the boot of a hello of the switch that an item delivers
+abbrev pub hello_told : ℕ → List Item → Item → Option ℕ
+hello_told s before (Item.Delivered number) =
+    option_and_then (hello_boot s) (body_to_controller before number)
+hello_told s before _ = None
+
+abbrev pub raised : ℕ → Option ℕ → ℕ
+raised boot None = boot
+raised boot (Some hello) = max boot hello
+
+pub known_more : (before : List Item) (item : Item) (s : ℕ)
+    → known_boot (before ++ item ∷ []) s ≡ raised (known_boot before s) (hello_told s before item)
+unfolding known_boot
+known_more before (Item.Delivered number) s =
+    cc (told_more before (Item.Delivered number), by_said (body_to_controller before number))
+  where
+    by_said : (said : Option Body)
+        → fold max 1 (filter_map (hello_boot s) (controller_heard before ++ option_to_list said))
+        ≡ raised (fold max 1 (filter_map (hello_boot s) (controller_heard before)))
+        (option_and_then (hello_boot s) said)
+    by_said None = cc (append-nil (controller_heard before))
+    by_said (Some body) =
+        ap (fold max 1) (filter_map-append (hello_boot s) (controller_heard before) (body ∷ []))
+        ∙ fold-append max 1 (filter_map (hello_boot s) (controller_heard before))
+        (filter_map (hello_boot s) (body ∷ [])) ∙ by_hello (hello_boot s body) refl
+      where
+        by_hello : (hello : Option ℕ) → hello_boot s body ≡ hello →
+            fold max (fold max 1 (filter_map (hello_boot s) (controller_heard before)))
+            (filter_map (hello_boot s) (body ∷ []))
+            ≡ raised (fold max 1 (filter_map (hello_boot s) (controller_heard before))) hello
+        by_hello None e = rw e refl
+        by_hello (Some boot) e = rw e refl
+known_more before item s = cc (told_more before item)
+
+-- ---- the stamp
+
+-- a body that is heard raises the stamp to its version, if it has one
+pub stamp_told : (before : List Item) (n s : ℕ) → stamp_of (before ++ Item.Delivered n ∷ []) s
+    ≡ raised (stamp_of before s) (option_and_then stamp_in (body_to_switch before s n))
+unfolding stamp_of
+stamp_told before n s =
+    let bodies : heard (before ++ Item.Delivered n ∷ []) s
+    ≡ option_map_or (λ body. heard before s ++ body ∷ []) (body_to_switch before s n)
+    (heard before s) = heard_more before (Item.Delivered n) s in
+    rw ((boot_more before (Item.Delivered n) s), up_more before (Item.Delivered n) s, bodies)
+    (by_said (body_to_switch before s n))
+  where
+    by_said : (said : Option Body) → greatest_stamp_number (first_stamp before s ++ filter_map stamp_in
+        (option_map_or (λ body. heard before s ++ body ∷ []) said (heard before s)))
+        ≡ raised (greatest_stamp_number (first_stamp before s ++ filter_map stamp_in (heard before s)))
+        (option_and_then stamp_in said)
+    by_said None = refl
+    by_said (Some body) =
+        ap (λ xs. greatest_stamp_number (first_stamp before s ++ xs)) (filter_map-append stamp_in
+        (heard before s) (body ∷ [])) ∙ ap greatest_stamp_number (sym (append_assoc (first_stamp before s)
+        (filter_map stamp_in (heard before s)) (filter_map stamp_in (body ∷ [])))) ∙ fold-append max
+        0 (first_stamp before s ++ filter_map stamp_in (heard before s))
+        (filter_map stamp_in (body ∷ [])) ∙ by_stamp (stamp_in body) refl
+      where
+        by_stamp : (stamp : Option ℕ) → stamp_in body ≡ stamp → fold max
+            (greatest_stamp_number (first_stamp before s ++ filter_map stamp_in (heard before s)))
+            (filter_map stamp_in (body ∷ [])) ≡ raised
+            (greatest_stamp_number (first_stamp before s ++ filter_map stamp_in (heard before s))) stamp
+        by_stamp None e = rw e refl
+        by_stamp (Some version) e = rw e refl
+
+-- ---- openings
+
+-- the version at which the switch is opened in a boot, if it is
+unfoldable pub opened_in : List Item → ℕ → ℕ → Option ℕ
+opened_in journal s boot = if boot == 1 then Some 1
+    else first_open_number (all_given (open_sent s boot) journal)
+
+pub opened_is : (journal : List Item) (s : ℕ) → opened_at journal s ≡ opened_in journal s
+    (known_boot journal s)
+unfolding opened_at opened_in
+opened_is journal s = refl
+
+pub opened_more : (before : List Item) (item : Item) (s boot : ℕ)
+    → opened_in (before ++ item ∷ []) s boot
+    ≡ option_or (opened_in before s boot) (first_open_number (open_sent s boot item))
+unfolding opened_in
+opened_more before item s boot = by_test (boot == 1) where
+  first_append : (xs ys : List ℕ) → first_open_number (xs ++ ys) ≡ option_or (first_open_number xs) (first_open_number ys)
+  first_append [] ys = refl
+  first_append (x ∷ xs) ys = refl
+
+  by_test : (b : Bool)
+      → (if b then Some 1 else first_open_number (all_given (open_sent s boot) (before ++ item ∷ [])))
+      ≡ option_or (if b then Some 1 else first_open_number (all_given (open_sent s boot) before))
+      (first_open_number (open_sent s boot item))
+  by_test true = refl
+  by_test false = ap first_open_number (sent_more before item s boot)
+      ∙ first_append (all_given (open_sent s boot) before) (open_sent s boot item)
+
+-- in the known boot, where that stays
+pub opened_at_more : (before : List Item) (next : Item) (s : ℕ) → known_boot (before ++ next ∷ []) s
+    ≡ known_boot before s → opened_at (before ++ next ∷ []) s
+    ≡ option_or (opened_at before s) (first_open_number (open_sent s (known_boot before s) next))
+opened_at_more before next s known = opened_is (before ++ next ∷ []) s
+    ∙ ap (opened_in (before ++ next ∷ []) s) known ∙ opened_more before next s (known_boot before s)
+    ∙ ap (λ o. option_or o (first_open_number (open_sent s (known_boot before s) next)))
+    (sym (opened_is before s))
+
+-- an item opens a switch in a boot only by its message
+pub opens_by : (next : Item) (s boot version : ℕ) → first_open_number (open_sent s boot next) ≡ Some version
+    → (n : ℕ) × (next ≡ Item.Sent n (to_switch s (OpenAt boot version)))
+opens_by (Item.Sent n message) s boot version opens = (n, grind (arith, nat_tests))
+opens_by next s boot version opens = let none : None ≡ Some version = opens in absurd cc
+
+-- ---- causes of items and facts of journals: what each item keeps, a journal has
+
+pub own : (i : ℕ) → (i == i) ≡ true
+own i = eq-eqb i i refl
+
+-- the items have their causes after the journal
+abbrev pub Has : Setting → List Item → List Item → Type 0
+Has setting journal items = HaveCauses (HasItemCause setting) journal items
+
+-- a piece has causes that its row and what follows it have
+pub piece_has : (cause : List Item → Item → Type 0) (setting : Setting) (journal : List Item)
+    (row : ℕ) (step : Step) → cause journal (Item.Row row step)
+    → (let here = journal ++ Item.Row row step ∷ [] in
+    HaveCauses cause here (step_items setting journal step here))
+    → HaveCauses cause journal (piece setting journal row step)
+unfolding piece
+piece_has cause setting journal row step =
+    have_first cause (Item.Row row step) (step_items setting journal step) journal
+
+-- causes that others follow from
+pub have_weaker : (one other : List Item → Item → Type 0) →
+    ((before : List Item) (item : Item) → one before item → other before item) →
+    (before items : List Item) → HaveCauses one before items → HaveCauses other before items
+have_weaker one other weaker before [] have = tt
+have_weaker one other weaker before (item ∷ items) have =
+    (weaker before item have.0, have_weaker one other weaker (before ++ item ∷ []) items have.1)
+
+-- causes of two kinds
+pub record Both (one other : List Item → Item → Type 0) (before : List Item) (item : Item)
+    : Type 0 where
+  pub first : one before item
+  pub second : other before item
+
+pub have_both : (one other : List Item → Item → Type 0) (before items : List Item)
+    → HaveCauses one before items → HaveCauses other before items
+    → HaveCauses (Both one other) before items
+have_both one other before [] firsts seconds = tt
+have_both one other before (item ∷ items) firsts seconds = (
+  record { first = firsts.0; second = seconds.0 },
+  have_both one other (before ++ item ∷ []) items firsts.1 seconds.1,
+)
+
+-- the first of them have theirs
+pub have_front : (cause : List Item → Item → Type 0) (before xs ys : List Item)
+    → HaveCauses cause before (xs ++ ys) → HaveCauses cause before xs
+have_front cause before [] ys have = tt
+have_front cause before (x ∷ xs) ys have =
+    (have.0, have_front cause (before ++ x ∷ []) xs ys have.1)
+
+-- and the others theirs
+pub have_rest : (cause : List Item → Item → Type 0) (before xs ys : List Item)
+    → HaveCauses cause before (xs ++ ys) → HaveCauses cause (before ++ xs) ys
+have_rest cause before [] ys have = rw (append-nil before) have
+have_rest cause before (x ∷ xs) ys have = rw (append_assoc before (x ∷ []) xs) at
+    (have_rest cause (before ++ x ∷ []) xs ys have.1)
+
+-- items with this cause keep the fact
+abbrev pub AreKept : (List Item → Item → Type 0) → (List Item → Type 0) → Type 0
+AreKept cause fact = (before : List Item) (item : Item) → cause before item → fact before
+    → fact (before ++ item ∷ [])
+
+-- so the fact is true after them, and before each of them
+pub fact_on : (cause : List Item → Item → Type 0) (fact : List Item → Type 0) → AreKept cause fact
+    → (before items : List Item) → HaveCauses cause before items → fact before
+    → fact (before ++ items)
+fact_on cause fact kept before [] have known = subst fact (sym (append-nil before)) known
+fact_on cause fact kept before (item ∷ items) have known =
+    subst fact (append_assoc before (item ∷ []) items)
+    (fact_on cause fact kept (before ++ item ∷ []) items have.1 (kept before item have.0 known))
+
+-- facts that hold where all items have their causes
+abbrev pub FromCauses : (Setting → List Item → Type 0) → Type 0
+FromCauses Holds = (setting : Setting) (journal : List Item)
+    → HaveCauses (HasItemCause setting) [] journal → Holds setting journal
+
+-- so does what holds at first, where each item with its cause keeps it
+pub from_causes : (Holds : Setting → List Item → Type 0)
+    → ((setting : Setting) → AreKept (HasItemCause setting) (Holds setting))
+    → ((setting : Setting) → Holds setting []) → FromCauses Holds
+from_causes Holds kept first setting journal have =
+    fact_on (HasItemCause setting) (Holds setting) (kept setting) [] journal have (first setting)
+
+-- numbers that no item with its cause makes fall
+abbrev pub NeverFalls : (List Item → ℕ) → Type 0
+NeverFalls number = (setting : Setting) (before : List Item) (next : Item)
+    → HasItemCause setting before next → number before ≤ number (before ++ next ∷ [])
+
+-- a cause, and a fact of the journal before the item
+pub record Behind (cause : List Item → Item → Type 0) (fact : List Item → Type 0)
+    (before : List Item) (item : Item) : Type 0 where
+  pub caused : cause before item
+  pub known : fact before
+
+pub with_fact : (cause : List Item → Item → Type 0) (fact : List Item → Type 0)
+    → AreKept cause fact → (before items : List Item) → HaveCauses cause before items
+    → fact before → HaveCauses (Behind cause fact) before items
+with_fact cause fact kept before [] have known = tt
+with_fact cause fact kept before (item ∷ items) have known = (
+  record { caused = have.0; known = known },
+  with_fact cause fact kept (before ++ item ∷ []) items have.1 (kept before item have.0 known),
+)
+
+-- ---- items that have their causes keep what is known of boots
+
+-- ---- what is told was sent
+
+-- what is said to the controller was sent to it
+pub said_sent : (before : List Item) (number : ℕ) (body : Body) → body_to_controller before number
+    ≡ Some body → message_of before number ≡ Some (to_controller body)
+said_sent before number body said = grind arith
+
+-- a hello that was told was sent
+pub hello_sent : (before : List Item) (s number boot : ℕ)
+    → option_and_then (hello_boot s) (body_to_controller before number) ≡ Some boot
+    → message_of before number ≡ Some (to_controller (Hello s boot))
+hello_sent before s number boot told = grind (arith, nat_tests)
+
+-- ---- boots rise
+
+pub raised_up : (boot : ℕ) (hello : Option ℕ) → boot ≤ raised boot hello
+raised_up boot None = omega arith
+raised_up boot (Some hello) = omega arith
+
+pub known_rises : (before : List Item) (item : Item) (s : ℕ)
+    → known_boot before s ≤ known_boot (before ++ item ∷ []) s
+known_rises before item s = rw (known_more before item s)
+    (raised_up (known_boot before s) (hello_told s before item))
+
+-- a greater hello raises it
+pub hello_above : (before : List Item) (s number : ℕ) → IsTrue (raises_known before s number)
+    → known_boot before s < known_boot (before ++ Item.Delivered number ∷ []) s
+hello_above before s number raises = rw (known_more before (Item.Delivered number) s)
+    (by_hello (option_and_then (hello_boot s) (body_to_controller before number)) raises)
+  where
+    by_hello : (hello : Option ℕ)
+        → IsTrue (option_map_or (λ boot. nat_lt (known_boot before s) boot) hello false)
+        → known_boot before s < raised (known_boot before s) hello
+    by_hello None above = absurd cc
+    by_hello (Some boot) above = grind (arith, nat_tests)
+
+pub boot_rises : (setting : Setting) (before : List Item) (item : Item) (s : ℕ)
+    → HasItemCause setting before item → boot_of before s ≤ boot_of (before ++ item ∷ []) s
+boot_rises setting before (Item.Booted t boot) s cause = rw boot_more (grind (arith, nat_tests))
+boot_rises setting before item s cause = rw (boot_more before item s) (omega arith)
+
+-- ---- what items keep
+
+past_on : (setting : Setting) (before : List Item) (item : Item) (to : Place) (body : Body)
+    → HasItemCause setting before item → HasPastBoot before to body
+    → HasPastBoot (before ++ item ∷ []) to body
+past_on setting before item (Place.Switch s) body cause past = IfSome_then (body_boot body) past
+    (λ boot below. omega (arith, below, known_rises before item s))
+past_on setting before item Place.Controller body cause past = IfSome_then (speaking_in_body body) past
+    (λ of below. omega (arith, below, boot_rises setting before item of.0 cause))
+
+sent_past : (setting : Setting) (before : List Item) (to : Place) (body : Body)
+    → IsRightMessage setting before to body → HasPastBoot before to body
+sent_past setting before (Place.Switch s) (CacheRule version word rule action) right = tt
+sent_past setting before (Place.Switch s) (Advertise advert) right = tt
+sent_past setting before (Place.Switch s) (Hello t boot) right = absurd right
+sent_past setting before (Place.Switch s) (Installed t boot version) right = absurd right
+sent_past setting before (Place.Switch s) (Stamped t boot version) right = absurd right
+sent_past setting before (Place.Switch s) command right = let known = right.to.known in omega arith
+sent_past setting before Place.Controller (Hello s boot) right = let own = right.own in omega arith
+sent_past setting before Place.Controller (Installed s boot version) right =
+    let own = right.present.own in omega arith
+sent_past setting before Place.Controller (Stamped s boot version) right =
+    let own = right.present.own in omega arith
+sent_past setting before Place.Controller _ right = absurd right
+
+-- a message of a number is the one that the item sends, or was sent before
+pub by_number : (before : List Item) (next : Item) (n : ℕ) (message : Message)
+    → message_of (before ++ next ∷ []) n ≡ Some message
+    → (next ≡ Item.Sent n message) ⊎ (message_of before n ≡ Some message)
+by_number before (Item.Sent number sent) n message is = by_test (number == n) refl where
+  by_test : (b : Bool) → (number == n) ≡ b →
+      (Item.Sent number sent ≡ Item.Sent n message) ⊎ (message_of before n ≡ Some message)
+  by_test true e = let own = rw (message_more before (Item.Sent number sent) n, e) at is in
+      inl (ap (λ k. Item.Sent k sent) (eqb-true number n e) ∙ ap (Item.Sent n) cc)
+  by_test false e = inr (rw (message_more before (Item.Sent number sent) n, e) at is)
+by_number before next n message is = inr (rw (message_more before next n) at is)
+
+-- what is true of the one, and of those that were sent before, is true of each
+pub new_or_old : (cause : List Item → Item → Type 0) (QuietVerdictSays : Place → Body → Type 0)
+    (before : List Item) (next : Item) → cause before next
+    → ((n : ℕ) (message : Message) → cause before (Item.Sent n message)
+    → QuietVerdictSays message.to message.body)
+    → ((n : ℕ) (message : Message) → message_of before n ≡ Some message
+    → QuietVerdictSays message.to message.body)
+    → (n : ℕ) (message : Message) → message_of (before ++ next ∷ []) n ≡ Some message
+    → QuietVerdictSays message.to message.body
+new_or_old cause QuietVerdictSays before next has new old n message is =
+    elim (by_number before next n message is) [
+      | inl sent ↦ new n message (subst (cause before) sent has)
+      | inr there ↦ old n message there
+    ]
+
+-- a hello that is told is of a past boot
+pub told_past : (before : List Item) (s number boot : ℕ) → BootsAreKnown before
+    → option_and_then (hello_boot s) (body_to_controller before number) ≡ Some boot
+    → boot ≤ boot_of before s
+told_past before s number boot boots told = boots.sent number (to_controller (Hello s boot))
+    (hello_sent before s number boot told)
+
+known_on : (setting : Setting) (before : List Item) (item : Item) (s : ℕ)
+    → HasItemCause setting before item → BootsAreKnown before
+    → known_boot (before ++ item ∷ []) s ≤ boot_of (before ++ item ∷ []) s
+known_on setting before (Item.Delivered number) s cause boots =
+    rw (known_more before (Item.Delivered number) s, boot_more before (Item.Delivered number) s)
+    (by_told (option_and_then (hello_boot s) (body_to_controller before number)) refl)
+  where
+    by_told : (o : Option ℕ) → option_and_then (hello_boot s) (body_to_controller before number) ≡ o
+        → raised (known_boot before s) o ≤ boot_of before s
+    by_told None e = boots.known s
+    by_told (Some boot) e = omega (arith, boots.known s, told_past before s number boot boots e)
+known_on setting before item s cause boots =
+    omega (arith, known_more before item s, boots.known s, boot_rises setting before item s cause)
+
+pub boots_on : (setting : Setting) (before : List Item) (item : Item) → HasItemCause setting before
+    item → BootsAreKnown before → BootsAreKnown (before ++ item ∷ [])
+boots_on setting before item cause boots = record {
+  known = λ s. known_on setting before item s cause boots;
+  sent = λ n message is. past_on setting before item message.to message.body cause
+      (new_or_old (HasItemCause setting) (HasPastBoot before) before item cause
+      (λ k sent. sent_past setting before sent.to sent.body) boots.sent n message is);
+}
+
+pub boots_at_first : BootsAreKnown []
+boots_at_first = record {
+  known = λ s. omega (arith, start_laws.known s, start_laws.boot s);
+  sent = λ n message is.
+      let none : None ≡ Some message = rw (start_laws.message n).message at is in absurd cc;
+}

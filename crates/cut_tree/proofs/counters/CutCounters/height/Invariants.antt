@@ -1,0 +1,11 @@
+use Rattle.cut_tree.specs.Exports.{IsPlaneHeight}
+use Rattle.cut_tree.proofs.counters.CutCounters.height.Given as goal
+
+abbrev pub invariant-loop-height : goal.invariant-loop-height
+invariant-loop-height l = record {
+  here : IsPlaneHeight l.self.planes l.height;
+  there : IsPlaneHeight l.other.planes l.height;
+}
+
+abbrev pub decreases-loop-height : goal.decreases-loop-height
+decreases-loop-height l = l.height

@@ -1,0 +1,27 @@
+-- What the output is after a text was written that allocates.
+use Rattle.base.proofs.Exports.{⊤}
+use Rattle.std.proofs.Common.{[], ◌≡◌, Bool, Err, IsErrOf, List, Ok, OnErr, Result, inl, ℕ}
+use Rattle.shelf.specs.Exports.{SinkGainedPart, IsAfterWrite, SinkState}
+use Rattle.shelf.specs.declared.output.SinkError.{SinkError}
+use Rattle.shelf.specs.declared.output.SinkError.TheVariants as sink
+use Rattle.difane_cli.specs.Exports.{IsAfterText}
+use Rattle.difane_cli.proofs.ProgramSinkGains.{some_on_err}
+
+-- a text that was made was written, or not
+pub text_written : (text : List ℕ) (in_memory takes_memory : Bool) (before now : SinkState)
+    (result : Result (⊤) SinkError) → IsAfterWrite text takes_memory before now result
+    → (text ≡ [] → now ≡ before) → IsAfterText text in_memory takes_memory before now result
+text_written text in_memory takes_memory before now result after untouched = record {
+  whole = after.whole;
+  part = failed result after.part;
+  some = some_on_err result before now text after.part;
+  untouched = untouched;
+  calm = after.calm;
+  failed = after.failed;
+  no_memory = λ is. inl (after.no_memory is);
+  faults = after.faults;
+} where
+  failed : (r : Result (⊤) SinkError) → OnErr r (SinkGainedPart before.bytes text now.bytes)
+      → IsErrOf r sink.Failed → SinkGainedPart before.bytes text now.bytes
+  failed (Ok done) part is = absurd (cc is)
+  failed (Err why) part is = part

@@ -1,0 +1,93 @@
+-- What a trace whose lines are all good leaves of the output.
+use Rattle.base.proofs.Exports.{ForSome, count_by-le-length, length-slice_split, ⊤}
+use Rattle.std.proofs.Common.{[], ◌+◌, ◌==◌, ◌∷◌, ◌≡◌, ◌≤◌, Bool, Err, List, None, Ok, Option, Result, Some, arith, inr, length, refl, subst, sym, ℕ}
+use Rattle.five_tuple.specs.Exports.{text_parts_round_byte}
+use Rattle.update_machine.specs.Exports.{PolicyFile}
+use Rattle.shelf.specs.Exports.{Files, SinkGainedPart, IsAfterWrite, SinkState}
+use Rattle.shelf.specs.declared.output.SinkError.{SinkError}
+use Rattle.shelf.specs.declared.output.SinkError.TheVariants as sink
+use Rattle.trace_audit.specs.Exports.{AreJustified, AreTraceRun, IsAuditVerdict, IsFirstBad, lines_of, lines_of_parts, open_line}
+use Rattle.trace_audit.specs.declared.trace.Verdict.{Verdict}
+use Rattle.trace_audit.specs.declared.trace.Verdict.TheVariants.{Yes, No}
+use Rattle.command_line.specs.Exports.{AuditCommand}
+use Rattle.command_line.specs.Commands as asked
+use Rattle.difane_cli.specs.Exports.{Audit, AuditOutcome, AuditEnded, Auditing, IsAuditingOf, IsAuditJudged, OutputWrote, known_command_task, most_trace_bytes, status_after, audit_yes_line}
+
+-- ---- how many lines there are
+
+few_open : (rest : List ℕ) → length (open_line rest) ≤ 1
+few_open [] = omega arith
+few_open (byte ∷ bytes) = omega arith
+
+few_parts : (parts : List (List ℕ)) → length (lines_of_parts parts) ≤ length parts
+few_parts [] = omega arith
+few_parts (rest ∷ []) = omega (arith, few_open rest)
+few_parts (text ∷ next ∷ parts) = omega (arith, few_parts (next ∷ parts))
+
+-- at most one behind the last line feed
+few_lines : (trace : List ℕ) → length (lines_of trace) ≤ length trace + 1
+unfolding lines_of
+few_lines trace = let feeds = length-slice_split (λ (b : ℕ). b == 10) trace in
+    omega (
+      arith,
+      few_parts (text_parts_round_byte 10 trace),
+      feeds,
+      count_by-le-length (λ (b : ℕ). b == 10) trace,
+    )
+
+-- so in a trace that isn't too long the verdict has the line's own number
+own_number : (files : List PolicyFile) (trace : List ℕ) (line : ℕ) → length trace ≤ most_trace_bytes
+    → IsAuditVerdict files (lines_of trace) (No line) → IsFirstBad files (lines_of trace) line
+own_number files trace line short is =
+    let first = is.1 in
+    let same : is.0 ≡ line = omega (arith, is.2, first.there, few_lines trace, short) in
+    subst (IsFirstBad files (lines_of trace)) same first
+
+-- ---- verdicts
+
+-- a verdict on what was read is one on what the inputs are
+pub verdict_on : (trace owned : List ℕ) (files own : List PolicyFile) (found verdict : Verdict)
+    → length owned ≤ most_trace_bytes → IsAuditVerdict files (lines_of trace) found
+    → (found ≡ Yes → AreTraceRun files (lines_of trace))
+    → (found ≡ Yes → AreJustified files (lines_of trace))
+    → trace ≡ owned → files ≡ own → found ≡ verdict → IsAuditJudged own (lines_of owned) verdict
+verdict_on trace owned files own found verdict short is run justified same all told =
+    let few : length trace ≤ most_trace_bytes =
+    subst (λ (bytes : List ℕ). length bytes ≤ most_trace_bytes) (sym same) short in
+    subst (λ (given : Verdict). IsAuditJudged own (lines_of owned) given) told
+    (subst (λ (bytes : List ℕ). IsAuditJudged own (lines_of bytes) found) same
+    (subst (λ (given : List PolicyFile). IsAuditJudged given (lines_of trace) found) all (record {
+      good = λ yes. subst (IsAuditVerdict files (lines_of trace)) yes is;
+      bad = λ line no. own_number files trace line few
+          (subst (IsAuditVerdict files (lines_of trace)) no is);
+      run = run;
+      justified = justified;
+    })))
+
+module _ (command : AuditCommand) (files : Option Files) (auditing : Auditing)
+    (own : IsAuditingOf command auditing)
+    (accepted : ForSome (known_command_task files (Some (asked.Audit command)))
+    (λ read. read ≡ Ok (Audit auditing))) where
+  pub audited : (verdict : Verdict) (IsWritten : List ℕ → Type 0)
+      → IsAuditJudged auditing.files (lines_of auditing.trace) verdict → IsWritten audit_yes_line
+      → AuditEnded command files verdict IsWritten []
+  audited verdict IsWritten judged written = record {
+    auditing = auditing;
+    accepted = accepted;
+    asked = own;
+    judged = judged;
+    nothing_played = refl;
+    written = written;
+  }
+
+  pub yes_told : (takes_memory : Bool) (before now : SinkState) (result : Result (⊤) SinkError)
+      → IsAuditJudged auditing.files (lines_of auditing.trace) Yes
+      → IsAfterWrite audit_yes_line takes_memory before now result
+      → AuditOutcome command files (status_after result None) [] before now
+  yes_told takes_memory before now (Ok done) judged after =
+      audited Yes (λ text. OutputWrote text before now) judged
+      (record { whole = after.whole; untouched = λ none. absurd (cc none) })
+  yes_told takes_memory before now (Err sink.Failed) judged after =
+      audited Yes (λ text. SinkGainedPart before.bytes text now.bytes) judged after.part
+  yes_told takes_memory before now (Err sink.NoMemory) judged after =
+      inr (audited Yes (λ text. SinkGainedPart before.bytes text now.bytes) judged after.part)

@@ -1,0 +1,45 @@
+-- The plan of a policy on the network of one switch.
+use Rattle.std.proofs.Common.{[], ◌&&◌, ◌+◌, ◌∷◌, ◌≡◌, ◌≤◌, Bool, List, Ok, arith, false, leb, length, refl, true, ℕ}
+use Rattle.base.proofs.Exports.{nat_tests}
+use Rattle.net_file.specs.Exports.{solo_net}
+use Rattle.cut_tree.specs.Exports.{End, IsDefinedTree, TreeLaws, tree_of}
+use Rattle.partition.specs.Parts.{partitions_from}
+use Rattle.partition.specs.Plan.{plan_of}
+use Rattle.partition.proofs.CallerLemmas.{planned}
+use Rattle.placement.specs.Order.{in_order}
+use Rattle.placement.specs.Placement.{has_room, is_placed_earlier, load_before, placement_of}
+use Rattle.policy_rules.specs.Exports.{IsPolicy, RuleListLaws, rules_of, word_total}
+use Rattle.update_machine.specs.Exports.{Row}
+use Rattle.ternary.specs.Exports.{any_word}
+
+and_false : (b : Bool) → (b && false) ≡ false
+and_false true = refl
+and_false false = refl
+
+-- before the only partition the only switch holds nothing
+no_load : (size : ℕ) → load_before (size ∷ []) ([] ∷ []) 0 0 ≡ 0
+unfolding load_before
+no_load size = rw (and_false (is_placed_earlier (size ∷ []) 0 0)) refl
+
+-- it goes to the only switch, which has room for it
+only_target : (size : ℕ) → size ≤ 8192 → placement_of (size ∷ []) (8192 ∷ []) 0 ≡ Ok ((0 ∷ []) ∷ [])
+unfolding placement_of in_order has_room
+only_target size few =
+    let room : leb (0 + size) 8192 ≡ true = grind (arith, nat_tests) in rw (no_load size, room) refl
+
+pub one_partition : RuleListLaws → TreeLaws → (rows : List Row) → IsPolicy rows
+    → word_total rows ≤ 4096 → plan_of rows solo_net
+    ≡ Ok ((record { number = 0; region = any_word; rules = rules_of rows }, 0 ∷ []) ∷ [])
+unfolding partitions_from
+one_partition lists trees rows policy few =
+    let rules = rules_of rows in
+    let count : length rules ≡ word_total rows + 1 = lists.count rows policy in
+    let small : length rules ≤ 8192 = omega arith in
+    let leaf : IsDefinedTree rules 8192 (End any_word rules) =
+    record { same_region = refl; same_rules = refl; few = small } in
+    let defined : IsDefinedTree rules 8192 (tree_of rules 8192) = trees.exists rules 8192
+    (omega arith) (lists.list rows policy).words in
+    let tree : End any_word rules ≡ tree_of rules 8192 = trees.only rules 8192 (End any_word rules)
+    (tree_of rules 8192) leaf defined in
+    planned rows solo_net (End any_word rules) ((0 ∷ []) ∷ []) few tree (omega arith)
+    (only_target (length rules) small)

@@ -1,0 +1,129 @@
+-- What comes of a play, by what became of its text.
+use Rattle.base.proofs.Exports.{ForSome, ⊤}
+use Rattle.std.proofs.Common.{◌++◌, ◌≡◌, ◌⊎◌, All, Bool, Err, IsTrue, List, None, Ok, Option, Result, Some, arith, inl, inr, is_some, length, refl, subst, sym, take_all, ℕ}
+use Rattle.update_machine.specs.Exports.{IsPlay, Item, Net, Setting}
+use Rattle.flow_export.specs.Counted.{FlowLaws}
+use Rattle.meters.specs.Exports.{Seen}
+use Rattle.net_file.specs.Exports.{port_mask}
+use Rattle.packet_laws.specs.Exports.{HeldOnTheWay, HoldsSoFar}
+use Rattle.difane_cli.specs.Exports.{AnswerLaws, AreFlowsCounted, CountFlows, Inputs, IsAfterText, IsAnswer, IsPlayOf, IsQuietVerdict, IsWhetherQuiet, MayBePlayed, Play, PlayOutcome, Played, PlayedUnfinished, PlayWantsMemory, asks_quiet, gone_records_by, is_asked, is_output_made, known_command_task, play_text, status_after}
+use Rattle.shelf.specs.Exports.{Files, SinkState}
+use Rattle.shelf.specs.declared.output.SinkError.{SinkError}
+use Rattle.shelf.specs.declared.output.SinkError.TheVariants as sink
+use Rattle.difane_cli.proofs.ProgramGoodTraces.{good_trace}
+use Rattle.difane_cli.proofs.ProgramStatedInputs.{stated_by}
+use Rattle.difane_cli.proofs.ProgramQuietVerdicts.{verdict}
+use Rattle.command_line.specs.Exports.{Command}
+use Rattle.replay.specs.Leavings.{kept_by, left_in}
+
+-- what the journal of a play is, and what follows
+pub played : AnswerLaws → (command : Command) (files : Option Files)
+    (inputs : Inputs) (journal : List Item) (full : Option ℕ) → IsPlayOf command inputs
+    → ForSome (known_command_task files (Some command)) (λ read. read ≡ Ok (Play inputs))
+    → MayBePlayed inputs → IsPlay inputs.setting inputs.events journal full
+    → HeldOnTheWay inputs.setting journal → IsAnswer command files inputs journal full
+played laws command files inputs journal full asked accepted sound play held =
+    let whole : HoldsSoFar inputs.setting journal = subst (HoldsSoFar inputs.setting)
+    (take_all (length journal) journal (omega arith)) (held.so_far (length journal)) in record {
+      asked = asked;
+      stated = stated_by files command inputs accepted;
+      accepted = accepted;
+      sound = sound;
+      play = play;
+      run = whole.run;
+      causes = whole.causes;
+      strong = whole.strong;
+      entered = laws.entered inputs.setting inputs.events journal full play;
+      held = held;
+      works = laws.works inputs.setting inputs.events journal full sound.setting sound.events play;
+    }
+
+-- the verdict that was given is the one that is asked for
+pub judged : AnswerLaws → (command : Command) (files : Option Files) (inputs : Inputs)
+    (journal : List Item) (full : Option ℕ) (net : Net) (given : Option Bool)
+    → IsAnswer command files inputs journal full → inputs.setting.net ≡ net
+    → is_some given ≡ is_asked (asks_quiet inputs.report) full
+    → ((setting : Setting) → setting.net ≡ net → IsWhetherQuiet setting journal given)
+    → IsQuietVerdict (asks_quiet inputs.report) inputs.setting journal full given
+judged laws command files inputs journal full net given answer own asked decides =
+    verdict laws.quiet (asks_quiet inputs.report) inputs.setting inputs.events journal full given
+    answer.sound.setting answer.sound.events answer.play asked (decides inputs.setting own)
+
+-- memory ran out before an answer was given, and nothing was written
+pub unjudged : (command : Command) (files : Option Files) (takes_memory : Bool) (inputs : Inputs)
+    (journal : List Item) (full : Option ℕ) (taken given : List Seen) (now : SinkState)
+    → IsAnswer command files inputs journal full → given ≡ kept_by inputs.setting.net journal taken
+    → IsTrue (is_asked (asks_quiet inputs.report) full)
+    → PlayedUnfinished command files takes_memory journal taken given now now
+unjudged command files takes_memory inputs journal full taken given now answer kept asked = record {
+  inputs = inputs;
+  full = full;
+  wanted = inr (inl asked);
+  played = answer;
+  kept = kept;
+  answer = None;
+  verdict = inl refl;
+  written = inl refl;
+}
+
+-- flow meters that held nothing count so
+counted_so : FlowLaws → (net : Net) (journal : List Item) (taken given : List Seen)
+    → given ≡ kept_by net journal taken → CountFlows journal taken given
+counted_so laws net journal taken given kept = λ most new. subst (AreFlowsCounted journal) (sym kept)
+    (laws.stayed most (port_mask net.switches) (left_in journal) taken new)
+
+-- a journal that was played, and what is to be printed about it, which was written or not
+pub told : AnswerLaws → (command : Command) (files : Option Files) (inputs : Inputs)
+    (journal : List Item) (full : Option ℕ) (taken given : List Seen) (said : Option Bool) (before now : SinkState)
+    (takes_memory : Bool) (written : Result (⊤) SinkError)
+    → IsAnswer command files inputs journal full
+    → given ≡ kept_by inputs.setting.net journal taken
+    → IsQuietVerdict (asks_quiet inputs.report) inputs.setting journal full said
+    → IsAfterText (play_text inputs.report inputs.setting.net journal full
+    (gone_records_by inputs.setting.net journal taken) given said)
+    (is_output_made inputs.report full) takes_memory before now written
+    → PlayOutcome command files takes_memory (status_after written full) journal taken given before now
+told laws command files inputs journal full taken given said before now takes_memory (Ok done)
+    answer kept judged after = ended full (record {
+      inputs = inputs;
+      played = answer;
+      kept = kept;
+      counted = counted_so laws.flows inputs.setting.net journal taken given kept;
+      answer = said;
+      verdict = judged;
+      written = record { whole = after.whole; untouched = after.untouched };
+      good = good_trace laws.texts inputs journal full (gone_records_by inputs.setting.net journal taken)
+          given said answer.sound answer.play command answer.asked;
+    })
+  where
+    ended : (full : Option ℕ) → Played command files full journal taken given before now
+        → PlayOutcome command files takes_memory (status_after (Ok done) full) journal taken given
+        before now
+    ended None played = played
+    ended (Some row) played = played
+told laws command files inputs journal full taken given said before now takes_memory
+    (Err sink.Failed) answer kept judged after = record {
+      inputs = inputs;
+      full = full;
+      played = answer;
+      kept = kept;
+      answer = said;
+      verdict = judged;
+      written = after.part refl;
+    }
+told laws command files inputs journal full taken given said before now takes_memory
+    (Err sink.NoMemory) answer kept judged after = inr (record {
+      inputs = inputs;
+      full = full;
+      wanted = wanted (after.no_memory refl);
+      played = answer;
+      kept = kept;
+      answer = said;
+      verdict = inr judged;
+      written = after.some;
+    })
+  where
+    wanted : IsTrue takes_memory ⊎ (IsTrue (is_output_made inputs.report full) × (now ≡ before))
+        → IsTrue takes_memory ⊎ PlayWantsMemory inputs.report full
+    wanted (inl takes) = inl takes
+    wanted (inr (made, same)) = inr (inr made)

@@ -1,0 +1,126 @@
+-- The frames of a message: of one count, at rising places, and none is empty or too long.
+use Rattle.std.proofs.Common.{[], ◌&&◌, ◌*◌, ◌+◌, ◌-◌, ◌<◌, ◌^◌, ◌∙◌, ◌∷◌, ◌≡◌, ◌≤◌, All, List, None, ap, arith, drop, length, length-drop, length-take, refl, subst, suc, sym, take, true, zero, ℕ}
+use Rattle.base.proofs.Exports.{All-from_recursion, AllByRecursion, and_parts, div_ceil, div_ceil_times}
+use Rattle.ctrl_msg.specs.declared.message.Body.{Body}
+use Rattle.ctrl_msg.specs.declared.message.Body.TheVariants.{Install, Stamp}
+use Rattle.ctrl_msg.specs.declared.message.Message.{Message}
+use Rattle.wire.specs.Fields as form
+use Rattle.wire.specs.Exports.{AreFramesRising, IsOfCount, body, chunks, equal_chunks, fields_fit, frame, frames, frames_from, first_chunk_len, message, most_of_chunk, n4, place_in_frame, receiver, spelled_fields, stamp_form, body_suits_receiver}
+use Rattle.wire.proofs.WireFrameBytes.{length_frame, place_of_frame, count_of_frame, chunk_of_frame}
+use Rattle.wire.proofs.WireSpellingCuts.{few_chunks}
+use Rattle.message_bag.specs.Exports.{HasFrames, tables_version}
+use Rattle.message_bag.proofs.BagSpellingLengths.{length_message, fields_short, install_long, stamp_short, few_words}
+
+-- ---- places and counts
+
+pub few_frames : (m : Message) → HasFrames m → length (chunks m) < 2 ^ 32
+few_frames m has = few_chunks (first_chunk_len m.body (message.spell m)) (message.spell m) has.short
+
+rising : (place count : ℕ) (parts : List (List ℕ)) → place + length parts ≡ count → count < 2 ^ 32
+    → AreFramesRising place count (frames_from place count parts)
+rising place count [] all few = tt
+rising place count (part ∷ parts) all few =
+    let at : place_in_frame (frame place count part) ≡ place = place_of_frame place count part (omega arith) in
+    let of : IsOfCount count (frame place count part) = record {
+      below = omega arith;
+      whole = ap (λ p. frame p count part) (sym at)
+          ∙ ap (frame (place_in_frame (frame place count part)) count)
+          (sym (chunk_of_frame place count part));
+      count_is = count_of_frame place count part few;
+    } in (
+      omega arith,
+      of,
+      subst (λ p. AreFramesRising (p + 1) count (frames_from (place + 1) count parts)) (sym at)
+          (rising (place + 1) count parts (omega arith) few),
+    )
+
+-- the frames of a message have rising places
+pub frames_rise : (m : Message) → HasFrames m → AreFramesRising 0 (length (chunks m)) (frames m)
+frames_rise m has = rising 0 (length (chunks m)) (chunks m) (omega arith) (few_frames m has)
+
+pub length_from : (place count : ℕ) (parts : List (List ℕ)) → length (frames_from place count parts) ≡ length parts
+length_from place count [] = refl
+length_from place count (part ∷ parts) = ap suc (length_from (place + 1) count parts)
+
+pub length_frames : (m : Message) → length (frames m) ≡ length (chunks m)
+length_frames m = length_from 0 (length (chunks m)) (chunks m)
+
+-- ---- lengths
+
+pub record IsSized (f : List ℕ) : Type 0 where
+  pub long : 9 ≤ length f
+  pub short : length f ≤ 16384
+
+-- a chunk of a frame
+record IsChunk (part : List ℕ) : Type 0 where
+  pub some : 1 ≤ length part
+  pub short : length part ≤ 16376
+
+slices_are : (count : ℕ) (bytes : List ℕ) → count * most_of_chunk < length bytes + most_of_chunk
+    → AllByRecursion IsChunk (equal_chunks count most_of_chunk bytes)
+slices_are zero bytes enough = tt
+slices_are (suc count) bytes enough =
+    let first : IsChunk (take most_of_chunk bytes) = record {
+      some = omega (arith, length-take most_of_chunk bytes);
+      short = omega (arith, length-take most_of_chunk bytes);
+    } in (
+      first,
+      slices_are count (drop most_of_chunk bytes) (omega (arith, length-drop most_of_chunk bytes)),
+    )
+
+all_of : (b : Body) (bytes : List ℕ) → length (spelled_fields b) ≤ 521
+    → length bytes ≡ 2 + length (spelled_fields b) → IsChunk (take (length bytes) bytes)
+all_of b bytes short long = record {
+  some = omega (arith, length-take (length bytes) bytes);
+  short = omega (arith, length-take (length bytes) bytes, short);
+}
+
+-- what fits and has no tables is short: of a stamp the version and its list
+fits_short : (b : Body) → tables_version b ≡ None → fields_fit b ≡ true
+    → length (spelled_fields b) ≤ 521
+unfolding stamp_form
+fits_short (Install boot t) alone fits = absurd cc
+fits_short (Stamp boot version touched) alone fits =
+    let rest = (and_parts (n4.fits boot) (n4.fits version && form.touched.fits touched) fits).1 in
+    stamp_short boot version touched
+    (few_words touched (and_parts (n4.fits version) (form.touched.fits touched) rest).1)
+fits_short b alone fits = omega (arith, fields_short b refl)
+
+head_is : (b : Body) (bytes : List ℕ) → fields_fit b ≡ true
+    → length bytes ≡ 2 + length (spelled_fields b) → IsChunk (take (first_chunk_len b bytes) bytes)
+head_is (Install boot t) bytes fits long = record {
+  some = omega (arith, length-take 6 bytes, install_long boot t);
+  short = omega (arith, length-take 6 bytes);
+}
+head_is b bytes fits long = all_of b bytes (fits_short b refl fits) long
+
+pub fields_of_message : (m : Message) → message.fits m ≡ true → fields_fit m.body ≡ true
+unfolding message body
+fields_of_message m fits = (and_parts (receiver.fits m.to) (fields_fit m.body)
+    (and_parts (receiver.fits m.to && fields_fit m.body) (body_suits_receiver m.to m.body) fits).0).1
+
+chunks_are : (m : Message) → message.fits m ≡ true → AllByRecursion IsChunk (chunks m)
+chunks_are m fits =
+    let bytes = message.spell m in
+    let rest = length bytes - first_chunk_len m.body bytes in (
+      head_is m.body bytes (fields_of_message m fits) (length_message m),
+      slices_are (div_ceil rest most_of_chunk) (drop (first_chunk_len m.body bytes) bytes) (omega (
+        arith,
+        length-drop (first_chunk_len m.body bytes) bytes,
+        (div_ceil_times rest most_of_chunk (omega arith)).1,
+      )),
+    )
+
+sized : (place count : ℕ) (parts : List (List ℕ)) → AllByRecursion IsChunk parts
+    → AllByRecursion IsSized (frames_from place count parts)
+sized place count [] are = tt
+sized place count (part ∷ parts) are =
+    let one : IsSized (frame place count part) = record {
+      long = omega (arith, length_frame place count part, are.0.some);
+      short = omega (arith, length_frame place count part, are.0.short);
+    } in
+    (one, sized (place + 1) count parts are.1)
+
+pub frames_sized : (m : Message) → message.fits m ≡ true → All IsSized (frames m)
+frames_sized m fits =
+    All-from_recursion IsSized (frames m) (sized 0 (length (chunks m)) (chunks m) (chunks_are m fits))

@@ -1,0 +1,327 @@
+-- Each list of events has a play: all their steps, or those before the first that would begin full.
+use Rattle.std.proofs.Common.{[], ◌++◌, ◌+◌, ◌<◌, ◌∙◌, ◌∷◌, ◌≡◌, ◌≤◌, ◌⊎◌, All, List, None, Option, Some, ap, append_assoc, arith, get_or, inl, inr, length, option_map, refl, subst, suc, sym, take, zero, ℕ, rules}
+use Rattle.base.proofs.Exports.{cases_lt, take-append_seam}
+use Rattle.update_machine.specs.Exports.{AreAllEventSteps, AreFirstSteps, AreFirstStepsOf, AreFirstEventSteps, AreSteps, AreStepsOf, Deliver, Drain, Event, Flush, HasPlay, HaveCauses, JournalsHaveRoom, IsFull, IsSetting, Item, One, Setting, Step, StepOfRow, journal_after_steps, journal_full_at, next_delivery, next_hop, next_message, next_waiting, piece}
+use Rattle.control_laws.specs.Exports.{AcksHold, AreNetworkEvents, BootsAreKnown, HasItemCause, HoldsAlways, HoldsReached, IsAckedFirst, MarksAreBounded, MembersAcknowledged, OpensAtOneVersion, ServingHoldVersions, ServingIsKnown, StampsSayTouched, TablesArePlanned}
+use Rattle.packet_laws.specs.Exports.{ChangesLeaveOthers, GoesOrStops, KeepVersionsWhole, RulesAreRight, UntouchedStay}
+use Rattle.packet_laws.proofs.PacketFlushMessages.{next_is, numbers_rise}
+use Rattle.update_machine.proofs.Exports.{IsEventOf, after_append, event_steps_are, rooms_append}
+use Rattle.control_laws.proofs.Exports.{NamesOwn, has_nexts, own_event}
+use Rattle.packet_laws.proofs.PacketDrainHops.{IsReady, drain_ends, ready_at_first, steps_ready}
+
+-- ---- what always holds, holds of journals that are reached, within a step too; so all that keeps
+-- versions whole holds of them.
+
+-- what always holds, holds where a journal is reached
+pub always_reached : (Holds : Setting → List Item → Type 0) → HoldsAlways Holds → HoldsReached Holds
+always_reached Holds law = record {
+  reached = λ setting journal at. rw at.written (law.behind.ends.stepped setting at.steps);
+  within = λ setting journal rest at. subst (Holds setting)
+      (ap (take (length journal)) (sym at.written) ∙ take-append_seam journal rest)
+      (law.behind.items setting at.steps (length journal));
+  answered = λ setting events journal own answers.
+      law.behind.ends.answered setting events journal answers;
+  begun = λ setting events journal own begins. law.behind.begun setting events journal begins;
+}
+
+-- a fact of the journals of settings, within a step too
+abbrev pub OfReached : (Setting → List Item → Type 0) → Type 0
+OfReached Holds = HoldsReached (λ setting journal. IsSetting setting → Holds setting journal)
+
+-- the laws of boots, versions and marks, and of cache rules
+pub record Laws : Type 0 where
+  pub causes : HoldsAlways (λ setting journal. HaveCauses (HasItemCause setting) [] journal)
+  pub boots : HoldsAlways (λ setting journal. BootsAreKnown journal)
+  pub serving : HoldsAlways (λ setting journal. ServingIsKnown journal)
+  pub heard : HoldsAlways (λ setting journal. (s : ℕ) → AcksHold journal s)
+  pub acknowledged : HoldsAlways (λ setting journal. HaveCauses (IsAckedFirst setting) [] journal)
+  pub opened : HoldsAlways (λ setting journal. OpensAtOneVersion journal)
+  pub tables : HoldsAlways (λ setting journal. TablesArePlanned setting journal)
+  pub members : HoldsAlways (λ setting journal. MembersAcknowledged setting journal)
+  pub marks : HoldsAlways (λ setting journal. MarksAreBounded setting journal)
+  pub holding : HoldsAlways (λ setting journal. ServingHoldVersions setting journal)
+  pub touched : HoldsAlways (λ setting journal. StampsSayTouched setting journal)
+  pub rules : OfReached RulesAreRight
+  pub untouched : OfReached UntouchedStay
+  pub alike : OfReached ChangesLeaveOthers
+
+module _ (laws : Laws) (setting : Setting) (journal : List Item) where
+  -- each item has its cause, and most of it follows
+  whole : HaveCauses (HasItemCause setting) [] journal → RulesAreRight setting journal
+      → UntouchedStay setting journal → ChangesLeaveOthers setting journal
+      → KeepVersionsWhole setting journal
+  whole causes rules untouched alike = record {
+    causes = causes;
+    boots = laws.boots.caused setting journal causes;
+    serving = laws.serving.caused setting journal causes;
+    heard = laws.heard.caused setting journal causes;
+    acknowledged = laws.acknowledged.caused setting journal causes;
+    opened = laws.opened.caused setting journal causes;
+    tables = laws.tables.caused setting journal causes;
+    members = laws.members.caused setting journal causes;
+    marks = laws.marks.caused setting journal causes;
+    holding = laws.holding.caused setting journal causes;
+    touched = laws.touched.caused setting journal causes;
+    rules = rules;
+    untouched = untouched;
+    alike = alike;
+  }
+
+pub together : Laws → OfReached KeepVersionsWhole
+together laws = let causes = always_reached _ laws.causes in record {
+  reached = λ setting journal at is. whole laws setting journal
+      (causes.reached setting journal at) (laws.rules.reached setting journal at is)
+      (laws.untouched.reached setting journal at is) (laws.alike.reached setting journal at is);
+  within = λ setting journal rest at is. whole laws setting journal
+      (causes.within setting journal rest at) (laws.rules.within setting journal rest at is)
+      (laws.untouched.within setting journal rest at is)
+      (laws.alike.within setting journal rest at is);
+  answered = λ setting events journal own answers is. whole laws setting journal
+      (causes.answered setting events journal own answers)
+      (laws.rules.answered setting events journal own answers is)
+      (laws.untouched.answered setting events journal own answers is)
+      (laws.alike.answered setting events journal own answers is);
+  begun = λ setting events journal own begins is. whole laws setting journal
+      (causes.begun setting events journal own begins)
+      (laws.rules.begun setting events journal own begins is)
+      (laws.untouched.begun setting events journal own begins is)
+      (laws.alike.begun setting events journal own begins is);
+}
+
+-- ---- in a play a flush ends, or comes to a full journal
+
+-- the next message that waits is among the last of those that a journal with room may number
+abbrev IsAmong : ℕ → List Item → Type 0
+IsAmong most journal = (n : ℕ) → next_waiting journal ≡ Some n → journal_full_at < n + most
+
+none_left : (setting : Setting) (row : ℕ) (before : List Item) → next_waiting before ≡ None
+    → GoesOrStops setting next_delivery row before
+none_left setting row before none = search rules
+
+stops_here : (setting : Setting) (row : ℕ) (before : List Item) (n : ℕ) → next_waiting before
+    ≡ Some n → IsFull before → GoesOrStops setting next_delivery row before
+stops_here setting row before n is full = record {
+  steps = [];
+  room = tt;
+  how = inr (record {
+    more = record { row = row; step = Deliver n };
+    allowed = (refl, ap (option_map Deliver) is, tt);
+    full = full;
+  });
+}
+
+one_more : (setting : Setting) (row : ℕ) (before : List Item) (n : ℕ)
+    → next_waiting before ≡ Some n → next_message before ≤ journal_full_at
+    → GoesOrStops setting next_delivery row (before ++ piece setting before row (Deliver n))
+    → GoesOrStops setting next_delivery row before
+one_more setting row before n is room rest =
+    let first : StepOfRow = record { row = row; step = Deliver n } in
+    let goes = ap (option_map Deliver) is in record {
+      steps = first ∷ rest.steps;
+      room = (room, rest.room);
+      how = elim rest.how [
+        | inl all ↦ inl (refl, goes, all)
+        | inr stop ↦ inr (record {
+          more = stop.more;
+          allowed = (refl, goes, stop.allowed);
+          full = stop.full;
+        })
+      ];
+    }
+
+flush_within : (setting : Setting) (row most : ℕ) (before : List Item) → IsAmong most before
+    → GoesOrStops setting next_delivery row before
+flush_within setting row zero before among = by_next (next_waiting before) refl where
+  by_next : (o : Option ℕ) → next_waiting before ≡ o → GoesOrStops setting next_delivery row before
+  by_next None e = none_left setting row before e
+  by_next (Some n) e = stops_here _ row _ n e (omega (arith, among n e, (next_is before n e).sent))
+flush_within setting row (suc most) before among =
+    by_next (next_waiting before) refl (flush_within setting row most)
+  where
+    by_next : (o : Option ℕ) → next_waiting before ≡ o → ((journal : List Item)
+        → IsAmong most journal → GoesOrStops setting next_delivery row journal)
+        → GoesOrStops setting next_delivery row before
+    by_next None e rest = none_left setting row before e
+    by_next (Some n) e rest = elim (cases_lt journal_full_at (next_message before)) [
+      | inl full ↦ stops_here setting row before n e full
+      | inr room ↦ one_more _ row _ n e room (rest (before ++ piece setting before row (Deliver n))
+          (λ m later. omega (arith, among n e, numbers_rise setting before row n m e later)))
+    ]
+
+pub flush_goes : (setting : Setting) (journal : List Item) (row : ℕ)
+    → GoesOrStops setting next_delivery row journal
+flush_goes setting journal row =
+    flush_within setting row (journal_full_at + 1) journal (λ n is. omega arith)
+
+-- ---- play existence
+
+-- ---- an event
+
+-- all steps of a loop, as far as there is room
+goes : (setting : Setting) (next : List Item → Option Step) (row : ℕ) (before : List Item)
+    (steps : List StepOfRow) → AreAllEventSteps setting next row before steps
+    → GoesOrStops setting next row before
+goes setting next row before [] all = record { steps = []; room = tt; how = inl all }
+goes setting next row before (first ∷ steps) all = by_room (cases_lt journal_full_at (next_message before))
+    (goes setting next row (before ++ piece setting before first.row first.step) steps all.2)
+  where
+    by_room : (journal_full_at < next_message before) ⊎ (next_message before ≤ journal_full_at)
+        → GoesOrStops setting next row (before ++ piece setting before first.row first.step)
+        → GoesOrStops setting next row before
+    by_room (inl full) rest = record {
+      steps = [];
+      room = tt;
+      how = inr (record { more = first; allowed = (all.0, all.1, tt); full = full });
+    }
+    by_room (inr room) rest = record {
+      steps = first ∷ rest.steps;
+      room = (room, rest.room);
+      how = elim rest.how [
+        | inl others ↦ inl (all.0, all.1, others)
+        | inr stop ↦ inr (record {
+          more = stop.more;
+          allowed = (all.0, all.1, stop.allowed);
+          full = stop.full;
+        })
+      ];
+    }
+
+-- the event stops in front of a step that would begin full
+record EventStops (setting : Setting) (row : ℕ) (event : Event) (before : List Item)
+    (steps : List StepOfRow) : Type 0 where
+  more : StepOfRow
+  allowed : AreFirstStepsOf setting row event before (steps ++ more ∷ [])
+  full : IsFull (journal_after_steps setting before steps)
+
+record EventGoes (setting : Setting) (row : ℕ) (event : Event) (before : List Item) : Type 0 where
+  steps : List StepOfRow
+  room : JournalsHaveRoom setting before steps
+  how : AreStepsOf setting row event before steps ⊎ EventStops setting row event before steps
+
+-- as a flush or a drain goes whose steps such a loop's are
+goes_as : (setting : Setting) (next : List Item → Option Step) (row : ℕ) (event : Event)
+    (before : List Item) → ((steps : List StepOfRow) → AreAllEventSteps setting next row before steps
+    → AreStepsOf setting row event before steps)
+    → ((steps : List StepOfRow) → AreFirstEventSteps setting next row before steps
+    → AreFirstStepsOf setting row event before steps)
+    → GoesOrStops setting next row before → EventGoes setting row event before
+goes_as setting next row event before all_of some_of goes = search rules
+
+event_goes : (setting : Setting) (row : ℕ) (event : Event) (before : List Item)
+    → IsSetting setting → IsReady setting before → EventGoes setting row event before
+event_goes setting row (One step) before is ready = elim (cases_lt journal_full_at (next_message before)) [
+  | inl full ↦ record {
+    steps = [];
+    room = tt;
+    how = inr (record {
+      more = record { row = row; step = step };
+      allowed = inr refl;
+      full = full;
+    });
+  }
+  | inr room ↦ record {
+    steps = record { row = row; step = step } ∷ [];
+    room = (room, tt);
+    how = inl refl;
+  }
+]
+event_goes setting row Flush before is ready = goes_as setting next_delivery row Flush before
+    (λ steps all. all) (λ steps some. some) (flush_goes setting before row)
+event_goes setting row Drain before is ready = let hops = drain_ends setting before row is ready in
+    goes_as setting next_hop row Drain before (λ steps all. all) (λ steps some. some)
+    (goes setting next_hop row before hops.0 hops.1)
+
+-- ---- events
+
+record EventsStop (setting : Setting) (row : ℕ) (events : List Event) (before : List Item)
+    (steps : List StepOfRow) : Type 0 where
+  more : StepOfRow
+  allowed : AreFirstSteps setting row events before (steps ++ more ∷ [])
+  full : IsFull (journal_after_steps setting before steps)
+
+record EventsGo (setting : Setting) (row : ℕ) (events : List Event) (before : List Item)
+    : Type 0 where
+  steps : List StepOfRow
+  room : JournalsHaveRoom setting before steps
+  how : AreSteps setting row events before steps ⊎ EventsStop setting row events before steps
+
+stop_first : (setting : Setting) (row : ℕ) (event : Event) (events : List Event)
+    (before : List Item) (mine : List StepOfRow) → JournalsHaveRoom setting before mine
+    → EventStops setting row event before mine → EventsGo setting row (event ∷ events) before
+stop_first setting row event events before mine room stop = record {
+  steps = mine;
+  room = room;
+  how = inr (record { more = stop.more; allowed = inl stop.allowed; full = stop.full });
+}
+
+go_on : (setting : Setting) (row : ℕ) (event : Event) (events : List Event) (before : List Item)
+    (mine : List StepOfRow) → JournalsHaveRoom setting before mine
+    → AreStepsOf setting row event before mine
+    → EventsGo setting (row + 1) events (journal_after_steps setting before mine)
+    → EventsGo setting row (event ∷ events) before
+go_on setting row event events before mine room all rest = record {
+  steps = mine ++ rest.steps;
+  room = rooms_append setting before mine rest.steps room rest.room;
+  how = elim rest.how [
+    | inl others ↦ inl (mine, rest.steps, record { split = refl }, all, others)
+    | inr stop ↦ inr (record {
+      more = stop.more;
+      allowed = inr (
+        mine,
+        rest.steps ++ stop.more ∷ [],
+        record { split = append_assoc mine rest.steps (stop.more ∷ []) },
+        all,
+        stop.allowed,
+      );
+      full = subst IsFull (sym (after_append setting before mine rest.steps)) stop.full;
+    })
+  ];
+}
+
+events_go : (setting : Setting) (row : ℕ) (events : List Event) (before : List Item)
+    → IsSetting setting → All (IsEventOf (NamesOwn setting)) events → IsReady setting before
+    → EventsGo setting row events before
+events_go setting row [] before is own ready = record { steps = []; room = tt; how = inl refl }
+events_go setting row (event ∷ events) before is own ready =
+    by_first (event_goes setting row event before is ready) (λ journal then_ready. events_go setting
+    (row + 1) events journal is (λ k d within. own (suc k) d (omega (arith, within))) then_ready)
+  where
+    by_first : EventGoes setting row event before → ((journal : List Item) → IsReady setting journal
+        → EventsGo setting (row + 1) events journal) → EventsGo setting row (event ∷ events) before
+    by_first first rest = elim first.how [
+      | inl all ↦ go_on setting row event events before first.steps first.room all
+          (rest (journal_after_steps setting before first.steps) (steps_ready _ before _ is (event_steps_are
+          _ (has_nexts setting) setting row event before _ (own 0 event (omega arith)) all) ready))
+      | inr stop ↦ stop_first setting row event events before first.steps first.room stop
+    ]
+
+-- ---- plays
+
+pub has_play : (setting : Setting) (events : List Event) → IsSetting setting
+    → AreNetworkEvents setting events → HasPlay setting events
+has_play setting events is own =
+    let by : EventsGo setting 1 events [] → HasPlay setting events = λ all. elim all.how [
+      | inl answers ↦ (
+        journal_after_steps setting [] all.steps,
+        None,
+        record {
+          answers = record { steps = all.steps; allowed = answers; written = refl };
+          room = all.room;
+        },
+      )
+      | inr stop ↦ (
+        journal_after_steps setting [] all.steps,
+        Some stop.more.row,
+        record {
+          steps = all.steps;
+          next = stop.more;
+          allowed = stop.allowed;
+          written = refl;
+          room = all.room;
+          full = stop.full;
+          of_row = refl;
+        },
+      )
+    ] in
+    by (events_go setting 1 events [] is
+    (λ k d within. own_event setting (get_or events k d) (own k d within)) (ready_at_first setting))

@@ -1,0 +1,19 @@
+-- What a change adds, by a test of its edits.
+use Rattle.std.proofs.Common.{All, IsTrue, List, ℕ}
+use Rattle.base.proofs.Exports.{All-weaker}
+use Rattle.policy_rules.specs.Exports.{EditAddsOnly}
+use Rattle.policy_rules.specs.declared.amendment.Edit.{Edit}
+use Rattle.policy_rules.specs.declared.amendment.Edit.TheVariants.{Remove, Add}
+use Rattle.policy_rules.specs.declared.policy.Row.{Row}
+use Rattle.policy_file.specs.Exports.{adds_port_of, names_port_of}
+
+pub only_ports : (ports : ℕ) (edits : List Edit)
+    → All (λ edit. IsTrue (adds_port_of ports edit)) edits
+    → All (EditAddsOnly (λ row. IsTrue (names_port_of ports row.action))) edits
+only_ports ports edits = All-weaker (λ edit. IsTrue (adds_port_of ports edit))
+    (EditAddsOnly (λ (row : Row). IsTrue (names_port_of ports row.action))) by_edit edits
+  where
+    by_edit : (edit : Edit) → IsTrue (adds_port_of ports edit)
+        → EditAddsOnly (λ (row : Row). IsTrue (names_port_of ports row.action)) edit
+    by_edit (Remove priority) is = tt
+    by_edit (Add row) is = is

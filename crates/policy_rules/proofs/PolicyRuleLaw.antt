@@ -1,0 +1,109 @@
+-- The first rule that holds a header has the rule and the action of the policy's first match.
+use Rattle.std.proofs.Common.{[], ◌&&◌, ◌++◌, ◌+◌, ◌∙◌, ◌∷◌, ◌≡◌, All, Bool, List, None, Option, Some, ap, append_assoc, arith, bit_and, cond, eq-eqb, false, find, flat_map, get_or, map, option_map, refl, true, ℕ, rules}
+use Rattle.base.proofs.Exports.{All-permutation, All-tail, and_zero_r, any_within, find-append, list_any, list_any_flat_map, list_any_map, option_or}
+use Rattle.five_tuple.specs.Exports.{Block, IsHeader, IsPortBlock, block_holds, cover_of, fields_of, number_of, prefix_matches, proto_matches}
+use Rattle.five_tuple.proofs.CallerLemmas.{is_cover_of}
+use Rattle.five_tuple.specs.declared.header.Header.{Header}
+use Rattle.ternary.specs.Exports.{WordValue, any_word, holds}
+use Rattle.policy_rules.specs.declared.policy.Row.{Row}
+use Rattle.policy_rules.specs.declared.policy.Hit.{Hit}
+use Rattle.policy_rules.specs.Exports.{IsPolicy, IsSoundRow, by_falling_priority, row_word_hits, first_rule, hit_of, hit_of_rule, is_held, ranked_from, row_matches, rules_of, scan, with_default, words_with_hit, word_of_row, words_of_row}
+use Rattle.policy_rules.proofs.PolicyRowWords.{holds-word_of_row}
+use Rattle.policy_rules.proofs.PolicyFallingRows.{IsPermutation-by_falling_priority, find-by_falling_priority}
+
+-- what the first word that holds a number says
+abbrev pub found : ℕ → List (WordValue × Hit) → Option Hit
+found n entries = option_map (λ entry. entry.1) (find (λ entry. holds entry.0 n) entries)
+
+-- ---- ranks do not matter
+
+found-ranked : (n k : ℕ) (entries : List (WordValue × Hit))
+    → option_map hit_of_rule (find (is_held n) (ranked_from k entries)) ≡ found n entries
+unfolding ranked_from
+found-ranked n k [] = refl
+found-ranked n k (entry ∷ entries) = search (rules, found-ranked n (k + 1) entries)
+
+-- ---- one row
+
+found-append : (n : ℕ) (xs ys : List (WordValue × Hit))
+    → found n (xs ++ ys) ≡ option_or (found n xs) (found n ys)
+found-append n xs ys = search (rules, find-append)
+
+found-words_with_hit : (n : ℕ) (row : Row) (words : List WordValue) → found n (words_with_hit row words) ≡ cond
+    (list_any (λ word. holds word n) words) (Some (hit_of (Some row))) None
+found-words_with_hit n row [] = refl
+found-words_with_hit n row (word ∷ words) = search (rules, found-words_with_hit n row words)
+
+none_passes : (a b : Bool) → (a && false && b) ≡ false
+none_passes a b = search rules
+
+-- some word of the row holds a header where the row matches it
+pub holds-words_of_row : (row : Row) (h : Header) → IsSoundRow row → IsHeader h
+    → list_any (λ word. holds word (number_of h)) (words_of_row row) ≡ row_matches row (fields_of h)
+holds-words_of_row row h sound bits =
+    let f = fields_of h in
+    let n = number_of h in
+    let sources = is_cover_of row.sport sound.sport in
+    let destinations = is_cover_of row.dport sound.dport in
+    let front = prefix_matches row.src f.src && prefix_matches row.dst f.dst in
+    let last = proto_matches row.proto f.proto in
+    let inner = λ (source : Block) (masked : IsPortBlock source). list_any_map
+    (λ word. holds word n) (word_of_row row source) (cover_of row.dport)
+    ∙ any_within (λ b. front && block_holds f.sport source && b && last)
+    (none_passes (front && block_holds f.sport source) last)
+    (λ destination. holds (word_of_row row source destination) n) (block_holds f.dport)
+    (cover_of row.dport) (λ k d within. holds-word_of_row row source
+    (get_or (cover_of row.dport) k d) h sound masked (destinations.masked k d within) bits) in
+    list_any_flat_map (λ word. holds word n)
+    (λ source. map (word_of_row row source) (cover_of row.dport)) (cover_of row.sport)
+    ∙ any_within (λ b. front && b && list_any (block_holds f.dport) (cover_of row.dport) && last)
+    (ap (λ b. b && last) (none_passes front (list_any (block_holds f.dport) (cover_of row.dport))))
+    (λ source. list_any (λ word. holds word n)
+    (map (word_of_row row source) (cover_of row.dport))) (block_holds f.sport)
+    (cover_of row.sport)
+    (λ k d within. inner (get_or (cover_of row.sport) k d) (sources.masked k d within))
+    ∙ rw (sources.exact f.sport bits.sport, destinations.exact f.dport bits.dport) refl
+
+found-row : (row : Row) (h : Header) → IsSoundRow row → IsHeader h
+    → found (number_of h) (row_word_hits row) ≡ cond (row_matches row (fields_of h))
+    (Some (hit_of (Some row))) None
+found-row row h sound bits = found-words_with_hit (number_of h) row (words_of_row row)
+    ∙ ap (λ b. cond b (Some (hit_of (Some row))) None) (holds-words_of_row row h sound bits)
+
+-- ---- all rows
+
+holds-any_word : (n : ℕ) → holds any_word n ≡ true
+unfolding holds
+holds-any_word n = eq-eqb (bit_and n 0) 0 (and_zero_r n)
+
+found-rows : (rows : List Row) (h : Header) → All IsSoundRow rows → IsHeader h
+    → found (number_of h) (with_default rows) ≡ Some
+    (hit_of (find (λ row. row_matches row (fields_of h)) rows))
+found-rows [] h sound bits = cc (holds-any_word (number_of h))
+found-rows (row ∷ rows) h sound bits =
+    let n = number_of h in
+    let here = found-row row h (sound 0 row (omega arith)) bits in
+    let there = found-rows rows h (All-tail IsSoundRow row rows sound) bits in
+    ap (found n) (append_assoc (row_word_hits row) (flat_map row_word_hits rows)
+    ((any_word, hit_of None) ∷ []))
+    ∙ found-append n (row_word_hits row) (with_default rows)
+    ∙ rw (here, there) (by_case (row_matches row (fields_of h)))
+  where
+    by_case : (b : Bool) → option_or (cond b (Some (hit_of (Some row))) None)
+        (Some (hit_of (find (λ row. row_matches row (fields_of h)) rows))) ≡ Some
+        (hit_of (cond b (Some row) (find (λ row. row_matches row (fields_of h)) rows)))
+    by_case true = refl
+    by_case false = refl
+
+-- the first rule that holds a header has the rule and the action of the first match
+pub first_rule-rules_of : (rows : List Row) (h : Header) → IsPolicy rows → IsHeader h
+    → option_map hit_of_rule (first_rule (rules_of rows) h) ≡ Some (scan rows h)
+unfolding rules_of
+first_rule-rules_of rows h policy bits =
+    let sorted = All-permutation IsSoundRow rows (by_falling_priority rows)
+    (IsPermutation-by_falling_priority rows policy.sound) policy.sound in
+    found-ranked (number_of h) 0 (with_default (by_falling_priority rows))
+    ∙ found-rows (by_falling_priority rows) h sorted bits
+    ∙ ap (λ best. Some (hit_of best))
+    (find-by_falling_priority (λ row. row_matches row (fields_of h)) rows policy.sound
+    policy.distinct)

@@ -1,0 +1,183 @@
+-- A packet at the end of its route: its switch answers as the journal's definitions say, and its
+-- answer is what becomes of the packet.
+use Rattle.std.proofs.Common.{[], if◌then◌else◌, ◌++◌, ◌+◌, ◌==◌, ◌∙◌, ◌∷◌, ◌≡◌, Bool, IsTrue, List, None, Option, Some, ap, arith, eq-eqb, false, nat_eq, option_and_then, position, refl, slice_get, subst, sym, true, ℕ}
+use Rattle.base.proofs.Exports.{list_any, option_map, option_map_or, unwrap_or, ⊤}
+use Rattle.five_tuple.specs.Exports.{IsHeader, number_of}
+use Rattle.update_machine.specs.Exports.{Exit, Header, Item, Leg, NoneConcern, Ports, Seek, Setting, Tables, arrive_by_leg_items, arrive_items, authority_items, authority_rule, concerns_policies, decision_of, first_place as first_place_in, packet_header_at, holds_version, lookup_items, next_message, plan_at, policy_at, tables_at, targets_of}
+use Rattle.net_file.specs.Exports.{owner_of}
+use Rattle.policy_rules.specs.Exports.{is_held}
+use Rattle.switch_core.specs.Exports.{SwitchArrival, SwitchValue, around, arrived_on_leg, decided_at_switch, decided_in_own_part, held_tables, looked_up, part_numbered, place_of_first}
+use Rattle.switch_core.specs.Answers as arrived
+use Rattle.switch_core.specs.declared.tunnel_calls.Packet.{Packet}
+use Rattle.switch_table.specs.Exports.{Hosted}
+use Rattle.update_machine.proofs.Exports.{policies_keep}
+use Rattle.packet_laws.specs.Exports.{IsOnLeg, PacketFacts, what_is_known}
+use Rattle.packet_laws.proofs.Exports.{Finds, current_planned, in_plan, last_here, one_target}
+use Rattle.world_log.specs.Exports.{log_arrived_flight, log_arrived_items}
+use Rattle.travelling.specs.Travelling.{Flight, Standing}
+use Rattle.refinement.proofs.RefinedAuthorityDecisions.{IsAsked, IsOurs, header_is, looked_law, own_numbered, ruled_law}
+use Rattle.refinement.proofs.RefinedOnwardPackets.{AreOfFacts, IsComing, answer_goes, looked_goes, ruled_goes}
+use Rattle.refinement.proofs.RefinedSteps.{Known}
+use Rattle.refinement.proofs.RefinedTakenLegs.{at_switch}
+use Rattle.refinement.proofs.RefinedPacketFacts.{IsSeen, Targets, facts_along, flight_by}
+
+-- ---- where a route ends
+
+-- at the end of its route its switch is an authority of the partition that it seeks, or has the
+-- port of its exit
+abbrev pub IsAtEnd : Setting → List Item → ℕ → Header → Leg → Type 0
+IsAtEnd setting journal s header (Seek version partition) =
+    IsOurs setting journal s header version partition
+IsAtEnd setting journal s header (Exit port) = owner_of setting.net.switches port ≡ Some s
+
+pub ours_of : (setting : Setting) (journal : List Item) (s : ℕ) (facts : PacketFacts)
+    (header : Header) (version partition : ℕ) → Known setting journal → IsHeader header
+    → (seeks : IsOnLeg setting journal facts header (Seek version partition))
+    → IsTrue (list_any (nat_eq s) seeks.hosted.1)
+    → IsOurs setting journal s header version partition
+ours_of setting journal s facts header version partition knows sound seeks target =
+    let planned = current_planned setting journal version knows.is knows.caused
+    (omega (arith, seeks.not_retired)) seeks.current in record {
+      planned = planned;
+      hosted = seeks.hosted;
+      finds = in_plan setting (policy_at setting journal version)
+          (plan_at setting journal version) header seeks.hosted planned sound seeks.own.first;
+      number = seeks.own.number;
+      target = target;
+    }
+
+pub end_of_route : (setting : Setting) (journal : List Item) (s : ℕ) (facts : PacketFacts)
+    (header : Header) (leg : Leg) → Known setting journal → IsHeader header
+    → IsOnLeg setting journal facts header leg
+    → slice_get facts.route facts.hops ≡ Some s → slice_get facts.route (facts.hops + 1) ≡ None
+    → IsAtEnd setting journal s header leg
+end_of_route setting journal s facts header (Exit port) knows sound on stands last =
+    on.has_port ∙ ap Some (sym (one_target on.leads.ends.target on.owner on.leads.ends.own)
+    ∙ sym (last_here facts.route facts.hops s on.leads.ends.target stands last on.leads.ends.last))
+end_of_route setting journal s facts header (Seek version partition) knows sound on stands last =
+    ours_of setting journal s facts header version partition knows sound on
+    (subst (λ at. IsTrue (list_any (nat_eq at) on.hosted.1)) (sym (last_here facts.route facts.hops
+    s on.leads.ends.target stands last on.leads.ends.last)) on.leads.ends.own)
+
+-- items by which no policy comes keep the plan
+pub at_end_on : (setting : Setting) (before items : List Item) (s : ℕ) (header : Header)
+    (leg : Leg) → NoneConcern concerns_policies before items
+    → IsAtEnd setting before s header leg → IsAtEnd setting (before ++ items) s header leg
+at_end_on setting before items s header (Exit port) none end = end
+at_end_on setting before items s header (Seek version partition) none end =
+    let keeps = policies_keep before items none in
+    let same_policy = sym (keeps.policy setting version) in
+    let same_plan = sym (keeps.plan setting version) in record {
+      planned = rw same_policy at (rw same_plan at end.planned);
+      hosted = end.hosted;
+      finds = rw same_policy at (rw same_plan at end.finds);
+      number = end.number;
+      target = end.target;
+    }
+
+-- ---- what the switch answers, and what the journal's definitions say
+
+-- what becomes of a packet that arrives
+abbrev pub GoesOut : Targets → Standing → SwitchArrival → Type 0
+GoesOut targets at (arrived.Out port) = ⊤
+GoesOut targets at (arrived.Answered what) = IsComing targets at what
+
+module _ (setting : Setting) (journal : List Item) (s : ℕ) (w : SwitchValue) (mask : ℕ)
+    (ports : Ports) (packet : Packet) (asked : IsAsked setting journal s w mask ports packet) where
+  abbrev at : Standing
+  at = at_switch s packet
+
+  -- the place of the first rule that holds the header, in the plan
+  place_in_plan : (version partition : ℕ)
+      (ours : IsOurs setting journal s packet.header version partition)
+      → first_place_in setting journal version partition (packet_header_at journal packet.number)
+      ≡ ours.finds.place
+  place_in_plan version partition ours = ap (first_place_in setting journal version partition)
+      (header_is journal packet.number packet.header asked.of_packet.entered)
+      ∙ ap (λ (o : Option Hosted). unwrap_or
+      (option_and_then (λ (p : Hosted). position (is_held (number_of packet.header)) p.0.rules) o)
+      0) (ap (slice_get (plan_at setting journal version)) (sym ours.number) ∙ ours.finds.at)
+      ∙ ours.finds.position
+
+  -- and in the switch's own partition
+  place_in_tables : (version partition : ℕ)
+      (ours : IsOurs setting journal s packet.header version partition)
+      → place_of_first packet.header (part_numbered (tables_at setting journal version s) partition)
+      ≡ ours.finds.place
+  place_in_tables version partition ours = ap (place_of_first packet.header)
+      (own_numbered (plan_at setting journal version) s version partition ours.hosted
+      ours.planned.parts.sound.numbers (ap (slice_get (plan_at setting journal version))
+      (sym ours.number) ∙ ours.finds.at) ours.number ours.target) ∙ ours.finds.position
+
+  -- at an authority that has the version, or not
+  sought_law : (t : Flight) (version partition : ℕ) (b : Bool) → holds_version journal s version ≡ b
+      → IsOurs setting journal s packet.header version partition → elim b [
+        | false ↦ lookup_items setting packet.number s journal
+        | true ↦ authority_items setting packet.number s (authority_rule setting journal version
+            partition (first_place_in setting journal version partition
+            (packet_header_at journal packet.number))) journal
+      ]
+      ≡ log_arrived_items (next_message journal) at t.version t.rule
+      (arrived_on_leg w (around mask ports) packet (Seek version partition))
+  unfolding decided_in_own_part
+  sought_law t version partition false missing ours = cc
+      (looked_law setting journal s w mask ports packet asked, asked.sees.tables version, missing)
+  sought_law t version partition true held ours = ap (λ place. authority_items setting packet.number
+      s (authority_rule setting journal version partition place) journal)
+      (place_in_plan version partition ours)
+      ∙ sym (ruled_law setting journal s w mask ports packet asked version partition ours)
+      ∙ ap (λ place. log_arrived_items (next_message journal) at t.version t.rule
+      (arrived.Answered (decided_at_switch w (around mask ports) packet version
+      (part_numbered (tables_at setting journal version s) partition) place)))
+      (sym (place_in_tables version partition ours))
+      ∙ ap (λ (o : Option Tables). log_arrived_items (next_message journal) at t.version t.rule
+      (arrived.Answered (option_map_or (decided_in_own_part w (around mask ports) packet partition) o
+      (looked_up w (around mask ports) packet)))) (sym (asked.sees.tables version
+      ∙ ap (λ b. if b then Some (tables_at setting journal version s) else None) held))
+
+  pub arrive_law : (t : Flight) (leg : Leg)
+      → AreOfFacts t.version t.rule (what_is_known journal packet.number)
+      → (what_is_known journal packet.number).leg ≡ Some leg
+      → IsAtEnd setting journal s packet.header leg
+      → arrive_items setting packet.number s journal ≡ log_arrived_items (next_message journal)
+      (at_switch s packet) t.version t.rule (arrived_on_leg w (around mask ports) packet leg)
+  unfolding arrive_items what_is_known
+  arrive_law t (Exit port) of takes end =
+      let i : ℕ = packet.number in
+      let left : Header → ℕ → Option ℕ → List Item = λ header version rule. Item.Left i port
+      (record { packet = i; header = header; version = version; rule = rule }) ∷ [] in
+      ap (λ leg. arrive_by_leg_items setting i s leg journal) takes
+      ∙ ap (λ header. left header
+      (unwrap_or (option_map (λ decision. decision.version) (decision_of journal i)) 0)
+      (unwrap_or (option_map (λ decision. decision.rule) (decision_of journal i)) None))
+      (header_is journal i packet.header asked.of_packet.entered)
+      ∙ ap (λ version. left packet.header version
+      (unwrap_or (option_map (λ decision. decision.rule) (decision_of journal i)) None))
+      (sym of.its_version)
+      ∙ ap (left packet.header t.version) (sym of.its_rule)
+  arrive_law t (Seek version partition) of takes end =
+      cc (takes, sought_law t version partition (holds_version journal s version) refl end)
+
+  pub arrive_comes : (leg : Leg) → GoesOut (targets_of setting journal) (at_switch s packet)
+      (arrived_on_leg w (around mask ports) packet leg)
+  unfolding decided_in_own_part
+  arrive_comes (Exit port) = tt
+  arrive_comes (Seek version partition) = by_tables (held_tables w version) where
+    by_tables : (o : Option Tables) → IsComing (targets_of setting journal) at
+        (option_map_or (decided_in_own_part w (around mask ports) packet partition) o (looked_up w (around mask ports) packet))
+    by_tables None = looked_goes setting journal s w mask ports packet asked
+    by_tables (Some tables) = ruled_goes setting journal s tables.version
+        (place_of_first packet.header (part_numbered tables partition)) w mask ports packet
+        (part_numbered tables partition) asked.owners
+
+-- ---- what becomes of the packet
+
+pub arrival_goes : (targets : Targets) (before : List Item) (number : ℕ) (at : Standing)
+    (t : Flight) (what : SwitchArrival) (facts : PacketFacts) → IsSeen at at.ingress facts
+    → AreOfFacts t.version t.rule facts → GoesOut targets at what
+    → log_arrived_flight t.version t.rule what ≡ flight_by targets at.packet
+    (facts_along at.packet before (log_arrived_items number at t.version t.rule what) facts)
+arrival_goes targets before number at t (arrived.Out port) facts seen of goes =
+    rw (eq-eqb _ _ refl) refl
+arrival_goes targets before number at t (arrived.Answered what) facts seen of goes =
+    answer_goes targets before number at t.version t.rule what facts seen of goes

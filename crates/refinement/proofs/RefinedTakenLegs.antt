@@ -1,0 +1,306 @@
+-- A switch takes a leg as the journal's definitions say.
+use Rattle.std.proofs.Common.{[], ◌&&◌, ◌++◌, ◌<◌, ◌==◌, ◌||◌, ◌∙◌, ◌∷◌, ◌≡◌, Bool, Err, IsFalse, IsTrue, List, None, Ok, Option, Result, Some, ap, arith, ext_get_or, false, get_or, if◌then◌else◌, length, ltb-true, map, nat_lt, ok_or, option_map, refl, rules, sym, true, unwrap_or, ℕ}
+use Rattle.base.proofs.Exports.{get_or-map-range_with_len, list_all, range_with_len}
+use Rattle.controller.specs.Exports.{ControllerValue, PlanValue, first_controller, kept_tables}
+use Rattle.switch_table.specs.Exports.{lookup_of, tables_of}
+use Rattle.update_machine.specs.Exports.{Action, Cause, Exit, Header, Item, KnownKeeps, Leg, Net, NoAuthority, NoRoute, Ports, Seek, Setting, SwitchKeeps, Tables, stuck_cause_at, concerns_links, concerns_policies, concerns_switch, decision_of, end_items, found_down, header_in, holds_version as holds_in, is_cut_off, is_up, leaving_item as left, leg_items, lookup_at, near, no_switch, owner, plan_at, route_from, serves as serves_in, stamp_of, tables_at, takes_route, targets_of}
+use Rattle.failover.proofs.FailoverHeldAdverts.{by_origin-first, held-first}
+use Rattle.failover.specs.Exports.{first_advert, first_adverts, first_of, is_isolated, route_of}
+use Rattle.net_file.specs.Exports.{ArePortOwners, IsNet, links_of, owner_of, port_owner}
+use Rattle.world_log.specs.Exports.{AreNearMasks, log_end_item, log_left_item, log_set_item}
+use Rattle.switch_core.specs.Exports.{SwitchValue, are_isolated, around, call_counted, cause_of, exit_by_switch, held_tables, holds_version, leave_by_switch, next_of, no_tables, serves, set_out, stamp_tables}
+use Rattle.refinement.specs.Exports.{switch_of}
+use Rattle.refinement.proofs.RefinedSwitchKnowledge.{knowledge_refines, open_shown}
+use Rattle.refinement.proofs.RefinedSwitchFacts.{number_shown, stamp_shown}
+use Rattle.update_machine.proofs.Exports.{known_keeps, known_link_laws, lookup_stays, near_stays, policies_keep, switch_keeps}
+use Rattle.refinement.proofs.RefinedSteps.{Known}
+use Rattle.switch_core.specs.declared.tunnel_calls.Packet.{Packet}
+use Rattle.tunnel.specs.Exports.{TunnelValue, tunnel_begun}
+use Rattle.travelling.specs.Travelling.{Standing}
+use Rattle.switch_core.specs.declared.deciding.Decision.{Decision as Decided}
+use Rattle.switch_core.specs.declared.tunnel_calls.Next.TheVariants as next
+
+-- ---- switches as they begin
+
+-- of the neighbours, those of the switches alone are told
+first_same : (near other : List ℕ) (count s : ℕ) (b : Bool) → nat_lt s count ≡ b
+    → (s < count → get_or near s 0 ≡ get_or other s 0)
+    → first_of near count s ≡ first_of other count s
+first_same near other count s true is same =
+    rw is (ap (λ up. Some (first_advert s up)) (same (ltb-true s count is)))
+first_same near other count s false is same = rw is refl
+
+all_first : (near other : List ℕ) (count : ℕ)
+    → ((s : ℕ) → s < count → get_or near s 0 ≡ get_or other s 0)
+    → first_adverts near count ≡ first_adverts other count
+all_first near other count same =
+    let many : length (first_adverts near count) ≡ 64 = (by_origin-first near count).places in
+    let others : length (first_adverts other count) ≡ 64 = (by_origin-first other count).places in
+    ext_get_or None (first_adverts near count) (first_adverts other count)
+    (many ∙ sym others)
+    (λ s within. let below : s < 64 = omega (arith, within, many) in
+    held-first near count s below
+    ∙ first_same near other count s (nat_lt s count) refl (same s)
+    ∙ sym (held-first other count s below))
+
+-- the masks of all 64 places tell what those of the network's switches tell
+pub first_near : (net : Net) (near : List ℕ) → IsNet net → AreNearMasks net near
+    → first_adverts near (length net.switches) ≡ first_adverts (map (links_of net.links)
+    (range_with_len 0 (length net.switches))) (length net.switches)
+first_near net near sound are = all_first near
+    (map (links_of net.links) (range_with_len 0 (length net.switches))) (length net.switches)
+    (λ s within. are s (omega (arith, within, sound.few_switches)) ∙ sym (get_or-map-range_with_len
+    (links_of net.links) 0 (length net.switches) s s 0 within (omega arith)))
+
+-- the first controller's tables of version 1 are those of its plan
+pub first_tables : (net : Net) (controller : ControllerValue) (plan : PlanValue)
+    (tables : Tables) (s : ℕ) → controller ≡ first_controller (length net.switches) plan
+    → kept_tables controller 1 s ≡ Some tables → tables ≡ tables_of plan.hosted 1 s
+first_tables net controller plan tables s is found =
+    cc (sym found ∙ ap (λ (c : ControllerValue). kept_tables c 1 s) is)
+
+-- ---- what a switch has and knows is what the journal says, also within a step
+
+-- the switch and the mask of its usable links are as the journal says of this one
+pub record Sees (setting : Setting) (journal : List Item) (s : ℕ) (w : SwitchValue) (mask : ℕ)
+    : Type 0 where
+  pub number : w.number ≡ s
+  pub serving : serves w ≡ serves_in journal s
+  pub stamp : w.stamp ≡ stamp_of journal s
+  pub held : (v : ℕ) → holds_version w v ≡ holds_in journal s v
+  pub tables : (v : ℕ) → held_tables w v
+      ≡ (if holds_in journal s v then Some (tables_at setting journal v s) else None)
+  pub lookup : (header : Header) → IsTrue (serves_in journal s)
+      → lookup_of w.cache.entries (stamp_tables w) header ≡ lookup_at setting journal s header
+  pub stamped : IsTrue (serves_in journal s)
+      → stamp_tables w ≡ tables_at setting journal (stamp_of journal s) s
+  pub route : (targets down : List ℕ) → route_of w.database w.number targets mask down
+      ≡ route_from setting journal s targets down
+  pub cut_off : (target : ℕ) (down : List ℕ) → is_isolated w.database w.number target mask down
+      ≡ is_cut_off setting journal s down target
+  pub usable : mask ≡ near setting journal s
+
+serving_of : (up serving : Bool) → (serving ≡ true → up ≡ true) → (up && serving) ≡ serving
+serving_of true serving is = refl
+serving_of false true is = let clash : false ≡ true = is refl in absurd cc
+serving_of false false is = refl
+
+pub sees : (setting : Setting) (journal : List Item) (s : ℕ) → Known setting journal
+    → s < length setting.net.switches
+    → Sees setting journal s (switch_of setting journal s) (near setting journal s)
+sees setting journal s knows there =
+    let w : SwitchValue = switch_of setting journal s in
+    let mask : ℕ = near setting journal s in
+    let stamp : w.stamp ≡ stamp_of journal s = stamp_shown setting journal s in
+    let number : w.number ≡ s = number_shown setting journal s in record {
+      number = number;
+      serving = open_shown setting journal s
+          ∙ serving_of (is_up journal s) (serves_in journal s) (knows.serving.up s);
+      stamp = stamp;
+      held = knowledge_refines.held setting journal s;
+      tables = λ v. knowledge_refines.tables setting journal s v knows.tables;
+      lookup = λ header serving. knowledge_refines.lookup setting journal s header knows.tables
+          (knows.holds s there serving).stamp;
+      stamped = λ serving. ap (λ o. unwrap_or o no_tables) (ap (held_tables w) stamp
+          ∙ knowledge_refines.tables setting journal s (stamp_of journal s) knows.tables
+          ∙ ap (λ b. if b then Some (tables_at setting journal (stamp_of journal s) s) else None)
+          (knows.holds s there serving).stamp);
+      route = λ targets down. ap (λ n. route_of w.database n targets mask down) number
+          ∙ knowledge_refines.route setting journal s targets down;
+      cut_off = λ target down. ap (λ n. is_isolated w.database n target mask down) number
+          ∙ knowledge_refines.cut_off setting journal s target down;
+      usable = refl;
+    }
+
+-- one more call changes nothing of it
+pub sees_counted : (setting : Setting) (journal : List Item) (s : ℕ) (w : SwitchValue) (mask : ℕ)
+    → Sees setting journal s w mask → Sees setting journal s (call_counted w) mask
+sees_counted setting journal s w mask sees = search (rules, sees.held, sees.tables, sees.lookup, sees.stamped, sees.route, sees.cut_off)
+
+-- nor does an item that concerns neither the switch, nor links, nor policies
+pub record Spares (s : ℕ) (before : List Item) (next : Item) : Type 0 where
+  pub switch : IsFalse (concerns_switch s before next)
+  pub links : IsFalse (concerns_links before next)
+  pub policies : IsFalse (concerns_policies before next)
+
+neither : (a b : Bool) → a ≡ false → b ≡ false → (a || b) ≡ false
+neither a b one other = rw (one, other) refl
+
+pub sees_one : (setting : Setting) (before : List Item) (next : Item) (s : ℕ) (w : SwitchValue)
+    (mask : ℕ) → Spares s before next → Sees setting before s w mask
+    → Sees setting (before ++ next ∷ []) s w mask
+sees_one setting before next s w mask spares sees =
+    let after : List Item = before ++ next ∷ [] in
+    let keeps = switch_keeps setting s before (next ∷ []) (spares.switch, tt) in
+    let knows : KnownKeeps setting s before after =
+    known_keeps setting s before (next ∷ []) (neither _ _ spares.switch spares.links, tt) in
+    let plans : (v : ℕ) → plan_at setting after v ≡ plan_at setting before v =
+    (policies_keep before (next ∷ []) (spares.policies, tt)).plan setting in
+    let same : (v : ℕ) → tables_at setting before v s ≡ tables_at setting after v s =
+    λ v. ap (λ plan. tables_of plan v s) (sym (plans v)) in
+    let was : IsTrue (serves_in after s) → IsTrue (serves_in before s) =
+    λ serving. sym keeps.serving ∙ serving in record {
+      number = sees.number;
+      serving = sees.serving ∙ sym keeps.serving;
+      stamp = sees.stamp ∙ sym keeps.stamp;
+      held = λ v. sees.held v ∙ sym (keeps.versions v);
+      tables = λ v. sees.tables v ∙ ap (λ b. if b then Some (tables_at setting before v s)
+          else None) (sym (keeps.versions v))
+          ∙ ap (λ (t : Tables). if holds_in after s v then Some t else None) (same v);
+      lookup = λ header serving. sees.lookup header (was serving) ∙ sym (lookup_stays setting s
+          header before (next ∷ []) (neither _ _ spares.switch spares.policies, tt));
+      stamped = λ serving. sees.stamped (was serving) ∙ same (stamp_of before s)
+          ∙ ap (λ v. tables_at setting after v s) (sym keeps.stamp);
+      route = λ targets down. sees.route targets down ∙ sym (knows.route targets down);
+      cut_off = λ target down. sees.cut_off target down ∙ sym (knows.cut_off down target);
+      usable = sees.usable ∙ sym (near_stays setting s before (next ∷ []) (spares.links, tt));
+    }
+
+-- ---- taken legs
+
+abbrev pub at_switch : ℕ → Packet → Standing
+at_switch s packet = record {
+  packet = packet.number;
+  header = packet.header;
+  ingress = packet.ingress;
+  switch = s;
+  down = packet.down;
+}
+
+all_same : (one other : ℕ → Bool) → ((x : ℕ) → one x ≡ other x) → (xs : List ℕ)
+    → list_all one xs ≡ list_all other xs
+all_same one other same [] = refl
+all_same one other same (x ∷ xs) = cc (same x, all_same one other same xs)
+
+pub cause_law : (setting : Setting) (journal : List Item) (s : ℕ) (w : SwitchValue) (mask : ℕ)
+    → Sees setting journal s w mask → (down : List ℕ) (leg : Leg)
+    → stuck_cause_at setting journal s down leg
+    ≡ cause_of w mask down leg (targets_of setting journal leg)
+unfolding cause_of are_isolated
+cause_law setting journal s w mask sees down (Seek version partition) =
+    ap (λ b. if b then NoAuthority else NoRoute) (all_same (is_cut_off setting journal s down)
+    (λ target. is_isolated w.database w.number target mask down) (λ target. sym
+    (sees.cut_off target down)) (targets_of setting journal (Seek version partition)))
+cause_law setting journal s w mask sees down (Exit port) = refl
+
+-- by the route that the switch knows
+by_route : (s : ℕ) (packet : Packet) (leg : Leg) (targets : List ℕ)
+    (cause : Cause) (route : Option (List ℕ)) → elim route [
+      | None ↦ Item.Stuck packet.number s cause leg packet.down ∷ []
+      | Some way ↦ takes_route packet.number leg way ∷ []
+    ]
+    ≡ log_set_item (at_switch s packet) leg (ok_or (option_map (λ way.
+    tunnel_begun packet.number packet.header packet.ingress leg targets way packet.down) route) cause)
+    ∷ []
+by_route s packet leg targets cause None = refl
+by_route s packet leg targets cause (Some route) = refl
+
+pub leg_law : (setting : Setting) (journal : List Item) (s : ℕ) (w : SwitchValue) (mask : ℕ)
+    → Sees setting journal s w mask → (packet : Packet) → found_down journal packet.number
+    ≡ packet.down → (leg : Leg) → leg_items setting journal packet.number s leg
+    ≡ log_set_item (at_switch s packet) leg (set_out w mask packet leg (targets_of setting journal leg))
+    ∷ []
+unfolding leg_items set_out
+leg_law setting journal s w mask sees packet found leg =
+    let targets : List ℕ = targets_of setting journal leg in
+    let by : Cause → List ℕ → Option (List ℕ) → List Item = λ cause down route. elim route [
+      | None ↦ Item.Stuck packet.number s cause leg down ∷ []
+      | Some way ↦ takes_route packet.number leg way ∷ []
+    ] in
+    ap (λ down. by (stuck_cause_at setting journal s down leg) down
+    (route_from setting journal s targets down)) found
+    ∙ ap (by (stuck_cause_at setting journal s packet.down leg) packet.down)
+    (sym (sees.route targets packet.down))
+    ∙ ap (λ cause. by cause packet.down (route_of w.database w.number targets mask packet.down))
+    (cause_law setting journal s w mask sees packet.down leg)
+    ∙ by_route s packet leg targets (cause_of w mask packet.down leg targets)
+    (route_of w.database w.number targets mask packet.down)
+
+-- ---- a decided packet ends at a switch, or sets out for its port, as the journal's definitions
+-- say
+
+-- what the journal says of a packet that was decided just now
+pub record IsDecided (journal : List Item) (packet : Packet) (decision : Decided) : Type 0 where
+  pub entered : header_in journal packet.number ≡ Some packet.header
+  pub found : found_down journal packet.number ≡ packet.down
+  pub decided : decision_of journal packet.number ≡ Some (record {
+    version = decision.version;
+    rule = decision.rule;
+    action = decision.action;
+  })
+
+exit_item : (at : Standing) (decision : Decided) (port : ℕ) (way : Result TunnelValue Cause)
+    → decision.action ≡ Action.Out port
+    → log_set_item at (Exit port) way ≡ log_end_item at decision (exit_by_switch way)
+exit_item at decision port (Ok tunnel) is = refl
+exit_item at decision port (Err cause) is = rw is refl
+
+-- out by a port of this switch, or on the way to another one's
+out_law : (setting : Setting) (journal : List Item) (s : ℕ) (w : SwitchValue) (mask : ℕ)
+    → Sees setting journal s w mask → (packet : Packet) (decision : Decided)
+    → IsDecided journal packet decision → (port its : ℕ) → decision.action ≡ Action.Out port
+    → owner setting port ≡ its → (b : Bool) → (its == s) ≡ b
+    → end_items setting packet.number s (Action.Out port) journal
+    ≡ log_end_item (at_switch s packet) decision (leave_by_switch w mask packet port (Some its)) ∷ []
+unfolding end_items leave_by_switch
+out_law setting journal s w mask sees packet decision said port its acts owns true here =
+    let i : ℕ = packet.number in
+    let way : Result TunnelValue Cause = set_out w mask packet (Exit port) (its ∷ []) in
+    ap (λ b. elim b [
+      | true ↦ left journal i port ∷ []
+      | false ↦ leg_items setting journal i s (Exit port)
+    ]) (ap (λ o. o == s) owns ∙ here)
+    ∙ ap (λ one. one ∷ []) (rw (said.entered, said.decided) refl)
+    ∙ sym (ap (λ b. log_end_item (at_switch s packet) decision
+    (if b then next.Out port else exit_by_switch way) ∷ []) (ap (λ n. its == n) sees.number ∙ here))
+out_law setting journal s w mask sees packet decision said port its acts owns false here =
+    let at : Standing = at_switch s packet in
+    let i : ℕ = packet.number in
+    let way : Result TunnelValue Cause = set_out w mask packet (Exit port) (its ∷ []) in
+    ap (λ b. elim b [
+      | true ↦ left journal i port ∷ []
+      | false ↦ leg_items setting journal i s (Exit port)
+    ]) (ap (λ o. o == s) owns ∙ here)
+    ∙ leg_law setting journal s w mask sees packet said.found (Exit port)
+    ∙ ap (λ o. log_set_item at (Exit port) (set_out w mask packet (Exit port) (o ∷ [])) ∷ []) owns
+    ∙ ap (λ one. one ∷ []) (exit_item at decision port way acts)
+    ∙ sym (ap (λ b. log_end_item at decision (if b then next.Out port else exit_by_switch way) ∷ [])
+    (ap (λ n. its == n) sees.number ∙ here))
+
+-- a port that no switch has
+portless_law : (setting : Setting) (journal : List Item) (s : ℕ) (w : SwitchValue) (mask : ℕ)
+    → s < 64 → (packet : Packet) (decision : Decided) → IsDecided journal packet decision
+    → (port : ℕ) → decision.action ≡ Action.Out port → owner_of setting.net.switches port ≡ None
+    → end_items setting packet.number s (Action.Out port) journal
+    ≡ log_end_item (at_switch s packet) decision (leave_by_switch w mask packet port None) ∷ []
+unfolding leave_by_switch
+portless_law setting journal s w mask there packet decision said port acts none =
+    let i : ℕ = packet.number in
+    known_link_laws.portless setting journal i s port there none
+    ∙ ap (λ down. Item.Stuck i s NoRoute (Exit port) down ∷ []) said.found
+    ∙ sym (rw acts refl)
+
+pub end_law : (setting : Setting) (journal : List Item) (s : ℕ) (w : SwitchValue) (mask : ℕ)
+    → Sees setting journal s w mask
+    → s < 64 → (ports : Ports) → ArePortOwners setting.net.switches ports
+    → (packet : Packet) (decision : Decided) → IsDecided journal packet decision
+    → (what : Action) → decision.action ≡ what → end_items setting packet.number s what journal
+    ≡ log_end_item (at_switch s packet) decision (next_of w (around mask ports) packet what) ∷ []
+unfolding end_items next_of
+end_law setting journal s w mask sees there ports owners packet decision said Action.Drop acts =
+    refl
+end_law setting journal s w mask sees there ports owners packet decision said (Action.Out port)
+    acts = by_owner (owner_of setting.net.switches port) refl
+  where
+    at_owner : Option ℕ → Item
+    at_owner o = log_end_item (at_switch s packet) decision (leave_by_switch w mask packet port o)
+
+    by_owner : (o : Option ℕ) → owner_of setting.net.switches port ≡ o
+        → end_items setting packet.number s (Action.Out port) journal
+        ≡ at_owner (port_owner ports port) ∷ []
+    by_owner None none =
+        portless_law setting journal s w mask there packet decision said port acts none
+        ∙ ap (λ o. at_owner o ∷ []) (sym (owners port ∙ none))
+    by_owner (Some its) is = out_law setting journal s w mask sees packet decision said port its
+        acts (ap (λ o. unwrap_or o no_switch) is) (its == s) refl
+        ∙ ap (λ o. at_owner o ∷ []) (sym (owners port ∙ is))

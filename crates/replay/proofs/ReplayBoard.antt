@@ -1,0 +1,54 @@
+-- A board that notes what left in the items of a step, behind those of the steps before it.
+use Rattle.std.proofs.Common.{[], ◌++◌, ◌-◌, ◌∙◌, ◌≡◌, List, ap, append-nil, append_assoc, arith, drop, length, length-drop, subst, sym, take, take_all, ℕ}
+use Rattle.base.proofs.Exports.{drop-append_seam, flat_map-append}
+use Rattle.update_machine.specs.Exports.{Item}
+use Rattle.meters.specs.Exports.{BoardValue, PortLeavings, Seen, board_after}
+use Rattle.replay.specs.Leavings.{MetersKeepUp, MetersStayOn, left_by, left_in}
+
+left_append : (here items : List Item) → left_in here ++ left_in items ≡ left_in (here ++ items)
+left_append here items = sym (flat_map-append left_by here items)
+
+-- what follows the items that were there before
+pub rest_is : (here after before items : List Item) → before ≡ here → items ≡ after
+    → take (length items - length before) (drop (length before) items) ≡ drop (length here) after
+rest_is here after before items old is = take_all (length items - length before)
+    (drop (length before) items) (omega (arith, length-drop (length before) items))
+    ∙ ap (λ (xs : List Item). drop (length xs) items) old ∙ ap (drop (length here)) is
+
+-- they keep up with a step that wrote some items, which they noted
+pub keep_up_next : (start here after items noted : List Item) (old now new : BoardValue Seen)
+    → after ≡ here ++ items → MetersKeepUp start here old now → MetersStayOn (left_in noted) now new
+    → noted ≡ drop (length here) after → MetersKeepUp start after old new
+keep_up_next start here after items noted old now new written keep stay own =
+    let own_items : noted ≡ items =
+    own ∙ ap (drop (length here)) written ∙ drop-append_seam here items in
+    let whole : left_in here ++ left_in noted ≡ left_in after =
+    ap (λ more. left_in here ++ left_in more) own_items ∙ left_append here items
+    ∙ ap left_in (sym written) in record {
+      more = keep.more ++ left_in noted;
+      left = sym whole ∙ ap (λ left. left ++ left_in noted) keep.left
+          ∙ append_assoc (left_in start) keep.more (left_in noted);
+      stay = λ ports left meters is.
+          subst (λ (all : PortLeavings). new ≡ board_after ports all meters)
+          (append_assoc left keep.more (left_in noted))
+          (stay ports (left ++ keep.more) meters (keep.stay ports left meters is));
+    }
+
+-- while nothing happens
+pub keep_up_none : (journal : List Item) (board : BoardValue Seen)
+    → MetersKeepUp journal journal board board
+keep_up_none journal board = record {
+  more = [];
+  left = sym (append-nil (left_in journal));
+  stay = λ ports left own is.
+      subst (λ (all : PortLeavings). board ≡ board_after ports all own) (sym (append-nil left)) is;
+}
+
+-- where the old board was the one of a journal, the new one is the one of the longer journal
+pub kept_up : (before after : List Item) (old new : BoardValue Seen) (ports : ℕ)
+    (meters : List Seen) → MetersKeepUp before after old new
+    → old ≡ board_after ports (left_in before) meters
+    → new ≡ board_after ports (left_in after) meters
+kept_up before after old new ports meters keep is =
+    subst (λ (left : PortLeavings). new ≡ board_after ports left meters) (sym keep.left)
+    (keep.stay ports (left_in before) meters is)

@@ -1,0 +1,53 @@
+-- What the switch that counted the call returns for a packet before a route is taken.
+use Rattle.std.proofs.Common.{◌≡◌, List, None, Option, Some, false, option_map, refl, true, ℕ, rules}
+use Rattle.failover.specs.Exports.{no_links}
+use Rattle.five_tuple.specs.declared.header.Header.{Header}
+use Rattle.switch_core.specs.Exports.{Answer, Answered, IsByLookup, SwitchSite, SwitchValue, admitted, answer_of, are_isolated, call_counted, cause_of, enter_answer, entered_with, incoming_packet, leave_by_switch, looked_up, next_of, packet_to_look_up, serves, set_out}
+use Rattle.switch_core.specs.declared.tunnel_calls.Entered.{Entered}
+use Rattle.switch_core.specs.declared.tunnel_calls.Packet.{Packet}
+use Rattle.switch_core.specs.declared.forwarding.Forwarding.{Forwarding}
+use Rattle.switch_core.specs.declared.forwarding.Forwarding.TheVariants.{Out, Decided, Seek}
+use Rattle.switch_core.proofs.SwitchArrivals.{entry_by}
+
+-- one more call changes no answer
+pub answer_counted : (s after : SwitchValue) (site : SwitchSite) (packet : Packet) (forwarding : Forwarding) →
+    after ≡ call_counted s → answer_of after site packet forwarding ≡ answer_of s site packet forwarding
+unfolding next_of leave_by_switch set_out cause_of are_isolated
+answer_counted s after site packet forwarding is = cc (is, by_forwarding forwarding) where
+  by_forwarding : (forwarding : Forwarding) →
+      answer_of (call_counted s) site packet forwarding ≡ answer_of s site packet forwarding
+  by_forwarding (Out port) = refl
+  by_forwarding (Decided decision word) = refl
+  by_forwarding (Seek leg targets) = refl
+
+module _ (s after : SwitchValue) (site : SwitchSite) (number : ℕ) (header : Header)
+    (forwarding : Forwarding) where
+  -- what is returned for a packet that enters at a switch that serves
+  pub was_admitted : (ingress : ℕ) → after ≡ call_counted s → serves s ≡ true → ingress ≡ s.number →
+      answer_of s site (packet_to_look_up number header ingress no_links) forwarding
+      ≡ Answered (looked_up s site (packet_to_look_up number header ingress no_links)) →
+      Some (answer_of after site (incoming_packet s number header) forwarding)
+      ≡ option_map Answered (admitted s site (incoming_packet s number header))
+  unfolding admitted
+  was_admitted ingress is serving here looked = search (rules, answer_counted, entry_by)
+
+  -- and what is answered then
+  pub answered : (result : Entered) (ingress : ℕ) (down : List ℕ)
+      → ingress ≡ s.number → down ≡ no_links
+      → ((answer : Answer) → answer_of after site (packet_to_look_up number header ingress down)
+      forwarding ≡ Answered answer → result ≡ entered_with answer)
+      → Some (answer_of after site (incoming_packet s number header) forwarding)
+      ≡ option_map Answered (admitted s site (incoming_packet s number header))
+      → result ≡ enter_answer s site (incoming_packet s number header)
+  answered result ingress down here none is = search rules
+
+-- of a packet that enters there is a lookup
+pub by_lookup : (s : SwitchValue) (site : SwitchSite) (packet : Packet) (forwarding : Forwarding)
+    (answer : Option Answer) →
+    Some (answer_of s site packet forwarding) ≡ option_map Answered answer → IsByLookup forwarding
+by_lookup s site packet forwarding answer is = search rules
+
+-- at a switch that doesn't serve
+pub not_admitted : (s : SwitchValue) (site : SwitchSite) (packet : Packet) → serves s ≡ false →
+    None ≡ option_map Answered (admitted s site packet)
+not_admitted s site packet closed = cc (entry_by s site packet false closed)

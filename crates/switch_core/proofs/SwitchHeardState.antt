@@ -1,0 +1,61 @@
+-- What a switch holds once a message was heard: tables by their version, a stamp, adverts.
+use Rattle.std.proofs.Common.{[], ◌&&◌, ◌++◌, ◌==◌, ◌∷◌, ◌≡◌, Bool, List, None, Option, Some, arith, cond, eqb-true, filter, find, is_some, max, nat_lt, true, ℕ, rules}
+use Rattle.base.proofs.Exports.{find-append, nat_tests, option_or}
+use Rattle.failover.specs.declared.advert.Advert.{Advert}
+use Rattle.failover.specs.Exports.{adverts_after_hearing}
+use Rattle.failover.proofs.FailoverHeldAdverts.{after_no_news}
+use Rattle.switch_table.specs.declared.tables.Tables.{Tables}
+use Rattle.switch_core.specs.Exports.{SwitchValue, collected_to, held_tables, is_news_here, stamp_raised_to, stamped_with, switch_with_heard, with_installed}
+use Rattle.ternary.specs.Exports.{WordValue}
+
+-- ---- tables
+
+abbrev is_version : ℕ → Tables → Bool
+is_version version tables = tables.version == version
+
+abbrev above : ℕ → List Tables → List Tables
+above mark list = filter (λ tables. nat_lt mark tables.version) list
+
+abbrev with_tables : SwitchValue → Tables → SwitchValue
+with_tables s tables = record s { tables = s.tables ++ tables ∷ [] }
+
+-- those of one version, among those above a mark
+found_above : (mark version : ℕ) (list : List Tables) →
+    find (λ tables. tables.version == version) (filter (λ tables. nat_lt mark tables.version) list)
+    ≡ cond (nat_lt mark version) (find (λ tables. tables.version == version) list) None
+found_above mark version [] = search rules
+found_above mark version (first ∷ list) = search (rules, eqb-true, found_above mark version list)
+
+pub held_once_collected : (s : SwitchValue) (mark version : ℕ) → held_tables (collected_to s mark)
+    version ≡ cond (nat_lt (max s.collected mark) version) (held_tables s version) None
+unfolding collected_to
+held_once_collected s mark version = found_above (max s.collected mark) version s.tables
+
+or_none : (o : Option Tables) → option_or o None ≡ o
+or_none o = search rules
+
+some_or : (o other : Option Tables) → is_some o ≡ true → o ≡ option_or o other
+some_or o other is = search rules
+
+pub held_once_installed : (s : SwitchValue) (tables : Tables) (version : ℕ)
+    → held_tables (with_installed s tables) version ≡ option_or (held_tables s version)
+    (cond ((tables.version == version) && nat_lt s.collected version) (Some tables) None)
+unfolding with_installed
+held_once_installed s tables version = search (rules, nat_tests, eqb-true, find-append)
+
+-- ---- a stamp, and adverts
+
+pub stamp_once_raised : (s : SwitchValue) (version : ℕ) →
+    (stamp_raised_to s version).stamp ≡ max s.stamp version
+unfolding stamp_raised_to
+stamp_once_raised s version = grind (arith, nat_tests)
+
+pub stamp_once_told : (s : SwitchValue) (version : ℕ) (touched : List WordValue) →
+    (stamped_with s version touched).stamp ≡ max s.stamp version
+unfolding stamped_with
+stamp_once_told s version touched = grind (arith, nat_tests)
+
+pub database_once_informed : (s : SwitchValue) (advert : Advert) → (switch_with_heard s advert).database
+    ≡ cond (advert.origin == s.number) s.database (adverts_after_hearing s.database advert)
+unfolding switch_with_heard is_news_here
+database_once_informed s advert = search (rules, after_no_news)

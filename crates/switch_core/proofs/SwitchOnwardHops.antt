@@ -1,0 +1,37 @@
+-- Where a packet on its way goes on, by the next switch of its route.
+use Rattle.std.proofs.Common.{◌+◌, ◌<◌, ◌≡◌, ◌≢◌, List, None, Option, Some, slice_get, sym, ℕ, rules}
+use Rattle.base.proofs.Exports.{get_or_from_slice_get, slice_get_within}
+use Rattle.failover.specs.Exports.{IsRouteList}
+use Rattle.tunnel.specs.Exports.{TunnelValue, tunnel_marked_down, next}
+use Rattle.tunnel.proofs.TunnelOnwardSwitch.{next_is_other}
+use Rattle.switch_core.specs.Exports.{SwitchValue, are_isolated, call_counted, cause_of, hop_answer, link_found_down, onward_by_switch, rerouted_here}
+use Rattle.switch_core.specs.declared.packet.Onward.TheVariants.{AtEnd, Next, LinkDown}
+
+-- the next switch is another, and below 64
+pub next_apart : (route : List ℕ) (place number other : ℕ) → IsRouteList route →
+    slice_get route place ≡ Some number → slice_get route (place + 1) ≡ Some other →
+    (other ≢ number) × (other < 64)
+next_apart route place number other list here next =
+    rw (get_or_from_slice_get route place number 0 here) at (next_is_other route place (Some other)
+    (record { within = slice_get_within route place number here; list = list }) (sym next))
+
+module _ (near : ℕ) where
+  -- what each answer says of it, and of the link that is found down
+  pub ends : (o : Option ℕ) → onward_by_switch near o ≡ AtEnd →
+      (o ≡ None) × (link_found_down near o ≡ None)
+  ends o is = search rules
+
+  pub goes : (o : Option ℕ) (other : ℕ) → onward_by_switch near o ≡ Next other →
+      (o ≡ Some other) × (link_found_down near o ≡ None)
+  goes o other is = search rules
+
+  pub is_down : (o : Option ℕ) (other : ℕ) → onward_by_switch near o ≡ LinkDown other →
+      (o ≡ Some other) × (link_found_down near o ≡ Some other)
+  is_down o other is = search rules
+
+-- one more call changes no route
+pub hop_down : (s : SwitchValue) (near : ℕ) (t : TunnelValue) (other : ℕ) →
+    link_found_down near (next t) ≡ Some other →
+    rerouted_here (call_counted s) near (tunnel_marked_down t other) ≡ hop_answer s near t
+unfolding hop_answer rerouted_here cause_of are_isolated
+hop_down s near t other found = search rules

@@ -1,6 +1,0 @@
-use Rattle.std.proofs.Common.{All, take}
-use Rattle.policy_rules.specs.Exports.{IsPolicyFile}
-use Rattle.trace_audit.proofs.trace.files_are_sound.Given as goal
-
-abbrev pub invariant-loop-file : goal.invariant-loop-file
-invariant-loop-file l = All IsPolicyFile (take l.file-index l.files)

@@ -1,0 +1,403 @@
+-- Small networks, policies and messages on which the definitions are tried.
+use Rattle.std.proofs.Common.{[], ◌++◌, ◌-◌, ◌^◌, ◌∙◌, ◌∷◌, ◌≡◌, Bool, Err, IsTrue, List, None, Ok, Option, Result, Some, ap, arith, codes, false, inl, inr, leb-true, nat_le, refl, replicate, subst, sym, take, true, unwrap_or, ℕ}
+use Rattle.update_machine.specs.Exports.{Action, Advertise, Any, AreTargets, Body, Cause, Drop, HasCause, HasPlan, HaveCauses, Header, Hello, Install, Installed, IsPlanOf, Item, Leads, Leaving, Leg, LinkRow, Message, Net, NoneConcern, OpenAt, Out, Place, PolicyFile, Row, Rule, Setting, Step, StepOfRow, SwitchRow, Whole, acked_stamp, adverts_known, journal_after_steps, arrive_items, authority_items, boot_of, cache_items, cache_of, claim_of, concerns_policies, confirm_items, controller_heard, controller_items, crash_items, current_items, current_mark, decision_of, deliver_items, delivery_items, end_items, expire_items, file_of, forget_items, found_down, handled_count, has_acked, header_in, heard, held_adverts, holds_version, hop_items, ingress_of, installs_to, installs_to_all, is_cut_off, is_deliverable, is_forgotten, is_link_up, is_member, is_open, is_over, is_up, known_boot, leg_items, leg_of, link_changes, link_items, lookup_at, lookup_items, lose_items, message_of, move_items, near, next_current, next_message, next_packet, next_policy, next_retired, next_switch, next_travelling, next_waiting, open_items, opened_at, own_advert, own_seq, packet_items, piece, plan_at, policy_at, policy_in, present_step, reroute_items, resend_items, resent_by_controller, restart_items, retired_items, retired_mark, route_from, route_in, route_place, sendings, sent_from, serves, settling, stamp_of, standing, steps_in, switch_items, touched_by, travels, update_items, version_count, was_delivered}
+use Rattle.policy_rules.specs.Exports.{NoPlan, TooManyLeaves, applied}
+use Rattle.base.specs.Exports.{has, least_in, mask_of, mask_where, switches}
+use Rattle.failover.specs.Exports.{adverts_after_hearing, ball, first_adverts, first_route, grown_ball, has_link, is_isolated, is_link, is_news, known_links, least_neighbour_in, ball_links_away, named_links, names_neighbour, no_links, route_path_after, route_of, route_to, with_link}
+use Rattle.ternary.specs.Exports.{WordValue, covers_of, free_of, holds, is_fixed_of, meet_of, meets}
+use Rattle.cache_maker.specs.Independent.{is_word_apart, is_independent, widen, widening_of}
+use Rattle.switch_table.specs.Exports.{same_key}
+use Rattle.five_tuple.specs.Exports.{header_of}
+use Rattle.partition.specs.Plan.{Hosted}
+pub use Rattle.switch_table.specs.Tables.{tables_of}
+use Rattle.update_machine.proofs.JournalVersionPolicies.{file_append}
+use Rattle.update_machine.proofs.JournalSilentLinks.{ends_within, policies_keep}
+use Rattle.base.proofs.Exports.{⊤, All-from_recursion, cases_eq, nat_tests}
+
+-- ---- what steps leave, computed
+
+-- ---- names that compute
+
+-- what these steps leave of a journal without items; a proof that unfolds it computes
+unfoldable pub left_by : Setting → List StepOfRow → List Item
+unfolding own_seq own_advert adverts_known held_adverts route_from is_cut_off boot_of is_up
+    serves heard cache_of lookup_at link_changes switch_items controller_items delivery_items
+    handled_count is_link_up near controller_heard known_boot is_over opened_at is_member
+    has_acked acked_stamp current_mark retired_mark next_current next_retired next_message
+    message_of is_forgotten was_delivered is_deliverable next_waiting sent_from leg_items
+    end_items cache_items authority_items lookup_items arrive_items reroute_items move_items
+    next_packet header_in ingress_of standing travels next_travelling decision_of leg_of route_in
+    route_place next_switch found_down packet_items hop_items lose_items deliver_items
+    forget_items expire_items update_items link_items crash_items restart_items confirm_items
+    resend_items piece sendings current_items open_items retired_items settling installs_to
+    installs_to_all resent_by_controller steps_in present_step version_count file_of policy_in touched_by next_policy applied plan_at
+    stamp_of holds_version has mask_where mask_of switches least_in is_news adverts_after_hearing first_adverts
+    names_neighbour named_links is_link known_links is_isolated grown_ball ball least_neighbour_in
+    route_path_after ball_links_away route_to
+    first_route route_of has_link with_link holds meets meet_of covers_of is_fixed_of free_of
+    is_word_apart is_independent widen widening_of same_key lib.Count.count_trailing_zeros
+left_by setting steps = journal_after_steps setting [] steps
+
+-- ---- example networks
+
+-- ---- steps and messages
+
+abbrev pub at : ℕ → Step → StepOfRow
+at row step = record { row = row; step = step }
+
+abbrev pub to : ℕ → Body → Message
+to s body = record { to = Place.Switch s; body = body }
+
+abbrev pub to_controller : Body → Message
+to_controller body = record { to = Place.Controller; body = body }
+
+abbrev pub advert : ℕ → ℕ → ℕ → ℕ → Body
+advert origin boot seq up = Advertise (record { origin = origin; boot = boot; seq = seq; up = up })
+
+abbrev pub leaving : ℕ → Header → ℕ → Option ℕ → Leaving
+leaving packet header version rule =
+    record { packet = packet; header = header; version = version; rule = rule }
+
+-- so many versions are there, of which so many are retired
+abbrev pub versions : ℕ → ℕ → List Item
+versions count retired = replicate (count - 1) (Item.Submitted 1 2) ++ Item.Retired retired ∷ []
+
+-- the row that delivers a message, and its delivery
+abbrev pub delivered : ℕ → ℕ → List Item
+delivered row number = Item.Row row (Step.Deliver number) ∷ Item.Delivered number ∷ []
+
+-- a message is delivered, and this is answered
+abbrev pub answered : ℕ → ℕ → ℕ → Body → List Item
+answered row number next body = delivered row number ++ Item.Sent next (to_controller body) ∷ []
+
+-- ---- headers: from 1.2.3.4 to 10.2.0.1, 10.3.9.9 and 10.1.5.5, by TCP from port 5000 to port 80
+
+abbrev pub one : Header
+one = header_of (record { src = 16909060; dst = 167903233; sport = 5000; dport = 80; proto = 6 })
+
+abbrev pub other : Header
+other = header_of (record { src = 16909060; dst = 167971081; sport = 5000; dport = 80; proto = 6 })
+
+abbrev pub denied : Header
+denied = header_of (record { src = 16909060; dst = 167838981; sport = 5000; dport = 80; proto = 6 })
+
+-- ---- policies of one row, `100,any,any,any,any,any,ACTION`
+
+abbrev pub all_to : Action → Row
+all_to action = record {
+  priority = 100;
+  src = record { address = 0; len = 0 };
+  dst = record { address = 0; len = 0 };
+  sport = record { low = 0; high = 65535 };
+  dport = record { low = 0; high = 65535 };
+  proto = Any;
+  action = action;
+}
+
+-- the first file lets all out by port 2, the second one drops all
+abbrev pub out_or_drop : List PolicyFile
+out_or_drop = Whole (all_to (Out 2) ∷ []) ∷ Whole (all_to Drop ∷ []) ∷ []
+
+-- the plan of the policy that lets out, and of the one that drops
+abbrev pub by_action : Result (List Hosted) NoPlan → Result (List Hosted) NoPlan → List Row
+    → Result (List Hosted) NoPlan
+by_action outs drops [] = Err TooManyLeaves
+by_action outs drops (row ∷ rows) = elim row.action [ Drop ↦ drops | Out port ↦ outs ]
+
+-- ---- plans of one partition
+
+abbrev pub any_word : WordValue
+any_word = record { value = 0; mask = 0 }
+
+abbrev pub rule : WordValue → ℕ → Option ℕ → Action → Rule
+rule word rank priority action =
+    record { word = word; rank = rank; rule = priority; action = action }
+
+abbrev pub on : List ℕ → List Rule → List Hosted
+on targets rules = (record { number = 0; region = any_word; rules = rules }, targets) ∷ []
+
+-- `200,any,10.1.0.0/16,any,80,tcp,drop` and `100,any,10.0.0.0/8,any,any,tcp,out:2`, on b
+abbrev pub web : WordValue
+web = record { value = 184539498331133464582; mask = 4722294425275624062975 }
+
+abbrev pub tcp : WordValue
+tcp = record { value = 184467440737095516166; mask = 4703919738795935662335 }
+
+abbrev pub shield_plan : List Hosted
+shield_plan = on (1 ∷ []) (rule web 0 (Some 200) Drop ∷ rule tcp 1 (Some 100) (Out 2)
+    ∷ rule any_word 2 None Drop ∷ [])
+
+-- the word of the cache rule that `one` brings
+abbrev pub cached : WordValue
+cached = record { value = 184611555925171372038; mask = 4704063853984011518207 }
+
+-- `100,any,any,any,any,any,out:2`, and the same with `drop`, on b; the latter on the one switch too
+abbrev pub plan_p : List Hosted
+plan_p = on (1 ∷ []) (rule any_word 0 (Some 100) (Out 2) ∷ rule any_word 1 None Drop ∷ [])
+
+abbrev pub all_dropped : List Rule
+all_dropped = rule any_word 0 (Some 100) Drop ∷ rule any_word 1 None Drop ∷ []
+
+abbrev pub plan_q : List Hosted
+plan_q = on (1 ∷ []) all_dropped
+
+abbrev pub plan_s : List Hosted
+plan_s = on (0 ∷ []) all_dropped
+
+-- ---- networks
+
+abbrev pub switch : List ℕ → ℕ → ℕ → SwitchRow
+switch name ports room = record { name = name; ports = ports; room = room }
+
+abbrev pub link : ℕ → ℕ → LinkRow
+link one two = record { one = one; two = two }
+
+abbrev pub network : List SwitchRow → List LinkRow → Net
+network switches links = record {
+  switches = switches;
+  links = links;
+  leaf_rules = 8;
+  backups = 0;
+  cache = 4;
+}
+
+-- a has the port 1; b the port 2, and room for 100 rules
+abbrev pub two_switches : Net
+two_switches =
+    network (switch (codes "a") 2 0 ∷ switch (codes "b") 4 100 ∷ []) (link 0 1 ∷ [])
+
+abbrev pub shielded : Setting
+shielded = record { net = two_switches; files = out_or_drop; plan = λ rows. Ok shield_plan }
+
+abbrev pub open_net : Setting
+open_net = record {
+  net = two_switches;
+  files = out_or_drop;
+  plan = by_action (Ok plan_p) (Ok plan_q);
+}
+
+-- a-b, a-c, b-d, c-d; d has the port 2, and room
+abbrev pub ring_net : Net
+ring_net = network
+    (switch (codes "a") 0 0 ∷ switch (codes "b") 0 0 ∷ switch (codes "c") 0 0
+    ∷ switch (codes "d") 4 10 ∷ [])
+    (link 0 1 ∷ link 0 2 ∷ link 1 3 ∷ link 2 3 ∷ [])
+
+abbrev pub ring : Setting
+ring = record { net = ring_net; files = out_or_drop; plan = λ rows. Ok (on (3 ∷ []) all_dropped) }
+
+-- a-b, b-c; c is the authority, and b its backup
+abbrev pub line_of_three : Setting
+line_of_three = record {
+  net = network
+      (switch (codes "a") 0 0 ∷ switch (codes "b") 0 10 ∷ switch (codes "c") 4 10 ∷ [])
+      (link 0 1 ∷ link 1 2 ∷ []);
+  files = out_or_drop;
+  plan = λ rows. Ok (on (2 ∷ 1 ∷ []) all_dropped);
+}
+
+-- one switch with all ports
+abbrev pub solo : Setting
+solo = record {
+  net = network (switch (codes "s0") (2 ^ 64 - 1) 8192 ∷ []) [];
+  files = out_or_drop;
+  plan = λ rows. Ok plan_s;
+}
+
+-- ---- in the open network a crashes, begins boot 2, and is sent tables and its opening
+
+abbrev pub rebooting : List StepOfRow
+rebooting = at 1 (Step.Crash 0) ∷ at 2 (Step.Restart 0) ∷ at 3 (Step.Deliver 1)
+    ∷ at 4 (Step.Deliver 2) ∷ at 5 (Step.Deliver 3) ∷ []
+
+abbrev pub rebooted : List Item
+rebooted = Item.Row 1 (Step.Crash 0) ∷ Item.Down 0 ∷ Item.Row 2 (Step.Restart 0) ∷ Item.Booted 0 2
+    ∷ Item.Sent 1 (to_controller (Hello 0 2)) ∷ delivered 3 1
+    ++ Item.Sent 2 (to 0 (Install 2 (tables_of plan_p 1 0))) ∷ answered 4 2 3 (Installed 0 2 1)
+    ++ delivered 5 3 ++ Item.Sent 4 (to 0 (OpenAt 2 1)) ∷ []
+
+-- ---- failing links, computed
+
+-- what becomes of a packet in a ring whose links fail
+abbrev pub round : List Item
+round = Item.Row 1 (Step.Packet 0 one) ∷ Item.Entered 1 0 one
+    ∷ Item.Seeking 1 1 0 (0 ∷ 1 ∷ 3 ∷ []) ∷ Item.Row 2 (Step.LinkDown 1 3) ∷ Item.LinkIs 1 3 false
+    ∷ Item.Sent 1 (to 0 (advert 1 1 2 1)) ∷ Item.Sent 2 (to 2 (advert 3 1 2 4))
+    ∷ Item.Row 3 (Step.Hop 1) ∷ Item.Hopped 1 1 ∷ Item.Row 4 (Step.Hop 1) ∷ Item.FoundDown 1 1 3
+    ∷ Item.Rerouted 1 (1 ∷ 0 ∷ 2 ∷ 3 ∷ []) ∷ Item.Hopped 1 0 ∷ Item.Row 5 (Step.LinkDown 2 0)
+    ∷ Item.LinkIs 0 2 false ∷ Item.Sent 3 (to 1 (advert 0 1 2 2))
+    ∷ Item.Sent 4 (to 3 (advert 2 1 2 8)) ∷ Item.Row 6 (Step.Hop 1) ∷ Item.FoundDown 1 0 2
+    ∷ Item.Stuck 1 0 Cause.NoRoute (Leg.Seek 1 0) (with_link (with_link no_links 1 3) 0 2) ∷ []
+
+-- a ring a-b-d-c of switches whose authority is d: the packet goes round the link that it finds
+-- down, and is stuck at the next one
+pub link_rows : left_by ring (at 1 (Step.Packet 0 one) ∷ at 2 (Step.LinkDown 1 3) ∷ at 3
+    (Step.Hop 1) ∷ at 4 (Step.Hop 1) ∷ at 5 (Step.LinkDown 2 0) ∷ at 6 (Step.Hop 1) ∷ []) ≡ round
+unfolding left_by
+link_rows = refl
+
+-- two switches, whose authority b is down
+pub no_authority_rows : left_by open_net (at 1 (Step.Crash 1) ∷ at 2 (Step.Packet 0 one) ∷ [])
+    ≡ Item.Row 1 (Step.Crash 1) ∷ Item.Down 1 ∷ Item.Row 2 (Step.Packet 0 one)
+    ∷ Item.Entered 1 0 one ∷ Item.Stuck 1 0 Cause.NoAuthority (Leg.Seek 1 0) no_links ∷ []
+unfolding left_by
+no_authority_rows = refl
+
+-- ---- the versions of the open network, where the second one is submitted with the second file:
+-- what trials cite, here and above.
+
+-- ---- the first version
+
+first_rows : (journal : List Item) → policy_in open_net journal 1 ≡ Some (all_to (Out 2) ∷ [])
+unfolding policy_in file_of
+first_rows journal = refl
+
+pub first_policy : (journal : List Item) → policy_at open_net journal 1 ≡ all_to (Out 2) ∷ []
+unfolding policy_at
+first_policy journal = ap (λ o. unwrap_or o []) (first_rows journal)
+
+pub first_plan : (journal : List Item) → plan_at open_net journal 1 ≡ plan_p
+unfolding plan_at
+first_plan journal = cc (first_rows journal)
+
+pub first_planned : (journal : List Item) → HasPlan open_net journal 1
+unfolding policy_at plan_at policy_in file_of
+first_planned journal = record { policy = refl; plan = refl }
+
+pub of_first : (journal : List Item) → IsPlanOf open_net journal 1 plan_p
+of_first journal = (all_to (Out 2) ∷ [], first_rows journal, refl)
+
+-- it has no other plan
+pub first_alone : (journal : List Item) (plan : List Hosted) → IsPlanOf open_net journal 1 plan
+    → plan ≡ plan_p
+first_alone journal plan (rows, policy, planned) =
+    let own : rows ≡ all_to (Out 2) ∷ [] = cc (sym policy ∙ first_rows journal) in
+    cc (subst (λ these. open_net.plan these ≡ Ok plan) own planned)
+
+-- ---- the second one, behind items that submit nothing
+
+second_file : (before items : List Item) → NoneConcern concerns_policies [] before
+    → file_of (before ++ Item.Submitted 2 2 ∷ items) 2 ≡ Some 2
+unfolding file_of
+second_file before items none =
+    cc (file_append before (Item.Submitted 2 2 ∷ items) 2, (policies_keep [] before none).file 2)
+
+second_rows : (before items : List Item) → NoneConcern concerns_policies [] before
+    → policy_in open_net (before ++ Item.Submitted 2 2 ∷ items) 2 ≡ Some (all_to Drop ∷ [])
+unfolding policy_in
+second_rows before items none = cc (second_file before items none)
+
+pub second_policy : (before items : List Item) → NoneConcern concerns_policies [] before
+    → policy_at open_net (before ++ Item.Submitted 2 2 ∷ items) 2 ≡ all_to Drop ∷ []
+unfolding policy_at
+second_policy before items none = ap (λ o. unwrap_or o []) (second_rows before items none)
+
+pub second_plan : (before items : List Item) → NoneConcern concerns_policies [] before
+    → plan_at open_net (before ++ Item.Submitted 2 2 ∷ items) 2 ≡ plan_q
+unfolding plan_at
+second_plan before items none = cc (second_rows before items none)
+
+pub second_planned : (before items : List Item) → NoneConcern concerns_policies [] before
+    → HasPlan open_net (before ++ Item.Submitted 2 2 ∷ items) 2
+second_planned before items none =
+    let policy = second_policy before items none in
+    let plan = second_plan before items none in record {
+      policy = second_rows before items none ∙ ap Some (sym policy);
+      plan = ap open_net.plan policy ∙ ap Ok (sym plan);
+    }
+
+pub of_second : (before items : List Item) → NoneConcern concerns_policies [] before
+    → IsPlanOf open_net (before ++ Item.Submitted 2 2 ∷ items) 2 plan_q
+of_second before items none = (all_to Drop ∷ [], second_rows before items none, refl)
+
+-- a version of a file that isn't there has no plan
+pub none_of_7 : (items : List Item) → HasPlan open_net (Item.Submitted 7 2 ∷ items) 2 → ⊥
+unfolding policy_at policy_in file_of
+none_of_7 items has = cc has.policy
+
+-- ---- the causes of packets' ends and of what fails, computed
+
+-- an item that needs no cause, and those behind it
+free : {causes : Type 0} → causes → ⊤ × causes
+free behind = (tt, behind)
+
+-- in the ring a packet finds two links down, and is stuck at the second one
+abbrev behind : List Item
+behind = take 19 round
+
+abbrev is_left : ℕ → ℕ → Bool
+is_left one two = is_open ring behind 1 0 one two
+
+-- a link that is left to it from a leads to b alone, and from b back to a
+from_a : (two : ℕ) → IsTrue (is_left 0 two) → two ≡ 1
+unfolding serves is_link_up
+from_a two is = grind (arith, nat_tests)
+
+from_b : (two : ℕ) → IsTrue (is_left 1 two) → two ≡ 0
+unfolding serves is_link_up claim_of message_of
+from_b two is = grind (arith, nat_tests)
+
+keeps_to : (one two : ℕ) → IsTrue (nat_le one 1) → IsTrue (is_left one two) → IsTrue (nat_le two 1)
+keeps_to one two within is = elim (cases_eq one 0) [
+  | inl same ↦ rw (from_a two (subst (λ x. IsTrue (is_left x two)) same is)) refl
+  | inr apart ↦ let same : one ≡ 1 = omega (arith, apart, leb-true one 1 within) in
+      rw (from_b two (subst (λ x. IsTrue (is_left x two)) same is)) refl
+]
+
+abbrev no_way_to : ℕ → Type 0
+no_way_to target = (path : List ℕ) → ¬ Leads is_left 0 path target
+
+no_path_left : no_way_to 3
+no_path_left path leads =
+    let within : false ≡ true = ends_within is_left (λ n. nat_le n 1) keeps_to 0 path 3 refl leads
+    in absurd cc
+
+own_leg_there : AreTargets ring behind 1 (Leg.Seek 1 0) (3 ∷ [])
+unfolding header_in holds decision_of policy_in file_of
+own_leg_there = (
+  refl,
+  one,
+  refl,
+  on (3 ∷ []) all_dropped,
+  (all_to (Out 2) ∷ [], refl, refl),
+  (record { number = 0; region = any_word; rules = all_dropped }, 3 ∷ []),
+  (0, omega arith, refl),
+  refl,
+  refl,
+  refl,
+)
+
+pub stuck_has_cause : HaveCauses (HasCause ring) [] round
+unfolding standing serves is_link_up present_step
+stuck_has_cause = free (free (free (free (
+  inl refl,
+  free (free (free (free (free (
+    record { stands = refl; linked = refl; unusable = refl },
+    free (free (free (
+      inr refl,
+      free (free (free (
+        record { stands = refl; linked = refl; unusable = refl },
+        (
+          record {
+            stands = refl;
+            serving = refl;
+            targets = 3 ∷ [];
+            own_leg = own_leg_there;
+            no_path = All-from_recursion no_way_to (3 ∷ []) (no_path_left, tt);
+          },
+          tt,
+        ),
+      ))),
+    ))),
+  ))))),
+))))
+
+-- one packet is lost by its row, and another one with its switch
+pub lost_has_cause : HaveCauses (HasCause open_net) []
+    (Item.Entered 1 0 one ∷ Item.Entered 2 0 one ∷ Item.Row 3 (Step.Lose 1) ∷ Item.Lost 1
+    ∷ Item.Row 4 (Step.Crash 0) ∷ Item.Down 0 ∷ Item.Lost 2 ∷ [])
+unfolding standing present_step
+lost_has_cause = free (free (free (
+  inl refl,
+  free (refl, (inr (record { switch = 0; crashes = refl; stands = refl }), tt)),
+)))

@@ -1,0 +1,345 @@
+-- Items that don't concern the links leave as they are the adverts that switches tell, and those
+-- that don't concern a switch either, what it knows of the network.
+use Rattle.std.proofs.Common.{[], ◌&&◌, ◌++◌, ◌+◌, ◌==◌, ◌∙◌, ◌∷◌, ◌≡◌, ◌≤◌, Bool, IsFalse, IsTrue, List, None, Some, ap, append_assoc, arith, count_by, eq-eqb, false, find, if◌then◌else◌, nat_lt, not, option_and_then, refl, suc, sym, true, unwrap_or, zero, ℕ}
+use Rattle.update_machine.specs.Exports.{Header, Item, KnownKeeps, Leads, LinksKeep, MessageKeeps, MessagesKeep, NoneConcern, PacketsKeep, PoliciesKeep, Setting, StepItems, adverts_known, boot_of, changes_sendings, concerns_known, concerns_links, concerns_lookups, concerns_message, concerns_messages, concerns_packets, concerns_policies, concerns_steps, concerns_switch, concerns_waiting, count_of, file_of, first_given, gives_boot, gives_file, gives_message, gives_step, gives_travelling, gives_up, gives_waited_for, has_change, heard, held_adverts, hosted_in_version, is_cut_off, is_deliverable, is_delivery, is_forgetting, is_forgotten, is_packet, is_sending, is_submission, is_up, is_waited_for, is_waiting, lookup_at, message_of, near, next_message, next_packet, next_policy, next_travelling, next_waiting, own_advert, own_seq, plan_at, policy_at, policy_by, policy_in, present_step, route_from, sendings, stamp_of, steps_in, touched_by, travels, version_count, was_delivered}
+use Rattle.base.proofs.Exports.{option_map_or, range_with_len, result_ok}
+use Rattle.update_machine.proofs.JournalSilentSteps.{Keeps, Silent, Stays, count_stays, fewer, first_stays, folded_stays, last_or_stays, last_stays, link_stays, near_stays, neither_left, neither_right, stays, switch_keeps, weight_stays}
+use Rattle.policy_rules.proofs.CallerLemmas.{find_same}
+
+-- ---- a way keeps within switches that no link leads out of
+
+pub ends_within : (joined : ℕ → ℕ → Bool) (within : ℕ → Bool)
+    → ((one two : ℕ) → IsTrue (within one) → IsTrue (joined one two) → IsTrue (within two))
+    → (at : ℕ) (path : List ℕ) (target : ℕ) → IsTrue (within at) → Leads joined at path target
+    → IsTrue (within target)
+ends_within joined within keeps at [] target here leads = rw leads at here
+ends_within joined within keeps at (next ∷ path) target here leads =
+    ends_within joined within keeps next path target (keeps at next here leads.0) leads.1
+
+-- ---- silent links
+
+-- ---- the number of the own advert
+
+boot_silent : (s : ℕ) → Silent concerns_links (gives_boot s) None
+boot_silent s before (Item.Booted switch boot) apart = cc
+boot_silent s before _ apart = refl
+
+up_silent : (s : ℕ) → Silent concerns_links (gives_up s) None
+up_silent s before (Item.Booted switch boot) apart = cc
+up_silent s before (Item.Down switch) apart = cc
+up_silent s before _ apart = refl
+
+boot_stays : (s : ℕ) → Stays concerns_links (λ js. boot_of js s)
+unfolding boot_of
+boot_stays s = last_or_stays (gives_boot s) 1 concerns_links (boot_silent s)
+
+up_stays : (s : ℕ) → Stays concerns_links (λ js. is_up js s)
+unfolding is_up
+up_stays s = last_or_stays (gives_up s) true concerns_links (up_silent s)
+
+abbrev once : Bool → ℕ
+once b = if b then 1 else 0
+
+-- such an item alone changes no links
+alone_same : (b c : Bool) → c ≡ true → once (b && not c) ≡ 0
+alone_same true c e = rw e refl
+alone_same false c e = refl
+
+change_alone : (setting : Setting) (s boot : ℕ) (before : List Item) (item : Item)
+    → near setting (before ++ item ∷ []) s ≡ near setting before s
+    → once (has_change setting s boot (record { before = before; items = item ∷ [] })) ≡ 0
+change_alone setting s boot before item same =
+    alone_same (boot_of before s == boot) _ (eq-eqb _ _ (sym same))
+
+change_more : (setting : Setting) (s boot : ℕ) (before : List Item) (item : Item)
+    → near setting (before ++ item ∷ []) s ≡ near setting before s
+    → (newest : StepItems) → newest.before ++ newest.items ≡ before
+    → has_change setting s boot (record newest { items = newest.items ++ item ∷ [] })
+    ≡ has_change setting s boot newest
+change_more setting s boot before item same newest ends =
+    ap (λ n. boot_of newest.before s == boot && not (near setting newest.before s == n)) (
+    ap (λ js. near setting js s)
+    (sym (append_assoc newest.before newest.items (item ∷ [])) ∙ ap (λ js. js ++ item ∷ []) ends)
+    ∙ same ∙ ap (λ js. near setting js s) (sym ends)
+    )
+
+-- by whether the switch is up, the number of its advert has its boot and its count
+seq_by : (setting : Setting) (s : ℕ) (after before : List Item) (up : Bool)
+    → is_up after s ≡ up → is_up before s ≡ up → boot_of after s ≡ boot_of before s
+    → count_by (has_change setting s (boot_of before s)) (steps_in after)
+    ≡ count_by (has_change setting s (boot_of before s)) (steps_in before)
+    → own_seq setting after s ≡ own_seq setting before s
+unfolding own_seq
+seq_by setting s after before true now was boot count = rw (now, was, boot, count, own_seq) refl
+seq_by setting s after before false now was boot count = rw (now, was, own_seq) refl
+
+seq_stay : (setting : Setting) (s : ℕ) (before : List Item) (item : Item)
+    → IsFalse (concerns_links before item)
+    → own_seq setting (before ++ item ∷ []) s ≡ own_seq setting before s
+seq_stay setting s before item apart =
+    let one : NoneConcern concerns_links before (item ∷ []) = (apart, tt) in
+    let same = near_stays setting s before (item ∷ []) one in
+    seq_by setting s (before ++ item ∷ []) before (is_up before s)
+    (up_stays s before (item ∷ []) one) refl (boot_stays s before (item ∷ []) one)
+    (weight_stays (λ step. once (has_change setting s (boot_of before s) step)) before item
+    (record {
+      alone = change_alone setting s (boot_of before s) before item same;
+      more = λ newest ends row_less. ap once
+          (change_more setting s (boot_of before s) before item same newest ends);
+    }))
+
+seq_stays : (setting : Setting) (s : ℕ) → Stays concerns_links (λ js. own_seq setting js s)
+seq_stays setting s before items none =
+    stays (λ js. own_seq setting js s) concerns_links (seq_stay setting s) before items none
+
+advert_stays : (setting : Setting) (s : ℕ) → Stays concerns_links (λ js. own_advert setting js s)
+unfolding own_advert
+advert_stays setting s before items none =
+    let links : near setting (before ++ items) s ≡ near setting before s =
+    near_stays setting s before items none in
+    rw ((boot_stays s before items none), seq_stays setting s before items none, links) refl
+
+pub links_keep : (setting : Setting) (before items : List Item)
+    → NoneConcern concerns_links before items → LinksKeep setting before (before ++ items)
+links_keep setting before items none = record {
+  up = link_stays before items none;
+  near = λ s. near_stays setting s before items none;
+  seq = λ s. seq_stays setting s before items none;
+  advert = λ s. advert_stays setting s before items none;
+}
+
+-- ---- what a switch knows
+
+known_stays : (setting : Setting) (s : ℕ) (before items : List Item)
+    → NoneConcern (concerns_switch s) before items → NoneConcern concerns_links before items
+    → adverts_known setting (before ++ items) s ≡ adverts_known setting before s
+unfolding adverts_known
+known_stays setting s before items none no_links =
+    let switch = switch_keeps setting s before items none in
+    let bodies : heard (before ++ items) s ≡ heard before s = switch.heard in
+    let advert : own_advert setting (before ++ items) s ≡ own_advert setting before s =
+    advert_stays setting s before items no_links in
+    rw (switch.boot, switch.up, bodies, advert) refl
+
+pub known_keeps : (setting : Setting) (s : ℕ) (before items : List Item)
+    → NoneConcern (concerns_known s) before items → KnownKeeps setting s before (before ++ items)
+unfolding held_adverts route_from is_cut_off
+known_keeps setting s before items none =
+    let own = fewer (concerns_switch s) (concerns_known s)
+    (λ js item apart. neither_left (concerns_switch s js item) (concerns_links js item) apart)
+    before items none in
+    let links = fewer concerns_links (concerns_known s)
+    (λ js item apart. neither_right (concerns_switch s js item) (concerns_links js item) apart)
+    before items none in
+    let known = known_stays setting s before items own links in
+    let near_same = near_stays setting s before items links in
+    let switch = switch_keeps setting s before items own in record {
+      known = known;
+      held = rw known refl;
+      links = λ down. rw (switch.boot, switch.up, switch.heard, near_same) refl;
+      route = λ targets down. rw (known, near_same) refl;
+      cut_off = λ down target. rw (known, near_same) refl;
+    }
+
+-- ---- policies, and what a switch says of a header
+
+file_silent : (v : ℕ) → Silent concerns_policies (gives_file v) None
+file_silent v before (Item.Submitted file version) apart = cc
+file_silent v before _ apart = refl
+
+count_silent : Silent concerns_policies is_submission false
+count_silent before item apart = apart
+
+file_stays : (before items : List Item) → NoneConcern concerns_policies before items → (v : ℕ)
+    → file_of (before ++ items) v ≡ file_of before v
+unfolding file_of
+file_stays before items none v = by_test (v == 1) where
+  by_test : (b : Bool) → (if b then Some 1 else first_given (gives_file v) (before ++ items))
+      ≡ (if b then Some 1 else first_given (gives_file v) before)
+  by_test true = refl
+  by_test false = first_stays (gives_file v) concerns_policies (file_silent v) before items none
+
+-- where the versions up to this one have the same files, it has the same policy
+pub policy_by_files : (setting : Setting) (one other : List Item) (v : ℕ)
+    → ((k : ℕ) → 1 ≤ k → k ≤ v → file_of one k ≡ file_of other k)
+    → policy_in setting one v ≡ policy_in setting other v
+unfolding policy_in
+policy_by_files setting one other zero same = refl
+policy_by_files setting one other (suc v) same =
+    ap (λ o. option_and_then (λ file. result_ok (policy_by setting o file)) (file_of one (suc v)))
+    (policy_by_files setting one other v (λ k first last. same k first (omega (arith, last))))
+    ∙ ap (option_and_then (λ file. result_ok (policy_by setting (policy_in setting other v) file)))
+    (same (suc v) (omega arith) (omega arith))
+
+policy_count_stays : Stays concerns_policies version_count
+unfolding version_count
+policy_count_stays before items none =
+    rw (count_stays is_submission concerns_policies count_silent before items none) refl
+
+policy_in_keeps : (setting : Setting) (before items : List Item)
+    → NoneConcern concerns_policies before items → (v : ℕ)
+    → policy_in setting (before ++ items) v ≡ policy_in setting before v
+policy_in_keeps setting before items none v = policy_by_files setting (before ++ items) before v
+    (λ k first last. file_stays before items none k)
+
+touched_keeps : (before items : List Item) → NoneConcern concerns_policies before items
+    → (setting : Setting) (v : ℕ)
+    → touched_by setting (before ++ items) v ≡ touched_by setting before v
+unfolding touched_by
+touched_keeps before items none setting zero = refl
+touched_keeps before items none setting (suc v) =
+    cc (file_stays before items none (suc v), policy_in_keeps setting before items none v)
+
+pub policies_keep : (before items : List Item) → NoneConcern concerns_policies before items
+    → PoliciesKeep before (before ++ items)
+unfolding policy_at plan_at next_policy
+policies_keep before items none = record {
+  count = policy_count_stays before items none;
+  file = file_stays before items none;
+  rows = λ setting v. policy_in_keeps setting before items none v;
+  policy = λ setting v. ap (λ o. unwrap_or o []) (policy_in_keeps setting before items none v);
+  plan = λ setting v. ap (λ o. option_map_or (λ rows. hosted_in_version (setting.plan rows)) o [])
+      (policy_in_keeps setting before items none v);
+  touched = touched_keeps before items none;
+  next = λ setting file. ap (λ v. policy_by setting (policy_in setting (before ++ items) v) file)
+      (policy_count_stays before items none) ∙ ap (λ o. policy_by setting o file)
+      (policy_in_keeps setting before items none (version_count before));
+}
+
+pub lookup_stays : (setting : Setting) (s : ℕ) (header : Header)
+    → Stays (concerns_lookups s) (λ js. lookup_at setting js s header)
+unfolding lookup_at plan_at
+lookup_stays setting s header before items none =
+    let switch = switch_keeps setting s before items (fewer (concerns_switch s) (concerns_lookups s)
+    (λ js item apart. neither_left (concerns_switch s js item) (concerns_policies js item) apart)
+    before items none) in
+    let policy : policy_in setting (before ++ items) (stamp_of before s)
+    ≡ policy_in setting before (stamp_of before s) =
+    policy_in_keeps setting before items (fewer concerns_policies (concerns_lookups s)
+    (λ js item apart. neither_right (concerns_switch s js item) (concerns_policies js item) apart)
+    before items none) (stamp_of before s) in
+    rw (switch.stamp, switch.cache, policy) refl
+
+-- ---- switches that are waited for
+
+waited_silent : (s : ℕ) → Silent (concerns_waiting s) (gives_waited_for s) None
+waited_silent s before (Item.Down switch) apart = rw apart refl
+waited_silent s before (Item.OverNow switch) apart = rw apart refl
+waited_silent s before _ apart = refl
+
+pub waited_stays : (s : ℕ) → Stays (concerns_waiting s) (λ js. is_waited_for js s)
+waited_stays s = last_or_stays (gives_waited_for s) false (concerns_waiting s) (waited_silent s)
+
+-- ---- items that don't concern a message, all messages, all packets or the steps leave their facts
+-- as they are.
+
+-- ---- a message
+
+message_silent : (n : ℕ) → Silent (concerns_message n) (gives_message n) None
+message_silent n before (Item.Sent number message) apart = rw apart refl
+message_silent n before _ apart = refl
+
+delivery_silent : (n : ℕ) → Silent (concerns_message n) (is_delivery n) false
+delivery_silent n before (Item.Delivered number) apart = apart
+delivery_silent n before _ apart = refl
+
+forgetting_silent : (n : ℕ) → Silent (concerns_message n) (is_forgetting n) false
+forgetting_silent n before (Item.Forgotten number) apart = apart
+forgetting_silent n before _ apart = refl
+
+pub message_keeps : (n : ℕ) (before items : List Item)
+    → NoneConcern (concerns_message n) before items → MessageKeeps n before (before ++ items)
+unfolding message_of was_delivered is_forgotten is_deliverable
+message_keeps n before items none =
+    let message = last_stays _ _ (message_silent n) before items none in
+    let forgotten = ap (nat_lt 0) (count_stays _ _ (forgetting_silent n) before items none) in
+    record {
+      message = message;
+      delivered = ap (nat_lt 0) (count_stays _ _ (delivery_silent n) before items none);
+      forgotten = forgotten;
+      deliverable = rw (message, forgotten) refl;
+    }
+
+-- ---- all messages
+
+sending_silent : Silent concerns_messages is_sending false
+sending_silent before (Item.Sent number message) apart = apart
+sending_silent before _ apart = refl
+
+sendings_silent : Keeps concerns_messages changes_sendings
+sendings_silent before sent (Item.Sent number message) apart = cc
+sendings_silent before sent _ apart = refl
+
+pub each_silent : (n : ℕ) (before : List Item) (item : Item) → IsFalse (concerns_messages before item)
+    → IsFalse (concerns_message n before item)
+each_silent n before (Item.Sent number message) apart = cc
+each_silent n before (Item.Delivered number) apart = cc
+each_silent n before (Item.Forgotten number) apart = cc
+each_silent n before _ apart = refl
+
+sent_count_stays : Stays concerns_messages (count_of is_sending)
+sent_count_stays = count_stays is_sending concerns_messages sending_silent
+
+-- so the first number that passes a test of facts that stay is the same
+first_stays_of : (count : List Item → ℕ) (test : List Item → ℕ → Bool) (concerns : List Item
+    → Item → Bool) → Stays concerns count → ((n : ℕ) → Stays concerns (λ js. test js n))
+    → Stays concerns (λ js. find (test js) (range_with_len 1 (count js)))
+first_stays_of count test concerns counts tests before items none =
+    ap (λ k. find (test (before ++ items)) (range_with_len 1 k)) (counts before items none)
+    ∙ find_same (test (before ++ items)) (test before) (λ n. tests n before items none)
+    (range_with_len 1 (count before))
+
+waiting_same : (n : ℕ) → Stays concerns_messages (λ js. is_waiting js n)
+waiting_same n before items none =
+    let keeps = message_keeps n before items
+    (fewer (concerns_message n) concerns_messages (each_silent n) before items none) in
+    rw (keeps.deliverable, keeps.delivered) refl
+
+pub messages_keep : (before items : List Item) → NoneConcern concerns_messages before items
+    → MessagesKeep before (before ++ items)
+unfolding next_message next_waiting sendings
+messages_keep before items none = record {
+  next = ap (λ k. k + 1) (sent_count_stays before items none);
+  waiting = first_stays_of _ is_waiting _ sent_count_stays waiting_same before items none;
+  sent = folded_stays _ [] _ sendings_silent before items none;
+}
+
+-- ---- all packets
+
+packet_silent : Silent concerns_packets is_packet false
+packet_silent before (Item.Entered packet switch header) apart = apart
+packet_silent before (Item.Closed packet switch) apart = apart
+packet_silent before _ apart = refl
+
+travel_silent : (i : ℕ) → Silent concerns_packets (gives_travelling i) None
+travel_silent i before (Item.Entered packet switch header) apart = cc
+travel_silent i before (Item.Dropped packet) apart = cc
+travel_silent i before (Item.Left packet port leaving) apart = cc
+travel_silent i before (Item.Lost packet) apart = cc
+travel_silent i before (Item.Stuck packet switch cause leg down) apart = cc
+travel_silent i before _ apart = refl
+
+travels_stay : (i : ℕ) → Stays concerns_packets (λ js. travels js i)
+unfolding travels
+travels_stay i = last_or_stays (gives_travelling i) false concerns_packets (travel_silent i)
+
+packet_count_stays : Stays concerns_packets (count_of is_packet)
+packet_count_stays = count_stays is_packet concerns_packets packet_silent
+
+pub packets_keep : (before items : List Item) → NoneConcern concerns_packets before items
+    → PacketsKeep before (before ++ items)
+unfolding next_packet next_travelling
+packets_keep before items none = record {
+  next = ap (λ k. k + 1) (packet_count_stays before items none);
+  travelling = first_stays_of _ travels _ packet_count_stays travels_stay before items none;
+}
+
+-- ---- steps
+
+step_silent : Silent concerns_steps gives_step None
+step_silent before (Item.Row row step) apart = cc
+step_silent before _ apart = refl
+
+pub step_stays : Stays concerns_steps present_step
+unfolding present_step
+step_stays = last_stays gives_step concerns_steps step_silent

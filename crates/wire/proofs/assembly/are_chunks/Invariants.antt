@@ -1,7 +1,0 @@
-use Rattle.std.proofs.Common.{◌≡◌, map, take}
-use Rattle.wire.specs.Exports.{chunk_of}
-use Rattle.wire.proofs.assembly.are_chunks.Given as goal
-
-abbrev pub invariant-loop-place : goal.invariant-loop-place
-invariant-loop-place l =
-    map chunk_of (take l.place l.frames) ≡ map (λ p. p.now) (take l.place l.parts)

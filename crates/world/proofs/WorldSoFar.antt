@@ -1,0 +1,49 @@
+-- What a world wrote so far.
+use Rattle.std.proofs.Common.{◌++◌, ◌≡◌, List, append_assoc, length, ℕ}
+use Rattle.update_machine.specs.Exports.{IsSetting, Item, Setting, Step, piece}
+use Rattle.packet_laws.specs.Exports.{HoldsBetween, HoldsSoFar, IsKeptBehind}
+use Rattle.control_laws.specs.Exports.{HoldsReached}
+use Rattle.refinement.proofs.RefinedSteps.{reached_more}
+use Rattle.steps.specs.Exports.{IsStep}
+use Rattle.world.specs.Exports.{RefinesJournal, WorldValue, world_setting_at}
+use Rattle.world_log.specs.Exports.{IsLogPart}
+
+-- the law of what is written so far, and that of what is kept after steps
+abbrev pub SoFarLaw : Type 0
+SoFarLaw = HoldsReached (λ setting journal. IsSetting setting → HoldsSoFar setting journal)
+
+abbrev pub BehindLaw : Type 0
+BehindLaw = HoldsBetween (λ setting journal. IsSetting setting → IsKeptBehind setting journal)
+
+pub so_far_in : SoFarLaw → (world : WorldValue) → RefinesJournal world
+    → HoldsSoFar (world_setting_at world) world.journal
+so_far_in law world refines =
+    law.reached (world_setting_at world) world.journal refines.reached refines.sound
+
+pub kept_in : BehindLaw → (world : WorldValue) → RefinesJournal world
+    → IsKeptBehind (world_setting_at world) world.journal
+kept_in law world refines =
+    law.reached (world_setting_at world) world.journal refines.reached refines.sound
+
+-- a part of a step's piece is written
+pub part_so_far : SoFarLaw → (world : WorldValue) (row : ℕ) (step : Step) (after : List Item)
+    → RefinesJournal world → IsStep world.net (length world.files) step
+    → IsLogPart world.journal (piece (world_setting_at world) world.journal row step) after
+    → HoldsSoFar (world_setting_at world) after
+part_so_far law world row step after refines own part =
+    let setting : Setting = world_setting_at world in
+    let journal = world.journal in
+    law.within setting after part.rest
+    (rw (part.grown, append_assoc journal part.written part.rest, ← part.split)
+    (reached_more setting journal row step refines.reached own))
+    refines.sound
+
+-- all of it is
+pub step_so_far : SoFarLaw → (world : WorldValue) (row : ℕ) (step : Step) (after : List Item)
+    → RefinesJournal world → IsStep world.net (length world.files) step
+    → after ≡ world.journal ++ piece (world_setting_at world) world.journal row step
+    → HoldsSoFar (world_setting_at world) after
+step_so_far law world row step after refines own written =
+    let setting : Setting = world_setting_at world in
+    law.reached setting after
+    (rw written (reached_more setting world.journal row step refines.reached own)) refines.sound

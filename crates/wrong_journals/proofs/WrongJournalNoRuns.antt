@@ -1,0 +1,83 @@
+-- Journals that are no runs of the machine.
+use Rattle.std.proofs.Common.{[], ◌++◌, ◌<◌, ◌∙◌, ◌∷◌, ◌≡◌, List, None, Some, arith, refl, subst, sym, ℕ}
+use Rattle.std.proofs.lemmas.Option.{none-some, same_Some}
+use Rattle.policy_rules.specs.Exports.{IsFirstMatch}
+use Rattle.update_machine.specs.Exports.{Decides, Drop, Dropped, End, Ends, Hit, IsRun, LeftBy, Machine, MachineMayEnd, Out, Row, submitted_policy}
+use Rattle.journal.specs.declared.item.Item.TheVariants as item
+use Rattle.steps.specs.declared.step.Step.TheVariants as step
+use Rattle.update_machine.specs.Machine.{Packet}
+use Rattle.wrong_journals.specs.Exports.{allowed, another_row, decided_rightly, decided_twice, denied, dropped_undecided, gets, half_and_half, in_at_a, in_behind_update, office, office_policy, other_port, retired_version, second_policy, unknown_version}
+use Rattle.wrong_journals.proofs.WrongJournalMatches.{by_100, no_first_of_denied, no_second_of_allowed}
+use Rattle.wrong_journals.proofs.WrongJournalMachine.{move_at}
+use Rattle.wrong_journals.proofs.WrongJournalMoves.{comer, let_out}
+
+-- ---- what a decision and an end say of a packet that is known
+
+own_packet : (old : Machine) (number version : ℕ) (got : Hit) (new : Machine) (packet : Packet)
+    (decides : Decides old number version got new) → old.packets number ≡ Some packet
+    → decides.packet ≡ packet
+own_packet old number version got new packet decides known =
+    same_Some decides.packet packet (sym decides.entered ∙ known)
+
+first_match : (old : Machine) (number version : ℕ) (got : Hit) (new : Machine) (packet : Packet)
+    (policy : List Row) → Decides old number version got new → old.packets number ≡ Some packet
+    → submitted_policy old version ≡ Some policy → IsFirstMatch policy packet.header got
+first_match old number version got new packet policy decides known there =
+    subst (λ (p : Packet). IsFirstMatch policy p.header got)
+    (own_packet old number version got new packet decides known)
+    (subst (λ (rows : List Row). IsFirstMatch rows decides.packet.header got)
+    (same_Some decides.policy policy (sym decides.submitted ∙ there)) decides.first_match)
+
+above_mark : (old : Machine) (number version : ℕ) (got : Hit) (new : Machine) (packet : Packet)
+    → Decides old number version got new → old.packets number ≡ Some packet
+    → packet.entry_mark < version
+above_mark old number version got new packet decides known = subst (λ (p : Packet). p.entry_mark
+    < version) (own_packet old number version got new packet decides known) decides.not_retired
+
+undecided : (old : Machine) (number version : ℕ) (got : Hit) (new : Machine) (packet : Packet)
+    → Decides old number version got new → old.packets number ≡ Some packet → packet.decision ≡ None
+undecided old number version got new packet decides known = subst (λ (p : Packet). p.decision
+    ≡ None) (own_packet old number version got new packet decides known) decides.undecided
+
+may_end : (old : Machine) (number : ℕ) (end : End) (new : Machine) (packet : Packet)
+    → Ends old number end new → old.packets number ≡ Some packet → MachineMayEnd packet end
+may_end old number end new packet ends known = subst (λ (p : Packet). MachineMayEnd p end)
+    (same_Some ends.packet packet (sym ends.entered ∙ known)) ends.may
+
+-- ---- journals
+
+pub another_row_is_no_run : IsRun office another_row → ⊥
+another_row_is_no_run run =
+    no_first_of_denied (first_match _ 1 1 (by_100 (Out 2)) _ (comer denied 0) office_policy
+    (move_at office (in_at_a denied) (gets 1 (Out 2)) [] run).1 refl refl)
+
+pub retired_version_is_no_run : IsRun office retired_version → ⊥
+retired_version_is_no_run run =
+    let above : 1 < 1 = above_mark _ 1 1 (by_100 (Out 2)) _ (comer allowed 1)
+    (move_at office (item.Row 1 (step.Update 2) ∷ item.Submitted 2 2 ∷ item.Retired 1 ∷ item.Row 2
+    (step.Packet 0 allowed) ∷ item.Entered 1 0 allowed ∷ []) (gets 1 (Out 2)) [] run).1 refl in
+    omega (arith, above)
+
+pub unknown_version_is_no_run : IsRun office unknown_version → ⊥
+unknown_version_is_no_run run = let move = move_at office (in_at_a allowed) (gets 2 Drop) [] run in
+    none-some move.1.policy move.1.submitted
+
+pub decided_twice_is_no_run : IsRun office decided_twice → ⊥
+decided_twice_is_no_run run = none-some (by_100 (Out 2)) (sym (undecided _ 1 2 (by_100 Drop) _
+    let_out (move_at office decided_rightly (gets 2 Drop) [] run).1 refl))
+
+pub half_and_half_is_no_run : IsRun office half_and_half → ⊥
+half_and_half_is_no_run run =
+    no_second_of_allowed (first_match _ 1 2 (by_100 (Out 2)) _ (comer allowed 0) second_policy
+    (move_at office in_behind_update (gets 2 (Out 2)) [] run).1 refl refl)
+
+pub other_port_is_no_run : IsRun office other_port → ⊥
+other_port_is_no_run run =
+    let may : Some (Out 2) ≡ Some (Out 1) = may_end _ 1 (LeftBy 1) _ let_out
+    (move_at office (in_at_a allowed ++ gets 1 (Out 2) ∷ []) (item.Left 1 1
+    (record { packet = 1; header = allowed; version = 1; rule = Some 100 })) [] run).1 refl in
+    cc
+
+pub dropped_undecided_is_no_run : IsRun office dropped_undecided → ⊥
+dropped_undecided_is_no_run run = none-some Drop (may_end _ 1 Dropped _ (comer allowed 0)
+    (move_at office (in_at_a allowed) (item.Dropped 1) [] run).1 refl)
