@@ -4,7 +4,7 @@ use Rattle.base.proofs.Exports.{⊤}
 use Rattle.controller.specs.Exports.{PlanValue}
 use Rattle.update_machine.specs.Exports.{Item, Net, Row, Setting, current_mark, plan_at}
 use Rattle.partition.specs.Plan.{Hosted}
-use Rattle.rebalance.specs.Proposals.{CommandProposesFor}
+use Rattle.rebalance.specs.Proposals.{ProposesFor}
 use Rattle.replay.specs.InForce.{IsPlanInForce}
 use Rattle.shelf.specs.Exports.{Files, SinkGainedPart, IsAfterWrite, SinkState}
 use Rattle.shelf.specs.declared.output.SinkError.{SinkError}
@@ -30,8 +30,8 @@ module _ (rows : List Row) (plan : List Hosted) (net : Net) (journal : List Item
   }
 
   proposes : (text : List ℕ) (IsWritten : List ℕ → Type 0)
-      → CommandProposesFor rows plan net journal (λ whole. text ≡ whole) → IsWritten text
-      → CommandProposesFor rows plan net journal IsWritten
+      → ProposesFor rows plan net journal (λ whole. text ≡ whole) → IsWritten text
+      → ProposesFor rows plan net journal IsWritten
   proposes text IsWritten is written = record {
     placement = is.placement;
     proposed = is.proposed;
@@ -39,7 +39,7 @@ module _ (rows : List Row) (plan : List Hosted) (net : Net) (journal : List Item
   }
 
   pub wrote_proposal : (text : List ℕ) (takes_memory : Bool) (before now : SinkState)
-      (result : Result (⊤) SinkError) → CommandProposesFor rows plan net journal (λ whole. text ≡ whole)
+      (result : Result (⊤) SinkError) → ProposesFor rows plan net journal (λ whole. text ≡ whole)
       → IsAfterWrite text takes_memory before now result → (text ≡ [] → now ≡ before)
       → IsAfterProposal rows plan net journal takes_memory before now result
   wrote_proposal text takes_memory before now (Ok done) is after untouched = record {
@@ -52,7 +52,7 @@ module _ (rows : List Row) (plan : List Hosted) (net : Net) (journal : List Item
     faults = after.faults;
   }
   wrote_proposal text takes_memory before now (Err error) is after untouched =
-      let part : CommandProposesFor rows plan net journal
+      let part : ProposesFor rows plan net journal
       (λ text. SinkGainedPart before.bytes text now.bytes) = proposes text _ is after.part in record {
         whole = tt;
         part = λ same. part;
@@ -99,11 +99,11 @@ module _ (rows : List Row) (plan : List Hosted) (net : Net) (journal : List Item
 
 in_force : (setting : Setting) (journal : List Item) (plan : PlanValue)
     (IsWritten : List ℕ → Type 0) → IsPlanInForce setting journal plan
-    → CommandProposesFor plan.policy plan.hosted setting.net journal IsWritten
+    → ProposesFor plan.policy plan.hosted setting.net journal IsWritten
     → CommandProposes setting journal IsWritten
-in_force setting journal plan IsWritten is proposes = subst (λ rows. CommandProposesFor rows
+in_force setting journal plan IsWritten is proposes = subst (λ rows. ProposesFor rows
     (plan_at setting journal (current_mark journal)) setting.net journal IsWritten) is.policy
-    (subst (λ hosted. CommandProposesFor plan.policy hosted setting.net journal IsWritten) is.hosted
+    (subst (λ hosted. ProposesFor plan.policy hosted setting.net journal IsWritten) is.hosted
     proposes)
 
 pub whole_told : (command : ReplayCommand) (files : Option Files) (inputs : Inputs)
@@ -134,7 +134,7 @@ whole_told command files inputs journal None plan takes_memory before now (Err s
 whole_told command files inputs journal None plan takes_memory before now (Err sink.NoMemory) answer
     is after = by_some (after.some refl)
   where
-    by_some : (now ≡ before) ⊎ (IsTrue takes_memory × CommandProposesFor plan.policy plan.hosted
+    by_some : (now ≡ before) ⊎ (IsTrue takes_memory × ProposesFor plan.policy plan.hosted
         inputs.setting.net journal (λ text. SinkGainedPart before.bytes text now.bytes))
         → ProposalOutcome (IsAnswer (asked.Replay command) files) takes_memory status.NoMemory
         journal before now

@@ -2,7 +2,7 @@
 use Rattle.std.specs.Prelude.{◌≡◌, ◌≢◌, ◌≤◌, ◌⊎◌, Bool, Err, IsErrOf, IsOk, IsTrue, List, None, OnOk, Option, Result, Some, ℕ, ⊤}
 use Rattle.update_machine.specs.Exports.{Item, Net, Row, Setting, current_mark, plan_at, policy_at}
 use Rattle.partition.specs.Plan.{Hosted}
-use Rattle.rebalance.specs.Proposals.{CommandProposesFor}
+use Rattle.rebalance.specs.Proposals.{ProposesFor}
 use Rattle.shelf.specs.Exports.{SinkGainedPart, FaultsRose, SinkState}
 use Rattle.shelf.specs.declared.output.SinkError.{SinkError}
 use Rattle.shelf.specs.declared.output.SinkError.TheVariants.{Failed, NoMemory}
@@ -16,7 +16,7 @@ use Rattle.difane_cli.specs.declared.status.Status.TheVariants as status
 -- there is a proposal for the plan that is in force after the journal, and this is true of its text
 abbrev pub CommandProposes : Setting → List Item → (List ℕ → Type 0) → Type 0
 CommandProposes setting journal IsWritten =
-    CommandProposesFor (policy_at setting journal (current_mark journal))
+    ProposesFor (policy_at setting journal (current_mark journal))
     (plan_at setting journal (current_mark journal)) setting.net journal IsWritten
 
 -- the output after writing a proposal: it gained all of its text, or a part of it; or memory ran
@@ -24,12 +24,12 @@ CommandProposes setting journal IsWritten =
 pub record IsAfterProposal (rows : List Row) (plan : List Hosted) (net : Net)
     (journal : List Item) (takes_memory : Bool) (before now : SinkState)
     (result : Result (⊤) SinkError) : Type 0 where
-  pub whole : OnOk result (CommandProposesFor rows plan net journal (λ text. OutputWrote text before now))
+  pub whole : OnOk result (ProposesFor rows plan net journal (λ text. OutputWrote text before now))
   pub part : IsErrOf result Failed
-      → CommandProposesFor rows plan net journal (λ text. SinkGainedPart before.bytes text now.bytes)
+      → ProposesFor rows plan net journal (λ text. SinkGainedPart before.bytes text now.bytes)
   pub some : IsErrOf result NoMemory → (now ≡ before)
       ⊎ (IsTrue takes_memory
-      × CommandProposesFor rows plan net journal (λ text. SinkGainedPart before.bytes text now.bytes))
+      × ProposesFor rows plan net journal (λ text. SinkGainedPart before.bytes text now.bytes))
   pub calm : result ≢ Err Failed → now.faults ≡ before.faults
   pub failed : IsErrOf result Failed → FaultsRose before.faults now.faults
   pub faults : before.faults ≤ now.faults

@@ -9,7 +9,7 @@ use Rattle.placement.specs.Placement.{IsPlacement}
 use Rattle.policy_rules.specs.Exports.{LastRuleCovers}
 use Rattle.policy_rules.proofs.CallerLemmas.{first_match-scan}
 use Rattle.rebalance.specs.Loads.{Fits, bound, peak, weight}
-use Rattle.rebalance.specs.Proposals.{IsFoundFor, IsProposedFor, CommandProposesFor, peaks_text, proposal_sizes_in, targets_by_partition, proposal_weights_in, with_targets}
+use Rattle.rebalance.specs.Proposals.{IsFoundFor, IsProposedFor, ProposesFor, peaks_text, proposal_sizes_in, targets_by_partition, proposal_weights_in, with_targets}
 use Rattle.rebalance.specs.Spread.{ArePartitionsWeighed, IsProposal, SpreadLaws}
 use Rattle.rebalance.specs.declared.plan_proposal.Proposal.{Proposal}
 use Rattle.show_text.specs.Text.{compile_text}
@@ -171,7 +171,7 @@ pub text_of_found : {E : Type 0} (rows : List Row) (plan : List Hosted) (net : N
     → IsFoundFor rows plan net journal found
     → text ≡ compile_text found.plan.policy found.plan.hosted net → IfOk result
     (λ whole. whole.items ≡ peaks_text found.old_peak found.new_peak found.bound ++ text)
-    → IfOk result (λ whole. CommandProposesFor rows plan net journal (λ told. whole.items ≡ told))
+    → IfOk result (λ whole. ProposesFor rows plan net journal (λ told. whole.items ≡ told))
 text_of_found rows plan net journal found text (Err error) is plan_text made = tt
 text_of_found rows plan net journal found text (Ok whole) is plan_text made =
     let weights = proposal_weights_in journal plan in

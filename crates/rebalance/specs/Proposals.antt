@@ -76,7 +76,7 @@ pub record IsFoundFor (rows : List Row) (plan : List Hosted) (net : Net) (journa
   pub least : found.bound ≡ bound (proposal_weights_in journal plan) (rooms_of net)
 
 -- there is a proposal, and this is true of its text
-pub record CommandProposesFor (rows : List Row) (plan : List Hosted) (net : Net) (journal : List Item)
+pub record ProposesFor (rows : List Row) (plan : List Hosted) (net : Net) (journal : List Item)
     (IsWritten : List ℕ → Type 0) : Type 0 where
   pub placement : List (List ℕ)
   pub proposed : IsProposedFor rows plan net journal placement

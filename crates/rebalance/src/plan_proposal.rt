@@ -1,7 +1,7 @@
 ghost use Rattle.std.specs.Prelude.{◌≡◌, ◌++◌, ◌<◌, ◌≤◌, ◌^◌, IfOk, length, sum};
 ghost use Rattle.net_file.specs.Net.{IsNet};
 ghost use Rattle.partition.specs.Plan.{IsPartitionPlan};
-ghost use Rattle.rebalance.specs.Proposals.{IsFoundFor, CommandProposesFor, peaks_text, targets_by_partition};
+ghost use Rattle.rebalance.specs.Proposals.{IsFoundFor, ProposesFor, peaks_text, targets_by_partition};
 ghost use Rattle.rebalance.specs.Spread.{IsProposal};
 
 use crate::laws::spread_laws;
@@ -43,7 +43,7 @@ pub fn proposal_text(
 ) -> Result<Vec<u8>, AllocError>
     requires net { IsNet net.now }
     requires plan { IsPartitionPlan plan.now.policy net.now plan.now.hosted }
-    ensures { IfOk result (λ text. CommandProposesFor plan.now.policy plan.now.hosted net.now journal.now
+    ensures { IfOk result (λ text. ProposesFor plan.now.policy plan.now.hosted net.now journal.now
         (λ whole. text.items ≡ whole)) }
 {
     let found = find_proposal(alloc, journal, plan, net)?;

@@ -1,5 +1,5 @@
 use Rattle.std.proofs.Common.{[], ◌≡◌, List, ap, subst, sym, ℕ}
-use Rattle.rebalance.specs.Proposals.{CommandProposesFor}
+use Rattle.rebalance.specs.Proposals.{ProposesFor}
 use Rattle.difane_cli.specs.Exports.{IsAfterProposing}
 use Rattle.difane_cli.proofs.ProposalOutcomes.{no_proposal, wrote_proposal}
 use Rattle.difane_cli.proofs.proposing.write_proposal.Goals as goal
@@ -13,7 +13,7 @@ returns-in-Ok g c =
     let now = g.K.Sink.state c.write_whole.new.sink in
     rw c.in-None.is (wrote_proposal plan.policy plan.hosted net journal c.deref.result.now
     g.K.Sink.takes_memory before now c.write_whole.result
-    (subst (λ (text : List ℕ). CommandProposesFor plan.policy plan.hosted net journal
+    (subst (λ (text : List ℕ). ProposesFor plan.policy plan.hosted net journal
     (λ whole. text ≡ whole)) (sym c.deref.ensures.value) c.in-Ok.ensures)
     c.write_whole.ensures.after
     (λ none. ap (λ k. g.K.Sink.state k) (c.write_whole.ensures.no_bytes none).1))
