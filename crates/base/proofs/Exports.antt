@@ -40,7 +40,7 @@ pub use Rattle.std.proofs.lemmas.List.FromFn.{fill_by_all, get_or-enumerate_from
 pub use Rattle.std.proofs.lemmas.List.Kept.{AllPairs-cons, AllPairs-filter}
 pub use Rattle.std.proofs.lemmas.List.Quantifiers.{all_pairs_push, all_pairs_remove, position-Some}
 pub use Rattle.std.proofs.lemmas.List.Sorted.{All-permutation, Contains-permutation, IsPermutation-append_right, IsPermutation-filter_both, IsPermutation-refl, IsPermutation-sym, IsPermutation-trans, answers_always, sum_by-IsPermutation}
-pub use Rattle.std.proofs.lemmas.List.EventStepsSplit.{join_with_byte-slice_split, length-slice_split, slice_split_at, slice_split_none}
+pub use Rattle.std.proofs.lemmas.List.Splits.{join_with_byte-slice_split, length-slice_split, slice_split_at, slice_split_none}
 pub use Rattle.std.proofs.lemmas.List.Sums.{AllPass-from_list_all, count_by-le-length, fold-append, get_or-le-sum_by, length-filter, list_all-from_AllPass, passes_at_first, position_or_len_is, prefix_len-le-length, sum-map, sum_by-append, sum_by-cons, sum_by-le, sum_by-le-sum_by, sum_by-set, sum_by-take-drop, sum_by-take-le, sum_by_more, sum_by_push, take_while-cons}
 pub use Rattle.std.proofs.lemmas.Map.Keys.{any_passes_from_place, ge_from_not_lt}
 pub use Rattle.std.proofs.lemmas.Map.Made.{IsDistinct-from_AllPairs, length-IsIntersection}

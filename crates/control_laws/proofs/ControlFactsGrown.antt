@@ -389,15 +389,15 @@ by_number before (Item.Sent number sent) n message is = by_test (number == n) re
 by_number before next n message is = inr (rw (message_more before next n) at is)
 
 -- what is true of the one, and of those that were sent before, is true of each
-pub new_or_old : (cause : List Item → Item → Type 0) (QuietVerdictSays : Place → Body → Type 0)
+pub new_or_old : (cause : List Item → Item → Type 0) (Says : Place → Body → Type 0)
     (before : List Item) (next : Item) → cause before next
     → ((n : ℕ) (message : Message) → cause before (Item.Sent n message)
-    → QuietVerdictSays message.to message.body)
+    → Says message.to message.body)
     → ((n : ℕ) (message : Message) → message_of before n ≡ Some message
-    → QuietVerdictSays message.to message.body)
+    → Says message.to message.body)
     → (n : ℕ) (message : Message) → message_of (before ++ next ∷ []) n ≡ Some message
-    → QuietVerdictSays message.to message.body
-new_or_old cause QuietVerdictSays before next has new old n message is =
+    → Says message.to message.body
+new_or_old cause Says before next has new old n message is =
     elim (by_number before next n message is) [
       | inl sent ↦ new n message (subst (cause before) sent has)
       | inr there ↦ old n message there

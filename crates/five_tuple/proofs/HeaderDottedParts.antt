@@ -5,7 +5,7 @@ use Rattle.std.specs.List.{list_all}
 use Rattle.std.specs.Str.Parse.{digits_value}
 use Rattle.std.proofs.lemmas.Bool.{and_cases, and_parts, cases_lt, both_ways, not-false, not-true}
 use Rattle.std.proofs.lemmas.List.Quantifiers.{position-Some}
-use Rattle.std.proofs.lemmas.List.EventStepsSplit.{slice_split_at}
+use Rattle.std.proofs.lemmas.List.Splits.{slice_split_at}
 use Rattle.five_tuple.specs.Exports.{IsByteBefore, LacksAddressByte, address_from, address_of, has_leading_zero, number_up_to, text_parts_round_byte}
 use Rattle.five_tuple.proofs.HeaderWrittenNumbers.{accepted, leading_zero, no_digit, other_byte, too_large}
 use Rattle.five_tuple.proofs.HeaderPartReadings.{address_reads}

@@ -8,7 +8,7 @@ use Rattle.policy_rules.specs.declared.rules.Partition.{Partition}
 use Rattle.tunnel.specs.Exports.{TunnelValue}
 use Rattle.switch_table.specs.declared.tables.Tables.{Tables}
 use Rattle.switch_core.specs.Exports.{Answer, Answered, IsArrivingAtSwitch, IsAtAuthority, IsDecidedIn, IsEntry, IsFirstHit, IsRightAnswer, SwitchSite, SwitchValue, admitted, switch_arrival_of, arrive_answer, arrived_on_leg, arrived_with, decided_in_own_part, enter_answer, entered_with, entry_of, held_tables, holds_version, looked_up, no_part, own_part, packet_of, part_numbered, place_of_first, received, serves}
-use Rattle.switch_core.specs.declared.tunnel_calls.Arrived.TheVariants as log_arrival
+use Rattle.switch_core.specs.declared.tunnel_calls.Arrived.TheVariants as arrival
 use Rattle.switch_core.specs.declared.tunnel_calls.Entered.TheVariants as entry
 use Rattle.switch_core.specs.declared.tunnel_calls.Packet.{Packet}
 use Rattle.switch_core.proofs.SwitchLookupAnswers.{hit_in, lookup_is, sound_held, version_held}
@@ -44,7 +44,7 @@ entry_is s site packet = record {
 -- ---- a packet is at the end of its route
 
 pub arrive_out : (s : SwitchValue) (site : SwitchSite) (t : TunnelValue) (port : ℕ) →
-    t.leg ≡ Exit port → arrive_answer s site t ≡ log_arrival.Out port
+    t.leg ≡ Exit port → arrive_answer s site t ≡ arrival.Out port
 unfolding received
 arrive_out s site t port leg = ap (λ leg. switch_arrival_of (arrived_on_leg s site (packet_of t) leg)) leg
 

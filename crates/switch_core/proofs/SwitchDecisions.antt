@@ -16,7 +16,7 @@ use Rattle.switch_table.specs.declared.search.Found.TheVariants.{Cached, Authori
 use Rattle.switch_table.specs.declared.tables.Tables.{Tables}
 use Rattle.ctrl_msg.specs.declared.message.Body.{Body}
 use Rattle.switch_core.specs.Exports.{Answer, Decided, IsArrivingAtSwitch, IsByOwnRule, IsDecidedIn, IsDecision, IsReady, IsRightAnswer, Seek, SwitchSite, Stuck, SwitchValue, admitted, arrive_answer, arrived_with, by_entry, by_rule, cause_of, enter_answer, entered_with, entry_of, held_tables, looked_up, lookup_by_stamp, next_of, own_part, packet_of, route_known, rule_to_cache, setting_out, stamp_tables}
-use Rattle.switch_core.specs.declared.tunnel_calls.Arrived.TheVariants as log_arrival
+use Rattle.switch_core.specs.declared.tunnel_calls.Arrived.TheVariants as arrival
 use Rattle.switch_core.specs.declared.deciding.Decision.{Decision}
 use Rattle.switch_core.specs.declared.tunnel_calls.Entered.TheVariants as entry
 use Rattle.switch_core.specs.declared.tunnel_calls.Next.{Next}
@@ -118,7 +118,7 @@ told_entry : (answer : Answer) (decision : Decision) (way : Next) →
 told_entry answer decision way is = search rules
 
 told_arrival : (answer : Answer) (decision : Decision) (cache : Option Body) (way : Next)
-    → arrived_with answer ≡ log_arrival.Decided decision cache way → answer ≡ Decided decision cache way
+    → arrived_with answer ≡ arrival.Decided decision cache way → answer ≡ Decided decision cache way
 told_arrival answer decision cache way is = search rules
 
 pub decided_on_entry : (s : SwitchValue) (site : SwitchSite) (packet : Packet) (decision : Decision)
@@ -135,7 +135,7 @@ decided_on_entry s site packet decision way ready is =
 
 pub decided_on_arrival : (s : SwitchValue) (site : SwitchSite) (t : TunnelValue) (decision : Decision)
     (cache : Option Body) (way : Next) → IsArrivingAtSwitch s t →
-    arrive_answer s site t ≡ log_arrival.Decided decision cache way →
+    arrive_answer s site t ≡ arrival.Decided decision cache way →
     IsDecision s site (packet_of t) decision cache way
 decided_on_arrival s site t decision cache way arriving is = by_leg t.leg refl where
   packet : Packet

@@ -33,7 +33,7 @@ use Rattle.switch_core.specs.Moving.{Moved, PacketStandsAt, link_found_down, hop
 use Rattle.switch_core.specs.State.{IsSwitch, SwitchValue, held_tables, holds_version, serves, stamp_tables}
 use Rattle.switch_core.specs.Answers.{Answer, Decided, Seek, Stuck, arrived_with, entered_with}
 use Rattle.switch_core.specs.declared.tunnel_calls.Arrived.{Arrived}
-use Rattle.switch_core.specs.declared.tunnel_calls.Arrived.TheVariants as log_arrival
+use Rattle.switch_core.specs.declared.tunnel_calls.Arrived.TheVariants as arrival
 use Rattle.switch_core.specs.declared.deciding.Decision.{Decision}
 use Rattle.switch_core.specs.declared.tunnel_calls.Entered.{Entered}
 use Rattle.switch_core.specs.declared.tunnel_calls.Entered.TheVariants as entry
@@ -197,7 +197,7 @@ pub record ExitLaws : Type 0 where
 pub record IsSwitchArrival (s : SwitchValue) (site : SwitchSite) (t : TunnelValue)
     (arrive_answer : Arrived) : Type 0 where
   -- at the end of its way to a port it leaves by that port
-  pub out : (port : ℕ) → t.leg ≡ ExitLeg port → arrive_answer ≡ log_arrival.Out port
+  pub out : (port : ℕ) → t.leg ≡ ExitLeg port → arrive_answer ≡ arrival.Out port
   -- on a leg of a version that the switch has it is decided by that version: by the first rule of
   -- the leg's partition to hold the header
   pub decided : (version partition : ℕ) (tables : Tables) →
@@ -248,7 +248,7 @@ pub record DecisionLaws : Type 0 where
       × IsDecision s site packet decision cache way
   pub on_arrival : (s : SwitchValue) (site : SwitchSite) (t : TunnelValue)
       (decision : Decision) (cache : Option Body) (way : Next) → IsArrivingAtSwitch s t →
-      arrive_answer s site t ≡ log_arrival.Decided decision cache way →
+      arrive_answer s site t ≡ arrival.Decided decision cache way →
       IsDecision s site (packet_of t) decision cache way
   -- by the tables of a plan, the switch's own rules decide as the plan's policy does
   pub as_policy : (s : SwitchValue) (header : Header) (decision : Decision) (rows : List Row)

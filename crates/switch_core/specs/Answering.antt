@@ -17,7 +17,7 @@ use Rattle.switch_table.specs.declared.tables.Tables.{Tables}
 use Rattle.switch_table.specs.declared.search.Found.{Found}
 use Rattle.switch_table.specs.declared.search.Found.TheVariants.{Cached, Authority, Redirect}
 use Rattle.switch_core.specs.Answers.{Answer, SwitchArrival, Decided, Seek, Stuck, switch_arrival_of, entry_of}
-use Rattle.switch_core.specs.Answers as log_arrival
+use Rattle.switch_core.specs.Answers as arrival
 use Rattle.switch_core.specs.declared.tunnel_calls.Arrived.{Arrived}
 use Rattle.switch_core.specs.declared.tunnel_calls.Entered.{Entered}
 use Rattle.switch_core.specs.declared.tunnel_calls.Packet.{Packet}
@@ -101,9 +101,9 @@ IsAtAuthority s header (ExitLeg port) = ⊤
 -- out by the leg's port; or by the tables of the leg's version, or, if the switch doesn't have
 -- them, by a new lookup
 abbrev pub arrived_on_leg : SwitchValue → SwitchSite → Packet → Leg → SwitchArrival
-arrived_on_leg s site packet (ExitLeg port) = log_arrival.Out port
+arrived_on_leg s site packet (ExitLeg port) = arrival.Out port
 arrived_on_leg s site packet (SeekLeg version partition) =
-    log_arrival.Answered (option_map_or (decided_in_own_part s site packet partition)
+    arrival.Answered (option_map_or (decided_in_own_part s site packet partition)
     (held_tables s version) (looked_up s site packet))
 
 unfoldable pub received : SwitchValue → SwitchSite → TunnelValue → SwitchArrival

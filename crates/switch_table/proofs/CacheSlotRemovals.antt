@@ -176,25 +176,25 @@ dead_killed (suc first) (x ∷ xs) (suc at) slot dead = All-cons IsDead x
 
 module _ (test : CacheKey → Bool) where
   -- the live slots whose keys pass
-  abbrev pub is_kept_in_buckets : SlotPair → Bool
-  is_kept_in_buckets slot = is_live slot && test slot.0
+  abbrev pub is_kept : SlotPair → Bool
+  is_kept slot = is_live slot && test slot.0
 
   abbrev passes : Pair → Bool
   passes pair = test pair.0
 
   pub kept_pairs : (slots : List SlotPair) →
-      live_pairs (filter is_kept_in_buckets slots) ≡ filter (λ pair. test pair.0) (live_pairs slots)
+      live_pairs (filter is_kept slots) ≡ filter (λ pair. test pair.0) (live_pairs slots)
   kept_pairs [] = refl
   kept_pairs (x ∷ xs) = search (rules, pair_of_live, kept_pairs xs)
 
   kept_flags : (slots : List SlotPair) →
-      live_flags_of (filter is_kept_in_buckets slots) ≡ replicate (length (filter is_kept_in_buckets slots)) true
+      live_flags_of (filter is_kept slots) ≡ replicate (length (filter is_kept slots)) true
   kept_flags [] = refl
   kept_flags (x ∷ xs) = search (rules, kept_flags xs)
 
   -- all of these are live
   pub kept_slots : (live : LiveCounts) (slots new : List SlotPair) (count : ℕ) →
-      new ≡ filter is_kept_in_buckets slots → count ≡ length new → AreLiveCounts live (replicate count true) →
+      new ≡ filter is_kept slots → count ≡ length new → AreLiveCounts live (replicate count true) →
       AreNamed 0 slots → AreSlots live 0 new
   kept_slots live slots new count made long counted named = search (rules, kept_flags, named_kept)
 

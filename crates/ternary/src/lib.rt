@@ -12,7 +12,7 @@
 //! /// The part of a rule that lies in a region.
 //! pub fn part_in(rule: &Word, region: &Word) -> Option<Word>
 //!     ensures part { IfSome result (λ part. IsMeet rule.now region.now part) }
-//!     ensures none { IsNone result ↔ AreDisjoint rule.now region.now }
+//!     ensures none { IsNone result ↔ AreDisjointWords rule.now region.now }
 //! {
 //!     rule.meet(region)
 //! }

@@ -14,7 +14,7 @@
 //! what a switch sends again.
 //!
 //! ```text
-//! let site = Site { near: near[0], ports: &ports };
+//! let site = SwitchSite { near: near[0], ports: &ports };
 //! log.enter(alloc, 1, &header, &mut switches[0], site)?;
 //! log.hop(alloc, 1, &mut switches, &near, &ports)?;
 //! log.send(alloc, message)?;

@@ -26,10 +26,10 @@ Holds false fact = ¬ fact
 
 -- whether the journal is a run of the machine, its ends have their causes, and its rows and
 -- entries are those of the schedule, which was played to its end
-pub record IsTried (is_run has_causes counts_entered : Bool) (journal : List Item) : Type 0 where
+pub record IsTried (is_run has_causes is_entered : Bool) (journal : List Item) : Type 0 where
   pub run : Holds is_run (IsRun office journal)
   pub causes : Holds has_causes (HaveCauses (HasCause office) [] journal)
-  pub entered : Holds counts_entered (AreEntered (rows_played None (events_of_rows journal)) journal)
+  pub entered : Holds is_entered (AreEntered (rows_played None (events_of_rows journal)) journal)
 
 -- all three are true
 abbrev pub IsRight : List Item → Type 0

@@ -1,12 +1,12 @@
 use Rattle.std.proofs.Common.{◌∙◌, ◌≡◌, ap, filter, rules}
 use Rattle.indexmap.proofs.CallerLemmas.{filter-RetainsPairs}
 use Rattle.switch_table.specs.Exports.{Pair, is_carried_key, live_pairs}
-use Rattle.switch_table.proofs.CacheSlotRemovals.{is_kept_in_buckets, kept_pairs, kept_slots}
+use Rattle.switch_table.proofs.CacheSlotRemovals.{is_kept, kept_pairs, kept_slots}
 use Rattle.switch_table.proofs.slots.Slots.keep_carried.Goals as goal
 use Rattle.switch_table.proofs.slots.Slots.keep_carried.Goals.{After-retain}
 
 kept : (c : After-retain) → c.retain.new.self.entries
-    ≡ filter (is_kept_in_buckets (is_carried_key c.args.number c.args.touched.now)) c.self.inside.map.entries
+    ≡ filter (is_kept (is_carried_key c.args.number c.args.touched.now)) c.self.inside.map.entries
 kept c = search (rules, filter-RetainsPairs)
 
 pub invariant_of-self : goal.invariant_of-self

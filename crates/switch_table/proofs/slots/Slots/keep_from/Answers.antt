@@ -2,12 +2,12 @@ use Rattle.std.proofs.Common.{◌∙◌, ◌≡◌, ap, filter, leb, rules}
 use Rattle.indexmap.proofs.CallerLemmas.{filter-RetainsPairs}
 use Rattle.switch_table.specs.Exports.{Pair, live_pairs}
 use Rattle.switch_table.specs.declared.key.CacheKey.{CacheKey}
-use Rattle.switch_table.proofs.CacheSlotRemovals.{is_kept_in_buckets, kept_pairs, kept_slots}
+use Rattle.switch_table.proofs.CacheSlotRemovals.{is_kept, kept_pairs, kept_slots}
 use Rattle.switch_table.proofs.slots.Slots.keep_from.Goals as goal
 use Rattle.switch_table.proofs.slots.Slots.keep_from.Goals.{After-retain}
 
 kept : (c : After-retain) → c.retain.new.self.entries
-    ≡ filter (is_kept_in_buckets (λ (key : CacheKey). leb c.args.number key.number)) c.self.inside.map.entries
+    ≡ filter (is_kept (λ (key : CacheKey). leb c.args.number key.number)) c.self.inside.map.entries
 kept c = search (rules, filter-RetainsPairs)
 
 pub invariant_of-self : goal.invariant_of-self
