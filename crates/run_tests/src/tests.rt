@@ -1,5 +1,6 @@
 mod faults;
 mod full;
 mod grammar;
+mod limits;
 mod loads;
 mod meter_runs;
