@@ -1,6 +1,6 @@
-//! Worked runs of the program, over files and outputs in memory: reads, writes and allocations that
-//! fail, arguments that the grammar doesn't have, policies and changes at their limits, the case of
-//! a load, meters that a caller made, and plays that stop full.
+//! Worked runs of the program, over files and outputs in memory: what fails, what is refused, and
+//! what a caller's meters get. Reads, writes and allocations fail; policies and changes are at
+//! their limits; plays stop full; and a load case is played.
 //!
 //! Only tests, of what no file of `examples` can show.
 #![tactic(auto)]
