@@ -134,7 +134,7 @@ print_from line (policy ∷ switch ∷ []) =
     Some (Print (record { policy = policy; switch = Some switch; net = line.net }))
 print_from line _ = None
 
--- a command of this many names that has no flag
+-- `compile` or `show`, with this many names and no `--quiet`
 abbrev pub print_of : ℕ → StatedLine → Option Command
 print_of count line =
     if length line.names == count && not line.quiet then print_from line line.names else None

@@ -1,7 +1,7 @@
 -- What the controller writes: versions, marks, and commands to switches.
 use Rattle.std.proofs.Common.{[], ◌++◌, ◌+◌, ◌==◌, ◌∙◌, ◌∷◌, ◌≡◌, Bool, IsTrue, List, None, Option, Some, ap, arith, false, filter, filter_map, flat_map, inl, inr, is_some, map, not, refl, sym, true, ℕ}
 use Rattle.base.proofs.Exports.{⊤, AllByRecursion, each_always, each_filter, each_flat_map, each_flat_map_in, each_given, each_map, filter_map-append}
-use Rattle.update_machine.specs.Exports.{Advert, Advertise, Body, Collect, HaveCauses, Hello, Install, Item, KnownKeeps, LinksKeep, Message, OpenAt, Setting, Stamp, SwitchKeeps, advert_to, adverts_known, after_hello, confirm_items, controller_heard, controller_items, has_acked, usable_links_changed, heard, held_adverts, hello_of, install_for, installs_to, installs_to_all, is_member, is_over, is_up, journal_items_then, known_boot, link_changes, messages_of, messages_over_link, near, opened_at, other_advert, own_advert, advert_passed_on, resend_items, resent_by_switch, send_items, sends_or_nothing, settling, submitted_items, switches_in, switches_of, unacked_installs, update_code, update_items, version_count, versions_from_current}
+use Rattle.update_machine.specs.Exports.{Advert, Advertise, Body, Collect, HaveCauses, Hello, Install, Item, KnownKeeps, LinksKeep, Message, OpenAt, Setting, Stamp, SwitchKeeps, advert_to, adverts_known, after_hello, confirm_items, controller_heard, controller_items, has_acked, usable_links_changed, heard, held_adverts, hello_of, install_for, installs_to, installs_to_all, is_member, is_over, is_up, journal_items_then, known_boot, link_changes, messages_of, messages_over_link, near, opened_at, other_advert, own_advert, advert_passed_on, resend_items, resent_by_switch, send_items, sends_or_nothing, settling, submitted_items, switches_in, switches_of, journal_unacked_installs, update_code, update_items, version_count, versions_from_current}
 use Rattle.control_laws.proofs.ControlMessageSends.{PartsHave, acked_same, parts_have, sends_kept, settling_has}
 use Rattle.update_machine.proofs.Exports.{have_first, have_in_turn, known_keeps, links_keep, switch_keeps}
 use Rattle.control_laws.proofs.ControlFactsGrown.{count_more, fact_on, have_weaker, known_more, over_more, told_more}
@@ -389,7 +389,7 @@ last_heard before now s bodies advert heard other = record {
 -- ---- what is sent again has its causes: a switch tells what it holds, the controller no advert
 
 unacked_told : (setting : Setting) (journal : List Item) (s : ℕ) (versions : List ℕ)
-    → AllByRecursion (Tells setting journal) (unacked_installs setting journal s versions)
+    → AllByRecursion (Tells setting journal) (journal_unacked_installs setting journal s versions)
 unacked_told setting journal s versions =
     each_map (Tells setting journal) (λ version. install_for setting journal version s)
     (filter (λ version. not (has_acked journal s version)) versions)

@@ -1,7 +1,7 @@
 -- The steps that leave all that the controller knows as it was.
 use Rattle.std.proofs.Common.{[], ◌++◌, ◌+◌, ◌==◌, ◌∙◌, ◌∷◌, ◌≡◌, Bool, IsFalse, IsTrue, List, None, Option, Some, ap, arith, eqb-true, false, filter, if◌then◌else◌, is_some, map, not, refl, sym, true, ℕ}
 use Rattle.base.proofs.Exports.{⊤, AllByRecursion, each_always, each_flat_map, each_map, option_or}
-use Rattle.update_machine.specs.Exports.{Advert, Body, Confirm, ControllerKeeps, Crash, Deliver, HaveCauses, Item, Message, OpenAt, Packet, Place, Resend, Restart, Setting, Step, Update, acked_stamp, advert_to, controller_heard, deliver_items, first_open_number, has_acked, held_adverts, install_for, is_member, is_message_to_controller, is_over, known_boot, link_changes, near, next_message, next_packet, open_sent, opened_at, advert_passed_on, piece, resend_items, restart_items, send_items, sent_from, step_items, switch_items, switches_in, to_switch, unacked_installs, versions_from_current}
+use Rattle.update_machine.specs.Exports.{Advert, Body, Confirm, ControllerKeeps, Crash, Deliver, HaveCauses, Item, Message, OpenAt, Packet, Place, Resend, Restart, Setting, Step, Update, acked_stamp, advert_to, controller_heard, deliver_items, first_open_number, has_acked, held_adverts, install_for, is_member, is_message_to_controller, is_over, known_boot, link_changes, near, next_message, next_packet, open_sent, opened_at, advert_passed_on, piece, resend_items, restart_items, send_items, sent_from, step_items, switch_items, switches_in, to_switch, journal_unacked_installs, versions_from_current}
 use Rattle.update_machine.proofs.Exports.{controller_keeps}
 use Rattle.control_laws.proofs.ControlFactsGrown.{count_more, current_more, fact_on, have_weaker, known_more, message_more, opened_at_more, over_more, piece_has, retired_more, told_more}
 use Rattle.control_laws.proofs.ControlMessageSends.{acked_same}
@@ -245,7 +245,7 @@ installs_reopen setting journal s versions =
     versions)
 
 unacked_reopen : (setting : Setting) (journal : List Item) (s : ℕ) (versions : List ℕ)
-    → AllByRecursion (ReopensAlone journal) (unacked_installs setting journal s versions)
+    → AllByRecursion (ReopensAlone journal) (journal_unacked_installs setting journal s versions)
 unacked_reopen setting journal s versions = installs_reopen setting journal s
     (filter (λ version. not (has_acked journal s version)) versions)
 

@@ -1,7 +1,7 @@
 -- How many messages each block of a piece sends.
 use Rattle.std.proofs.Common.{[], if◌then◌else◌, ◌++◌, ◌+◌, ◌∷◌, ◌≡◌, ◌≤◌, Bool, IsFalse, List, Option, arith, cond, false, filter, flat_map, length, length-append, map, not, refl, true, ℕ, rules}
 use Rattle.base.proofs.Exports.{length-flat_map, length-map, length-range_with_len, length_filter_less, range_with_len, sum_by-cons, sum_each}
-use Rattle.update_machine.specs.Exports.{Action, Advert, AuthorityRule, Body, Found, Header, Item, Leg, Message, NoneConcern, Setting, Step, advert_to, after_hello, arrive_items, authority_items, cache_items, concerns_policies, confirm_items, controller_items, count_of, current_items, end_items, expire_items, forget_items, found_items, has_acked, held_adverts, hello_of, hop_items, in_turn, install_for, installs_to, installs_to_all, is_member, is_sending, is_up, journal_items_then, leg_items, lookup_items, lose_items, members, move_items, near, next_message, nothing, open_items, packet_items, advert_passed_on, reroute_items, resend_items, resent_by_controller, resent_by_switch, resent_to_member, retired_items, send_items, sends_or_nothing, sent_from, settling, step_items, submitted_items, switches_in, switches_of, unacked_installs, update_items, version_count}
+use Rattle.update_machine.specs.Exports.{Action, Advert, AuthorityRule, Body, Found, Header, Item, Leg, Message, NoneConcern, Setting, Step, advert_to, after_hello, arrive_items, authority_items, cache_items, concerns_policies, confirm_items, controller_items, count_of, current_items, end_items, expire_items, forget_items, found_items, has_acked, held_adverts, hello_of, hop_items, in_turn, install_for, installs_to, installs_to_all, is_member, is_sending, is_up, journal_items_then, leg_items, lookup_items, lose_items, members, move_items, near, next_message, nothing, open_items, packet_items, advert_passed_on, reroute_items, resend_items, resent_by_controller, resent_by_switch, resent_to_member, retired_items, send_items, sends_or_nothing, sent_from, settling, step_items, submitted_items, switches_in, switches_of, journal_unacked_installs, update_items, version_count}
 use Rattle.base.specs.Exports.{has}
 use Rattle.net_file.specs.Exports.{IsNet}
 use Rattle.update_machine.proofs.Exports.{count_of_append, policies_keep}
@@ -178,7 +178,7 @@ submitted_few setting net journal = search (rules, put_few, all_installs_few, se
 -- ---- what is sent again
 
 unacked_few : (setting : Setting) (journal : List Item) (s low n : ℕ)
-    → length (unacked_installs setting journal s (range_with_len low n)) ≤ n
+    → length (journal_unacked_installs setting journal s (range_with_len low n)) ≤ n
 unacked_few setting journal s low n =
     let test : ℕ → Bool = λ version. not (has_acked journal s version) in
     omega (

@@ -2,7 +2,7 @@
 use Rattle.std.proofs.Common.{[], ◌&&◌, ◌++◌, ◌+◌, ◌-◌, ◌<◌, ◌∙◌, ◌∷◌, ◌≡◌, ◌≤◌, ◌⊎◌, Bool, IsFalse, IsTrue, List, None, Option, Some, ap, arith, false, filter, flat_map, inl, inr, is_some, length, map, nat_lt, not, refl, subst, suc, sym, true, zero, ℕ, rules}
 use Rattle.base.proofs.Exports.{AllByRecursion, each_always, each_flat_map, each_kept, each_map, each_passing, option_or, range_with_len}
 pub use Rattle.policy_rules.proofs.CallerLemmas.{each_weaker}
-use Rattle.update_machine.specs.Exports.{Advert, Advertise, Body, CacheRule, Collect, HaveCauses, Hello, Install, Installed, Item, Message, OpenAt, Place, Setting, Stamp, Stamped, SwitchKeeps, advert_to, collect_for, controller_heard, current_items, current_mark, first_open_number, has_acked, held_adverts, hello_of, install_for, is_joining, is_member, is_over, is_up, journal_items_then, known_boot, members, near, next_current, next_retired, open_for, open_items, open_sent, open_version, opened_at, opening_switches, resend_items, resent_by_controller, resent_by_switch, resent_to_member, retired_items, retired_mark, send_items, sent_from, settling, stamp_for, switches_in, switches_of, tables_at, touched_by, unacked_installs, version_count, versions_from_current}
+use Rattle.update_machine.specs.Exports.{Advert, Advertise, Body, CacheRule, Collect, HaveCauses, Hello, Install, Installed, Item, Message, OpenAt, Place, Setting, Stamp, Stamped, SwitchKeeps, advert_to, collect_for, controller_heard, current_items, current_mark, first_open_number, has_acked, held_adverts, hello_of, install_for, is_joining, is_member, is_over, is_up, journal_items_then, known_boot, members, near, next_current, next_retired, open_for, open_items, open_sent, open_version, opened_at, opening_switches, resend_items, resent_by_controller, resent_by_switch, resent_to_member, retired_items, retired_mark, send_items, sent_from, settling, stamp_for, switches_in, switches_of, tables_at, touched_by, journal_unacked_installs, version_count, versions_from_current}
 use Rattle.switch_table.specs.Exports.{tables_of}
 use Rattle.update_machine.proofs.Exports.{have_first, have_in_turn, policies_keep, switch_keeps}
 use Rattle.control_laws.specs.Exports.{HasItemCause, IsFirstOpening, IsForKnown, IsPresentIn, IsRightFrom, IsRightMessage, IsRightOpening, IsRightTo}
@@ -289,7 +289,7 @@ resend_by_switch setting journal s = by_up (is_up journal s) refl where
 unacked_right : (setting : Setting) (journal : List Item) (s : ℕ) (versions : List ℕ)
     → AllByRecursion (λ version. IsRight setting journal (install_for setting journal version s))
     versions
-    → AllByRecursion (IsRight setting journal) (unacked_installs setting journal s versions)
+    → AllByRecursion (IsRight setting journal) (journal_unacked_installs setting journal s versions)
 unacked_right setting journal s versions all = each_map (IsRight setting journal)
     (λ version. install_for setting journal version s)
     (filter (λ version. not (has_acked journal s version)) versions)

@@ -1,7 +1,7 @@
 -- Items that have their causes keep what is known of openings and of switches that serve.
 use Rattle.std.proofs.Common.{[], ◌++◌, ◌+◌, ◌-◌, ◌==◌, ◌∙◌, ◌∷◌, ◌≡◌, ◌≤◌, Bool, IsFalse, IsTrue, List, None, Option, Some, arith, eq-eqb, false, if◌then◌else◌, inl, inr, is_some, nat_lt, refl, ℕ, rules}
 use Rattle.base.proofs.Exports.{AllByRecursion, each_append, nat_tests, option_map_or, range_with_len}
-use Rattle.update_machine.specs.Exports.{HaveCauses, Item, Message, OpenAt, Setting, boot_of, collect_for, controller_heard, current_mark, first_open_number, is_member, is_over, is_up, known_boot, message_of, open_for, open_sent, open_version, opened_at, resend_items, resent_by_controller, resent_by_switch, resent_to_member, retired_mark, send_items, serves, stamp_for, to_switch, unacked_installs, version_count, versions_from_current}
+use Rattle.update_machine.specs.Exports.{HaveCauses, Item, Message, OpenAt, Setting, boot_of, collect_for, controller_heard, current_mark, first_open_number, is_member, is_over, is_up, known_boot, message_of, open_for, open_sent, open_version, opened_at, resend_items, resent_by_controller, resent_by_switch, resent_to_member, retired_mark, send_items, serves, stamp_for, to_switch, journal_unacked_installs, version_count, versions_from_current}
 use Rattle.update_machine.proofs.Exports.{start_laws}
 use Rattle.control_laws.specs.Exports.{BootsAreKnown, HasItemCause, IsRightOpening, OpensAtOneVersion, ServingIsKnown}
 use Rattle.control_laws.proofs.ControlFactsGrown.{AreKept, FromCauses, boot_more, boots_on, by_number, from_causes, known_more, opened_at_more, opened_in, opened_is, opened_more, over_more, raised, serving_more, told_past, up_more}
@@ -15,7 +15,7 @@ later_versions journal =
 
 pub each_to_member : (P : Message → Type 0) (setting : Setting) (journal : List Item) (s : ℕ)
     → P (open_for journal (open_version journal s) s)
-    → AllByRecursion P (unacked_installs setting journal s (later_versions journal))
+    → AllByRecursion P (journal_unacked_installs setting journal s (later_versions journal))
     → P (stamp_for setting journal (current_mark journal) s)
     → ((retired_mark journal == 0) ≡ false → P (collect_for journal (retired_mark journal) s))
     → AllByRecursion P (resent_to_member setting journal s)
@@ -24,7 +24,7 @@ each_to_member P setting journal s opening tables stamp collect = search (rules,
 pub each_by_controller : (P : Message → Type 0) (setting : Setting) (journal : List Item) (s : ℕ)
     → (IsFalse (is_over journal s) → IsTrue (is_member journal s)
     → AllByRecursion P (resent_to_member setting journal s)) → (IsFalse (is_over journal s)
-    → AllByRecursion P (unacked_installs setting journal s (versions_from_current journal)))
+    → AllByRecursion P (journal_unacked_installs setting journal s (versions_from_current journal)))
     → AllByRecursion P (resent_by_controller setting journal s)
 unfolding resent_by_controller
 each_by_controller P setting journal s to_member to_other = search rules

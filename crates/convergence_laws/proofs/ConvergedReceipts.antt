@@ -2,7 +2,7 @@
 use Rattle.std.proofs.Common.{[], ◌&&◌, ◌++◌, ◌<◌, ◌==◌, ◌||◌, ◌∙◌, ◌∷◌, ◌≡◌, ◌≤◌, ◌⊎◌, Bool, IsFalse, IsTrue, List, Some, ap, append-nil, append_assoc, arith, eq-eqb, eqb-true, false, inl, inr, refl, subst, sym, true, ℕ, rules}
 use Rattle.base.proofs.Exports.{list_any, nat_tests, ⊤}
 use Rattle.ctrl_msg.specs.Exports.{body_boot, to_controller}
-use Rattle.update_machine.specs.Exports.{AreMessagesReceived, Body, HaveCauses, IsQuiet, IsMessageReceived, IsMessageReplaced, Item, Message, Place, MessageReplaces, Sending, Setting, are_old_tables, begins_boot, receiver_boot_at, boot_of, changes_sendings, controller_heard, current_mark, folded_from, heard, is_for_boot, is_later_body, is_old_answer, is_up, matters, sendings, speaking_in_body, to_switch, was_delivered}
+use Rattle.update_machine.specs.Exports.{AreMessagesReceived, Body, HaveCauses, IsQuiet, IsMessageReceived, IsMessageReplaced, Item, Message, Place, MessageReplaces, Sending, Setting, are_old_tables, begins_boot, receiver_boot_at, boot_of, changes_sendings, controller_heard, current_mark, folded_from, heard, is_for_boot, is_later_body, is_old_ack_in_journal, is_up, matters, sendings, speaking_in_body, to_switch, was_delivered}
 use Rattle.steps.specs.Exports.{HasSwitch}
 use Rattle.update_machine.proofs.Exports.{count_of_append}
 use Rattle.control_laws.specs.Exports.{HasItemCause}
@@ -408,7 +408,7 @@ pub told_of : (setting : Setting) (journal : List Item) (s : ℕ) (body : Body)
     → IsQuiet setting journal → HaveCauses (IsInOrder setting) [] journal → HasSwitch setting.net s
     → IsSent journal (to_controller body) → IsTrue (is_up journal s)
     → speaking_in_body body ≡ Some (s, boot_of journal s)
-    → IsFalse (is_old_answer (current_mark journal) body) → WasHeard (controller_heard journal) body
+    → IsFalse (is_old_ack_in_journal (current_mark journal) body) → WasHeard (controller_heard journal) body
 told_of setting journal s body quiet causes there sent up speaks new = record {
   body = later.body;
   is = (each_in _ y _ (caused_traced setting journal causes).each later.is).course later.delivered;
@@ -423,7 +423,7 @@ told_of setting journal s body quiet causes there sent up speaks new = record {
   matter : (after : List Item) → IsTrue (matters journal s (to_controller body) after)
   matter after =
       let mine : (own == own) ≡ true = eq-eqb own own refl in
-      let fresh : is_old_answer (current_mark journal) body ≡ false = new in
+      let fresh : is_old_ack_in_journal (current_mark journal) body ≡ false = new in
       rw (up, speaks, eq-eqb s s refl, mine, fresh) refl
 
   later : IsGot journal Place.Controller body

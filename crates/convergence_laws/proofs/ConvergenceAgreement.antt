@@ -9,7 +9,7 @@ use Rattle.steps.specs.Exports.{HasSwitch}
 use Rattle.update_machine.proofs.Exports.{known_link_laws, open_net, ring, start_laws}
 use Rattle.control_laws.proofs.Exports.{AreKept, HasBothCauses, IsKnown, boot_more, ends_serve, fact_on, known_at_first, known_kept, own_on, own_origin, own_told, same_near, same_seq, turns}
 use Rattle.control_laws.specs.Exports.{OwnAreNewest}
-use Rattle.convergence_laws.specs.Exports.{AreUnusableLinks, HoldsAsNew, IsAsNew, IsNetworkFinished, IsQuietUpdated, LeadsOverUsable, NeighboursAgree, Reaches}
+use Rattle.convergence_laws.specs.Exports.{AreUnusableLinks, HoldsAsNew, IsAsNew, IsNetworkFinished, IsNetworkUpdated, LeadsOverUsable, NeighboursAgree, Reaches}
 use Rattle.convergence_laws.proofs.ConvergenceLinkChanges.{AreEnds, ends_there, near_both, newest_held, own_held, serving_turns}
 use Rattle.convergence_laws.proofs.ConvergenceFloods.{known_given}
 use Rattle.convergence_laws.proofs.ConvergenceAdverts.{HasNews, IsGiven, IsHad, IsToldTo, as_new_itself, as_new_through}
@@ -246,9 +246,9 @@ not_where_one_is_lost finished = let no : true ≡ false = finished.forgotten 1 
 
 -- ---- updates
 
-updated_at_first : IsQuietUpdated open_net []
+updated_at_first : IsNetworkUpdated open_net []
 updated_at_first = search (rules, All-from_recursion, start_laws)
 
-not_while_one_waits_for_it : IsQuietUpdated open_net (Item.Submitted 2 2 ∷ []) → ⊥
+not_while_one_waits_for_it : IsNetworkUpdated open_net (Item.Submitted 2 2 ∷ []) → ⊥
 unfolding current_mark version_count
 not_while_one_waits_for_it is = absurd (omega (arith, is.current))

@@ -4,7 +4,7 @@ use Rattle.base.proofs.Exports.{All-from_recursion, AllByRecursion, each_map, li
 use Rattle.update_machine.specs.Exports.{AreSettled, HaveCauses, Item, Setting, acked_stamp, boot_of, current_mark, has_acked, is_joining, is_member, is_over, is_up, is_waited_for, known_boot, least_number, members, next_retired, retired_mark, serves, stamp_of, switches_of, version_count}
 use Rattle.control_laws.specs.Exports.{HasItemCause, MarksAreBounded, MembersAcknowledged}
 use Rattle.control_laws.proofs.Exports.{acknowledged, each_range, have_weaker, member_parts}
-use Rattle.convergence_laws.specs.Exports.{IsQuietUpdated}
+use Rattle.convergence_laws.specs.Exports.{IsNetworkUpdated}
 use Rattle.convergence_laws.proofs.ConvergenceAnswers.{HaveSpoken}
 use Rattle.convergence_laws.proofs.ConvergenceDownSwitches.{AreRecorded}
 use Rattle.convergence_laws.proofs.ConvergenceTables.{AllInstalled}
@@ -132,7 +132,7 @@ retired_is setting journal are caught = are.settled.retired ∙ ap (λ n. n - 1)
 -- ---- together
 
 pub caught_updated : (setting : Setting) (journal : List Item) → AreReady setting journal
-    → IsCaughtUp setting journal → IsQuietUpdated setting journal
+    → IsCaughtUp setting journal → IsNetworkUpdated setting journal
 caught_updated setting journal are caught = record {
   serving = All-from_recursion (λ s. IsTrue (is_up journal s) → IsTrue (serves journal s))
       (switches_of setting) (each_range (λ s. IsTrue (is_up journal s) → IsTrue (serves journal s))

@@ -4,7 +4,7 @@ use Rattle.base.proofs.Exports.{nat_tests}
 use Rattle.update_machine.specs.Exports.{Advert, Advertise, AreAllEventSteps, AreMessagesReceived, AreSteps, AreStepsOf, Body, Event, Flush, HaveCauses, IsQuiet, Item, Message, Place, Sending, Setting, Step, StepOfRow, journal_after_steps, receiver_boot_at, boot_of, count_of, heard, is_deliverable, is_for_boot, is_forgotten, is_later_body, is_sending, is_up, is_waiting, message_of, next_delivery, next_message, next_waiting, other_advert, piece, sendings, was_delivered}
 use Rattle.control_laws.specs.Exports.{HoldsAtEnds, HoldsBehindItems, OwnAreNewest}
 use Rattle.control_laws.proofs.Exports.{at_ends, behind_both, behind_items, own_newest, steps_have}
-use Rattle.convergence_laws.specs.Exports.{EndsInFinishedNetwork, GetStuckApart, HasConverged, IsAsNew, IsNetworkFinished, IsQuietUpdated, NeighboursAgree, AdvertNewsSpreads}
+use Rattle.convergence_laws.specs.Exports.{EndsInFinishedNetwork, GetStuckApart, HasConverged, IsAsNew, IsNetworkFinished, IsNetworkUpdated, NeighboursAgree, AdvertNewsSpreads}
 use Rattle.convergence_laws.proofs.ConvergencePlainItems.{IsIn, each_in, in_filter_map, in_range}
 use Rattle.convergence_laws.proofs.ConvergedReceipts.{IsGot, delivered_append, got, heard_in_boot, in_sendings}
 use Rattle.convergence_laws.proofs.ConvergenceMessages.{AreTraced, IsInOrder, IsTraced, caused_traced, pieces_in_order, traced_at_first, traced_kept}
@@ -287,6 +287,6 @@ flushed_converged setting events journal net ends = quiet_converged.answered set
     (events ++ Flush ∷ []) journal ends.answered net (flushed_quiet setting events journal ends)
 
 pub flushed_updated : (setting : Setting) (events : List Event) (journal : List Item)
-    → EndsInFinishedNetwork setting events journal → IsQuietUpdated setting journal
+    → EndsInFinishedNetwork setting events journal → IsNetworkUpdated setting journal
 flushed_updated setting events journal ends = updated_at_ends.answered setting
     (events ++ Flush ∷ []) journal ends.answered (flushed_quiet setting events journal ends)

@@ -6,7 +6,7 @@ use Rattle.ctrl_msg.specs.Exports.{to_controller}
 use Rattle.update_machine.proofs.Exports.{have_append}
 use Rattle.control_laws.specs.Exports.{HoldsAtEnds}
 use Rattle.control_laws.proofs.Exports.{acked_stamp_opened, at_ends, bounded, fold_up, known_first, member_parts, opened_in, opened_is, settled_at_ends}
-use Rattle.convergence_laws.specs.Exports.{IsQuietUpdated}
+use Rattle.convergence_laws.specs.Exports.{IsNetworkUpdated}
 use Rattle.convergence_laws.proofs.ConvergenceCaughtUp.{AreReady, IsCaughtUp, caught_updated, items_caused}
 use Rattle.convergence_laws.proofs.ConvergenceAnswers.{HaveSpoken, piece_spoken, spoken_at_first}
 use Rattle.convergence_laws.proofs.ConvergenceDownSwitches.{caused_recorded}
@@ -275,8 +275,8 @@ quiet_caught setting journal are quiet =
     search (rules, known_own, all_installed, member_serves, opened_stamps, told_stamps)
 
 pub updated_at_ends :
-    HoldsAtEnds (λ setting journal. IsQuiet setting journal → IsQuietUpdated setting journal)
-updated_at_ends = at_ends (λ setting journal. IsQuiet setting journal → IsQuietUpdated setting journal)
+    HoldsAtEnds (λ setting journal. IsQuiet setting journal → IsNetworkUpdated setting journal)
+updated_at_ends = at_ends (λ setting journal. IsQuiet setting journal → IsNetworkUpdated setting journal)
     (λ setting steps quiet. let ready = steps_ready setting steps in
     caught_updated setting (journal_after_steps setting [] steps) ready
     (quiet_caught setting (journal_after_steps setting [] steps) ready quiet))

@@ -3,4 +3,4 @@ pub use Rattle.convergence_laws.specs.Converged.{AreUnusableLinks, HasConverged,
 pub use Rattle.convergence_laws.specs.Finished.{EndsInFinishedNetwork, IsNetworkFinished}
 pub use Rattle.convergence_laws.specs.News.{HoldsAsNew, IsAsNew, NeighboursAgree, AdvertNewsSpreads}
 pub use Rattle.convergence_laws.specs.Stuck.{GetStuckApart}
-pub use Rattle.convergence_laws.specs.Updated.{IsQuietUpdated}
+pub use Rattle.convergence_laws.specs.Updated.{IsNetworkUpdated}

@@ -6,7 +6,7 @@ use Rattle.update_machine.specs.Exports.{Item, Setting, current_mark, is_up, ret
 
 -- each switch that is up serves and stamps with the newest version; that one is current, and all
 -- before it are retired
-pub record IsQuietUpdated (setting : Setting) (journal : List Item) : Type 0 where
+pub record IsNetworkUpdated (setting : Setting) (journal : List Item) : Type 0 where
   pub serving : All (λ s. IsTrue (is_up journal s) → IsTrue (serves journal s))
       (switches_of setting)
   pub stamps : All (λ s. IsTrue (is_up journal s) → stamp_of journal s ≡ version_count journal)

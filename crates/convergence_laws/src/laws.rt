@@ -3,7 +3,7 @@ ghost use Rattle.std.specs.Prelude.{List};
 ghost use Rattle.net_file.specs.Net.{IsNet};
 ghost use Rattle.update_machine.specs.Exports.{Event, IsQuiet, Item, Setting};
 ghost use Rattle.control_laws.specs.Always.{HoldsAtEnds, HoldsBehindItems};
-ghost use Rattle.convergence_laws.specs.Exports.{EndsInFinishedNetwork, GetStuckApart, HasConverged, IsNetworkFinished, IsQuietUpdated, NeighboursAgree, AdvertNewsSpreads};
+ghost use Rattle.convergence_laws.specs.Exports.{EndsInFinishedNetwork, GetStuckApart, HasConverged, IsNetworkFinished, IsNetworkUpdated, NeighboursAgree, AdvertNewsSpreads};
 
 /// Over each usable link, each end holds adverts at least as new as those of the other end, or
 /// such an advert was sent to it in its present boot. This is true at the end of each step, in a
@@ -47,7 +47,7 @@ pub fn packets_get_stuck_apart()
 /// In a quiet network every switch that is up serves and stamps with the newest version, which is
 /// the current one, and each version before it is retired.
 pub fn quiet_networks_are_updated()
-    ensures { HoldsAtEnds (λ setting journal. IsQuiet setting journal → IsQuietUpdated setting journal) }
+    ensures { HoldsAtEnds (λ setting journal. IsQuiet setting journal → IsNetworkUpdated setting journal) }
 {}
 
 /// A network is quiet if no message waits, none was forgotten, and each switch is up or the
@@ -67,5 +67,5 @@ pub fn flushed_networks_have_converged()
         → IsNet setting.net → EndsInFinishedNetwork setting events journal
         → HasConverged setting journal }
     ensures updated { (setting : Setting) (events : List Event) (journal : List Item)
-        → EndsInFinishedNetwork setting events journal → IsQuietUpdated setting journal }
+        → EndsInFinishedNetwork setting events journal → IsNetworkUpdated setting journal }
 {}

@@ -39,7 +39,7 @@ pub fn least_cut(rules: &[Rule], region: &Word) -> Option<Cost>
     requires within { All (LiesInRegion region.now) rules.now }
     ensures { result ≡ least_below 104 rules.now region.now }
 {
-    let free = free_bits(region);
+    let free = free_bits_to_cut(region);
     if free == 0 {
         return None;
     }
@@ -54,7 +54,7 @@ pub fn least_cut(rules: &[Rule], region: &Word) -> Option<Cost>
 }
 
 /// The bits that the region leaves free, of the 104 of a header number.
-pub fn free_bits(region: &Word) -> u128
+pub fn free_bits_to_cut(region: &Word) -> u128
     ensures { (bit : ℕ) → (bit_at result bit ≡ 1) ↔ IsFreeBit region.now bit }
 {
     ALL_BITS & !region.mask()
@@ -136,7 +136,7 @@ fn rules_fix_many_bits(one: &Rule, other: &Rule, region: &Word) -> bool
     ensures one { IsTrue result → IsNarrowIn region.now one.now }
     ensures other { IsTrue result → IsNarrowIn region.now other.now }
 {
-    !fixes_one_bit_more(&one.word, region) && !fixes_one_bit_more(&other.word, region)
+    !fixes_at_most_one_more(&one.word, region) && !fixes_at_most_one_more(&other.word, region)
 }
 
 /// For each bit, how many rules one half of a region keeps: that in which the bit is 1 if `one` is
@@ -209,7 +209,7 @@ fn pass(left: &mut u128, one: bool, rule: &Rule, region: &Word) -> u128
 {
     let was = *left;
     let met = halves_met(&rule.word, one);
-    let may_cover = fixes_one_bit_more(&rule.word, region);
+    let may_cover = fixes_at_most_one_more(&rule.word, region);
     if !may_cover {
         return was & met;
     }
@@ -219,7 +219,7 @@ fn pass(left: &mut u128, one: bool, rule: &Rule, region: &Word) -> u128
 }
 
 // Whether the word fixes at most one bit more than the region; if not, it covers no half of it.
-fn fixes_one_bit_more(word: &Word, region: &Word) -> bool
+fn fixes_at_most_one_more(word: &Word, region: &Word) -> bool
     requires { IsTrue (covers_of region.now word.now) }
     ensures { IsFalse result → (bit : ℕ) (one : Bool) → IsFreeBit region.now bit →
         IsFalse (covers_of word.now (fix_of region.now bit one)) }

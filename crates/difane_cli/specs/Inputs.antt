@@ -239,7 +239,7 @@ up_to_refusal [] = 0
 up_to_refusal (true ∷ files) = 1 + up_to_refusal files
 up_to_refusal (false ∷ files) = 1
 
--- reads for a network: of its file, or none
+-- how many reads the network takes: one if it has a file
 abbrev pub command_net_reads : Option (List ℕ) → ℕ
 command_net_reads None = 0
 command_net_reads (Some name) = 1

@@ -12,7 +12,7 @@ ghost use Rattle.command_line.specs.Commands.{Replay};
 
 use crate::networks::take_network;
 use crate::policies::{begin_world, check_file, check_policy};
-use crate::status::{InputFileName, Refusal, Stop};
+use crate::status::{Refusal, RefusedFileName, Stop};
 use command_line::{ReplayArgs, Report};
 use net_file::Net;
 use policy_rules::{Policy, PolicyFile};
@@ -35,7 +35,7 @@ pub const TOO_LONG: u32 = 20;
 pub fn refused(alloc: Global, name: &str, code: u32, row: u32) -> Stop
     ensures { RefusesInput (record { file = name.now; code = code; row = row }) result }
 {
-    match InputFileName::new(alloc, name) {
+    match RefusedFileName::new(alloc, name) {
         Ok(file) => Stop::Refused(Refusal { file, code, row }),
         Err(_) => Stop::NoMemory,
     }

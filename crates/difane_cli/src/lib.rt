@@ -40,5 +40,5 @@ pub use flow_export::FlowMeter;
 pub use laws::one_switch_laws;
 pub use metered::{CommandEnd, run_metered};
 pub use meters::{Meter, Recorder};
-pub use status::{Ended, Finished, InputFileName, Refusal, Status, Stop, write_status};
+pub use status::{Ended, Finished, Refusal, RefusedFileName, Status, Stop, write_status};
 pub use top_call::run;

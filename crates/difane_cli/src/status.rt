@@ -15,11 +15,11 @@ use std::marker::Model;
 
 /// The name of a file, as it was on the command line. Contracts see its bytes.
 #[derive(Drop)]
-pub struct InputFileName {
+pub struct RefusedFileName {
     name: String,
 }
 
-impl Model for InputFileName {
+impl Model for RefusedFileName {
     ghost use Rattle.std.specs.Prelude.{List, ℕ, string_bytes};
 
     ghost Value = { List ℕ };
@@ -27,12 +27,12 @@ impl Model for InputFileName {
     ghost view = { λ n. string_bytes n.name };
 }
 
-impl InputFileName {
+impl RefusedFileName {
     /// A copy of this name; fails only out of memory.
-    pub fn new(alloc: Global, name: &str) -> Result<InputFileName, AllocError>
+    pub fn new(alloc: Global, name: &str) -> Result<RefusedFileName, AllocError>
         ensures { IfOk result (λ file. file ≡ name.now) }
     {
-        Ok(InputFileName {
+        Ok(RefusedFileName {
             name: String::from_str(alloc, name)?,
         })
     }
@@ -48,7 +48,7 @@ impl InputFileName {
 /// Which file is refused, by which code, in which row, counted from 1; 0 means the whole file.
 #[derive(Drop)]
 pub struct Refusal {
-    pub file: InputFileName,
+    pub file: RefusedFileName,
     pub code: u32,
     pub row: u32,
 }
@@ -93,7 +93,7 @@ pub enum Status {
     Words,
     /// This file is refused, by this code in this row; 0 means the whole file.
     Input {
-        file: InputFileName,
+        file: RefusedFileName,
         code: u32,
         row: u32,
     },
@@ -207,7 +207,7 @@ fn write_numbered_status<E: Sink>(text: &[u8], number: u32, errs: &mut E) -> Res
 }
 
 fn write_input_line<E: Sink>(
-    file: &InputFileName,
+    file: &RefusedFileName,
     code: u32,
     row: u32,
     errs: &mut E,

@@ -70,7 +70,7 @@ block_of_parts (address ∷ []) = block_from (address_of address) (Some 32)
 block_of_parts (address ∷ len ∷ []) = block_from (address_of address) (number_up_to 32 len)
 block_of_parts _ = None
 
--- `any`; an address, which is a block by itself; an address, a slash and the block's length
+-- reads `any`; an address, which is a block by itself; or an address, a slash and the block's length
 unfoldable pub prefix_of : List ℕ → Option AddressBlock
 prefix_of text =
     if bytes_eq text (codes "any") then Some (address_block_round 0 0) else
@@ -88,7 +88,7 @@ range_of_parts (port ∷ []) = range_from (number_up_to 65535 port) (number_up_t
 range_of_parts (low ∷ high ∷ []) = range_from (number_up_to 65535 low) (number_up_to 65535 high)
 range_of_parts _ = None
 
--- `any`; a port; two ports joined by a dash, the first at most the second
+-- reads `any`; a port; or two ports joined by a dash, the first at most the second
 unfoldable pub range_of : List ℕ → Option PortRangeValue
 range_of text =
     if bytes_eq text (codes "any") then Some (record { low = 0; high = 65535 }) else

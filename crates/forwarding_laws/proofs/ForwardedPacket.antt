@@ -9,7 +9,7 @@ use Rattle.policy_rules.proofs.CallerLemmas.{first_match-scan}
 use Rattle.steps.specs.Exports.{HasSwitch}
 use Rattle.update_machine.proofs.Exports.{count_of_append, last_given_append, switch_keeps}
 use Rattle.convergence_laws.proofs.Exports.{Behind, Both, HoldsAtEnds, NamesOwn, fact_on, have_both, have_rest, moves, stays_itself, stays_on}
-use Rattle.convergence_laws.specs.Exports.{GetStuckApart, HasConverged, IsQuietUpdated}
+use Rattle.convergence_laws.specs.Exports.{GetStuckApart, HasConverged, IsNetworkUpdated}
 use Rattle.packet_laws.specs.Exports.{AllKept, HoldsBetween, IsUnknownPacket, StrongCause, hit_in, packet_steps_played, what_is_known}
 use Rattle.packet_laws.proofs.Exports.{IsSettled, IsWayItem, Past, all_kept, all_right, between, decision_out, found_in, kept_before, numbered, packet_more, piece_settled, standing_more, strongly_caused, travels_more, ways_of_all}
 use Rattle.forwarding_laws.specs.Exports.{FindsNoTarget, HasComeToRest, IsForwarded, QuietForwards}
@@ -65,7 +65,7 @@ unfolding next_packet
 number_more before i s header =
     rw (count_of_append is_packet before (Item.Entered i s header ∷ [])) (omega arith)
 
-serves_there : (setting : Setting) (journal : List Item) (s : ℕ) → IsQuietUpdated setting journal
+serves_there : (setting : Setting) (journal : List Item) (s : ℕ) → IsNetworkUpdated setting journal
     → HasSwitch setting.net s → IsTrue (is_up journal s) → IsTrue (serves journal s)
 serves_there setting journal s updated there up =
     All-contains (λ k. IsTrue (is_up journal k) → IsTrue (serves journal k)) (switches_of setting) s
@@ -146,7 +146,7 @@ module _ (setting : Setting) (journal : List Item) (row s : ℕ) (header : Heade
       ∙ append_assoc journal (coming ∷ []) (entering ∷ lookups)
 
   -- behind its step
-  followed_in : IsSetting setting → HasConverged setting journal → IsQuietUpdated setting journal
+  followed_in : IsSetting setting → HasConverged setting journal → IsNetworkUpdated setting journal
       → IsSettled setting journal → HasSwitch setting.net s → IsHeader header
       → IsTrue (is_up journal s)
       → Follows setting journal s i header (journal ++ piece setting journal row (Packet s header))
@@ -179,7 +179,7 @@ record IsDrained (setting : Setting) (journal : List Item) (s i : ℕ) (header :
 
 drained : (setting : Setting) (journal : List Item) (s i : ℕ) (header : Header) (later : ℕ)
     (before : List Item) (hops : List StepOfRow) → IsSetting setting
-    → HasConverged setting journal → IsQuietUpdated setting journal
+    → HasConverged setting journal → IsNetworkUpdated setting journal
     → AreAllEventSteps setting next_hop later before hops → IsSettled setting before
     → Follows setting journal s i header before
     → IsDrained setting journal s i header (journal_after_steps setting before hops)
@@ -234,7 +234,7 @@ ended_so setting journal s i header after is drained = by drained.follows.fate w
   by (inr ended) = elim ended.how [ inl decided ↦ inl (forwarded decided) | inr finds ↦ inr finds ]
 
 pub forwards : (setting : Setting) (journal : List Item) → IsSetting setting
-    → IsSettled setting journal → HasConverged setting journal → IsQuietUpdated setting journal
+    → IsSettled setting journal → HasConverged setting journal → IsNetworkUpdated setting journal
     → QuietForwards setting journal
 forwards setting journal is settled converged updated row later s header hops there sound up all =
     let entered : List Item = journal ++ piece setting journal row (Packet s header) in
@@ -277,11 +277,11 @@ both_between One Other Holds follow one other = record {
 
 abbrev ForwardsBy : Setting → List Item → Type 0
 ForwardsBy setting journal = IsSetting setting → HasConverged setting journal
-    → IsQuietUpdated setting journal → QuietForwards setting journal
+    → IsNetworkUpdated setting journal → QuietForwards setting journal
 
 pub converged_forward : HoldsBetween ForwardsBy
 converged_forward = between (λ setting journal. HasConverged setting journal
-    → IsQuietUpdated setting journal → QuietForwards setting journal) (λ setting journal is settled
+    → IsNetworkUpdated setting journal → QuietForwards setting journal) (λ setting journal is settled
     converged updated. forwards setting journal is settled converged updated)
 
 -- ---- quiet journals
@@ -291,7 +291,7 @@ Converges setting journal =
     IsNet setting.net → IsQuiet setting journal → HasConverged setting journal
 
 abbrev Updates : Setting → List Item → Type 0
-Updates setting journal = IsQuiet setting journal → IsQuietUpdated setting journal
+Updates setting journal = IsQuiet setting journal → IsNetworkUpdated setting journal
 
 abbrev Parts : Setting → List Item → Type 0
 Parts setting journal = IsNet setting.net → IsQuiet setting journal → GetStuckApart setting journal

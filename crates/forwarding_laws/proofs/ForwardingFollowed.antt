@@ -7,7 +7,7 @@ use Rattle.net_file.specs.Exports.{IsNet}
 use Rattle.policy_rules.specs.Exports.{Hosted, is_in}
 use Rattle.update_machine.proofs.Exports.{folded_append, last_given_append}
 use Rattle.convergence_laws.proofs.Exports.{AreKept, Behind, Both, StaysSo, moves, reach_more, stays_on}
-use Rattle.convergence_laws.specs.Exports.{AreUnusableLinks, HasConverged, IsQuietUpdated, Reaches}
+use Rattle.convergence_laws.specs.Exports.{AreUnusableLinks, HasConverged, IsNetworkUpdated, Reaches}
 use Rattle.packet_laws.specs.Exports.{AllKept, FurtherCause, PacketCause, PacketSeeksRightly, StrongCause, changes_packet_mark, entry_mark}
 use Rattle.packet_laws.proofs.Exports.{Before, IsWayItem, Past, here_known, known_before, knows, packet_more, standing_more, stands_known, travels_more}
 use Rattle.forwarding_laws.specs.Exports.{ForwardedEndsBy, FindsNoTarget, IsStuckApart}
@@ -128,7 +128,7 @@ module _ (setting : Setting) (journal : List Item) (s i : ℕ) (header : Header)
 
   -- ---- its version
 
-  newest : IsQuietUpdated setting journal → (version : ℕ) → PacketSeeksRightly before i version
+  newest : IsNetworkUpdated setting journal → (version : ℕ) → PacketSeeksRightly before i version
       → version ≡ version_count journal
   newest updated version rightly = omega (
     arith,
@@ -140,7 +140,7 @@ module _ (setting : Setting) (journal : List Item) (s i : ℕ) (header : Header)
     updated.retired,
   )
 
-  version_on : IsQuietUpdated setting journal → (next : Item) → FurtherCause setting before next
+  version_on : IsNetworkUpdated setting journal → (next : Item) → FurtherCause setting before next
       → (decision : Decision) → decision_of (before ++ next ∷ []) i ≡ Some decision
       → decision.version ≡ version_count journal
   unfolding decision_of
@@ -291,7 +291,7 @@ module _ (setting : Setting) (journal : List Item) (s i : ℕ) (header : Header)
       (sym (follows.stays.routes t targets down) ∙ ap (λ all. route_from setting before t all down)
       (sym (follows.stays.targets leg)) ∙ strong.1.no_route))
 
-  stuck : IsNet setting.net → HasConverged setting journal → IsQuietUpdated setting journal
+  stuck : IsNet setting.net → HasConverged setting journal → IsNetworkUpdated setting journal
       → Before setting before → (t : ℕ) (cause : Cause) (leg : Leg) (down : List ℕ)
       → StrongCause setting before (Item.Stuck i t cause leg down)
       → Fate setting journal s i header (before ++ Item.Stuck i t cause leg down ∷ [])
@@ -359,7 +359,7 @@ module _ (setting : Setting) (journal : List Item) (s i : ℕ) (header : Header)
     by true same = let is : packet ≡ i = eqb-true packet i same in
         subst (λ k. Fate setting journal s i header (before ++ next k ∷ [])) (sym is) (own is)
 
-  fate_next : IsNet setting.net → HasConverged setting journal → IsQuietUpdated setting journal
+  fate_next : IsNet setting.net → HasConverged setting journal → IsNetworkUpdated setting journal
       → Before setting before → (next : Item) → StrongCause setting before next
       → Fate setting journal s i header (before ++ next ∷ [])
   fate_next net converged updated known (Item.Entered packet t other) strong =
@@ -388,7 +388,7 @@ module _ (setting : Setting) (journal : List Item) (s i : ℕ) (header : Header)
 
 -- each item of packets keeps it
 pub follows_on : (setting : Setting) (journal : List Item) (s i : ℕ) (header : Header)
-    → IsSetting setting → HasConverged setting journal → IsQuietUpdated setting journal
+    → IsSetting setting → HasConverged setting journal → IsNetworkUpdated setting journal
     → AreKept (IsFollowed setting) (Follows setting journal s i header)
 follows_on setting journal s i header is converged updated before next cause follows =
     let known = known_before setting is before next cause.second.first in

@@ -6,7 +6,7 @@ use Rattle.failover.specs.Exports.{no_links, with_link}
 use Rattle.update_machine.specs.Exports.{Advertise, Answers, AreAllEventSteps, AreMessagesReceived, AreSteps, Body, Confirm, Crash, Deliver, Event, Flush, Forget, HaveCauses, Hop, Installed, IsQuiet, IsMessageReceived, IsMessageReplaced, Item, LinkDown, LinkUp, Lose, Message, NoAuthority, One, Packet, Place, MessageReplaces, Resend, Restart, Seek, Setting, Step, StepOfRow, Update, journal_after_steps, is_later_body, is_up, is_waited_for, next_delivery, next_waiting, piece, was_delivered}
 use Rattle.steps.specs.Exports.{HasSwitch}
 use Rattle.update_machine.proofs.Exports.{advert, at, by_action, left_by, network, one, open_net, out_or_drop, plan_p, plan_q, switch, to, to_controller}
-use Rattle.convergence_laws.specs.Exports.{IsQuietUpdated}
+use Rattle.convergence_laws.specs.Exports.{IsNetworkUpdated}
 use Rattle.forwarding_laws.specs.Exports.{RolloutAccountsForAll, RecoveryAsksEach, DropsNothing, EndsInRecovery, RolloutEndsRightly, FailsNothing, RolloutHasItem, HoldNewestAlone, NoneIsStuck, NothingFailsInRollout}
 use Rattle.forwarding_laws.proofs.RecoveredNetworks.{recovered_updated}
 
@@ -101,7 +101,7 @@ without_resends = record {
   written = refl;
 }
 
-not_without_resends : IsQuietUpdated open_net tables_lost_journal → ⊥
+not_without_resends : IsNetworkUpdated open_net tables_lost_journal → ⊥
 unfolding left_by
 not_without_resends updated = not_current updated.current
 
@@ -119,7 +119,7 @@ without_flush = record {
   written = refl;
 }
 
-not_without_flush : IsQuietUpdated open_net undelivered_journal → ⊥
+not_without_flush : IsNetworkUpdated open_net undelivered_journal → ⊥
 unfolding left_by
 not_without_flush updated = not_current updated.current
 
@@ -145,7 +145,7 @@ without_confirms = record {
   written = refl;
 }
 
-not_without_confirms : IsQuietUpdated open_net unconfirmed_journal → ⊥
+not_without_confirms : IsNetworkUpdated open_net unconfirmed_journal → ⊥
 unfolding left_by
 not_without_confirms updated = not_current updated.current
 
@@ -239,7 +239,7 @@ with_advert_lost = record {
   written = refl;
 }
 
-recovered_without_advert : IsQuietUpdated open_net advert_lost_journal
+recovered_without_advert : IsNetworkUpdated open_net advert_lost_journal
 recovered_without_advert =
     recovered_updated open_net (map One advert_lost ++ Flush ∷ []) advert_lost_journal
     (in_recovery (take 4 advert_lost)) with_advert_lost
@@ -295,7 +295,7 @@ with_origin_gone = record {
   written = refl;
 }
 
-recovered_without_origin : IsQuietUpdated open_net origin_gone_journal
+recovered_without_origin : IsNetworkUpdated open_net origin_gone_journal
 recovered_without_origin =
     recovered_updated open_net (map One origin_gone ++ Flush ∷ []) origin_gone_journal
     (in_recovery (take 4 origin_gone)) with_origin_gone
@@ -328,7 +328,7 @@ with_answer_lost = record {
   written = refl;
 }
 
-recovered_without_answer : IsQuietUpdated open_net answer_lost_journal
+recovered_without_answer : IsNetworkUpdated open_net answer_lost_journal
 recovered_without_answer =
     recovered_updated open_net (map One answer_lost ++ Flush ∷ []) answer_lost_journal
     (in_recovery (take 5 answer_lost)) with_answer_lost

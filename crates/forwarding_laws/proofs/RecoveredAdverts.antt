@@ -2,7 +2,7 @@
 -- it learnt then, and all of that was delivered.
 use Rattle.std.proofs.Common.{[], ◌++◌, ◌+◌, ◌-◌, ◌<◌, ◌==◌, ◌∙◌, ◌∷◌, ◌≡◌, ◌≢◌, ◌≤◌, Bool, IsFalse, IsTrue, List, None, Some, ap, append-nil, append_assoc, arith, false, filter, flat_map, if◌then◌else◌, inl, inr, length, map, nat_lt, not, refl, subst, sym, true, ℕ}
 use Rattle.base.proofs.Exports.{nat_tests}
-use Rattle.update_machine.specs.Exports.{Advert, Advertise, HaveCauses, Item, Message, Resend, Setting, StepOfRow, acked_stamp, advert_to, journal_after_steps, boot_of, collect_for, current_mark, has_acked, heard, held_adverts, hello_of, install_for, is_member, is_over, is_up, near, next_message, open_for, open_version, other_advert, own_advert, piece, resend_items, resent_by_controller, resent_by_switch, resent_to_member, retired_mark, sends_or_nothing, stamp_for, switches_in, switches_of, unacked_installs, version_count, versions_from_current}
+use Rattle.update_machine.specs.Exports.{Advert, Advertise, HaveCauses, Item, Message, Resend, Setting, StepOfRow, acked_stamp, advert_to, journal_after_steps, boot_of, collect_for, current_mark, has_acked, heard, held_adverts, hello_of, install_for, is_member, is_over, is_up, near, next_message, open_for, open_version, other_advert, own_advert, piece, resend_items, resent_by_controller, resent_by_switch, resent_to_member, retired_mark, sends_or_nothing, stamp_for, switches_in, switches_of, journal_unacked_installs, version_count, versions_from_current}
 use Rattle.control_laws.proofs.Exports.{behind_piece, ends_serve, later_versions, resends_any, same_seq}
 use Rattle.convergence_laws.proofs.Exports.{AreSpread, HasNews, IsGivenNew, IsHad, IsIn, IsStill, IsToldTo, Leaves, Spread, TellsOwn, as_new_itself, ends_there, had_back, heard_in_boot, held_in, in_filter, in_filter_map, in_flat_map, in_left, in_map, in_range, in_right, newest_held, next_grows, own_held, sends_tell, spread_agree, stills_leave, told_stills}
 use Rattle.forwarding_laws.proofs.RecoveryDeliveries.{IsFlushed, IsSince, sends_since, since_delivered}
@@ -51,7 +51,7 @@ sent_where setting here s over member = elim over [
   | true ↦ []
   | false ↦ elim member [
     | true ↦ resent_to_member setting here s
-    | false ↦ unacked_installs setting here s (versions_from_current here)
+    | false ↦ journal_unacked_installs setting here s (versions_from_current here)
   ]
 ]
 
@@ -66,7 +66,7 @@ to_member setting here s message over member is =
 
 to_other : (setting : Setting) (here : List Item) (s : ℕ) (message : Message)
     → IsFalse (is_over here s) → IsFalse (is_member here s)
-    → IsIn message (unacked_installs setting here s (versions_from_current here))
+    → IsIn message (journal_unacked_installs setting here s (versions_from_current here))
     → IsIn message (resent_by_controller setting here s)
 unfolding resent_by_controller
 to_other setting here s message over member is =
@@ -75,7 +75,7 @@ to_other setting here s message over member is =
 
 unacked : (setting : Setting) (here : List Item) (s version : ℕ) (versions : List ℕ)
     → IsIn version versions → IsFalse (has_acked here s version)
-    → IsIn (install_for setting here version s) (unacked_installs setting here s versions)
+    → IsIn (install_for setting here version s) (journal_unacked_installs setting here s versions)
 unacked setting here s version versions is acked = in_map (λ v. install_for setting here v s)
     version (filter (λ v. not (has_acked here s v)) versions)
     (in_filter (λ v. not (has_acked here s v)) version versions is (ap not acked))
@@ -95,8 +95,8 @@ table_resent setting here s version over above below acked later = by_member (is
         → IsIn (install_for setting here version s) (resent_by_controller setting here s)
     by_member true e = let more = later e in
         to_member setting here s _ over e
-        (inr (in_left _ (unacked_installs setting here s (later_versions here) ++ stamps) _ (in_left
-        _ (unacked_installs setting here s (later_versions here)) stamps (unacked setting here s
+        (inr (in_left _ (journal_unacked_installs setting here s (later_versions here) ++ stamps) _ (in_left
+        _ (journal_unacked_installs setting here s (later_versions here)) stamps (unacked setting here s
         version (later_versions here) (in_range version (current_mark here + 1) (version_count here
         - current_mark here) (omega (arith, more)) (omega (arith, more, below))) acked))))
     by_member false e = to_other setting here s _ over e (unacked setting here s version
@@ -114,8 +114,8 @@ pub stamp_resent : (setting : Setting) (here : List Item) (s : ℕ) → IsFalse 
     → IsTrue (is_member here s) → acked_stamp here s < current_mark here
     → IsIn (stamp_for setting here (current_mark here) s) (resent_by_controller setting here s)
 stamp_resent setting here s over member behind = to_member setting here s _ over member
-    (inr (in_left _ (unacked_installs setting here s (later_versions here) ++ stamps) _
-    (in_right _ (unacked_installs setting here s (later_versions here)) stamps (rw is (inl refl)))))
+    (inr (in_left _ (journal_unacked_installs setting here s (later_versions here) ++ stamps) _
+    (in_right _ (journal_unacked_installs setting here s (later_versions here)) stamps (rw is (inl refl)))))
   where
     is : nat_lt (acked_stamp here s) (current_mark here) ≡ true
     is = grind (arith, nat_tests)
@@ -129,7 +129,7 @@ pub collect_resent : (setting : Setting) (here : List Item) (s : ℕ) → IsFals
     → IsTrue (is_member here s) → (retired_mark here == 0) ≡ false
     → IsIn (collect_for here (retired_mark here) s) (resent_by_controller setting here s)
 collect_resent setting here s over member some = to_member setting here s _ over member
-    (inr (in_right _ (unacked_installs setting here s (later_versions here) ++ stamps) collects
+    (inr (in_right _ (journal_unacked_installs setting here s (later_versions here) ++ stamps) collects
     (rw some (inl refl))))
   where
     stamps : List Message

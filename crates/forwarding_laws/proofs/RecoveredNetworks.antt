@@ -6,7 +6,7 @@ use Rattle.steps.specs.Exports.{HasSwitch}
 use Rattle.update_machine.proofs.Exports.{AreOf, after_append, start_laws}
 use Rattle.control_laws.specs.Exports.{AreNetworkEvents, HoldsAtEnds}
 use Rattle.control_laws.proofs.Exports.{AreKept, by_number, fact_on, steps_have}
-use Rattle.convergence_laws.specs.Exports.{GetStuckApart, HasConverged, IsQuietUpdated, NeighboursAgree}
+use Rattle.convergence_laws.specs.Exports.{GetStuckApart, HasConverged, IsNetworkUpdated, NeighboursAgree}
 use Rattle.convergence_laws.proofs.Exports.{AreReady, AreTraced, IsInOrder, all_end, caught_updated, caused_traced, ends_spread, ends_tell, flush_ends, next_first, next_grows, none_waits, pieces_in_order, sent_delivered, steps_ready, steps_spread}
 use Rattle.packet_laws.specs.Exports.{HoldsBetween}
 use Rattle.forwarding_laws.specs.Exports.{RecoveryDeliversAll, EndsInRecovery, HasRecovered, QuietForwards}
@@ -149,7 +149,7 @@ module _ (setting : Setting) (journal : List Item) (ends : EndsCalmly setting jo
     delivers = delivers;
   }
 
-  pub ends_updated : IsQuietUpdated setting journal
+  pub ends_updated : IsNetworkUpdated setting journal
   ends_updated = caught_updated setting journal ends_recovered.ready
       (recovered_caught setting confirmed journal ends_recovered ends.switches)
 
@@ -162,7 +162,7 @@ recovered_neighbours setting events journal net ends answers =
     ends_agree setting journal (ends_calmly setting events journal ends answers) net
 
 pub recovered_updated : (setting : Setting) (events : List Event) (journal : List Item)
-    → EndsInRecovery setting.net events → Answers setting events journal → IsQuietUpdated setting journal
+    → EndsInRecovery setting.net events → Answers setting events journal → IsNetworkUpdated setting journal
 recovered_updated setting events journal ends answers =
     ends_updated setting journal (ends_calmly setting events journal ends answers)
 
@@ -174,7 +174,7 @@ Agrees Holds setting journal =
 
 abbrev pub ForwardsBy : Setting → List Item → Type 0
 ForwardsBy setting journal = IsSetting setting → HasConverged setting journal
-    → IsQuietUpdated setting journal → QuietForwards setting journal
+    → IsNetworkUpdated setting journal → QuietForwards setting journal
 
 pub recovered_converged : HoldsAtEnds (Agrees HasConverged)
     → ((setting : Setting) (events : List Event) (journal : List Item) → IsNet setting.net

@@ -7,7 +7,7 @@ use Rattle.update_machine.proofs.Exports.{controller_keeps, policies_keep}
 use Rattle.convergence_laws.proofs.Exports.{AreKept, Both, IsIn, IsTraced, IsWork, Walks, all_in, caused_traced, each_in, each_of_in, have_both, have_weaker, heard_in_boot, hop_work, in_range, in_right, items_caused, moves, near_back, own_boot, packet_works, piece_has, rule_cases}
 use Rattle.packet_laws.proofs.Exports.{IsNoRow, no_rows, play_begins}
 use Rattle.net_file.specs.Exports.{IsNet}
-use Rattle.convergence_laws.specs.Exports.{GetStuckApart, HasConverged, IsQuietUpdated, LeadsOverUsable, Reaches}
+use Rattle.convergence_laws.specs.Exports.{GetStuckApart, HasConverged, IsNetworkUpdated, LeadsOverUsable, Reaches}
 use Rattle.control_laws.specs.Exports.{AreNetworkEvents, HasItemCause, HoldsAtEnds, HoldsReached}
 use Rattle.control_laws.proofs.Exports.{IsServing, member_of, pieces_have, serving_hold, steps_have, tables_planned}
 use Rattle.packet_laws.specs.Exports.{HoldsBetween, IsRightEntry, RulesAreRight}
@@ -161,7 +161,7 @@ collected_gone journal s boot mark version told below =
     none false = refl
 
 module _ (setting : Setting) (before journal : List Item) (are : IsRecovered setting before journal)
-    (early : IsQuietUpdated setting before) (late : IsQuietUpdated setting journal) where
+    (early : IsNetworkUpdated setting before) (late : IsNetworkUpdated setting journal) where
   caused : HaveCauses (HasItemCause setting) [] journal
   caused = items_caused setting journal are.ready.causes
 
@@ -271,7 +271,7 @@ module _ (setting : Setting) (before journal : List Item) (are : IsRecovered set
 
 pub cache_newest : (setting : Setting) (journal : List Item)
     → HaveCauses (HasItemCause setting) [] journal → RulesAreRight setting journal
-    → IsQuietUpdated setting journal → CacheNewestAlone setting journal
+    → IsNetworkUpdated setting journal → CacheNewestAlone setting journal
 cache_newest setting journal causes rules updated s there up =
     All-from_recursion (λ (entry : CacheEntry). entry.version ≡ version_count journal)
     (cache_of setting journal s).entries
@@ -296,7 +296,7 @@ RulesLaw = HoldsReached (λ setting journal. IsSetting setting → RulesAreRight
 -- caches of an answer
 answer_caches : RulesLaw → (setting : Setting) (events : List Event) (journal : List Item)
     → IsSetting setting → AreNetworkEvents setting events → Answers setting events journal
-    → IsQuietUpdated setting journal → CacheNewestAlone setting journal
+    → IsNetworkUpdated setting journal → CacheNewestAlone setting journal
 answer_caches rules setting events journal is own answers updated = cache_newest setting journal
     causes (rules.answered setting events journal own answers is) updated
   where
@@ -348,7 +348,7 @@ nothing_old converge part forward rules setting events journal is own two answer
   ends : EndsCalmly setting journal
   ends = found.0
 
-  updated : IsQuietUpdated setting journal
+  updated : IsNetworkUpdated setting journal
   updated = ends_updated setting journal ends
 
 -- ---- the laws of recovery and of rollouts, of plays

@@ -1,7 +1,7 @@
 -- The result of recovery.
 use Rattle.std.specs.Prelude.{◌≡◌, ◌⊎◌, IsTrue, List, Some, ℕ}
 use Rattle.update_machine.specs.Exports.{Item, Message, Setting, is_forgotten, message_of, was_delivered}
-use Rattle.convergence_laws.specs.Exports.{GetStuckApart, HasConverged, IsQuietUpdated}
+use Rattle.convergence_laws.specs.Exports.{GetStuckApart, HasConverged, IsNetworkUpdated}
 use Rattle.forwarding_laws.specs.Forwards.{QuietForwards}
 
 -- each message that was sent was delivered, or was forgotten
@@ -16,5 +16,5 @@ RecoveryDeliversAll journal = (n : ℕ) (message : Message) → message_of journ
 pub record HasRecovered (setting : Setting) (journal : List Item) : Type 0 where
   pub converged : HasConverged setting journal
   pub apart : GetStuckApart setting journal
-  pub updated : IsQuietUpdated setting journal
+  pub updated : IsNetworkUpdated setting journal
   pub forwards : QuietForwards setting journal

@@ -1,7 +1,7 @@
 -- What is true of a quiet network.
 use Rattle.std.specs.Prelude.{List}
 use Rattle.update_machine.specs.Exports.{IsQuiet, Item, Setting}
-use Rattle.convergence_laws.specs.Exports.{GetStuckApart, HasConverged, IsQuietUpdated}
+use Rattle.convergence_laws.specs.Exports.{GetStuckApart, HasConverged, IsNetworkUpdated}
 use Rattle.forwarding_laws.specs.Forwards.{QuietForwards}
 
 -- the network is quiet. So the switches know the usable links, and a packet that had found no link
@@ -12,5 +12,5 @@ pub record HasComeToRest (setting : Setting) (journal : List Item) : Type 0 wher
   pub quiet : IsQuiet setting journal
   pub converged : HasConverged setting journal
   pub apart : GetStuckApart setting journal
-  pub updated : IsQuietUpdated setting journal
+  pub updated : IsNetworkUpdated setting journal
   pub forwards : QuietForwards setting journal

@@ -1,6 +1,6 @@
 //! Laws about networks that have converged or are quiet: they forward.
 ghost use Rattle.update_machine.specs.Exports.{IsQuiet, IsSetting};
-ghost use Rattle.convergence_laws.specs.Exports.{HasConverged, IsQuietUpdated};
+ghost use Rattle.convergence_laws.specs.Exports.{HasConverged, IsNetworkUpdated};
 ghost use Rattle.packet_laws.specs.Exports.{HoldsBetween};
 ghost use Rattle.forwarding_laws.specs.Exports.{HasComeToRest, QuietForwards};
 
@@ -14,7 +14,7 @@ use convergence_laws::{
 /// partition, or not to its port's switch.
 pub fn converged_networks_forward()
     ensures { HoldsBetween (λ setting journal. IsSetting setting → HasConverged setting journal
-        → IsQuietUpdated setting journal → QuietForwards setting journal) }
+        → IsNetworkUpdated setting journal → QuietForwards setting journal) }
 {}
 
 /// A quiet network forwards in the same way.

@@ -4,7 +4,7 @@ ghost use Rattle.net_file.specs.Net.{IsNet};
 ghost use Rattle.update_machine.specs.Exports.{Answers, Event, IsSetting, Item, Setting};
 ghost use Rattle.steps.specs.declared.step.Event.TheVariants.{Flush};
 ghost use Rattle.control_laws.specs.Always.{AreNetworkEvents};
-ghost use Rattle.convergence_laws.specs.Exports.{HasConverged, IsQuietUpdated, NeighboursAgree};
+ghost use Rattle.convergence_laws.specs.Exports.{HasConverged, IsNetworkUpdated, NeighboursAgree};
 ghost use Rattle.forwarding_laws.specs.NothingOld.{CacheNewestAlone, EndsInTwoRounds, LeavesNothingOld};
 ghost use Rattle.forwarding_laws.specs.Recovered.{RecoveryDeliversAll, HasRecovered};
 ghost use Rattle.forwarding_laws.specs.Recovery.{EndsInRecovery};
@@ -42,7 +42,7 @@ pub fn recovered_networks_have_converged()
 pub fn recovered_networks_are_updated()
     ensures { (setting : Setting) (events : List Event) (journal : List Item)
         → EndsInRecovery setting.net events → Answers setting events journal
-        → IsQuietUpdated setting journal }
+        → IsNetworkUpdated setting journal }
 {}
 
 /// Suppose a schedule ends with the confirmation of each switch, a resend to each switch and a

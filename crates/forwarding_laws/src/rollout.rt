@@ -29,7 +29,7 @@ pub fn connected_rollouts_leave_none_stuck()
     rollouts_drop_nothing();
 }
 
-/// And suppose the schedule ends with a drain. Then each packet that entered was dropped by its
+/// If nothing fails and the schedule ends with a drain, each packet that entered was dropped by its
 /// decision, left by the port of its decision, or was lost by its own row. Or it is stuck because
 /// the network's links lead from where it is to no target of its leg.
 pub fn drained_rollouts_account_or_cut_off()

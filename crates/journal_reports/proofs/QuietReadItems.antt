@@ -4,7 +4,7 @@ use Rattle.std.specs.List.{list_any}
 use Rattle.std.specs.Option.{option_map_or}
 use Rattle.std.proofs.lemmas.Bool.{and_parts, cases_lt}
 use Rattle.std.proofs.lemmas.List.{get_or_append_left, get_or_push}
-use Rattle.update_machine.specs.Exports.{AreMessagesReceived, Body, IsMessageReceived, IsMessageReplaced, Item, Message, Place, MessageReplaces, Setting, begins_boot, count_of, is_delivery, is_of_boot, is_old_answer, matters, speaking_in_body, was_delivered}
+use Rattle.update_machine.specs.Exports.{AreMessagesReceived, Body, IsMessageReceived, IsMessageReplaced, Item, Message, Place, MessageReplaces, Setting, begins_boot, count_of, is_delivery, is_of_boot, is_old_ack_in_journal, matters, speaking_in_body, was_delivered}
 use Rattle.ctrl_msg.specs.declared.message.Place.TheVariants as receiver
 use Rattle.journal.specs.declared.item.Item.TheVariants as item
 use Rattle.convergence_laws.proofs.Exports.{delivered_append}
@@ -70,7 +70,7 @@ matters_named : (status : SwitchStatus) (in_boot : Bool) (message : Message) →
 matters_named status in_boot message matter = by_receiver message.to message.body matter where
   by_speaker : (body : Body) (o : Option (ℕ × ℕ))
       → (status.is_up && option_map_or (is_of_boot status.switch status.boot) o false
-      && not (is_old_answer status.current body)) ≡ true
+      && not (is_old_ack_in_journal status.current body)) ≡ true
       → is_named status.switch (option_map (λ (of : ℕ × ℕ). of.0) o) ≡ true
   by_speaker body None matter =
       absurd (cc ((and_parts status.is_up false (and_parts _ _ matter).0).1))

@@ -4,7 +4,7 @@ use Rattle.std.proofs.lemmas.Bool.{and_parts, or_right}
 use Rattle.std.proofs.lemmas.Bool.Decides.{nat_tests}
 use Rattle.control_laws.proofs.Exports.{own}
 use Rattle.ctrl_msg.specs.Exports.{body_boot}
-use Rattle.update_machine.specs.Exports.{Advert, Advertise, Body, CacheRule, Collect, Hello, Install, Installed, Message, OpenAt, Place, MessageReplaces, Stamp, Stamped, are_old_tables, is_advert, is_later_body, is_old_answer, speaking_in_body}
+use Rattle.update_machine.specs.Exports.{Advert, Advertise, Body, CacheRule, Collect, Hello, Install, Installed, Message, OpenAt, Place, MessageReplaces, Stamp, Stamped, are_old_tables, is_advert, is_later_body, is_old_ack_in_journal, speaking_in_body}
 use Rattle.ctrl_msg.specs.declared.message.Place.TheVariants as receiver
 use Rattle.failover.specs.Exports.{is_newer}
 use Rattle.failover.proofs.FailoverNewestAdvert.{newer_through}
@@ -111,7 +111,7 @@ pub record AreAlike (current : ℕ) (later earlier : Body) : Type 0 where
   boot : body_boot later ≡ body_boot earlier
   speaks : speaking_in_body later ≡ speaking_in_body earlier
   tables : are_old_tables current later ≡ are_old_tables current earlier
-  answer : is_old_answer current later ≡ is_old_answer current earlier
+  answer : is_old_ack_in_journal current later ≡ is_old_ack_in_journal current earlier
 
 -- what a later body has of the earlier one
 pub record IsMore (later earlier : Body) : Type 0 where

@@ -3,7 +3,7 @@
 use Rattle.std.specs.Prelude.{[], ◌&&◌, ◌==◌, ◌||◌, ◌∷◌, ◌≡◌, ◌⊎◌, Bool, IsTrue, List, None, Option, Some, false, nat_eq, nat_lt, not, option_map, slice_index_or, true, unwrap_or, ℕ, ⊤}
 use Rattle.std.specs.Option.{option_eq, option_map_or}
 use Rattle.ctrl_msg.specs.Exports.{body_boot, body_version}
-use Rattle.update_machine.specs.Exports.{Advert, Advertise, Body, Collect, Hello, Install, Installed, Item, Message, OpenAt, Place, Stamp, Stamped, are_old_tables, boot_of, carries_boot, current_mark, gives_boot, gives_current, gives_up, gives_waited_for, is_advert, is_of_boot, is_old_answer, is_up, is_waited_for, speaking_in_body}
+use Rattle.update_machine.specs.Exports.{Advert, Advertise, Body, Collect, Hello, Install, Installed, Item, Message, OpenAt, Place, Stamp, Stamped, are_old_tables, boot_of, carries_boot, current_mark, gives_boot, gives_current, gives_up, gives_waited_for, is_advert, is_of_boot, is_old_ack_in_journal, is_up, is_waited_for, speaking_in_body}
 use Rattle.ctrl_msg.specs.declared.message.Place.TheVariants as receiver
 use Rattle.failover.specs.Exports.{is_newer}
 use Rattle.journal.specs.declared.item.Item.TheVariants as item
@@ -54,7 +54,7 @@ matters_in_status status in_boot message = elim message.to [
   | receiver.Controller ↦
       status.is_up
       && option_map_or (is_of_boot status.switch status.boot) (speaking_in_body message.body) false
-      && not (is_old_answer status.current message.body)
+      && not (is_old_ack_in_journal status.current message.body)
   | receiver.Switch to ↦
       status.is_up && to == status.switch && in_boot
       && (is_advert message.body || carries_boot status.boot message.body)

@@ -15,8 +15,8 @@ pub struct Bucket {
     pub messages: Vec<SharedMessage>,
 }
 
-/// 64 empty buckets, as many as a network may have switches; the last of the 64 versions that a
-/// play may have is in the first bucket.
+/// 64 empty buckets: what is about switch or version n is in bucket n modulo 64, so version 64 is in
+/// the first.
 ///
 /// # Errors
 /// Only out of memory.

@@ -1,7 +1,7 @@
 //! Which messages replace others, and which matter.
 ghost use Rattle.std.specs.Prelude.{◌≡◌, ◌↔◌, ◌||◌, false, IsTrue};
 ghost use Rattle.std.specs.Option.{option_map_or};
-ghost use Rattle.update_machine.specs.Quiet.{are_old_tables, carries_boot, is_advert, is_of_boot, is_old_answer, speaking_in_body};
+ghost use Rattle.update_machine.specs.Quiet.{are_old_tables, carries_boot, is_advert, is_of_boot, is_old_ack_in_journal, speaking_in_body};
 ghost use Rattle.journal_reports.specs.Judging.{HaveSameLists, SaysAsMuch, holds_for_earlier_versions, is_same_kind, is_version_enough, matters_in_status, replaces_body, replaces_message, speaking_switch};
 
 use crate::status::SwitchStatus;
@@ -24,7 +24,8 @@ pub fn matters(message: &Message, status: &SwitchStatus, is_in_boot: bool) -> bo
                 && !are_old_tables(&message.body, status.current)
         }
         Place::Controller => {
-            is_of_boot(&message.body, status) && !is_old_answer(&message.body, status.current)
+            is_of_boot(&message.body, status)
+                && !is_old_ack_in_journal(&message.body, status.current)
         }
     }
 }
@@ -63,8 +64,8 @@ fn are_old_tables(body: &Body, current: u32) -> bool
 }
 
 // Whether the body acknowledges tables of a version below the current one.
-fn is_old_answer(body: &Body, current: u32) -> bool
-    ensures { result ≡ is_old_answer current body.now }
+fn is_old_ack_in_journal(body: &Body, current: u32) -> bool
+    ensures { result ≡ is_old_ack_in_journal current body.now }
 {
     match body {
         Body::Installed { version, .. } => *version < current,
@@ -158,8 +159,8 @@ pub fn speaks(body: &Body) -> Option<u32>
     }
 }
 
-// Whether the later one names the earlier one's version, if that has one; or a greater one, if
-// what it says is true for the versions before it too.
+// Whether, if both messages name a version, the later one names the same, or a greater one if what
+// it says is true for earlier versions too.
 fn is_version_enough(later: &Body, earlier: &Body) -> bool
     ensures { result ≡ is_version_enough later.now earlier.now }
 {

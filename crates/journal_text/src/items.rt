@@ -9,7 +9,7 @@ ghost use Rattle.lines.specs.Pushes.{line_with};
 use crate::advert_texts::AdvertTexts;
 use crate::messages::{push_cached_rule, push_message_body, push_message_receiver};
 use crate::rows::{
-    push_named_number, push_named_switch, push_numbered_text, push_step_row, push_switch_pair,
+    push_item_named_number, push_named_switch, push_numbered_text, push_step_row, push_switch_pair,
 };
 use journal::{Action, Cause, How, Item, Journal, SharedMessage, SharedRoute};
 use lines::{Line, push_name, push_names};
@@ -125,7 +125,7 @@ fn push_decided_how(line: &mut Line, net: &Net, how: How)
     match how {
         How::Cached { message } => push_numbered_text(line, "cache", message),
         How::Authority { switch, partition } => {
-            push_named_number(line, net, "authority", switch, " part ", partition)
+            push_item_named_number(line, net, "authority", switch, " part ", partition)
         }
     }
 }
@@ -207,7 +207,7 @@ fn push_expired_item(line: &mut Line, net: &Net, switch: u32, place: u32, messag
     ensures { line.new
         ≡ line_with line.old (item_line net.now (item.Expired switch place message)) }
 {
-    push_named_number(line, net, "  expired", switch, " ", place);
+    push_item_named_number(line, net, "  expired", switch, " ", place);
     line.push(" message ");
     line.push_number(u64::from(message));
 }
@@ -293,10 +293,10 @@ fn push_item(line: &mut Line, net: &Net, texts: &mut AdvertTexts, item: &Item)
         Item::Current { version } => push_numbered_text(line, "  current", *version),
         Item::Retired { version } => push_numbered_text(line, "  retired", *version),
         Item::Booted { switch, boot } => {
-            push_named_number(line, net, "  booted", *switch, " ", *boot)
+            push_item_named_number(line, net, "  booted", *switch, " ", *boot)
         }
         Item::Opened { switch, version } => {
-            push_named_number(line, net, "  opened", *switch, " version ", *version)
+            push_item_named_number(line, net, "  opened", *switch, " version ", *version)
         }
         Item::Down { switch } => push_named_switch(line, net, "  down", *switch),
         Item::OverNow { switch } => push_named_switch(line, net, "  over", *switch),

@@ -8,7 +8,7 @@ ghost use Rattle.lines.specs.Pushes.{line_with};
 
 use crate::advert_texts::AdvertTexts;
 use crate::names::push_mask_names;
-use crate::rows::{push_named_number, push_numbered_text};
+use crate::rows::{push_item_named_number, push_numbered_text};
 use ctrl_msg::{Body, Place};
 use failover::Advert;
 use lines::{Line, push_action, push_name, push_rule, push_word};
@@ -49,7 +49,7 @@ fn push_version_number(line: &mut Line, text: &str, boot: u32, version: u32)
 fn push_booted_body(line: &mut Line, net: &Net, text: &str, switch: u32, boot: u32)
     ensures { line.new ≡ line_with line.old (boot_text (text_with_name net.now text.now switch) boot) }
 {
-    push_named_number(line, net, text, switch, " boot ", boot);
+    push_item_named_number(line, net, text, switch, " boot ", boot);
 }
 
 #[tactic(auto, using(lines::proofs::CallerLemmas::pushed_append))]

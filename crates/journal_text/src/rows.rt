@@ -31,7 +31,14 @@ pub(crate) fn push_named_switch(line: &mut Line, net: &Net, text: &str, s: u32)
 
 /// Adds a switch's name and a number, each after a text.
 #[tactic(auto, using(lines::proofs::CallerLemmas::pushed_append))]
-pub(crate) fn push_named_number(line: &mut Line, net: &Net, text: &str, s: u32, next: &str, n: u32)
+pub(crate) fn push_item_named_number(
+    line: &mut Line,
+    net: &Net,
+    text: &str,
+    s: u32,
+    next: &str,
+    n: u32,
+)
     ensures { line.new ≡ line_with line.old (text_with_name net.now text.now s ++ next.now
         ++ decimal n) }
 {
@@ -73,7 +80,7 @@ pub(crate) fn push_step_row(line: &mut Line, net: &Net, step: &Step)
         Step::Deliver { message } => push_numbered_text(line, "deliver", *message),
         Step::Forget { message } => push_numbered_text(line, "forget", *message),
         Step::Expire { switch, place } => {
-            push_named_number(line, net, "expire", *switch, " ", *place)
+            push_item_named_number(line, net, "expire", *switch, " ", *place)
         }
         Step::Update { file } => push_numbered_text(line, "update", *file),
         Step::LinkDown { one, two } => {

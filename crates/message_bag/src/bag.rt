@@ -8,7 +8,7 @@ ghost use Rattle.message_bag.specs.Posts.{IsPostLike, posted_frames};
 
 use crate::firsts::Firsts;
 use crate::reading::{message_of_frame, tables_of};
-use crate::tables::{TableFrames, spell};
+use crate::tables::{TableFrames, spell_install};
 use ctrl_msg::{Message, SharedTables};
 use std::alloc::{AllocError, Global};
 use std::marker::Model;
@@ -130,7 +130,7 @@ impl Bag {
         ensures fits { OnOk result (form.fits message.now ≡ true) }
         ensures posted { HasPosted result (posted_frames message.now) self.old self.new }
     {
-        let number = spell(
+        let number = spell_install(
             &mut self.tables,
             &mut self.scratch,
             alloc,

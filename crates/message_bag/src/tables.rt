@@ -22,7 +22,7 @@ const HEADER_BITS: u32 = 104;
 /// each installation of the same tables that is posted shares them. Contracts see the frames.
 #[derive(Drop)]
 pub struct TableFrames {
-    // The tables as they come out of the frames: those of each message that is taken.
+    // The tables decoded from the frames, which each message that is taken shares.
     said: SharedTables,
     frames: Frames,
     // Their version and digest, kept here so that a search skips most others.
@@ -210,7 +210,7 @@ fn keep(
 ///
 /// # Errors
 /// Only out of memory.
-pub fn spell(
+pub fn spell_install(
     kept: &mut Vec<TableFrames>,
     first: &mut Vec<u8>,
     alloc: Global,

@@ -5,7 +5,7 @@ use Rattle.update_machine.specs.Exports.{Action, AuthorityRule, Decision, Exit, 
 use Rattle.base.specs.Exports.{has}
 use Rattle.update_machine.proofs.Exports.{folded_append, have_append, have_first, last_given_append, lookup_stays, near_stays, policies_keep, switch_keeps}
 use Rattle.control_laws.proofs.Exports.{last_more, own, serving_more}
-use Rattle.packet_laws.specs.Exports.{AreResting, PacketArrives, AuthorityFinds, Blocked, CameIn, IsAt, IsLookedUp, IsLookedUpBy, IsOfRow, Judged, OnWay, PacketCause, ReachesAuthority, Stage, TakesLeg, gives_stage, stage_of}
+use Rattle.packet_laws.specs.Exports.{AreResting, PacketArrives, AuthorityFinds, Blocked, CameIn, IsAt, IsLookedUp, IsLookedUpBy, PacketIsOfRow, Judged, OnWay, PacketCause, ReachesAuthority, Stage, TakesLeg, gives_stage, stage_of}
 use Rattle.packet_laws.proofs.PacketKnownRoutes.{first_usable}
 
 abbrev pub Ways : Setting → List Item → List Item → Type 0
@@ -359,7 +359,7 @@ entered_at : (journal : List Item) (i s : ℕ) (header : Header) → IsTrue (ser
 entered_at journal i s header serving = search (rules, travels_more, standing_more, serving_more)
 
 pub packet_ways : (setting : Setting) (journal : List Item) (i s : ℕ) (header : Header)
-    → IsOfRow journal i s header → Ways setting journal (packet_items setting i s header journal)
+    → PacketIsOfRow journal i s header → Ways setting journal (packet_items setting i s header journal)
 unfolding packet_items
 packet_ways setting journal i s header of_row = by_serving (serves journal s) refl where
   by_serving : (b : Bool) → serves journal s ≡ b → Ways setting journal (elim b [

@@ -9,7 +9,7 @@ use Rattle.base.proofs.Exports.{All-append, All-contains, All-drop, All-filter, 
 use Rattle.cache_maker.specs.Independent.{IsIndependent, is_independent, widen, widening_of}
 use Rattle.cache_maker.proofs.IndependentCacheWords.{test_true}
 use Rattle.five_tuple.specs.Exports.{IsHeader, number_of}
-use Rattle.switch_table.specs.Exports.{CacheValue, Hosted, WasCarried, after_carry, after_raise, meets_any_touched, newest_cache_entries, part_of, same_key}
+use Rattle.switch_table.specs.Exports.{CacheValue, Hosted, WasCarried, after_carry, cache_after_raise, meets_any_touched, newest_cache_entries, part_of, same_key}
 use Rattle.ternary.specs.Exports.{WordValue, covers_of, exact_word, free_of, holds, meet_of}
 use Rattle.ternary.proofs.CallerLemmas.{covers_held, meet_disjoint}
 use Rattle.packet_laws.proofs.PacketHeaderLookups.{Finds, IsPlanned}
@@ -310,7 +310,7 @@ newest_holds P capacity entries all = by_room (nat_lt capacity (length entries))
 raised_holds : (P : CacheEntry → Type 0) (earlier stamp : ℕ) (cache : CacheValue)
     → Holds P cache → Holds P (raised_from earlier stamp cache)
 raised_holds P earlier stamp cache all = by_test (nat_lt earlier stamp) where
-  by_test : (b : Bool) → Holds P (if b then after_raise stamp cache else cache)
+  by_test : (b : Bool) → Holds P (if b then cache_after_raise stamp cache else cache)
   by_test true = All-filter (λ entry. nat_le stamp entry.version) P cache.entries all
   by_test false = all
 

@@ -1,7 +1,7 @@
 -- A journal whose items have their causes is a run of the machine.
 use Rattle.std.proofs.Common.{[], if◌then◌else◌, ◌++◌, ◌<◌, ◌∙◌, ◌∷◌, ◌≡◌, ◌≢◌, ◌≤◌, Bool, IsTrue, List, None, Option, Some, ap, arith, eq-eqb, false, ne_eqb, option_map, refl, subst, sym, true, ℕ, rules}
 use Rattle.base.proofs.Exports.{cases_eq, some_same, ⊤}
-use Rattle.update_machine.specs.Exports.{Action, Decision, Dropped, End, Ends, HaveCauses, Header, Hit, How, IsRun, IsSetting, Item, Leaving, LeftBy, Lost, Machine, MachineMayEnd, PoliciesKeep, Row, Runs, Setting, Stuck, Takes, first_machine, gives_retired, header_in, is_submission, next_packet, policy_at, retired_mark, travels, version_count, with_packet}
+use Rattle.update_machine.specs.Exports.{Action, Decision, Dropped, End, Ends, HaveCauses, Header, Hit, How, IsRun, IsSetting, Item, Leaving, LeftBy, Lost, Machine, PacketMayEnd, PoliciesKeep, Row, Runs, Setting, Stuck, Takes, first_machine, gives_retired, header_in, is_submission, next_packet, policy_at, retired_mark, travels, version_count, with_packet}
 use Rattle.policy_rules.specs.Exports.{scan}
 use Rattle.policy_rules.proofs.CallerLemmas.{first_match-scan}
 use Rattle.update_machine.specs.Machine.{Packet}
@@ -135,7 +135,7 @@ action_of packet facts decision seen decided = search rules
 goes_end : (setting : Setting) (machine : Machine) (journal : List Item) (next : Item) (i : ℕ)
     (end : End) → Before setting journal → Matches setting machine journal
     → IsTrue (travels journal i)
-    → ((packet : Packet) → IsSeen packet (what_is_known journal i) → MachineMayEnd packet end)
+    → ((packet : Packet) → IsSeen packet (what_is_known journal i) → PacketMayEnd packet end)
     → what_is_known (journal ++ next ∷ []) i ≡ record (what_is_known journal i) { travels = false }
     → ((j : ℕ) → j ≢ i → is_of_packet j next ≡ false)
     → KeepsMarks setting journal (journal ++ next ∷ [])
@@ -290,7 +290,7 @@ KeptItem setting = Behind (Past (IsWayItem setting)) (AllKept setting)
 
 left_action : (setting : Setting) (journal : List Item) (i port : ℕ) (leaving : Leaving)
     → Before setting journal → PacketCause setting journal (Item.Left i port leaving)
-    → (packet : Packet) → IsSeen packet (what_is_known journal i) → MachineMayEnd packet (LeftBy port)
+    → (packet : Packet) → IsSeen packet (what_is_known journal i) → PacketMayEnd packet (LeftBy port)
 left_action setting journal i port leaving before way packet seen =
     let rightly = leaves_rightly _ journal i port leaving (knows setting journal i before) way in
     action_of packet (what_is_known journal i) _ seen (decision_in journal i _ rightly.decided)

@@ -2,7 +2,7 @@
 use Rattle.std.proofs.Common.{[], ◌++◌, ◌∙◌, ◌∷◌, ◌≡◌, Bool, IsTrue, List, None, Option, Some, append-nil, append_assoc, arith, false, map, max, min, refl, subst, sym, true, ℕ, rules}
 use Rattle.control_laws.proofs.Exports.{Control, IsCommand, IsControl, controller_control, deliver_has, each_by_controller, each_by_switch, each_to_member, have_weaker, later_versions, own, resent_has, sends_each, switch_cases, update_has}
 use Rattle.base.specs.Exports.{has}
-use Rattle.update_machine.specs.Exports.{Action, AuthorityRule, Body, CacheRule, Found, HaveCauses, Header, How, IsLinkStep, Item, Leg, LinkDown, LinkUp, Message, Restart, Setting, Step, Update, advert_to, arrive_items, authority_items, authority_rule, deliver_items, end_items, expire_items, forget_items, found_items, gives_travelling, go_on, packet_header_at, hop_items, journal_items_then, leg_items, leg_of, link_changes, link_items, lookup_at, lookup_items, messages_of, messages_over_link, move_items, near, next_switch, nothing, packet_items, present_step, reroute_items, resend_items, restart_items, packet_route_for, send_items, serves, stamp_of, stuck_on_leg_items, switch_items, switches_in, travels, unacked_installs, update_items, versions_from_current}
+use Rattle.update_machine.specs.Exports.{Action, AuthorityRule, Body, CacheRule, Found, HaveCauses, Header, How, IsLinkStep, Item, Leg, LinkDown, LinkUp, Message, Restart, Setting, Step, Update, advert_to, arrive_items, authority_items, authority_rule, deliver_items, end_items, expire_items, forget_items, found_items, gives_travelling, go_on, packet_header_at, hop_items, journal_items_then, leg_items, leg_of, link_changes, link_items, lookup_at, lookup_items, messages_of, messages_over_link, move_items, near, next_switch, nothing, packet_items, present_step, reroute_items, resend_items, restart_items, packet_route_for, send_items, serves, stamp_of, stuck_on_leg_items, switch_items, switches_in, travels, journal_unacked_installs, update_items, versions_from_current}
 use Rattle.update_machine.proofs.Exports.{folded_append, have_first}
 use Rattle.packet_laws.specs.Exports.{IsPacketMoving, OnWay, PacketCause, gives_stage}
 use Rattle.packet_laws.proofs.PacketBlocks.{ended, stage_more, stage_stays, travels_more}
@@ -307,7 +307,7 @@ deliver_aside setting before number journal = deliver_has IsAside setting before
 -- ---- sending again
 
 unacked_other : (setting : Setting) (journal : List Item) (s : ℕ) (versions : List ℕ)
-    → AreOther (unacked_installs setting journal s versions)
+    → AreOther (journal_unacked_installs setting journal s versions)
 unacked_other setting journal s versions = search (rules, each_other)
 
 pub resend_aside : (setting : Setting) (s : ℕ) (journal : List Item)

@@ -4,7 +4,7 @@ use Rattle.update_machine.specs.Exports.{Answers, AreFirstSteps, AreFirstStepsOf
 use Rattle.update_machine.proofs.Exports.{AreOf, HasNexts, all_first, all_given_append, event_steps_are, firsts_are}
 use Rattle.packet_laws.proofs.PacketsSpared.{IsInStep, IsNoRow, lookup_in_step}
 use Rattle.packet_laws.proofs.PacketsAtRest.{no_entries, no_rows}
-use Rattle.packet_laws.specs.Exports.{AreEntered, EachPacketRowEnters, StepRow, event_row, gives_packet_row, rows_played, step_row, step_rows, step_rows_in}
+use Rattle.packet_laws.specs.Exports.{AreEntered, EachPacketRowEnters, StepRow, event_row, gives_step_row, rows_played, step_row, step_rows, step_rows_in}
 use Rattle.policy_rules.proofs.CallerLemmas.{append_not_nil}
 
 -- ---- what the pieces of steps have of packet rows and their entries
@@ -37,7 +37,7 @@ steps_rows setting before [] = sym (append-nil (step_rows_in before))
 steps_rows setting before (next ∷ steps) =
     steps_rows setting (before ++ piece setting before next.row next.step) steps
     ∙ ap (λ rows. rows ++ rows_of steps)
-    (all_given_append gives_packet_row before (piece setting before next.row next.step)
+    (all_given_append gives_step_row before (piece setting before next.row next.step)
     ∙ ap (λ rows. step_rows_in before ++ rows) (piece_rows setting before next.row next.step))
     ∙ append_assoc (step_rows_in before) (step_row next.row next.step) (rows_of steps)
 

@@ -86,7 +86,7 @@ StayInOrder version touched before after =
 -- order, except those of earlier versions that don't outlive the rise. An entry of the version
 -- before whose word meets no word that the version's change touches has an entry under that version
 -- then: itself, or the one that had its word before
-pub record OutliveRise (setting : Setting) (before : List Item) (s number version : ℕ)
+pub record CacheRulesOutliveStamp (setting : Setting) (before : List Item) (s number version : ℕ)
     : Type 0 where
   pub in_order : StayInOrder version (touched_by setting before version)
       (cache_of setting before s).entries
@@ -101,4 +101,4 @@ UntouchedStay setting before =
     (s number boot version : ℕ) (touched : List WordValue)
     → IsToldStamp before s number boot version touched
     → stamp_of before s < version
-    → OutliveRise setting before s number version
+    → CacheRulesOutliveStamp setting before s number version

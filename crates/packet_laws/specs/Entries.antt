@@ -33,13 +33,13 @@ rows_played (Some row) events = step_rows 1 (take (row - 1) events)
 
 -- ---- in a journal
 
-abbrev pub gives_packet_row : Item → List StepRow
-gives_packet_row (item.Row row step) = step_row row step
-gives_packet_row _ = []
+abbrev pub gives_step_row : Item → List StepRow
+gives_step_row (item.Row row step) = step_row row step
+gives_step_row _ = []
 
 -- the step rows that a journal has, in order
 abbrev pub step_rows_in : List Item → List StepRow
-step_rows_in journal = all_given gives_packet_row journal
+step_rows_in journal = all_given gives_step_row journal
 
 -- the item says that packet i entered with this header at the switch, if the switch serves; or, if
 -- it doesn't, that it was closed to the packet

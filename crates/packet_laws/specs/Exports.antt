@@ -4,7 +4,7 @@ pub use Rattle.packet_laws.specs.Arriving.{IsAtEnd, PacketsArrive}
 pub use Rattle.packet_laws.specs.Between.{HoldsBetween, packet_steps_played}
 pub use Rattle.packet_laws.specs.Drains.{hops_left}
 unfoldable pub use Rattle.packet_laws.specs.Drains.{drain_left}
-pub use Rattle.packet_laws.specs.Entries.{AreEntered, EachPacketRowEnters, IsEntryOf, StepRow, event_row, gives_packet_row, rows_played, step_row, step_rows, step_rows_in}
+pub use Rattle.packet_laws.specs.Entries.{AreEntered, EachPacketRowEnters, IsEntryOf, StepRow, event_row, gives_step_row, rows_played, step_row, step_rows, step_rows_in}
 pub use Rattle.packet_laws.specs.Facts.{PacketFacts, changes_packet_mark, packet_facts_after, is_of_packet}
 unfoldable pub use Rattle.packet_laws.specs.Facts.{entry_mark, what_is_known}
 pub use Rattle.packet_laws.specs.Hops.{changes_taken, is_detour, is_exit, is_search, most_hops, most_switches, routes_taken}
@@ -12,7 +12,7 @@ unfoldable pub use Rattle.packet_laws.specs.Hops.{detour_count, exit_count, hops
 pub use Rattle.packet_laws.specs.KeptFacts.{AllKept, PacketRouteAvoidsFound, BringsRightRule, HasKeptFacts, IsRightlyDecided}
 pub use Rattle.packet_laws.specs.OnTheWay.{BeginStep, EndsStep, HeldOnTheWay, HoldsSoFar, IsKeptBehind}
 pub use Rattle.packet_laws.specs.OnWay.{EndsAtTarget, PacketRouteFollowsLinks, IsOnLeg, IsOnWay, IsPartitionOf, IsSought, IsUnderWay, IsUnknownPacket, PacketRouteLeadsToTarget, PacketRouteStartsAt}
-pub use Rattle.packet_laws.specs.PacketCauses.{PacketArrives, AuthorityDecides, AuthorityFinds, CacheDecides, PacketDecidesBy, FindsNoRoute, IsAt, IsAtPort, IsBlockedOn, IsDecided, IsDroppedHere, IsLookedUp, IsLookedUpBy, IsLostHere, IsLostInCrash, IsOfRow, IsPacketRedirected, PacketLeavesHere, PacketMeetsDown, PacketMovesOver, PacketCause, ReachesAuthority, SendsRightRule, PacketSendsRule, PacketTakesDetour, PacketTakesExit, TakesLeg, PacketTakesRoute, gives_fall, gives_row_test}
+pub use Rattle.packet_laws.specs.PacketCauses.{PacketArrives, AuthorityDecides, AuthorityFinds, CacheDecides, PacketDecidesBy, FindsNoRoute, IsAt, IsAtPort, IsBlockedOn, IsDecided, IsDroppedHere, IsLookedUp, IsLookedUpBy, IsLostHere, IsLostInCrash, PacketIsOfRow, IsPacketRedirected, PacketLeavesHere, PacketMeetsDown, PacketMovesOver, PacketCause, ReachesAuthority, SendsRightRule, PacketSendsRule, PacketTakesDetour, PacketTakesExit, TakesLeg, PacketTakesRoute, gives_fall, gives_row_test}
 unfoldable pub use Rattle.packet_laws.specs.PacketCauses.{ends_with_row, fallen_switch}
 pub use Rattle.packet_laws.specs.Rest.{AreResting, AreServed, IsPacketMoving, IsServed}
 pub use Rattle.packet_laws.specs.Routes.{changes_on_route, is_finding_link_down, most_routes}

@@ -27,7 +27,7 @@ unfoldable pub ends_with_row : List Item → Bool
 ends_with_row journal = unwrap_or (last_given gives_row_test journal) false
 
 -- the packet enters, or is closed, right after its row, under the next number
-pub record IsOfRow (before : List Item) (packet switch : ℕ) (header : Header) : Type 0 where
+pub record PacketIsOfRow (before : List Item) (packet switch : ℕ) (header : Header) : Type 0 where
   pub number : packet ≡ next_packet before
   pub row : present_step before ≡ Some (Packet switch header)
   pub behind : IsTrue (ends_with_row before)
@@ -272,9 +272,9 @@ SendsRightRule setting before message _ = ⊤
 -- version, has its cause earlier in the journal
 abbrev pub PacketCause : Setting → List Item → Item → Type 0
 PacketCause setting before (item.Entered packet switch header) =
-    IsOfRow before packet switch header × IsTrue (serves before switch)
+    PacketIsOfRow before packet switch header × IsTrue (serves before switch)
 PacketCause setting before (item.Closed packet switch) =
-    ((header : Header) × IsOfRow before packet switch header) × IsFalse (serves before switch)
+    ((header : Header) × PacketIsOfRow before packet switch header) × IsFalse (serves before switch)
 PacketCause setting before (item.Seeking packet version partition route) =
     PacketTakesRoute setting before packet (Seek version partition) route
 PacketCause setting before (item.Exiting packet route) = PacketTakesExit setting before packet route

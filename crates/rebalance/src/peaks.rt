@@ -29,7 +29,7 @@ pub fn bound(weights: &[u64], rooms: &[u32]) -> u64
     if usable == 0 {
         return 0;
     }
-    greatest(weights).max(sum(weights).div_ceil(usable))
+    greatest(weights).max(sum_of_weights(weights).div_ceil(usable))
 }
 
 // Adds the weight of each partition to the traffic of its first target.
@@ -66,7 +66,7 @@ fn greatest(numbers: &[u64]) -> u64
     numbers.iter().fold(0, |most, number| most.max(*number))
 }
 
-fn sum(numbers: &[u64]) -> u64
+fn sum_of_weights(numbers: &[u64]) -> u64
     requires { sum numbers.now < 2 ^ 64 }
     ensures { result ≡ sum numbers.now }
 {

@@ -1,7 +1,7 @@
 -- What the controller sends again, and what it is told of is there.
 use Rattle.std.proofs.Common.{[], ◌&&◌, ◌++◌, ◌+◌, ◌-◌, ◌<◌, ◌==◌, ◌∙◌, ◌∷◌, ◌≡◌, ◌≢◌, ◌≤◌, Bool, IsFalse, IsTrue, List, Some, ap, arith, false, filter, find, if◌then◌else◌, length, map, nat_le, nat_lt, not, refl, suc, sym, true, ℕ}
 use Rattle.base.proofs.Exports.{filter_made, map-append, map_twice, nat_tests, option_map_or, picked_same, range_with_len}
-use Rattle.update_machine.specs.Exports.{Body, Collect, Hello, Installed, Item, Message, NoneConcern, OpenAt, Resend, Setting, Stamp, Stamped, Step, acked_stamp, collect_for, concerns_controller, current_mark, install_for, message_of, open_for, open_version, piece, resend_items, resent_by_controller, resent_by_switch, resent_to_member, retired_mark, sends_or_nothing, stamp_for, to_switch, touched_by, unacked_installs, version_count, versions_from_current}
+use Rattle.update_machine.specs.Exports.{Body, Collect, Hello, Installed, Item, Message, NoneConcern, OpenAt, Resend, Setting, Stamp, Stamped, Step, acked_stamp, collect_for, concerns_controller, current_mark, install_for, message_of, open_for, open_version, piece, resend_items, resent_by_controller, resent_by_switch, resent_to_member, retired_mark, sends_or_nothing, stamp_for, to_switch, touched_by, journal_unacked_installs, version_count, versions_from_current}
 use Rattle.ctrl_msg.specs.Exports.{to_controller}
 use Rattle.update_machine.specs.Marks as machine
 use Rattle.control_laws.proofs.Exports.{bounded, others_keep}
@@ -95,7 +95,7 @@ module _ (setting : Setting) (journal : List Item) (s : ℕ) (controller : Contr
   -- of the versions from one on those that it didn't acknowledge
   from_on : IsFalse (machine.is_over journal s) → (first n : ℕ) → 1 ≤ first
       → map again (filter (lacks first) (range_with_len first n))
-      ≡ map Post (unacked_installs setting journal s (range_with_len first n))
+      ≡ map Post (journal_unacked_installs setting journal s (range_with_len first n))
   from_on none first n there = picked_same again (λ v. Post (install_for setting journal v s))
       (lacks first) (λ v. not (machine.has_acked journal s v)) first n
       (λ v above below. let passes : nat_le first v ≡ true = grind (arith, nat_tests) in
@@ -129,7 +129,7 @@ module _ (setting : Setting) (journal : List Item) (s : ℕ) (controller : Contr
   to_member : IsTrue (machine.is_member journal s) → IsFalse (machine.is_over journal s)
       → resend_acts_to Member controller s ≡ map Post (resent_to_member setting journal s)
   to_member member none =
-      let first : List Message = unacked_installs setting journal s
+      let first : List Message = journal_unacked_installs setting journal s
       (range_with_len (low + 1) (version_count journal - low)) in
       let stamp : List Message = if nat_lt (acked_stamp journal s) low
       then stamp_for setting journal low s ∷ [] else [] in
@@ -172,7 +172,7 @@ module _ (setting : Setting) (journal : List Item) (s : ℕ) (controller : Contr
     | true ↦ []
     | false ↦ elim member [
       | true ↦ resent_to_member setting journal s
-      | false ↦ unacked_installs setting journal s versions
+      | false ↦ journal_unacked_installs setting journal s versions
     ]
   ]
 

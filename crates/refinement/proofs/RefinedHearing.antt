@@ -2,7 +2,7 @@
 use Rattle.std.proofs.Common.{[], ◌&&◌, ◌++◌, ◌==◌, ◌||◌, ◌∙◌, ◌∷◌, ◌≡◌, Bool, List, None, Option, Some, ap, arith, eq-eqb, false, if◌then◌else◌, max, nat_le, nat_lt, not, refl, sym, true, unwrap_or, ℕ}
 use Rattle.base.proofs.Exports.{nat_tests, option_map_or, or_parts}
 use Rattle.update_machine.specs.Exports.{Advertise, Body, Hello, Install, Installed, Item, NoneConcern, OpenAt, Setting, Stamp, Stamped, Tables, body_to_switch, boot_of, cache_after, cache_of, changes_cache, changes_heard, concerns_known, concerns_links, concerns_switch, gives_boot, gives_serving, gives_up, handled_count, heard, is_for_boot, is_up, message_of, near, own_seq, serves, stamp_of, to_switch, touched_by}
-use Rattle.switch_table.specs.Exports.{after_carry, after_expire, after_raise}
+use Rattle.switch_table.specs.Exports.{after_carry, after_expire, cache_after_raise}
 use Rattle.update_machine.proofs.Exports.{calls_stay, fewer, folded_append, links_keep, switch_keeps}
 use Rattle.control_laws.proofs.Exports.{boot_more, heard_more, serving_more, up_more}
 use Rattle.refinement.proofs.RefinedSwitchHearing.{SaysTouched, heard_facts, hears_facts}
@@ -289,7 +289,7 @@ opens_by switch n stamp (OpenAt boot version) opens = (refl, by_open switch.is_o
   by_test : (b : Bool) → nat_lt switch.stamp version ≡ b → max switch.stamp version
       ≡ (if b then record switch {
         stamp = version;
-        cache = after_raise version switch.cache;
+        cache = cache_after_raise version switch.cache;
       } else switch).stamp
   by_test true is = grind (arith, nat_tests)
   by_test false is = grind (arith, nat_tests)
@@ -297,7 +297,7 @@ opens_by switch n stamp (OpenAt boot version) opens = (refl, by_open switch.is_o
   by_open : (b : Bool) → (if b then None else Some (max switch.stamp version)) ≡ Some stamp
       → stamp ≡ (if nat_lt switch.stamp version then record switch {
         stamp = version;
-        cache = after_raise version switch.cache;
+        cache = cache_after_raise version switch.cache;
       } else switch).stamp
   by_open true opens = absurd cc
   by_open false opens = let same : max switch.stamp version ≡ stamp = cc in

@@ -5,7 +5,7 @@ use Rattle.update_machine.specs.Exports.{Advert, Advertise, Body, CacheRule, Col
 use Rattle.failover.specs.Exports.{adverts_after_hearing, held_advert, is_newer, is_news}
 use Rattle.failover.proofs.FailoverHeldAdverts.{after_no_news}
 use Rattle.switch_core.specs.Exports.{SwitchValue, switch_after_body, collected_to, is_news_here, stamp_raised_to, stamped_with, switch_with_heard, with_installed}
-use Rattle.switch_table.specs.Exports.{after_carry, after_raise}
+use Rattle.switch_table.specs.Exports.{after_carry, cache_after_raise}
 use Rattle.refinement.specs.Exports.{collect_in, tables_in, with_tables}
 use Rattle.refinement.proofs.RefinedSwitchFacts.{AreVersioned, IsVersioned, SwitchFacts, above, above_more, above_twice, all_by, collected_by, filled, first_tables, found_above, others_by, stamp_by, switch_in, tables_are}
 use Rattle.ternary.specs.Exports.{WordValue}
@@ -129,7 +129,7 @@ hears_stamp s w stamp collected version tables others = cc (rises, at_greater by
   where
     by : ℕ → Bool → SwitchValue
     by after rises = filled s (record w {
-      cache = if rises then after_raise after w.cache else w.cache;
+      cache = if rises then cache_after_raise after w.cache else w.cache;
     }) after collected tables others
 
     rises : nat_lt stamp (max stamp version) ≡ nat_lt stamp version

@@ -16,7 +16,7 @@ use Rattle.steps.specs.declared.step.Event.TheVariants.{One, Flush, Drain}
 use Rattle.steps.specs.declared.step.Step.{Step}
 use Rattle.steps.specs.declared.step.Step.TheVariants as step
 use Rattle.schedule.specs.Kinds.{kind_of}
-use Rattle.schedule.specs.Reading.{AreSoundEvents, schedule_events_in, events_of, events_under_heading, no_schedule_heading, refused_row, refusals_from}
+use Rattle.schedule.specs.Reading.{AreSoundEvents, schedule_events_in, events_of, events_under_heading, no_schedule_heading, refused_row, schedule_refusals_from}
 use Rattle.base.specs.declared.row.InRow.{InRow}
 use Rattle.schedule.specs.Rows.{event_of, row_event_with, row_file_in, header_read, row_link_in, row_number_read, schedule_heading, switch_in}
 use Rattle.schedule.specs.declared.error.ScheduleRefusal.{ScheduleRefusal}
@@ -177,12 +177,12 @@ module _ (net : Net) (files : ℕ) where
       kept (Ok event) events rest = omega arith
       kept (Err refusal) events rest = omega arith
 
-  few_rows : (first : ℕ) (records : List (List (List ℕ))) → refusals_from net files first records
+  few_rows : (first : ℕ) (records : List (List (List ℕ))) → schedule_refusals_from net files first records
       ≡ [] → first ≤ 100001 → first + length records ≤ 100001
   few_rows first [] none small = omega arith
   few_rows first (fields ∷ records) none small =
       let (fine, rest) = no_more (refused_row net files (first, fields))
-      (refusals_from net files (first + 1) records) none in
+      (schedule_refusals_from net files (first + 1) records) none in
       let within = passed (nat_lt 100000 first) (result_err (event_of net files fields)) fine in
       let below : first ≤ 100000 = grind (arith, nat_tests) in
       let more = few_rows (first + 1) records rest (omega arith) in omega (arith, more)
@@ -207,7 +207,7 @@ module _ (net : Net) (files : ℕ) where
   all_sound : (records : List (List (List ℕ))) (events : List Event) → events_of net files records
       ≡ Ok events → AreSoundEvents net files events
   all_sound records events is =
-      let (none, same) = first_of (refusals_from net files 1 records) (schedule_events_in net files records)
+      let (none, same) = first_of (schedule_refusals_from net files 1 records) (schedule_events_in net files records)
       events is in
       let few = few_rows 1 records none (omega arith) in
       let most : length (schedule_events_in net files records) ≤ 100000 = omega (arith, as_many) in

@@ -22,8 +22,8 @@ refused_row net files row =
     (schedule_refusal_in net files row.0 row.1)
 
 -- the refusals of all these rows, the first of which has this number
-abbrev pub refusals_from : Net → ℕ → ℕ → List (List (List ℕ)) → List (InRow ScheduleRefusal)
-refusals_from net files first records =
+abbrev pub schedule_refusals_from : Net → ℕ → ℕ → List (List (List ℕ)) → List (InRow ScheduleRefusal)
+schedule_refusals_from net files first records =
     filter_map (refused_row net files) (enumerate_from first records)
 
 -- the events of the records that state one
@@ -33,7 +33,7 @@ schedule_events_in net files records = filter_map (λ fields. result_ok (event_o
 -- the events that the records state, one each; or the first refusal
 abbrev pub events_of : Net → ℕ → List (List (List ℕ)) → Result (List Event) (InRow ScheduleRefusal)
 events_of net files records =
-    option_map_or Err (slice_get (refusals_from net files 1 records) 0)
+    option_map_or Err (slice_get (schedule_refusals_from net files 1 records) 0)
     (Ok (schedule_events_in net files records))
 
 abbrev pub no_schedule_heading : Result (List Event) (InRow ScheduleRefusal)

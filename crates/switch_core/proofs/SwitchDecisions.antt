@@ -15,7 +15,7 @@ use Rattle.switch_table.specs.declared.search.Found.{Found}
 use Rattle.switch_table.specs.declared.search.Found.TheVariants.{Cached, Authority, Redirect}
 use Rattle.switch_table.specs.declared.tables.Tables.{Tables}
 use Rattle.ctrl_msg.specs.declared.message.Body.{Body}
-use Rattle.switch_core.specs.Exports.{Answer, Decided, IsArrivingAtSwitch, IsByOwnRule, IsDecidedIn, IsDecision, IsReady, IsRightAnswer, Seek, SwitchSite, Stuck, SwitchValue, admitted, arrive_answer, arrived_with, by_entry, by_rule, cause_of, enter_answer, entered_with, entry_of, held_tables, looked_up, lookup_by_stamp, next_of, own_part, packet_of, route_known, rule_to_cache, setting_out, stamp_tables}
+use Rattle.switch_core.specs.Exports.{Answer, Decided, IsArrivingAtSwitch, IsByOwnRule, IsDecidedIn, IsDecision, IsReady, IsRightAnswer, Seek, SwitchSite, Stuck, SwitchValue, admitted, arrive_answer, arrived_with, by_entry, by_rule, cause_of, enter_answer, entered_with, entry_of, held_tables, looked_up, lookup_by_stamp, next_of, own_part, packet_of, route_known, switch_rule_to_cache, setting_out, stamp_tables}
 use Rattle.switch_core.specs.declared.tunnel_calls.Arrived.TheVariants as arrival
 use Rattle.switch_core.specs.declared.deciding.Decision.{Decision}
 use Rattle.switch_core.specs.declared.tunnel_calls.Entered.TheVariants as entry
@@ -75,7 +75,7 @@ by_own s site packet version partition tables answer held by =
     own = record { tables = tables; held = held; own = by.own; decided = refl }
 
     rule : Body
-    rule = rule_to_cache version by.own
+    rule = switch_rule_to_cache version by.own
 
     is_sent : (test : Bool) → (packet.ingress == s.number) ≡ test →
         IsSome (cond test None (Some rule)) ↔ ((true ≡ true) × (packet.ingress ≢ s.number))

@@ -51,8 +51,8 @@ pub record IsReady (s : SwitchValue) (header : Header) : Type 0 where
   pub stamped : IsTrue (holds_version s s.stamp)
   pub is_header : IsHeader header
 
--- the switch is ready, and the packet is at the end of its route there: on a leg of a version that
--- the switch has, the leg's partition is one of its own, and has the header
+-- the switch is ready, and is an authority for the packet's leg: it has the leg's version, the
+-- leg's partition is one of its own, and that partition has the header
 pub record IsArrivingAtSwitch (s : SwitchValue) (t : TunnelValue) : Type 0 where
   pub ready : IsReady s t.header
   pub authority : IsAtAuthority s t.header t.leg
@@ -98,8 +98,8 @@ pub record IsByOwnRule (s : SwitchValue) (header : Header) (decision : Decision)
 
 -- the rule that is sent to a cache if one of these rules decides, by tables of a version: its word
 -- is the widened one
-abbrev pub rule_to_cache : {tables : Tables} {header : Header} → ℕ → OwnRule tables header → Body
-rule_to_cache {tables} {header} version own =
+abbrev pub switch_rule_to_cache : {tables : Tables} {header : Header} → ℕ → OwnRule tables header → Body
+switch_rule_to_cache {tables} {header} version own =
     CacheRule version (widen (number_of header) own.part.region own.part.rules own.place)
     own.rule.rule own.rule.action
 
@@ -109,7 +109,7 @@ abbrev pub decided_by_switch : (s : SwitchValue) → SwitchSite → (packet : Pa
     {tables : Tables} → OwnRule tables packet.header → Answer
 decided_by_switch s site packet version own =
     Decided (by_rule s.number version own.part.number own.rule)
-    (if packet.ingress == s.number then None else Some (rule_to_cache version own))
+    (if packet.ingress == s.number then None else Some (switch_rule_to_cache version own))
     (next_of s site packet own.rule.action)
 
 -- the partition of this number decides by its first rule to hold the header
@@ -237,7 +237,7 @@ pub record IsDecision (s : SwitchValue) (site : SwitchSite) (packet : Packet)
   -- .. and it is the rule that decided
   pub carried : (body : Body) → cache ≡ Some body →
       (by : IsByOwnRule s packet.header decision)
-      × (body ≡ rule_to_cache decision.version by.own)
+      × (body ≡ switch_rule_to_cache decision.version by.own)
 
 pub record DecisionLaws : Type 0 where
   -- this is true of every decision of a packet that enters or arrives

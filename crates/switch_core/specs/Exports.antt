@@ -1,6 +1,6 @@
 -- The definitions that clauses of this crate and of those above use for switches, passed on from
 -- the files that define them.
-pub use Rattle.switch_core.specs.AnswerLaws.{ArriveLaws, DecisionLaws, EnterLaws, ExitLaws, HopLaws, IsSwitchArrival, IsArrivingAtSwitch, IsByOwnRule, IsDecidedIn, IsDecision, IsEntry, IsHop, IsNextOf, IsReady, IsRightAnswer, IsSamePacket, LookupLaws, OwnRule, found_down_with, lookup_by_stamp, route_around, route_known, rule_to_cache, setting_out}
+pub use Rattle.switch_core.specs.AnswerLaws.{ArriveLaws, DecisionLaws, EnterLaws, ExitLaws, HopLaws, IsSwitchArrival, IsArrivingAtSwitch, IsByOwnRule, IsDecidedIn, IsDecision, IsEntry, IsHop, IsNextOf, IsReady, IsRightAnswer, IsSamePacket, LookupLaws, OwnRule, found_down_with, lookup_by_stamp, route_around, route_known, switch_rule_to_cache, setting_out}
 pub use Rattle.switch_core.specs.Answering.{CanLookUp, IsAtAuthority, IsSwitchUncached, arrive_answer, arrived_on_leg, enter_answer, incoming_packet, packet_of, seek_by}
 unfoldable pub use Rattle.switch_core.specs.Answering.{admitted, answer_by, decided_at_switch, decided_in_own_part, looked_up, received}
 pub use Rattle.switch_core.specs.Answers.{Answer, Answered, SwitchArrival, Decided, Seek, Stuck, switch_arrival_of, arrived_with, entered_with, entry_of}

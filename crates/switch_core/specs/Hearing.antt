@@ -5,7 +5,7 @@ use Rattle.std.specs.Prelude.{[], if◌then◌else◌, ◌&&◌, ◌++◌, ◌==
 use Rattle.base.specs.Exports.{has, option_map_or, switches}
 use Rattle.failover.specs.Exports.{adverts_after_hearing, is_news}
 use Rattle.failover.specs.declared.advert.Advert.{Advert}
-use Rattle.switch_table.specs.Exports.{AreSoundTables, after_accept, after_carry, after_raise}
+use Rattle.switch_table.specs.Exports.{AreSoundTables, after_accept, after_carry, cache_after_raise}
 use Rattle.switch_table.specs.declared.cache.CacheEntry.{CacheEntry}
 use Rattle.switch_table.specs.declared.tables.Tables.{Tables}
 use Rattle.ternary.specs.Exports.{WordValue}
@@ -39,7 +39,7 @@ with_installed s tables =
 -- its stamp is at least this version; if it rises, the cache is raised to it
 unfoldable pub stamp_raised_to : SwitchValue → ℕ → SwitchValue
 stamp_raised_to s version = if nat_lt s.stamp version
-    then record s { stamp = version; cache = after_raise version s.cache } else s
+    then record s { stamp = version; cache = cache_after_raise version s.cache } else s
 
 -- its stamp is at least this version; if it rises, the cached rules are carried to it, except
 -- those that the change touches

@@ -3,7 +3,7 @@ use Rattle.std.proofs.Common.{[], ◌&&◌, ◌++◌, ◌+◌, ◌||◌, ◌∙�
 use Rattle.base.proofs.Exports.{All-contains_itself, All-filter_map, All-weaker, AllPairs-filter_map, Any-from_list_any, Contains-filter_map, cons_option, false_from_ne_true, filter_map-append, get_or_default, length-filter_map, list_any, list_any-from_Any}
 use Rattle.ternary.specs.Exports.{WordValue, any_word}
 use Rattle.ternary.proofs.CallerLemmas.{any_covers, meets_cover}
-use Rattle.switch_table.specs.Exports.{CacheValue, HaveDistinctKeys, IsCache, WasCarried, after_accept, after_carry, after_raise, all_touched, carried_entry, is_carried, meets_any_touched, same_key, under}
+use Rattle.switch_table.specs.Exports.{CacheValue, HaveDistinctKeys, IsCache, WasCarried, after_accept, after_carry, cache_after_raise, all_touched, carried_entry, is_carried, meets_any_touched, same_key, under}
 use Rattle.switch_table.specs.declared.cache.CacheEntry.{CacheEntry}
 use Rattle.switch_table.proofs.CachePairs.{apart-sym, none_before, same_key_from, same_key_parts}
 
@@ -205,7 +205,7 @@ all_left version entries [] = refl
 all_left version entries (entry ∷ rest) = search (rules, none_over, all_left version entries rest)
 
 pub all_carried : (version : ℕ) (cache : CacheValue)
-    → after_carry version all_touched cache ≡ after_raise version cache
+    → after_carry version all_touched cache ≡ cache_after_raise version cache
 all_carried version cache = cc (all_left version cache.entries cache.entries)
 
 -- ---- what is left, entry by entry

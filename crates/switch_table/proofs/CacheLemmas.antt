@@ -1,7 +1,7 @@
 -- What each call keeps of a cache.
 use Rattle.std.proofs.Common.{[], ◌++◌, ◌+◌, ◌<◌, ◌∷◌, ◌≡◌, ◌≤◌, List, ap, arith, drop, false, inl, inr, le-ltb, length, length-append, lt-ltb, nat_lt, refl, remove, suc, zero, ℕ, rules}
 use Rattle.base.proofs.Exports.{AllPairs-filter, all_pairs_remove, cases_lt, count_by-le-length, length-filter, length-remove, list_any}
-use Rattle.switch_table.specs.Exports.{CacheValue, HaveDistinctKeys, IsCache, after_accept, after_clear, after_expire, after_raise, newest_cache_entries, same_key}
+use Rattle.switch_table.specs.Exports.{CacheValue, HaveDistinctKeys, IsCache, after_accept, after_clear, after_expire, cache_after_raise, newest_cache_entries, same_key}
 use Rattle.switch_table.specs.declared.cache.CacheEntry.{CacheEntry}
 use Rattle.switch_table.proofs.CachePairs.{none_distinct, push_distinct, rest_distinct}
 
@@ -12,7 +12,7 @@ pub cache_cleared : (cache : CacheValue) → IsCache cache → IsCache (after_cl
 cache_cleared cache is = record { distinct = none_distinct; few = omega arith }
 
 pub cache_raised : (stamp : ℕ) (cache : CacheValue) → IsCache cache
-    → IsCache (after_raise stamp cache)
+    → IsCache (cache_after_raise stamp cache)
 cache_raised stamp cache is = search (rules, AllPairs-filter, length-filter, count_by-le-length)
 
 remove_past : (entries : List CacheEntry) (place : ℕ) → length entries ≤ place →

@@ -34,8 +34,8 @@ abbrev pub after_expire : ℕ → CacheValue → CacheValue
 after_expire place cache = record cache { entries = remove cache.entries place }
 
 -- the entries of versions below the stamp are removed
-abbrev pub after_raise : ℕ → CacheValue → CacheValue
-after_raise stamp cache =
+abbrev pub cache_after_raise : ℕ → CacheValue → CacheValue
+cache_after_raise stamp cache =
     record cache { entries = filter (λ entry. nat_le stamp entry.version) cache.entries }
 
 abbrev pub after_clear : CacheValue → CacheValue

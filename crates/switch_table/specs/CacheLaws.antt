@@ -1,7 +1,7 @@
 -- The laws of caches: `cache_laws` and `carry_laws` of the crate ensure the records.
 use Rattle.std.specs.Prelude.{[], ◌+◌, ◌≡◌, ◌≤◌, ◌⊎◌, All, Any, Contains, IsFalse, List, ℕ}
 use Rattle.ternary.specs.Exports.{WordValue}
-use Rattle.switch_table.specs.Cache.{CacheValue, IsCache, after_accept, after_expire, after_raise, after_clear}
+use Rattle.switch_table.specs.Cache.{CacheValue, IsCache, after_accept, after_expire, cache_after_raise, after_clear}
 use Rattle.switch_table.specs.Carried.{after_carry, all_touched, meets_any_touched, under}
 use Rattle.switch_table.specs.declared.cache.CacheEntry.{CacheEntry}
 
@@ -13,7 +13,7 @@ pub record CacheLaws : Type 0 where
   pub kept_by_expire : (place : ℕ) (cache : CacheValue) → IsCache cache →
       IsCache (after_expire place cache)
   pub kept_by_raise : (stamp : ℕ) (cache : CacheValue) → IsCache cache →
-      IsCache (after_raise stamp cache)
+      IsCache (cache_after_raise stamp cache)
   pub kept_by_clear : (cache : CacheValue) → IsCache cache → IsCache (after_clear cache)
   pub kept_by_carry : (version : ℕ) (touched : List WordValue) (cache : CacheValue) →
       IsCache cache → IsCache (after_carry version touched cache)
@@ -41,4 +41,4 @@ pub record CarryLaws : Type 0 where
       ⊎ WasCarried version touched cache entry) (after_carry version touched cache).entries
   -- if everything is touched, the entries of earlier versions are removed
   pub all : (version : ℕ) (cache : CacheValue) →
-      after_carry version all_touched cache ≡ after_raise version cache
+      after_carry version all_touched cache ≡ cache_after_raise version cache

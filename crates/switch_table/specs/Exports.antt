@@ -1,5 +1,5 @@
 -- The definitions of this crate that others use, passed on from the files that define them.
-pub use Rattle.switch_table.specs.Cache.{CacheValue, HaveDistinctKeys, IsCache, after_accept, after_clear, after_expire, after_raise, first_entry, newest_cache_entries}
+pub use Rattle.switch_table.specs.Cache.{CacheValue, HaveDistinctKeys, IsCache, after_accept, after_clear, after_expire, cache_after_raise, first_entry, newest_cache_entries}
 unfoldable pub use Rattle.switch_table.specs.Cache.{same_key}
 pub use Rattle.switch_table.specs.CacheLaws.{WasCarried}
 pub use Rattle.switch_table.specs.Carried.{after_carry, all_touched, carried_entry, few_touched_words, is_carried, meets_any_touched, under}

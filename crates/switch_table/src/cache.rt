@@ -1,6 +1,6 @@
 ghost use Rattle.std.specs.Prelude.{◌≡◌, ◌≤◌, ◌<◌, ◌+◌, ◌^◌, [], filter_map, map, slice_get, option_map, IfOk, OnOk, OnErr};
 ghost use Rattle.std.specs.List.{list_any};
-ghost use Rattle.switch_table.specs.Cache.{IsCache, after_accept, after_expire, after_raise, after_clear, first_entry, same_key};
+ghost use Rattle.switch_table.specs.Cache.{IsCache, after_accept, after_expire, cache_after_raise, after_clear, first_entry, same_key};
 ghost use Rattle.switch_table.specs.CacheLaws.{CacheLaws, CarryLaws};
 ghost use Rattle.switch_table.specs.Carried.{after_carry, carried_entry};
 ghost use Rattle.switch_table.specs.Keys.{kept_entry, cache_key_of, cache_learnt_of, pair_of};
@@ -156,7 +156,7 @@ impl Cache {
 
     /// Removes the entries of versions below the stamp.
     pub fn raise(&mut self, stamp: u32)
-        ensures { self.new ≡ after_raise stamp self.old }
+        ensures { self.new ≡ cache_after_raise stamp self.old }
     {
         self.slots.keep_from(u64::from(stamp) + self.shift);
         self.masks.wait_for(self.slots.len());

@@ -5,7 +5,7 @@ ghost use Rattle.table_tree.specs.Cutting.{IsLowestBit, NoneFixesFreeBit};
 ghost use Rattle.table_tree.specs.Regions.{IsCutBit, all_regions_fix, some_region_fixes};
 
 use crate::node::Candidate;
-use cut_tree::free_bits;
+use cut_tree::free_bits_to_cut;
 use ternary::{ALL_BITS, Word};
 
 /// The bit that separates these regions, which overlap `region`: of its free bits the least one
@@ -16,7 +16,7 @@ pub fn tree_cut_bit(candidates: &[Candidate], region: &Word) -> Option<u32>
     ensures free { IfSome result (λ bit. IsFreeBit region.now bit) }
     ensures none { IfNone result (NoneFixesFreeBit region.now (some_region_fixes candidates.now)) }
 {
-    let free = free_bits(region);
+    let free = free_bits_to_cut(region);
     match lowest(fixed_by_all_regions(candidates) & free) {
         Some(bit) => Some(bit),
         None => lowest(fixed_by_some_region(candidates) & free),

@@ -3,7 +3,7 @@ use Rattle.std.proofs.Common.{[], ◌<◌, ◌==◌, ◌∙◌, ◌∷◌, ◌�
 use Rattle.base.proofs.Exports.{length-slice_split, onto_first}
 use Rattle.five_tuple.specs.Exports.{text_parts_round_byte}
 use Rattle.update_machine.specs.Exports.{PolicyFile}
-use Rattle.trace_audit.specs.Exports.{Follows, IsLineRead, IsTaken, Open, Told, TraceState, Whole, begins_with, decided_told, indented_told, is_row_number, item_told, lines_of, lines_of_parts, open_line, silent_told, told_by_words, told_of}
+use Rattle.trace_audit.specs.Exports.{Follows, IsLineRead, IsTaken, Open, Told, TraceState, Whole, begins_with, trace_decided_told, indented_told, is_row_number, item_told, lines_of, lines_of_parts, open_line, silent_told, told_by_words, told_of}
 
 -- ---- parts
 
@@ -91,7 +91,7 @@ other_line (word ∷ next ∷ more) blank row meter quiet = rw (blank, row, mete
 
 -- a decision that names no rule, or not what decided, is bad
 pub no_rule : (packet version : List ℕ) (words : List (List ℕ))
-    → begins_with (codes "rule") words ≡ false → decided_told (packet ∷ version ∷ words) ≡ None
+    → begins_with (codes "rule") words ≡ false → trace_decided_told (packet ∷ version ∷ words) ≡ None
 no_rule packet version (word ∷ rule ∷ action ∷ how ∷ more ∷ others) e = rw e refl
 no_rule packet version (word ∷ rule ∷ action ∷ how ∷ []) e = refl
 no_rule packet version (word ∷ rule ∷ action ∷ []) e = refl
@@ -101,7 +101,7 @@ no_rule packet version [] e = refl
 
 pub no_how : (packet version rule action : List ℕ) (words : List (List ℕ))
     → begins_with (codes "authority") words ≡ false → begins_with (codes "cache") words ≡ false
-    → decided_told (packet ∷ version ∷ codes "rule" ∷ rule ∷ action ∷ words) ≡ None
+    → trace_decided_told (packet ∷ version ∷ codes "rule" ∷ rule ∷ action ∷ words) ≡ None
 no_how packet version rule action (how ∷ more ∷ others) authority cache = rw (authority, cache) refl
 no_how packet version rule action (how ∷ []) authority cache = refl
 no_how packet version rule action [] authority cache = refl

@@ -5,6 +5,6 @@ pub use Rattle.trace_audit.specs.Reading.{AreGood, Follows, IsPrinted, Open, Rea
 unfoldable pub use Rattle.trace_audit.specs.Reading.{lines_of}
 pub use Rattle.trace_audit.specs.Run.{AreTraceItems, AreItemsOf, AreTraceRun}
 pub use Rattle.trace_audit.specs.Seen.{IsLineRead, IsTaken, trace_packet_seen, trace_packets_seen, trace_run_get, trace_state_seen, with_one}
-pub use Rattle.trace_audit.specs.Told.{IsWordTaken, Told, any_told, begins_with, decided_told, has_no_blank, indented_told, is_row_number, number_of_word, packet_row_told, pair_told, row_told, silent_told, told_by_words, trace_words_left, words_of}
+pub use Rattle.trace_audit.specs.Told.{IsWordTaken, Told, any_told, begins_with, trace_decided_told, has_no_blank, indented_told, is_row_number, number_of_word, packet_row_told, pair_told, row_told, silent_told, told_by_words, trace_words_left, words_of}
 unfoldable pub use Rattle.trace_audit.specs.Told.{item_told, told_of}
 pub use Rattle.trace_audit.specs.Verdicts.{IsAuditVerdict, IsFirstBad}

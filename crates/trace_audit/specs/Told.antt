@@ -119,12 +119,12 @@ retired_told (version ∷ []) = option_map Retired (number_of_word version)
 retired_told _ = None
 
 -- `decided I vV rule RULE ACTION cache ` or with ` authority `, and any bytes
-abbrev pub decided_told : List (List ℕ) → Option Told
-decided_told (packet ∷ version ∷ word ∷ rule ∷ action ∷ how ∷ more ∷ others) =
+abbrev pub trace_decided_told : List (List ℕ) → Option Told
+trace_decided_told (packet ∷ version ∷ word ∷ rule ∷ action ∷ how ∷ more ∷ others) =
     if bytes_eq word (codes "rule") && (bytes_eq how (codes "cache") || bytes_eq how (codes "authority"))
     then pair_told (λ i v. Decided i v rule action) (number_of_word packet) (version_of_word version)
     else None
-decided_told _ = None
+trace_decided_told _ = None
 
 -- `dropped I`, `lost I`
 abbrev pub ended_told : End → List (List ℕ) → Option Told
@@ -177,7 +177,7 @@ item_told word args =
     if bytes_eq word (codes "entered") then entered_told args else
     if bytes_eq word (codes "submitted") then submitted_told args else
     if bytes_eq word (codes "retired") then retired_told args else
-    if bytes_eq word (codes "decided") then decided_told args else
+    if bytes_eq word (codes "decided") then trace_decided_told args else
     if bytes_eq word (codes "dropped") then ended_told Dropped args else
     if bytes_eq word (codes "out") then left_told args else
     if bytes_eq word (codes "lost") then ended_told Lost args else

@@ -2,7 +2,7 @@ ghost use Rattle.std.specs.Prelude.{◌≡◌, ◌↔◌, IfOk, IsTrue, List, So
 ghost use Rattle.std.specs.Result.{result_ok};
 ghost use Rattle.policy_rules.specs.Applied.{applied};
 ghost use Rattle.policy_rules.specs.declared.file.PolicyFile.{PolicyFile};
-ghost use Rattle.update_machine.specs.Machine.{MachineMayEnd};
+ghost use Rattle.update_machine.specs.Machine.{PacketMayEnd};
 ghost use Rattle.trace_audit.specs.Reading.{numbered_file, first_state, latest_policy, made_policy};
 ghost use Rattle.update_machine.specs.Setting.{made_by};
 ghost use Rattle.trace_audit.specs.Seen.{IsTaken, trace_end_seen, trace_packet_seen, trace_state_seen, told_seen};
@@ -235,7 +235,7 @@ impl Auditor {
 
 // Whether the packet may end like this.
 fn may_end(packet: &TracePacket, end: End) -> bool
-    ensures { IsTrue result ↔ MachineMayEnd (trace_packet_seen packet.now) (trace_end_seen end) }
+    ensures { IsTrue result ↔ PacketMayEnd (trace_packet_seen packet.now) (trace_end_seen end) }
 {
     match end {
         End::Dropped => packet.action() == Some(Action::Drop),

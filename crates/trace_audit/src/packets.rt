@@ -1,5 +1,5 @@
 ghost use Rattle.std.specs.Prelude.{◌≡◌, None, OnOk, Some, is_some, option_map};
-ghost use Rattle.update_machine.specs.Machine.{MachineMayEnd};
+ghost use Rattle.update_machine.specs.Machine.{PacketMayEnd};
 ghost use Rattle.trace_audit.specs.Seen.{trace_action_seen, trace_end_seen, trace_packet_seen, trace_packets_seen, trace_run_get, with_one};
 
 use crate::told::End;
@@ -147,7 +147,7 @@ impl TracePacket {
 
     /// The packet with this end.
     pub fn ended(self, end: End) -> TracePacket
-        requires { MachineMayEnd (trace_packet_seen self) (trace_end_seen end) }
+        requires { PacketMayEnd (trace_packet_seen self) (trace_end_seen end) }
         ensures { trace_packet_seen result ≡ record (trace_packet_seen self) { end = Some (trace_end_seen end) } }
     {
         let ending = match end {

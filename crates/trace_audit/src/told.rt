@@ -3,7 +3,7 @@ ghost use Rattle.std.specs.List.{list_any};
 ghost use Rattle.five_tuple.specs.Texts.{number_up_to, text_parts_round_byte};
 ghost use Rattle.update_machine.specs.Machine as machine;
 ghost use Rattle.trace_audit.specs.Seen.{trace_end_seen, told_seen};
-ghost use Rattle.trace_audit.specs.Told.{begins_with, decided_told, ended_told, entered_told, indented_told, is_row_number, left_told, number_of_word, packet_row_told, retired_told, row_told, silent_told, stuck_told, submitted_told, told_of, version_of_word};
+ghost use Rattle.trace_audit.specs.Told.{begins_with, trace_decided_told, ended_told, entered_told, indented_told, is_row_number, left_told, number_of_word, packet_row_told, retired_told, row_told, silent_told, stuck_told, submitted_told, told_of, version_of_word};
 
 use crate::words::{Words, cut_text_near};
 use five_tuple::{Header, read_fields, read_number};
@@ -149,7 +149,7 @@ fn read_retired<'a>(words: Words<'a>) -> Option<LineMeaning<'a>>
 #[tactic(auto, using(crate::proofs::AuditTraceLines::no_how, crate::proofs::AuditTraceLines::no_rule))]
 #[inline(never)]
 fn read_decided<'a>(mut words: Words<'a>) -> Option<LineMeaning<'a>>
-    ensures { option_map told_seen result ≡ decided_told words.entry }
+    ensures { option_map told_seen result ≡ trace_decided_told words.entry }
 {
     let packet = words.next()?;
     let version = words.next()?;

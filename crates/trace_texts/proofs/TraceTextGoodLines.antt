@@ -6,7 +6,7 @@ use Rattle.update_machine.specs.Exports.{HasCause, HaveCauses, Header, Item, Mac
 use Rattle.net_file.specs.Exports.{IsNet, PortLaws}
 use Rattle.journal.specs.declared.item.Item.TheVariants as item
 use Rattle.journal_text.specs.Lines.{item_line}
-use Rattle.packet_laws.specs.Exports.{EachPacketRowEnters, IsEntryOf, StepRow, gives_packet_row, step_rows_in}
+use Rattle.packet_laws.specs.Exports.{EachPacketRowEnters, IsEntryOf, StepRow, gives_step_row, step_rows_in}
 use Rattle.steps.specs.Exports.{HasSwitch, max_events, max_number}
 use Rattle.update_machine.proofs.Exports.{count_of_append}
 use Rattle.update_machine.specs.Machine as machine
@@ -158,7 +158,7 @@ known_next setting before old new first items known takes most few = record {
   versions = omega (arith, takes_many setting old new first items takes, known.versions);
   small = takes_small setting old new first takes most known.small;
   few = few;
-  rows = rows_behind setting.net (gives_packet_row first) (step_rows_in items) known.rows;
+  rows = rows_behind setting.net (gives_step_row first) (step_rows_in items) known.rows;
   causes = known.causes.1;
 }
 
@@ -176,7 +176,7 @@ few_next before first items none few = omega (
   arith,
   one_more before first false none,
   few,
-  length-append (gives_packet_row first) (step_rows_in items),
+  length-append (gives_step_row first) (step_rows_in items),
 )
 
 -- ---- what is read of an item
@@ -201,7 +201,7 @@ record IsEntry (net : Net) (header : Header) (entry : Item) : Type 0 where
   next : IsNext (Some header) entry
   small : EntersSmall entry
   packet : is_packet entry ≡ true
-  no_row : gives_packet_row entry ≡ []
+  no_row : gives_step_row entry ≡ []
   readable : IsEntryReadable net entry
 
 module _ (laws : TextLaws) (ports : PortLaws) (setting : Setting) (sound : IsNet setting.net)
@@ -311,7 +311,7 @@ module _ (laws : TextLaws) (ports : PortLaws) (setting : Setting) (sound : IsNet
         one_more before asked false refl,
         one_more (before ++ asked ∷ []) entry true is.packet,
         ap (λ (rows : List StepRow). length rows) is.no_row,
-        length-append (gives_packet_row entry) (step_rows_in items),
+        length-append (gives_step_row entry) (step_rows_in items),
       )) in
       let rest = reads_from ends closed ((before ++ asked ∷ []) ++ entry ∷ []) runs.2.0
       (pending_after (Some header) entry) items new both (subst (λ js. EachPacketRowEnters js items)

@@ -152,7 +152,7 @@ fn next_mark_by_blocks(masks: &[u64], blocks: &[u64], from: usize, switch: u32) 
     if let Some(number) = next_mark_in_block(masks, from, switch) {
         return Some(number);
     }
-    match next_marked_packet(blocks, from / 64 + 1, switch) {
+    match next_mark(blocks, from / 64 + 1, switch) {
         Some(block) => Some(first_mark_of_block(masks, block, switch)),
         None => None,
     }
@@ -160,7 +160,7 @@ fn next_mark_by_blocks(masks: &[u64], blocks: &[u64], from: usize, switch: u32) 
 
 // The least number at or above `from` that is marked at the switch, if there is one. It looks at
 // 64 at once.
-fn next_marked_packet(masks: &[u64], from: usize, switch: u32) -> Option<usize>
+fn next_mark(masks: &[u64], from: usize, switch: u32) -> Option<usize>
     requires { switch < 64 }
     ensures { IsNextMarked masks.now switch from result }
 {

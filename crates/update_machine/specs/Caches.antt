@@ -6,7 +6,7 @@ use Rattle.ctrl_msg.specs.declared.message.Body.{Body}
 use Rattle.ctrl_msg.specs.declared.message.Body.TheVariants.{OpenAt, Stamp, CacheRule}
 use Rattle.five_tuple.specs.declared.header.Header.{Header}
 use Rattle.ternary.specs.Exports.{WordValue}
-use Rattle.switch_table.specs.Exports.{CacheValue, after_accept, after_carry, after_clear, after_expire, after_raise, lookup_of}
+use Rattle.switch_table.specs.Exports.{CacheValue, after_accept, after_carry, after_clear, after_expire, cache_after_raise, lookup_of}
 use Rattle.switch_table.specs.declared.search.Found.{Found}
 use Rattle.journal.specs.declared.item.Item.{Item}
 use Rattle.journal.specs.declared.item.Item.TheVariants as item
@@ -18,7 +18,7 @@ use Rattle.update_machine.specs.Versions.{stamp_of, tables_at}
 
 -- a stamp that rises removes the entries of lower versions
 abbrev pub raised_from : ℕ → ℕ → CacheValue → CacheValue
-raised_from earlier stamp cache = if nat_lt earlier stamp then after_raise stamp cache else cache
+raised_from earlier stamp cache = if nat_lt earlier stamp then cache_after_raise stamp cache else cache
 
 -- a stamp that rises to a version carries the entries to it, except those that its change touches
 abbrev pub cache_carried_from : List WordValue → ℕ → ℕ → CacheValue → CacheValue

@@ -22,7 +22,7 @@ pub use Rattle.update_machine.specs.LinkMasks.{adverts_begun, adverts_heard, adv
 unfoldable pub use Rattle.update_machine.specs.LinkMasks.{near}
 pub use Rattle.update_machine.specs.Links.{Claim, can_use, changes_claim, claim_by, claim_in, first_claim, gives_link, gives_message, gives_serving, is_end, is_usable, knows_link, newer_claim_of}
 unfoldable pub use Rattle.update_machine.specs.Links.{claim_of, is_link_up, message_of, serves}
-pub use Rattle.update_machine.specs.Machine.{Decides, Dropped, End, Ends, MachineEnters, IsRun, LeftBy, Lost, Machine, MachineMayEnd, MachineRetires, Runs, Stuck, MachineSubmits, Takes, first_machine, submitted_policy, with_packet}
+pub use Rattle.update_machine.specs.Machine.{Decides, Dropped, End, Ends, MachineEnters, IsRun, LeftBy, Lost, Machine, PacketMayEnd, MachineRetires, Runs, Stuck, MachineSubmits, Takes, first_machine, submitted_policy, with_packet}
 pub use Rattle.update_machine.specs.Marks.{AreSettled, CurrentMayRise, all_acked, body_to_controller, changes_controller_heard, changes_over, first_open_number, gives_current, gives_retired, hello_boot, installed_version_in, is_joining, least_number, members, most_live, most_versions, open_version_in, open_sent, open_version, raises_known, stamped_version_in}
 unfoldable pub use Rattle.update_machine.specs.Marks.{acked_stamp, controller_heard, current_mark, has_acked, is_member, is_over, known_boot, next_current, next_retired, opened_at, retired_mark}
 pub use Rattle.update_machine.specs.Messages.{is_delivery, is_forgetting, is_sending, is_to_controller, is_waiting, send_items}
@@ -36,12 +36,12 @@ pub use Rattle.update_machine.specs.Packets.{Decision, gives_decision, gives_hea
 unfoldable pub use Rattle.update_machine.specs.Packets.{decision_of, header_in, next_packet, standing}
 pub use Rattle.update_machine.specs.Pieces.{apply_code, hello_of, marks_code, nothing, plan_code, resent_by_switch, rows_code, sends_or_nothing, step_items, update_code}
 unfoldable pub use Rattle.update_machine.specs.Pieces.{confirm_items, crash_items, deliver_items, expire_items, forget_items, hop_items, link_items, lose_items, packet_items, piece, resend_items, restart_items, update_items}
-pub use Rattle.update_machine.specs.Quiet.{AreMessagesReceived, IsQuiet, IsMessageReceived, IsMessageReplaced, MessageReplaces, are_old_tables, begins_boot, carries_boot, gives_waited_for, is_advert, is_later_body, is_of_boot, is_old_answer, is_waited_for, matters, speaking_in_body}
+pub use Rattle.update_machine.specs.Quiet.{AreMessagesReceived, IsQuiet, IsMessageReceived, IsMessageReplaced, MessageReplaces, are_old_tables, begins_boot, carries_boot, gives_waited_for, is_advert, is_later_body, is_of_boot, is_old_ack_in_journal, is_waited_for, matters, speaking_in_body}
 pub use Rattle.update_machine.specs.Sendings.{Sending, receiver_boot_at, changes_sendings}
 unfoldable pub use Rattle.update_machine.specs.Sendings.{sendings}
 pub use Rattle.update_machine.specs.Setting.{IsPlanOf, IsSetting, NamesOwnPort, Setting, setting_file_at, first_given, gives_file, made_by, policy_by, setting_of}
 unfoldable pub use Rattle.update_machine.specs.Setting.{file_of, policy_in}
-pub use Rattle.update_machine.specs.Settling.{collect_for, install_for, open_for, opening_switches, resent_to_member, stamp_for, submitted_items, to_switch, unacked_installs, versions_from_current}
+pub use Rattle.update_machine.specs.Settling.{collect_for, install_for, open_for, opening_switches, resent_to_member, stamp_for, submitted_items, to_switch, journal_unacked_installs, versions_from_current}
 unfoldable pub use Rattle.update_machine.specs.Settling.{current_items, installs_to, installs_to_all, open_items, resent_by_controller, retired_items, settling}
 pub use Rattle.update_machine.specs.Steps.{StepItems, changes_steps, steps_with_item}
 unfoldable pub use Rattle.update_machine.specs.Steps.{steps_in}

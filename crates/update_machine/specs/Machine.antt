@@ -86,18 +86,18 @@ pub record Decides (old : Machine) (number version : ℕ) (hit : Hit) (new : Mac
   pub after : new ≡ with_packet old number (record packet { decision = Some hit })
 
 -- a packet is dropped or leaves only as its decision says; it may be lost or get stuck at any time
-abbrev pub MachineMayEnd : Packet → End → Type 0
-MachineMayEnd packet Dropped = option_map (λ hit. hit.action) packet.decision ≡ Some action.Drop
-MachineMayEnd packet (LeftBy port) =
+abbrev pub PacketMayEnd : Packet → End → Type 0
+PacketMayEnd packet Dropped = option_map (λ hit. hit.action) packet.decision ≡ Some action.Drop
+PacketMayEnd packet (LeftBy port) =
     option_map (λ hit. hit.action) packet.decision ≡ Some (action.Out port)
-MachineMayEnd packet _ = ⊤
+PacketMayEnd packet _ = ⊤
 
 -- a packet ends, and ends once
 pub record Ends (old : Machine) (number : ℕ) (end : End) (new : Machine) : Type 0 where
   pub packet : Packet
   pub entered : old.packets number ≡ Some packet
   pub not_ended : packet.end ≡ None
-  pub may : MachineMayEnd packet end
+  pub may : PacketMayEnd packet end
   pub after : new ≡ with_packet old number (record packet { end = Some end })
 
 -- what an item does to the machine: a move that the machine may make, or nothing

@@ -46,9 +46,9 @@ are_old_tables current (Install boot tables) = nat_lt tables.version current
 are_old_tables current _ = false
 
 -- the acknowledgement of such tables
-abbrev pub is_old_answer : ℕ → Body → Bool
-is_old_answer current (Installed s boot version) = nat_lt version current
-is_old_answer current _ = false
+abbrev pub is_old_ack_in_journal : ℕ → Body → Bool
+is_old_ack_in_journal current (Installed s boot version) = nat_lt version current
+is_old_ack_in_journal current _ = false
 
 abbrev pub begins_boot : ℕ → Item → Bool
 begins_boot s (item.Booted switch boot) = switch == s
@@ -62,7 +62,7 @@ matters journal s message after = elim message.to [
   | receiver.Controller ↦
       is_up journal s
       && option_map_or (is_of_boot s (boot_of journal s)) (speaking_in_body message.body) false
-      && not (is_old_answer (current_mark journal) message.body)
+      && not (is_old_ack_in_journal (current_mark journal) message.body)
   | receiver.Switch to ↦
       is_up journal s && to == s && not (list_any (begins_boot s) after)
       && (is_advert message.body || carries_boot (boot_of journal s) message.body)

@@ -108,8 +108,8 @@ submitted_items setting journal = in_turn (installs_to_all setting ∷ settling 
 -- ---- sending again
 
 -- of these versions, the tables of those that the switch didn't acknowledge
-abbrev pub unacked_installs : Setting → List Item → ℕ → List ℕ → List Message
-unacked_installs setting journal s versions =
+abbrev pub journal_unacked_installs : Setting → List Item → ℕ → List ℕ → List Message
+journal_unacked_installs setting journal s versions =
     map (λ version. install_for setting journal version s)
     (filter (λ version. not (has_acked journal s version)) versions)
 
@@ -117,7 +117,7 @@ unacked_installs setting journal s versions =
 abbrev pub resent_to_member : Setting → List Item → ℕ → List Message
 resent_to_member setting journal s =
     open_for journal (open_version journal s) s
-    ∷ unacked_installs setting journal s (range_with_len (current_mark journal + 1)
+    ∷ journal_unacked_installs setting journal s (range_with_len (current_mark journal + 1)
     (version_count journal - current_mark journal))
     ++ (if nat_lt (acked_stamp journal s) (current_mark journal)
     then stamp_for setting journal (current_mark journal) s ∷ [] else [])
@@ -130,6 +130,6 @@ resent_by_controller setting journal s = elim (is_over journal s) [
   | true ↦ []
   | false ↦ elim (is_member journal s) [
     | true ↦ resent_to_member setting journal s
-    | false ↦ unacked_installs setting journal s (versions_from_current journal)
+    | false ↦ journal_unacked_installs setting journal s (versions_from_current journal)
   ]
 ]

@@ -141,7 +141,7 @@ pub record IsFront (to : Place) (boot : ℕ) (bytes : List ℕ) : Type 0 where
   pub fits : message_front.fits (to, (1, boot)) ≡ true
   pub spelled : bytes ≡ spelled_front to boot
 
--- what all of the bytes say, if they are a front
+-- the receiver and the boot, if the bytes are exactly the front of an installation
 abbrev pub read_front : List ℕ → Option ((Place × ℕ) × List ℕ)
 read_front bytes =
     format_then_read (message_front.read bytes) (λ x.

@@ -1,6 +1,6 @@
 -- Moves of the machine with one packet: it enters, is decided, and ends.
 use Rattle.std.proofs.Common.{◌<◌, ◌≡◌, List, None, Some, arith, refl, ℕ}
-use Rattle.update_machine.specs.Exports.{Decides, End, Ends, MachineEnters, Header, Hit, Machine, MachineMayEnd, Out, Row, submitted_policy, with_packet}
+use Rattle.update_machine.specs.Exports.{Decides, End, Ends, MachineEnters, Header, Hit, Machine, PacketMayEnd, Out, Row, submitted_policy, with_packet}
 use Rattle.policy_rules.specs.Exports.{IsFirstMatch}
 use Rattle.update_machine.specs.Machine.{Packet}
 use Rattle.wrong_journals.specs.Exports.{allowed, office_policy}
@@ -39,7 +39,7 @@ decides old header mark version policy hit entered above submitted first = recor
 }
 
 pub ends : (old : Machine) (packet : Packet) (end : End) → old.packets 1 ≡ Some packet
-    → packet.end ≡ None → MachineMayEnd packet end
+    → packet.end ≡ None → PacketMayEnd packet end
     → Ends old 1 end (with_packet old 1 (record packet { end = Some end }))
 ends old packet end entered going may =
     record { packet = packet; entered = entered; not_ended = going; may = may; after = refl }

@@ -2,7 +2,7 @@
 use Rattle.std.proofs.Common.{[], ◌++◌, ◌<◌, ◌∙◌, ◌∷◌, ◌≡◌, List, None, Some, arith, refl, subst, sym, ℕ}
 use Rattle.std.proofs.lemmas.Option.{none-some, same_Some}
 use Rattle.policy_rules.specs.Exports.{IsFirstMatch}
-use Rattle.update_machine.specs.Exports.{Decides, Drop, Dropped, End, Ends, Hit, IsRun, LeftBy, Machine, MachineMayEnd, Out, Row, submitted_policy}
+use Rattle.update_machine.specs.Exports.{Decides, Drop, Dropped, End, Ends, Hit, IsRun, LeftBy, Machine, PacketMayEnd, Out, Row, submitted_policy}
 use Rattle.journal.specs.declared.item.Item.TheVariants as item
 use Rattle.steps.specs.declared.step.Step.TheVariants as step
 use Rattle.update_machine.specs.Machine.{Packet}
@@ -40,8 +40,8 @@ undecided old number version got new packet decides known = subst (λ (p : Packe
     ≡ None) (own_packet old number version got new packet decides known) decides.undecided
 
 may_end : (old : Machine) (number : ℕ) (end : End) (new : Machine) (packet : Packet)
-    → Ends old number end new → old.packets number ≡ Some packet → MachineMayEnd packet end
-may_end old number end new packet ends known = subst (λ (p : Packet). MachineMayEnd p end)
+    → Ends old number end new → old.packets number ≡ Some packet → PacketMayEnd packet end
+may_end old number end new packet ends known = subst (λ (p : Packet). PacketMayEnd p end)
     (same_Some ends.packet packet (sym ends.entered ∙ known)) ends.may
 
 -- ---- journals

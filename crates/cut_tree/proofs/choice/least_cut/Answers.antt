@@ -5,12 +5,12 @@ use Rattle.cut_tree.proofs.choice.least_cut.Goals as goal
 
 pub returns-then-free-eq0 : goal.returns-then-free-eq0
 returns-then-free-eq0 c = sym (least_nowhere 104 c.args.rules.now c.args.region.now
-    (λ bit within. all_fixed c.args.region.now c.free_bits-free.result bit within
-    (c.free_bits-free.ensures bit) c.if-free-eq0.true))
+    (λ bit within. all_fixed c.args.region.now c.free_bits_to_cut-free.result bit within
+    (c.free_bits_to_cut-free.ensures bit) c.if-free-eq0.true))
 
 pub returns : goal.returns
 returns c =
     rw (c.new.ensures, c.count.ensures, c.count-2.ensures)
-    (counted_cut c.count_cut_sides.result.0 c.count_cut_sides.result.1 c.args.rules.now c.args.region.now c.free_bits-free.result
+    (counted_cut c.count_cut_sides.result.0 c.count_cut_sides.result.1 c.args.rules.now c.args.region.now c.free_bits_to_cut-free.result
     c.least_cut_bit-bit.result c.count_cut_sides.ensures.low c.count_cut_sides.ensures.high
-    c.free_bits-free.ensures c.least_cut_bit-bit.ensures.member c.least_cut_bit-bit.ensures.least)
+    c.free_bits_to_cut-free.ensures c.least_cut_bit-bit.ensures.member c.least_cut_bit-bit.ensures.least)

@@ -9,7 +9,7 @@ returns-then-not-may_cover c = λ bit rules free. let was = c.args.left.now in
     let step = side_step c.args.region.now c.args.rule.now rules bit c.args.one (bit_at was bit)
     (bit_at met bit) 0 c.requires free (bit_at-lt was bit)
     (c.halves_met-met.ensures bit free.bound)
-    (sym (ap from_bool (c.fixes_one_bit_more-may_cover.ensures c.if-not-may_cover.true bit c.args.one free))) in
+    (sym (ap from_bool (c.fixes_at_most_one_more-may_cover.ensures c.if-not-may_cover.true bit c.args.one free))) in
     let still : min (bit_at was bit) (1 - 0) ≡ bit_at was bit = omega (arith, bit_at-lt was bit) in
     rw (bit_at_and was met bit) (rw still at step)
 

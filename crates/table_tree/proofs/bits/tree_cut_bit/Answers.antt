@@ -9,24 +9,24 @@ use Rattle.table_tree.proofs.bits.tree_cut_bit.Goals as goal
 pub returns-in-Some-clause-some : goal.returns-in-Some-clause-some
 returns-in-Some-clause-some c =
     inl (least_free c.args.region.now (all_regions_fix c.args.candidates.now) c.fixed_by_all_regions.result
-    c.free_bits-free.result c.in-Some.bit c.fixed_by_all_regions.ensures c.free_bits-free.ensures
+    c.free_bits_to_cut-free.result c.in-Some.bit c.fixed_by_all_regions.ensures c.free_bits_to_cut-free.ensures
     (MatchOption-at_some _ _ c.in-Some.bit c.in-Some.is c.lowest.ensures.some))
 
 pub returns-in-None-clause-some : goal.returns-in-None-clause-some
 returns-in-None-clause-some c =
     IfSome_then c.lowest-in-None.result c.lowest-in-None.ensures.some (λ bit low. inr (
       none_free c.args.region.now (all_regions_fix c.args.candidates.now) c.fixed_by_all_regions.result
-          c.free_bits-free.result c.fixed_by_all_regions.ensures c.free_bits-free.ensures
+          c.free_bits_to_cut-free.result c.fixed_by_all_regions.ensures c.free_bits_to_cut-free.ensures
           (MatchOption-at_none _ _ c.in-None.is c.lowest.ensures.none),
       least_free c.args.region.now (some_region_fixes c.args.candidates.now) c.fixed_by_some_region.result
-          c.free_bits-free.result bit (λ k within. c.fixed_by_some_region.ensures k)
-          c.free_bits-free.ensures low,
+          c.free_bits_to_cut-free.result bit (λ k within. c.fixed_by_some_region.ensures k)
+          c.free_bits_to_cut-free.ensures low,
     ))
 
 pub returns-in-None-clause-none : goal.returns-in-None-clause-none
 returns-in-None-clause-none c = IfNone-weaker c.lowest-in-None.result c.lowest-in-None.ensures.none
     (none_free c.args.region.now (some_region_fixes c.args.candidates.now) c.fixed_by_some_region.result
-    c.free_bits-free.result (λ k within. c.fixed_by_some_region.ensures k) c.free_bits-free.ensures)
+    c.free_bits_to_cut-free.result (λ k within. c.fixed_by_some_region.ensures k) c.free_bits_to_cut-free.ensures)
 
 pub returns-in-Some-clause-free : goal.returns-in-Some-clause-free
 returns-in-Some-clause-free c = cut_is_free c.args.candidates.now c.args.region.now c.in-Some.bit

@@ -12,13 +12,13 @@ pub first_mark_of_block-requires-clause-some : goal.first_mark_of_block-requires
 first_mark_of_block-requires-clause-some c =
     block_has c.args.masks.now c.args.blocks.now c.args.switch c.args.from c.requires.switch
     c.requires.blocks (none_here (goal.at.first_mark_of_block-requires-clause-some c).In_default)
-    c.in-Some-next_marked_packet.block c.in-Some-next_marked_packet.ensures
+    c.in-Some-next_mark.block c.in-Some-next_mark.ensures
 
-pub returns-in-Some-next_marked_packet : goal.returns-in-Some-next_marked_packet
-returns-in-Some-next_marked_packet c =
+pub returns-in-Some-next_mark : goal.returns-in-Some-next_mark
+returns-in-Some-next_mark c =
     least_beyond c.args.masks.now c.args.blocks.now c.args.switch c.args.from c.requires.switch
-    c.requires.blocks (none_here (goal.at.returns-in-Some-next_marked_packet c).In_default)
-    c.in-Some-next_marked_packet.block c.in-Some-next_marked_packet.ensures _ c.first_mark_of_block.ensures
+    c.requires.blocks (none_here (goal.at.returns-in-Some-next_mark c).In_default)
+    c.in-Some-next_mark.block c.in-Some-next_mark.ensures _ c.first_mark_of_block.ensures
 
 pub returns-in-None : goal.returns-in-None
 returns-in-None c =

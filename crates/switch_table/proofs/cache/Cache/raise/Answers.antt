@@ -1,5 +1,5 @@
 use Rattle.std.proofs.Common.{◌+◌, ◌∙◌, ◌≡◌, ap, filter, leb, rules}
-use Rattle.switch_table.specs.Exports.{Pair, after_raise, kept_entries}
+use Rattle.switch_table.specs.Exports.{Pair, cache_after_raise, kept_entries}
 use Rattle.switch_table.proofs.CachePairs.{entries_from, holds_from}
 use Rattle.switch_table.proofs.cache.Cache.raise.Goals as goal
 use Rattle.switch_table.proofs.cache.Cache.raise.Goals.{After-keep_from}
@@ -18,4 +18,4 @@ returns c =
     let left = ap (kept_entries shift) (kept (goal.at.returns c).After-keep_from)
     ∙ entries_from shift c.args.stamp c.self.inside.slots c.self.invariant.versions in
     (λ i. record { entries = left i; capacity = c.self.inside.capacity })
-    ∙ ap (after_raise c.args.stamp) c.self.view_is
+    ∙ ap (cache_after_raise c.args.stamp) c.self.view_is

@@ -1,7 +1,7 @@
 use Rattle.std.proofs.Common.{inl, inr}
 use Rattle.base.proofs.Exports.{cases_lt}
 use Rattle.travelling.proofs.TravellingMasks.{none_past}
-use Rattle.travelling.proofs.switch_index.next_marked_packet.Goals as goal
+use Rattle.travelling.proofs.switch_index.next_mark.Goals as goal
 
 pub returns : goal.returns
 returns c = λ i above. elim (cases_lt i c.loop-next.next) [

@@ -1,7 +1,7 @@
 use Rattle.std.proofs.Common.{◌≡◌, arith, bit_xor, refl}
 use Rattle.base.proofs.Exports.{both_ways}
 use Rattle.cut_tree.proofs.CutSides.{beyond, beyond_small, covers_no_half}
-use Rattle.cut_tree.proofs.choice.fixes_one_bit_more.Goals as goal
+use Rattle.cut_tree.proofs.choice.fixes_at_most_one_more.Goals as goal
 
 pub returns-else-fixed-eq0 : goal.returns-else-fixed-eq0
 returns-else-fixed-eq0 c = λ no bit one free. let w = c.args.word.now in

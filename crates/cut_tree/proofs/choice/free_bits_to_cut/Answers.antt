@@ -1,5 +1,5 @@
 use Rattle.cut_tree.proofs.CutLeastCounts.{free_mask}
-use Rattle.cut_tree.proofs.choice.free_bits.Goals as goal
+use Rattle.cut_tree.proofs.choice.free_bits_to_cut.Goals as goal
 
 pub returns : goal.returns
 returns c = λ bit.

@@ -4,7 +4,7 @@ use Rattle.wire.specs.Exports.{frame, spelled_front}
 use Rattle.switch_table.specs.declared.tables.Tables.{Tables}
 use Rattle.message_bag.specs.Exports.{CarryTables}
 use Rattle.message_bag.proofs.BagPostedMessages.{tables_are, tables_fit}
-use Rattle.message_bag.proofs.tables.spell.Goals as goal
+use Rattle.message_bag.proofs.tables.spell_install.Goals as goal
 
 its : (c : goal.In_ok-put_first) → CarryTables c.args.tables.now
     (get_or c.keep.new.kept.items c.in_ok-number.number [])

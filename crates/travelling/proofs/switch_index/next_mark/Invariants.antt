@@ -1,6 +1,6 @@
 use Rattle.std.proofs.Common.{◌+◌, ◌-◌, ◌<◌, ◌≡◌, ◌≤◌, false, length, ℕ}
 use Rattle.travelling.specs.SwitchIndex.{is_marked}
-use Rattle.travelling.proofs.switch_index.next_marked_packet.Given as goal
+use Rattle.travelling.proofs.switch_index.next_mark.Given as goal
 
 abbrev pub invariant-loop-next : goal.invariant-loop-next
 invariant-loop-next l = record {
