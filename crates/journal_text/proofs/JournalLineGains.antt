@@ -6,6 +6,7 @@ use Rattle.journal_text.specs.Lines.{item_line, journal_text}
 use Rattle.lines.specs.Pushes.{line_with}
 use Rattle.net_file.specs.declared.net.Net.{Net}
 use Rattle.shelf.specs.Exports.{SinkGainedPart, IsAfterWrite, IsBlockGathered, FaultsRose, SinkState, sink_with_gained}
+use Rattle.shelf.proofs.SinkGains.{nothing_gained}
 use Rattle.shelf.specs.declared.output.SinkError.{SinkError}
 use Rattle.shelf.specs.declared.output.SinkError.TheVariants.{Failed, NoMemory}
 
@@ -43,10 +44,6 @@ pub record IsHeld (text : List ℕ) (before now : Option (List ℕ)) (waiting li
   pub front : List ℕ
   pub gathered : IsBlockGathered front before now waiting
   pub whole : text ≡ front ++ line
-
-pub nothing_gained : (before : Option (List ℕ)) → before ≡ sink_with_gained before []
-nothing_gained None = refl
-nothing_gained (Some bytes) = ap Some (sym (append-nil bytes))
 
 -- nothing of an empty text is held
 pub held_first : (before : Option (List ℕ)) (waiting line : List ℕ) → waiting ≡ [] → line ≡ []

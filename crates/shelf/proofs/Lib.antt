@@ -1,3 +1,4 @@
 mod SinkBlockWrites
 mod ShelfFileLookups
 mod SinkPieceWrites
+pub mod SinkGains

@@ -23,7 +23,7 @@ mod system;
 
 pub use block::Block;
 pub use calm::{CalmShelf, CalmSink};
-pub use output::{Sink, SinkError, write_whole};
+pub use output::{Sink, SinkError, write_pieces, write_whole};
 pub use scripted::{MemShelf, MemSink};
 pub use source::{Shelf, ShelfError};
 pub use streams::{CountedReader, Reader, read_stream_up_to, write_stream_through};

@@ -1,5 +1,6 @@
 //! The sink of bytes, and a write of many bytes to it.
 ghost use Rattle.std.specs.Prelude.{◌≡◌, ◌≢◌, ◌≤◌, ◌<◌, Bool, IsTrue, [], length, take, IfOk, IsOk, OnErr, IsErrOf};
+ghost use Rattle.std.specs.List.{flat_map};
 ghost use Rattle.shelf.specs.Sink.{SinkState, sink_with_gained, FaultsRose};
 ghost use Rattle.shelf.specs.declared.output.SinkError.TheVariants.{NoMemory};
 ghost use Rattle.shelf.specs.SinkWrites.{IsAfterWrite};
@@ -77,6 +78,21 @@ pub fn write_whole<K: Sink>(sink: &mut K, bytes: &[u8]) -> Result<(), SinkError>
             return Err(SinkError::Failed);
         }
         written += taken as usize;
+    }
+    Ok(())
+}
+
+/// Writes the pieces one after another, until one fails, and allocates nothing itself.
+///
+/// On an error the sink has gained the pieces before the one that failed, and a part of that one.
+pub fn write_pieces<K: Sink>(sink: &mut K, pieces: &[&[u8]]) -> Result<(), SinkError>
+    ensures { IsAfterWrite (flat_map (λ piece. piece.now) pieces.now) K.takes_memory
+        (K.state sink.old) (K.state sink.new) result }
+{
+    for piece in pieces {
+        if let Err(error) = write_whole(sink, piece) {
+            return Err(error);
+        }
     }
     Ok(())
 }
