@@ -1,13 +1,13 @@
 -- What the status says of a plan or of tables that were written.
-use Rattle.std.proofs.Common.{[], ◌≡◌, Bool, Err, List, None, Ok, Option, Result, Some, inr, refl}
+use Rattle.std.proofs.Common.{[], ◌≡◌, Bool, Err, None, Ok, Option, Result, Some, inr, refl}
 use Rattle.base.proofs.Exports.{ForSome, ⊤}
 use Rattle.shelf.specs.Exports.{Files, IsAfterWrite, SinkState}
 use Rattle.shelf.specs.declared.output.SinkError.{SinkError}
 use Rattle.shelf.specs.declared.output.SinkError.TheVariants as sink
 use Rattle.command_line.specs.Exports.{PrintCommand}
 use Rattle.command_line.specs.Commands as asked
-use Rattle.difane_cli.specs.Exports.{IsPrintingOf, Print, PrintOutcome, known_command_task, printing_text, status_after}
-use Rattle.difane_cli.specs.NotPlayed.{Printing}
+use Rattle.command_inputs.specs.Exports.{IsPrintingOf, Print, known_command_task, status_after, Printing}
+use Rattle.difane_cli.specs.Exports.{PrintOutcome, printing_text}
 
 pub printed : (command : PrintCommand) (files : Option Files) (printing : Printing)
     (takes_memory : Bool) (before now : SinkState) (result : Result (⊤) SinkError)

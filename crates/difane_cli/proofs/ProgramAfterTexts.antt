@@ -1,11 +1,15 @@
 -- What the output is after a text was written that allocates.
 use Rattle.base.proofs.Exports.{⊤}
-use Rattle.std.proofs.Common.{[], ◌≡◌, Bool, Err, IsErrOf, List, Ok, OnErr, Result, inl, ℕ}
+use Rattle.std.proofs.Common.{[], ◌≡◌, Bool, Err, IsErrOf, List, Ok, OnErr, Result, inl, inr, ℕ}
 use Rattle.shelf.specs.Exports.{SinkGainedPart, IsAfterWrite, SinkState}
 use Rattle.shelf.specs.declared.output.SinkError.{SinkError}
 use Rattle.shelf.specs.declared.output.SinkError.TheVariants as sink
-use Rattle.difane_cli.specs.Exports.{IsAfterText}
-use Rattle.difane_cli.proofs.ProgramSinkGains.{some_on_err}
+use Rattle.difane_cli.specs.Exports.{IsAfterText, OutputWrotePart}
+
+some_on_err : {T E : Type 0} (r : Result T E) (before now : SinkState) (bytes : List ℕ)
+    → OnErr r (SinkGainedPart before.bytes bytes now.bytes) → OnErr r (OutputWrotePart bytes before now)
+some_on_err (Ok x) before now bytes part = tt
+some_on_err (Err e) before now bytes part = inr part
 
 -- a text that was made was written, or not
 pub text_written : (text : List ℕ) (in_memory takes_memory : Bool) (before now : SinkState)

@@ -11,7 +11,8 @@ use Rattle.trace_audit.specs.declared.trace.Verdict.{Verdict}
 use Rattle.trace_audit.specs.declared.trace.Verdict.TheVariants.{Yes, No}
 use Rattle.command_line.specs.Exports.{AuditCommand}
 use Rattle.command_line.specs.Commands as asked
-use Rattle.difane_cli.specs.Exports.{Audit, AuditOutcome, AuditEnded, Auditing, IsAuditingOf, IsAuditJudged, OutputWrote, known_command_task, most_trace_bytes, status_after, audit_yes_line}
+use Rattle.command_inputs.specs.Exports.{Audit, Auditing, IsAuditingOf, known_command_task, most_trace_bytes, status_after}
+use Rattle.difane_cli.specs.Exports.{AuditOutcome, AuditEnded, IsAuditJudged, OutputWrote, audit_yes_line}
 
 -- ---- how many lines there are
 

@@ -14,7 +14,8 @@ use Rattle.command_line.specs.Exports.{Command}
 use Rattle.command_line.specs.Commands as asked
 use Rattle.command_line.specs.declared.report.Report.{Report}
 use Rattle.command_line.specs.declared.report.Report.TheVariants as report
-use Rattle.difane_cli.specs.Exports.{Inputs, IsGoodTrace, IsPlayOf, MayBePlayed, AuditTellsLines, last_lines, line_by, meter_line, meter_lines, notes_line, play_text, quiet_line, replay_text}
+use Rattle.command_inputs.specs.Exports.{Inputs, IsPlayOf, MayBePlayed}
+use Rattle.difane_cli.specs.Exports.{IsGoodTrace, AuditTellsLines, last_lines, line_by, meter_line, meter_lines, notes_line, play_text, quiet_line, replay_text}
 
 -- ---- the last lines, without their line feeds
 

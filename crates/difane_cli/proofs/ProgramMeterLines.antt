@@ -1,14 +1,12 @@
 -- The lines of meters, and the text of a replay, which has the last lines after the journal's.
-use Rattle.base.proofs.Exports.{⊤}
-use Rattle.std.proofs.Common.{[], ◌++◌, ◌∙◌, ◌∷◌, ◌≡◌, ◌≢◌, Bool, Err, List, None, Ok, Option, Result, Some, ap, append-nil, arith, flat_map, length, map, refl, subst, sym, ℕ}
+use Rattle.std.proofs.Common.{[], ◌++◌, ◌∷◌, ◌≡◌, ◌≢◌, Bool, Err, List, None, Option, Some, ap, flat_map, length, map, refl, ℕ}
 use Rattle.update_machine.specs.Exports.{Item, Leaving, Net}
 use Rattle.journal_text.specs.Lines.{journal_text}
-use Rattle.journal_text.proofs.JournalLineGains.{nothing_gained}
 use Rattle.meters.specs.Exports.{Seen}
-use Rattle.shelf.specs.Exports.{SinkGainedPart, IsAfterWrite, SinkState, gained-gained, sink_with_gained}
+use Rattle.shelf.specs.Exports.{IsAfterWrite, SinkState}
 use Rattle.shelf.specs.declared.output.SinkError.{SinkError}
 use Rattle.difane_cli.specs.Exports.{last_lines, line_by, meter_line, meter_lines, notes_line, replay_text}
-use Rattle.difane_cli.proofs.ProgramSinkGains.{SinkGainedPart-behind}
+use Rattle.shelf.proofs.SinkGains.{first_part}
 
 -- ---- one line
 
@@ -30,13 +28,6 @@ lines_of seen (x ∷ xs) = ap (λ lines. meter_line (seen x) ++ lines) (lines_of
 
 -- ---- some bytes
 
-pub part_last : (before middle now : Option (List ℕ)) (front piece : List ℕ)
-    → middle ≡ sink_with_gained before front → SinkGainedPart middle piece now
-    → SinkGainedPart before (front ++ piece) now
-part_last before middle now front piece written part =
-    subst (λ (bytes : List ℕ). SinkGainedPart before (front ++ bytes) now) (append-nil piece)
-    (SinkGainedPart-behind before middle now front piece [] written part)
-
 pub none_left : (xs ys : List ℕ) → xs ++ ys ≡ [] → xs ≡ []
 none_left [] ys is = refl
 none_left (x ∷ xs) ys is = absurd (cc is)
@@ -44,53 +35,6 @@ none_left (x ∷ xs) ys is = absurd (cc is)
 pub none_right : (xs ys : List ℕ) → xs ++ ys ≡ [] → ys ≡ []
 none_right [] ys is = is
 none_right (x ∷ xs) ys is = absurd (cc is)
-
--- two texts, one after the other
-pub both_written : (before middle now : SinkState) (text lines : List ℕ) (takes_memory : Bool)
-    (result : Result (⊤) SinkError) → middle.bytes ≡ sink_with_gained before.bytes text
-    → middle.faults ≡ before.faults → IsAfterWrite lines takes_memory middle now result
-    → IsAfterWrite (text ++ lines) takes_memory before now result
-both_written before middle now text lines takes_memory (Ok done) written same after = record {
-  whole = after.whole ∙ ap (λ bytes. sink_with_gained bytes lines) written
-      ∙ gained-gained before.bytes text lines;
-  part = tt;
-  faults = omega (arith, same, after.faults);
-  calm = λ not. after.calm not ∙ same;
-  failed = λ is. absurd (cc is);
-  no_memory = λ is. absurd (cc is);
-}
-both_written before middle now text lines takes_memory (Err why) written same after = record {
-  whole = tt;
-  part = part_last before.bytes middle.bytes now.bytes text lines written after.part;
-  faults = omega (arith, same, after.faults);
-  calm = λ not. after.calm not ∙ same;
-  failed = λ is. omega (arith, same, after.failed is);
-  no_memory = after.no_memory;
-}
-
--- the first of them was cut short
-pub first_part : (before now : SinkState) (text lines : List ℕ) (takes_memory : Bool)
-    (why : SinkError) → IsAfterWrite text takes_memory before now (Err why)
-    → IsAfterWrite (text ++ lines) takes_memory before now (Err why)
-first_part before now text lines takes_memory why after = record {
-  whole = tt;
-  part = SinkGainedPart-behind before.bytes before.bytes now.bytes [] text lines
-      (nothing_gained before.bytes) after.part;
-  faults = after.faults;
-  calm = after.calm;
-  failed = after.failed;
-  no_memory = after.no_memory;
-}
-
--- a piece that was cut short, behind what was written and before the rest
-pub piece_cut : (before middle now : SinkState) (front piece rest whole : List ℕ)
-    (takes_memory : Bool) (why : SinkError) → middle.bytes ≡ sink_with_gained before.bytes front
-    → middle.faults ≡ before.faults → IsAfterWrite piece takes_memory middle now (Err why)
-    → front ++ (piece ++ rest) ≡ whole → IsAfterWrite whole takes_memory before now (Err why)
-piece_cut before middle now front piece rest whole takes_memory why written same after is =
-    subst (λ (bytes : List ℕ). IsAfterWrite bytes takes_memory before now (Err why)) is
-    (both_written before middle now front (piece ++ rest) takes_memory (Err why) written same
-    (first_part middle now piece rest takes_memory why after))
 
 -- a play that didn't stop full has both
 pub text_whole : (net : Net) (journal : List Item) (full : Option ℕ) (meters : List Seen)

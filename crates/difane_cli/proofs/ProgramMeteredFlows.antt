@@ -5,8 +5,8 @@ use Rattle.command_line.specs.Exports.{Command, Replay, ReplayCommand, command_o
 use Rattle.command_line.specs.declared.report.Report.{Report}
 use Rattle.command_line.specs.declared.report.Report.TheVariants as report
 use Rattle.difane_cli.specs.Exports.{AreFlowsCounted, PlayedByReport, MeteredOutcome, Outcome, Played, CommandTellsFlows, WritesFlowCounts, OutputWrote, asks_flows, gone_records_by, most_headers, new_command_meter, new_meters, play_text}
-use Rattle.difane_cli.specs.declared.status.Status.{Status}
-use Rattle.difane_cli.specs.declared.status.Status.TheVariants as status
+use Rattle.command_inputs.specs.declared.status.Status.{Status}
+use Rattle.command_inputs.specs.declared.status.Status.TheVariants as status
 use Rattle.flow_export.specs.Counted.{IsNewMeter}
 use Rattle.update_machine.specs.Exports.{Item}
 use Rattle.meters.specs.Exports.{Seen}

@@ -1,12 +1,13 @@
 -- What comes of a play, by what became of its text.
 use Rattle.base.proofs.Exports.{ForSome, ⊤}
-use Rattle.std.proofs.Common.{◌++◌, ◌≡◌, ◌⊎◌, All, Bool, Err, IsTrue, List, None, Ok, Option, Result, Some, arith, inl, inr, is_some, length, refl, subst, sym, take_all, ℕ}
+use Rattle.std.proofs.Common.{◌≡◌, ◌⊎◌, Bool, Err, IsTrue, List, None, Ok, Option, Result, Some, arith, inl, inr, is_some, length, refl, subst, sym, take_all, ℕ}
 use Rattle.update_machine.specs.Exports.{IsPlay, Item, Net, Setting}
 use Rattle.flow_export.specs.Counted.{FlowLaws}
 use Rattle.meters.specs.Exports.{Seen}
 use Rattle.net_file.specs.Exports.{port_mask}
 use Rattle.packet_laws.specs.Exports.{HeldOnTheWay, HoldsSoFar}
-use Rattle.difane_cli.specs.Exports.{AnswerLaws, AreFlowsCounted, CountFlows, Inputs, IsAfterText, IsAnswer, IsPlayOf, IsQuietVerdict, IsWhetherQuiet, MayBePlayed, Play, PlayOutcome, Played, PlayedUnfinished, PlayWantsMemory, asks_quiet, gone_records_by, is_asked, is_output_made, known_command_task, play_text, status_after}
+use Rattle.difane_cli.specs.Exports.{AnswerLaws, AreFlowsCounted, CountFlows, IsAfterText, IsAnswer, IsQuietVerdict, IsWhetherQuiet, PlayOutcome, Played, PlayedUnfinished, PlayWantsMemory, asks_quiet, gone_records_by, is_asked, is_output_made, play_text}
+use Rattle.command_inputs.specs.Exports.{Inputs, IsPlayOf, MayBePlayed, Play, known_command_task, status_after}
 use Rattle.shelf.specs.Exports.{Files, SinkState}
 use Rattle.shelf.specs.declared.output.SinkError.{SinkError}
 use Rattle.shelf.specs.declared.output.SinkError.TheVariants as sink

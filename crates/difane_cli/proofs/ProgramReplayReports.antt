@@ -7,8 +7,9 @@ use Rattle.command_line.specs.Exports.{Command, ReplayCommand}
 use Rattle.command_line.specs.Commands as asked
 use Rattle.command_line.specs.declared.report.Report.{Report}
 use Rattle.command_line.specs.declared.report.Report.TheVariants as report
-use Rattle.difane_cli.specs.Exports.{PlayedByReport, CommandGivesBackMeters, Inputs, IsAnswer, IsPlayOf, Outcome, PlayOutcome, ProposalOutcome, CommandRanOut, is_output_made}
-use Rattle.difane_cli.specs.declared.status.Status.{Status}
+use Rattle.difane_cli.specs.Exports.{PlayedByReport, CommandGivesBackMeters, IsAnswer, Outcome, PlayOutcome, ProposalOutcome, CommandRanOut, is_output_made}
+use Rattle.command_inputs.specs.Exports.{Inputs, IsPlayOf}
+use Rattle.command_inputs.specs.declared.status.Status.{Status}
 
 pub play_outcome : (command : Command) (inputs : Inputs) (files : Option Files)
     (takes_memory : Bool) (status : Status) (journal : List Item) (taken given : List Seen)

@@ -10,9 +10,10 @@ use Rattle.schedule.specs.Refusals.{schedule_code}
 use Rattle.shelf.specs.Exports.{Files, file_named}
 use Rattle.command_line.specs.Exports.{Command, ReplayCommand}
 use Rattle.command_line.specs.Commands as asked
-use Rattle.difane_cli.specs.Exports.{AreInputsStated, AreStatedBy, Inputs, Play, ShelfStates, and_then_input, shelf_content_from, content_of, first_change_code, first_plan, first_input_stated, replay_inputs_of, known_command_task, most_file_bytes, net_stated, play_task, policy_stated, read_file, read_files, input_read_from, read_net, read_schedule, refused_whole_file, schedule_in, input_stated_as, task_of, too_long, input_with_ports}
-use Rattle.difane_cli.specs.declared.status.Refusal.{Refusal}
-use Rattle.difane_cli.proofs.ProgramFileChecks.{stated_so}
+use Rattle.difane_cli.specs.Exports.{AreInputsStated, AreStatedBy, ShelfStates}
+use Rattle.command_inputs.specs.Exports.{Inputs, Play, and_then_input, shelf_content_from, content_of, first_change_code, first_plan, first_input_stated, replay_inputs_of, known_command_task, most_file_bytes, net_stated, play_task, policy_stated, read_file, read_files, input_read_from, read_net, read_schedule, refused_whole_file, schedule_in, input_stated_as, task_of, too_long, input_with_ports}
+use Rattle.command_inputs.specs.declared.status.Refusal.{Refusal}
+use Rattle.command_inputs.proofs.InputFileChecks.{stated_so}
 
 -- ---- one file
 

@@ -5,10 +5,11 @@ use Rattle.update_machine.specs.Exports.{Item}
 use Rattle.shelf.specs.Exports.{SinkState}
 use Rattle.shelf.specs.declared.output.SinkError.{SinkError}
 use Rattle.shelf.specs.declared.output.SinkError.TheVariants as sink
-use Rattle.difane_cli.specs.Exports.{Inputs, IsAfterWork, IsPlayOf, MayWantMemory, CommandRanOut, asks_quiet, is_asked, is_output_made, status_after}
+use Rattle.command_inputs.specs.Exports.{Inputs, IsPlayOf, status_after}
+use Rattle.difane_cli.specs.Exports.{IsAfterWork, MayWantMemory, CommandRanOut, asks_quiet, is_asked, is_output_made}
 use Rattle.command_line.specs.declared.report.Report.{Report}
 use Rattle.command_line.specs.declared.report.Report.TheVariants as told
-use Rattle.difane_cli.specs.declared.status.Status.TheVariants as status
+use Rattle.command_inputs.specs.declared.status.Status.TheVariants as status
 use Rattle.command_line.specs.Exports.{Command}
 use Rattle.command_line.specs.Commands as asked
 

@@ -1,5 +1,5 @@
 -- What a replay that proposes a placement comes to.
-use Rattle.std.proofs.Common.{[], ◌≡◌, ◌⊎◌, Bool, Err, IsTrue, List, None, Ok, Option, Result, Some, ap, arith, inl, inr, refl, subst, sym, ℕ}
+use Rattle.std.proofs.Common.{[], ◌≡◌, ◌⊎◌, Bool, Err, IsTrue, List, None, Ok, Option, Result, Some, ap, arith, inl, inr, refl, subst, ℕ}
 use Rattle.base.proofs.Exports.{⊤}
 use Rattle.controller.specs.Exports.{PlanValue}
 use Rattle.update_machine.specs.Exports.{Item, Net, Row, Setting, current_mark, plan_at}
@@ -11,8 +11,9 @@ use Rattle.shelf.specs.declared.output.SinkError.{SinkError}
 use Rattle.shelf.specs.declared.output.SinkError.TheVariants as sink
 use Rattle.command_line.specs.Exports.{ReplayCommand}
 use Rattle.command_line.specs.Commands as asked
-use Rattle.difane_cli.specs.Exports.{StatusEndsWork, Inputs, IsAfterProposal, IsAfterProposing, IsAnswer, ProposalOutcome, CommandProposes, OutputWrote, status_after}
-use Rattle.difane_cli.specs.declared.status.Status.TheVariants as status
+use Rattle.difane_cli.specs.Exports.{StatusEndsWork, IsAfterProposal, IsAfterProposing, IsAnswer, ProposalOutcome, CommandProposes, OutputWrote}
+use Rattle.command_inputs.specs.Exports.{Inputs, status_after}
+use Rattle.command_inputs.specs.declared.status.Status.TheVariants as status
 use Rattle.difane_cli.proofs.ProgramStatus.{after_work, by_failed, by_memory, of_failed}
 
 -- ---- what is written

@@ -1,37 +1,23 @@
 -- The outcome of an audit, by its status; and that what a replay prints is a good trace.
-use Rattle.std.specs.Prelude.{[], ◌≡◌, ◌≤◌, ◌⊎◌, All, IsSome, List, Ok, Option, Some, codes, length, ℕ, ⊤}
+use Rattle.std.specs.Prelude.{[], ◌≡◌, ◌⊎◌, List, Ok, Option, Some, codes, ℕ, ⊤}
 use Rattle.base.specs.Exports.{ForSome}
 use Rattle.update_machine.specs.Exports.{Item, PolicyFile}
-use Rattle.policy_file.specs.Exports.{file_length}
-use Rattle.policy_rules.specs.Exports.{IsPolicyFile}
 use Rattle.shelf.specs.Exports.{Files, SinkGainedPart, SinkState}
 use Rattle.trace_audit.specs.Exports.{AreGood, AreJustified, AreTraceRun, IsFirstBad, TraceLine, lines_of}
 use Rattle.trace_audit.specs.declared.trace.Verdict.{Verdict}
 use Rattle.trace_audit.specs.declared.trace.Verdict.TheVariants.{Yes, No}
-use Rattle.world.specs.Exports.{first_policy}
 use Rattle.command_line.specs.Exports.{AuditCommand}
 use Rattle.command_line.specs.Commands as asked
 use Rattle.command_line.specs.declared.report.Report.{Report}
 use Rattle.command_line.specs.declared.report.Report.TheVariants as report
-use Rattle.difane_cli.specs.Codes.{most_trace_bytes}
-use Rattle.difane_cli.specs.Inputs.{known_command_task}
-use Rattle.difane_cli.specs.Tasks.{Audit, Auditing, Inputs}
+use Rattle.command_inputs.specs.Exports.{Audit, Auditing, Inputs, IsAuditingOf, known_command_task}
 use Rattle.difane_cli.specs.Writes.{CommandUnplayed, OutputWrote}
-use Rattle.difane_cli.specs.declared.status.Status.{Status}
-use Rattle.difane_cli.specs.declared.status.Status.TheVariants as status
+use Rattle.command_inputs.specs.declared.status.Status.{Status}
+use Rattle.command_inputs.specs.declared.status.Status.TheVariants as status
 
 -- what is written for a trace whose lines are all good
 abbrev pub audit_yes_line : List ℕ
 audit_yes_line = codes "yes\n"
-
--- there is a file for each name, sound and with at most 2,000 rows; the first has a policy; and the
--- trace isn't too long
-pub record IsAuditingOf (command : AuditCommand) (auditing : Auditing) : Type 0 where
-  pub many : length auditing.files ≡ length command.policies
-  pub first : IsSome (first_policy auditing.files)
-  pub sound : All IsPolicyFile auditing.files
-  pub few : All (λ file. file_length file ≤ 2000) auditing.files
-  pub short : length auditing.trace ≤ most_trace_bytes
 
 -- the verdict is Yes only if each line is good, and otherwise No with the number of the first that
 -- isn't. If it is Yes, the moves that they state are a run of the machine. And each packet that

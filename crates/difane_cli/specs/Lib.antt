@@ -1,8 +1,3 @@
-pub mod Codes
-pub mod Inputs
-pub mod NotPlayed
-pub mod Tasks
-pub mod Limits
 pub mod Texts
 pub mod Run
 pub mod Laws
@@ -10,9 +5,7 @@ pub mod Prints
 pub mod Audits
 pub mod Writes
 pub mod Ending
-pub mod Performed
 pub mod Verdict
-pub mod Commands
 pub mod Proposed
 pub mod Exports
 pub mod FlowLines

@@ -3,9 +3,9 @@ use Rattle.std.specs.Prelude.{◌≡◌, Bool, List, None, Option, Some, true, �
 use Rattle.command_line.specs.Exports.{Command, command_of}
 use Rattle.difane_cli.specs.FlowLines.{AreFlowsCounted, flow_text, gone_records_by}
 use Rattle.difane_cli.specs.Run.{IsAnswer, Outcome}
-use Rattle.difane_cli.specs.Tasks.{Inputs}
+use Rattle.command_inputs.specs.Exports.{Inputs}
 use Rattle.difane_cli.specs.Writes.{OutputWrote}
-use Rattle.difane_cli.specs.declared.status.Status.{Status}
+use Rattle.command_inputs.specs.declared.status.Status.{Status}
 use Rattle.update_machine.specs.Exports.{Item, Net}
 use Rattle.meters.specs.Exports.{Seen}
 use Rattle.difane_cli.specs.NewMeters.{asks_flows, new_meters}

@@ -1,49 +1,19 @@
 -- The outcome of a command that prints a plan or tables, by its status; and the output after a text
 -- was written.
-use Rattle.std.specs.Prelude.{[], ◌≡◌, ◌≢◌, ◌≤◌, ◌⊎◌, All, Bool, Err, IsErrOf, IsTrue, List, None, Ok, OnErr, OnOk, Option, Result, Some, is_some, length, ℕ, ⊤}
+use Rattle.std.specs.Prelude.{[], ◌≡◌, ◌≢◌, ◌≤◌, ◌⊎◌, Bool, Err, IsErrOf, IsTrue, List, None, Ok, OnErr, OnOk, Option, Result, Some, ℕ, ⊤}
 use Rattle.base.specs.Exports.{ForSome}
-use Rattle.net_file.specs.Exports.{port_mask, switch_number}
-use Rattle.update_machine.specs.Exports.{Header, Item, Net}
-use Rattle.partition.specs.Plan.{IsPartitionPlan, plan_of}
-use Rattle.policy_file.specs.Exports.{names_port_of}
-use Rattle.policy_rules.specs.Exports.{IsFirstMatch, IsPolicy, scan}
+use Rattle.update_machine.specs.Exports.{Item}
 use Rattle.show_text.specs.Text.{compile_text, table_text}
 use Rattle.switch_table.specs.Exports.{tables_of}
 use Rattle.shelf.specs.Exports.{Files, SinkGainedPart, FaultsRose, SinkState, sink_with_gained}
 use Rattle.shelf.specs.declared.output.SinkError.{SinkError}
 use Rattle.shelf.specs.declared.output.SinkError.TheVariants.{Failed, NoMemory}
-use Rattle.controller.specs.Exports.{LeadEveryHeader}
-use Rattle.difane_cli.specs.Inputs.{known_command_task}
-use Rattle.difane_cli.specs.Tasks.{Print, Printing, IsNetOf}
-use Rattle.difane_cli.specs.declared.status.Status.{Status}
+use Rattle.command_inputs.specs.Exports.{IsPrintingOf, known_command_task, Print, Printing}
+use Rattle.command_inputs.specs.declared.status.Status.{Status}
 use Rattle.difane_cli.specs.Writes.{OutputWrote, CommandUnplayed, OutputWrotePart}
 use Rattle.command_line.specs.Exports.{PrintCommand}
 use Rattle.command_line.specs.Commands as asked
-use Rattle.difane_cli.specs.declared.status.Status.TheVariants as status
-
--- the switch is the one that the command names
-abbrev pub IsSwitchOf : Option (List ℕ) → Net → Option ℕ → Type 0
-IsSwitchOf None net switch = switch ≡ None
-IsSwitchOf (Some name) net switch =
-    (switch ≡ switch_number net.switches name) × IsTrue (is_some switch)
-
--- a policy of at most 2,000 rows, its plan on the network that a command names, with rows that name
--- only its ports, and the switch that the command names. The plan's partitions are the leaves of
--- the tree that is defined for the policy's rules, and their targets a placement. At every switch
--- it leads each header to what a scan of the policy finds, which is the first match
-pub record IsPrintingOf (command : PrintCommand) (printing : Printing) : Type 0 where
-  pub policy : IsPolicy printing.policy
-  pub few : length printing.policy ≤ 2000
-  pub net : IsNetOf command.net printing.net
-  pub ports : All (λ row. IsTrue (names_port_of (port_mask printing.net.switches) row.action))
-      printing.policy
-  pub switch : IsSwitchOf command.switch printing.net printing.switch
-  pub plan : plan_of printing.policy printing.net ≡ Ok printing.hosted
-  pub parts : IsPartitionPlan printing.policy printing.net printing.hosted
-  pub leads : LeadEveryHeader printing.policy printing.hosted
-  -- what a scan finds, to which the tables lead, is the first match
-  pub first_match : (header : Header)
-      → IsFirstMatch printing.policy header (scan printing.policy header)
+use Rattle.command_inputs.specs.declared.status.Status.TheVariants as status
 
 -- the plan, or the tables that it gives the switch for version 1
 abbrev pub printed_text_by : Option ℕ → Printing → List ℕ

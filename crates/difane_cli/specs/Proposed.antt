@@ -6,10 +6,10 @@ use Rattle.rebalance.specs.Proposals.{ProposesFor}
 use Rattle.shelf.specs.Exports.{SinkGainedPart, FaultsRose, SinkState}
 use Rattle.shelf.specs.declared.output.SinkError.{SinkError}
 use Rattle.shelf.specs.declared.output.SinkError.TheVariants.{Failed, NoMemory}
-use Rattle.difane_cli.specs.Tasks.{Inputs}
+use Rattle.command_inputs.specs.Exports.{Inputs}
 use Rattle.difane_cli.specs.Writes.{CommandUnplayed, OutputWrote}
-use Rattle.difane_cli.specs.declared.status.Status.{Status}
-use Rattle.difane_cli.specs.declared.status.Status.TheVariants as status
+use Rattle.command_inputs.specs.declared.status.Status.{Status}
+use Rattle.command_inputs.specs.declared.status.Status.TheVariants as status
 
 -- ---- what is written
 

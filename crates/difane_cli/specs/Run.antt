@@ -1,49 +1,31 @@
 -- First tier. The outcome of a call of the program, by its status: a replay's, or a load case's.
-use Rattle.std.specs.Prelude.{[], ◌≡◌, ◌⊎◌, All, Bool, IsTrue, List, None, Ok, Option, Result, Some, false, length, true, ℕ, ⊤}
+use Rattle.std.specs.Prelude.{[], ◌≡◌, ◌⊎◌, Bool, IsTrue, List, None, Ok, Option, Result, Some, false, length, true, ℕ, ⊤}
 use Rattle.base.specs.Exports.{AllZip, ForSome}
 use Rattle.net_file.specs.Exports.{net_of}
 use Rattle.policy_file.specs.Exports.{policy_file_of}
 use Rattle.schedule.specs.Reading.{schedule_of}
 use Rattle.shelf.specs.Exports.{Files, SinkGainedPart, SinkState, file_named}
-use Rattle.update_machine.specs.Exports.{HasCause, HaveCauses, IsPlay, IsRun, IsSetting, Item}
+use Rattle.update_machine.specs.Exports.{HasCause, HaveCauses, IsPlay, IsRun, Item}
 use Rattle.meters.specs.Exports.{Seen}
-use Rattle.steps.specs.Exports.{IsEvent}
 use Rattle.packet_laws.specs.Exports.{AreEntered, HeldOnTheWay, StrongCause, rows_played}
 use Rattle.forwarding_laws.specs.Exports.{KeepsWorking}
-use Rattle.schedule.specs.Case.{load_case}
-use Rattle.difane_cli.specs.Limits.{AreWithinLimits}
+use Rattle.command_inputs.specs.Exports.{Inputs, IsPlayOf, known_command_task, MayBePlayed, Play}
 use Rattle.difane_cli.specs.FlowLines.{CountFlows, gone_records_by}
-use Rattle.difane_cli.specs.Inputs.{case_inputs, known_command_task}
 use Rattle.difane_cli.specs.Texts.{play_text}
 use Rattle.difane_cli.specs.Verdict.{IsQuietVerdict, asks_quiet, is_asked}
 use Rattle.command_line.specs.Exports.{Command, ReplayCommand}
 use Rattle.command_line.specs.Commands as asked
 use Rattle.command_line.specs.declared.report.Report.{Report}
 use Rattle.command_line.specs.declared.report.Report.TheVariants as report
-use Rattle.difane_cli.specs.declared.status.Status.{Status}
+use Rattle.command_inputs.specs.declared.status.Status.{Status}
 use Rattle.difane_cli.specs.Writes.{OutputWrote, OutputWrotePart, CommandUnplayed}
 use Rattle.difane_cli.specs.Audits.{AuditOutcome, IsGoodTrace}
 use Rattle.difane_cli.specs.Prints.{PrintOutcome}
 use Rattle.difane_cli.specs.Proposed.{ProposalOutcome}
-use Rattle.difane_cli.specs.Tasks.{Inputs, Play, IsNetOf}
 use Rattle.replay.specs.Leavings.{kept_by}
-use Rattle.difane_cli.specs.declared.status.Status.TheVariants as status
+use Rattle.command_inputs.specs.declared.status.Status.TheVariants as status
 
 -- ---- plays
-
--- as many policies as the command names, the network of one switch if it names none, and its
--- report; and the inputs are within the limits
-pub record IsReplayOf (command : ReplayCommand) (inputs : Inputs) : Type 0 where
-  pub net : IsNetOf command.net inputs.setting.net
-  pub policies : length inputs.setting.files ≡ length command.policies
-  pub report : inputs.report ≡ command.report
-  pub limits : AreWithinLimits inputs
-
--- the inputs are as the command asks: as many files as it names, or the load case
-abbrev pub IsPlayOf : Command → Inputs → Type 0
-IsPlayOf (asked.Replay args) inputs = IsReplayOf args inputs
-IsPlayOf (asked.Load n) inputs = inputs ≡ case_inputs (load_case n)
-IsPlayOf _ inputs = ⊥
 
 -- the bytes of the file of this name are read as this value
 abbrev pub ShelfStates : {V E : Type 0} → Files → (List ℕ → Result V E) → List ℕ → V → Type 0
@@ -62,12 +44,6 @@ pub record AreInputsStated (files : Files) (command : ReplayCommand) (inputs : I
 abbrev pub AreStatedBy : Option Files → Command → Inputs → Type 0
 AreStatedBy files (asked.Replay args) inputs = ForSome files (λ all. AreInputsStated all args inputs)
 AreStatedBy files _ inputs = ⊤
-
--- the first file has a policy, with a plan on the network, all name only its ports, and the events
--- name only its switches and these files
-pub record MayBePlayed (inputs : Inputs) : Type 0 where
-  pub setting : IsSetting inputs.setting
-  pub events : All (IsEvent inputs.setting.net (length inputs.setting.files)) inputs.events
 
 -- the journal is that of the play of these inputs, to its end or to a row at which it stopped full;
 -- the inputs are those of the files and of the task, if these are known. So the journal is a run of

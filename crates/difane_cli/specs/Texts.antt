@@ -8,9 +8,7 @@ use Rattle.meters.specs.Exports.{Seen}
 use Rattle.meters.specs.declared.flows.FlowRecord.{FlowRecord}
 use Rattle.command_line.specs.declared.report.Report.{Report}
 use Rattle.difane_cli.specs.FlowLines.{flows_text}
-use Rattle.difane_cli.specs.declared.status.Status.{Status}
 use Rattle.command_line.specs.declared.report.Report.TheVariants as report
-use Rattle.difane_cli.specs.declared.status.Status.TheVariants as status
 
 -- the line of a meter of this port that has this many notes, with its line feed
 abbrev pub notes_line : ℕ → ℕ → List ℕ
@@ -51,23 +49,3 @@ play_text (report.Lines quiet) net journal full gone meters answer =
 play_text report.Flows net journal full gone meters answer = flows_text full gone meters
 play_text report.Placement net journal full gone meters answer = []
 play_text report.Summary net journal full gone meters answer = summary_counts_text journal full
-
--- the line of a refused file, with its line feed
-abbrev pub input_line : List ℕ → ℕ → ℕ → List ℕ
-input_line file code row = concat (codes "difane: input " ∷ file
-    ∷ codes " code " ∷ decimal code ∷ codes " row " ∷ decimal row ∷ codes "\n" ∷ [])
-
--- a line that ends with a number, with its line feed
-abbrev pub numbered_line : List ℕ → ℕ → List ℕ
-numbered_line text number = concat (text ∷ decimal number ∷ codes "\n" ∷ [])
-
--- the line of a status, with its line feed; nothing for a command that did its work
-abbrev pub status_line : Status → List ℕ
-status_line status.Ok = []
-status_line (status.No line) = numbered_line (codes "difane: no line ") line
-status_line status.Words = codes "difane: words\n"
-status_line (status.Input file code row) = input_line file code row
-status_line status.ReadFault = codes "difane: read fault\n"
-status_line status.WriteFault = codes "difane: write fault\n"
-status_line (status.Full row) = numbered_line (codes "difane: full row ") row
-status_line status.NoMemory = codes "difane: no memory\n"

@@ -1,6 +1,6 @@
 -- First tier. A command's journal and its outputs at the end, whatever it did.
-use Rattle.std.specs.Prelude.{[], ◌≡◌, ◌≤◌, ◌⊎◌, Bool, IsTrue, List, ℕ}
-use Rattle.shelf.specs.Exports.{SinkGainedPart, FaultsRose, SinkState, sink_with_gained}
+use Rattle.std.specs.Prelude.{[], ◌≡◌, ◌⊎◌, List, ℕ}
+use Rattle.shelf.specs.Exports.{SinkGainedPart, SinkState, sink_with_gained}
 use Rattle.update_machine.specs.Exports.{Item}
 
 -- the output gained this text; if the text is empty, the output's state is the same
@@ -16,10 +16,3 @@ OutputWrotePart text before now = (now ≡ before) ⊎ SinkGainedPart before.byt
 pub record CommandUnplayed (journal : List Item) (before now : SinkState) : Type 0 where
   pub nothing_played : journal ≡ []
   pub untouched : now ≡ before
-
--- a sink gained the line, and counted no fault; or it gained a proper part of it, if it failed or
--- if its writes allocate
-pub record OutputWritesLine (whole : List ℕ) (takes_memory : Bool) (old new : SinkState) : Type 0 where
-  pub faults : old.faults ≤ new.faults
-  pub line : ((new.bytes ≡ sink_with_gained old.bytes whole) × (new.faults ≡ old.faults))
-      ⊎ (SinkGainedPart old.bytes whole new.bytes × (FaultsRose old.faults new.faults ⊎ IsTrue takes_memory))

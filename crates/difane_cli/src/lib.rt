@@ -20,25 +20,22 @@
 #![tactic(auto)]
 
 mod auditing;
+mod ended;
 mod flow_lines;
-mod inputs;
 mod laws;
-mod load;
 mod meter_lines;
 mod metered;
-mod networks;
 mod playing;
-mod policies;
 mod printing;
 mod proposing;
-mod status;
-mod task;
 mod top_call;
 mod verdict;
+mod work;
 
+pub use command_inputs::{Refusal, RefusedFileName, Status, Stop, write_status};
+pub use ended::{Ended, Finished};
 pub use flow_export::FlowMeter;
 pub use laws::one_switch_laws;
 pub use metered::{CommandEnd, run_metered};
 pub use meters::{Meter, Recorder};
-pub use status::{Ended, Finished, Refusal, RefusedFileName, Status, Stop, write_status};
 pub use top_call::run;

@@ -3,10 +3,9 @@ ghost use Rattle.std.specs.Prelude.{◌≡◌, [], map};
 ghost use Rattle.shelf.specs.SinkWrites.{IsAfterWrite};
 ghost use Rattle.difane_cli.specs.Texts.{meter_line, meter_lines, notes_line};
 
-use crate::status::write_output_pieces;
 use itoa::Buffer;
 use meters::Meter;
-use shelf::{Sink, SinkError};
+use shelf::{Sink, SinkError, write_pieces};
 
 /// Writes a line for each meter that has a note, in order. Allocates nothing itself.
 pub fn write_meters<M: Meter, K: Sink>(meters: &[M], out: &mut K) -> Result<(), SinkError>
@@ -42,5 +41,5 @@ fn write_meter_notes<K: Sink>(port: u32, notes: u64, out: &mut K) -> Result<(), 
     let port = port_digits.format(port).as_bytes();
     let notes = notes_digits.format(notes).as_bytes();
     let pieces: [&[u8]; 5] = [b"meter port ", port, b" notes ", notes, b"\n"];
-    write_output_pieces(&pieces, out)
+    write_pieces(out, &pieces)
 }

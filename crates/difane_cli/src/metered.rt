@@ -1,18 +1,19 @@
 //! The top call, with a new meter at each port.
-ghost use Rattle.std.specs.Prelude.{◌≡◌, ◌≢◌, ◌≤◌, ◌⊎◌, ◌↔◌, ℕ, IfOk, IsTrue, None, Ok, OnErr};
+ghost use Rattle.std.specs.Prelude.{◌≡◌, ◌≢◌, ◌⊎◌, ◌↔◌, ℕ, IfOk, IsTrue, None, Ok, OnErr};
 ghost use Rattle.std.specs.List.{AllZip, range_with_len};
 ghost use Rattle.std.specs.Option.{ForSome};
 ghost use Rattle.shelf.specs.Sink.{FaultsRose};
 ghost use Rattle.shelf.specs.Shelf.{IsAfterReads};
 ghost use Rattle.command_line.specs.Grammar.{command_of};
 ghost use Rattle.command_line.specs.Commands.{argument_texts};
-ghost use Rattle.difane_cli.specs.Exports.{StatusAccounts, IsTaskAccepted, MayFollowFault, NamesOneOf, NeedsReadFault, CommandRanOut, CommandReadsNothing, OutputWritesLine, known_command_task, most_reads, names_in, status_line};
-ghost use Rattle.difane_cli.specs.declared.status.Status.TheVariants as status;
+ghost use Rattle.command_inputs.specs.Exports.{StatusAccounts, IsTaskAccepted, MayFollowFault, NamesOneOf, NeedsReadFault, CommandReadsNothing, OutputWritesLine, known_command_task, most_reads, names_in, status_line};
+ghost use Rattle.difane_cli.specs.Exports.{CommandRanOut};
+ghost use Rattle.command_inputs.specs.declared.status.Status.TheVariants as status;
 ghost use Rattle.difane_cli.specs.Metered.{MeteredOutcome, CommandTellsFlows};
 ghost use Rattle.difane_cli.specs.NewMeters.{asks_flows, new_command_meter};
 
-use crate::status::Status;
 use crate::top_call::run;
+use command_inputs::Status;
 use flow_export::FlowMeter;
 use journal::Journal;
 use meters::{Meter, Recorder};

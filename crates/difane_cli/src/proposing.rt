@@ -6,17 +6,18 @@ ghost use Rattle.partition.specs.Plan.{IsPartitionPlan};
 ghost use Rattle.shelf.specs.Shelf.{Files};
 ghost use Rattle.command_line.specs.Commands as grammar;
 ghost use Rattle.command_line.specs.Commands.{ReplayCommand};
-ghost use Rattle.difane_cli.specs.Exports.{AreReadyToPlay, StatusEndsWork, IsAfterProposing, IsAnswer, IsPlayOf, Play, ProposalOutcome, task_inputs_stated, known_command_task};
-ghost use Rattle.difane_cli.specs.declared.status.Status.TheVariants as status;
+ghost use Rattle.command_inputs.specs.Exports.{AreReadyToPlay, IsPlayOf, Play, task_inputs_stated, known_command_task};
+ghost use Rattle.difane_cli.specs.Exports.{StatusEndsWork, IsAfterProposing, IsAnswer, ProposalOutcome};
+ghost use Rattle.command_inputs.specs.declared.status.Status.TheVariants as status;
 
-use crate::inputs::PlayInputs;
+use crate::ended::Ended;
 use crate::playing::answer_laws;
-use crate::status::{Ended, Status};
+use command_inputs::{PlayInputs, Status};
+use controller::Plan;
 use journal::Journal;
 use meters::Meter;
 use net_file::Net;
 use rebalance::proposal_text;
-use replay::Played;
 use shelf::{Sink, SinkError, write_whole};
 use std::alloc::Global;
 
@@ -50,7 +51,14 @@ pub fn propose<M: Meter, K: Sink>(
             meters,
         },
         Ok(played) => {
-            let written = write_proposal(alloc, &played, &inputs.net, out);
+            let written = write_proposal(
+                alloc,
+                played.full,
+                &played.journal,
+                &played.plan,
+                &inputs.net,
+                out,
+            );
             Ended {
                 status: Status::after(written, played.full),
                 journal: played.journal,
@@ -62,20 +70,22 @@ pub fn propose<M: Meter, K: Sink>(
 
 /// Writes the proposal for the plan that a play left, by the weights of its partitions in the
 /// journal, unless the play stopped full.
-fn write_proposal<M: Meter, K: Sink>(
+fn write_proposal<K: Sink>(
     alloc: Global,
-    played: &Played<M>,
+    full: Option<u32>,
+    journal: &Journal,
+    plan: &Plan,
     net: &Net,
     out: &mut K,
 ) -> Result<(), SinkError>
     requires net { IsNet net.now }
-    requires plan { IsPartitionPlan played.now.plan.policy net.now played.now.plan.hosted }
-    ensures { IsAfterProposing played.now.full played.now.plan.policy played.now.plan.hosted
-        net.now played.now.journal K.takes_memory (K.state out.old) (K.state out.new) result }
+    requires plan { IsPartitionPlan plan.now.policy net.now plan.now.hosted }
+    ensures { IsAfterProposing full plan.now.policy plan.now.hosted net.now journal.now
+        K.takes_memory (K.state out.old) (K.state out.new) result }
 {
-    match played.full {
+    match full {
         Some(_) => Ok(()),
-        None => match proposal_text(alloc, &played.journal, &played.plan, net) {
+        None => match proposal_text(alloc, journal, plan, net) {
             Ok(text) => write_whole(out, &text),
             Err(_) => Err(SinkError::NoMemory),
         },

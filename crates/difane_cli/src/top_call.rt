@@ -3,13 +3,15 @@ ghost use Rattle.std.specs.Prelude.{◌≡◌, ◌≢◌, ◌≤◌, ◌⊎◌, 
 ghost use Rattle.std.specs.Option.{ForSome};
 ghost use Rattle.shelf.specs.Sink.{FaultsRose};
 ghost use Rattle.shelf.specs.Shelf.{IsAfterReads};
-ghost use Rattle.difane_cli.specs.Exports.{StatusAccounts, CommandGivesBackMeters, IsTaskAccepted, IsPerformed, MayFollowFault, NamesOneOf, NeedsReadFault, Outcome, CommandRanOut, CommandReadsNothing, OutputWritesLine, known_command_task, most_reads, names_in, status_line};
+ghost use Rattle.command_inputs.specs.Exports.{CommandReadsNothing, IsTaskAccepted, MayFollowFault, NamesOneOf, NeedsReadFault, OutputWritesLine, StatusAccounts, known_command_task, most_reads, names_in, status_line};
+ghost use Rattle.command_inputs.specs.declared.status.Status.TheVariants as status;
+ghost use Rattle.difane_cli.specs.Exports.{CommandGivesBackMeters, CommandRanOut, Outcome};
 ghost use Rattle.command_line.specs.Grammar.{command_of};
 ghost use Rattle.command_line.specs.Commands.{argument_texts};
-ghost use Rattle.difane_cli.specs.declared.status.Status.TheVariants as status;
 
-use crate::status::{Ended, Finished, Status, write_status};
-use crate::task::obey;
+use crate::ended::{Finished, end};
+use crate::work::{unplayed_meters, work};
+use command_inputs::{Status, read_task};
 use command_line::read_command;
 use journal::Journal;
 use meters::Meter;
@@ -108,35 +110,18 @@ pub fn run<F: Shelf, K: Sink, E: Sink>(
         → F.state shelf.new ≡ F.state shelf.old }
     ensures faults { (K.state out.old).faults ≤ (K.state out.new).faults }
 {
-    let ended = perform(alloc, words, shelf, out, meters);
-    write_status(&ended.status, errs);
-    ended
-}
-
-/// Does what the arguments ask, without the line of the status.
-fn perform<F: Shelf, K: Sink, M: Meter>(
-    alloc: Global,
-    words: &Vec<String>,
-    shelf: &mut F,
-    out: &mut K,
-    meters: Vec<M>,
-) -> Ended<M>
-    ensures performed { IsPerformed (command_of (argument_texts words.now)) K.takes_memory
-        result.status result.journal (map M.seen meters.items) (map M.seen result.meters.items)
-        (F.state shelf.old) (F.state shelf.new) (K.state out.old) (K.state out.new) }
-    ensures meters { CommandGivesBackMeters (command_of (argument_texts words.now)) → result.meters ≡ meters }
-{
     match read_command(alloc, words) {
-        Err(AllocError) => Ended {
-            status: Status::NoMemory,
-            journal: Journal::new(alloc),
-            meters,
+        Err(AllocError) => end(Status::NoMemory, Journal::new(alloc), meters, errs),
+        Ok(None) => end(Status::Words, Journal::new(alloc), meters, errs),
+        Ok(Some(command)) => match read_task(alloc, shelf, &command) {
+            Err(stop) => {
+                let meters = unplayed_meters(alloc, &command, meters);
+                end(Status::from(stop), Journal::new(alloc), meters, errs)
+            }
+            Ok(task) => {
+                let ended = work(alloc, task, meters, out);
+                end(ended.status, ended.journal, ended.meters, errs)
+            }
         },
-        Ok(None) => Ended {
-            status: Status::Words,
-            journal: Journal::new(alloc),
-            meters,
-        },
-        Ok(Some(command)) => obey(alloc, &command, shelf, out, meters),
     }
 }

@@ -1,1 +1,2 @@
 pub mod NetworkTestPackets
+pub mod SwitchTestTables

@@ -1,8 +1,10 @@
-//! Worked values of a world's steps, of a replay by one call, of traces, and of loads.
+//! Worked values of the network: of a switch that decides, and of a full cache. Of the wire:
+//! encodings byte by byte, bytes that are no encoding, and frames in another order than theirs. And
+//! of a world's steps, of a replay by one call, of traces, and of loads.
 //!
-//! They make the calls that no example shows, with ample memory, and take lists and texts that come
-//! from outside. There are only tests here, so that none of those crates is proved a second time
-//! together with its tests.
+//! They make the calls that no example shows, with ample memory, on values that come from outside.
+//! There are only tests here, so that none of those crates is proved a second time together with
+//! its tests.
 #![tactic(auto)]
 
 #[cfg(test)]

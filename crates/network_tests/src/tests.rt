@@ -1,5 +1,10 @@
+mod assembled;
+mod caches;
 mod loads;
+mod messages;
 mod pairs;
 mod replays;
+mod spellings;
+mod switches;
 mod traces;
 mod worlds;

@@ -1,6 +1,6 @@
 use Rattle.std.proofs.Common.{◌∙◌, ◌≡◌, None, inl, refl, rules}
 use Rattle.trace_audit.specs.declared.trace.Verdict.TheVariants.{No, Yes}
-use Rattle.difane_cli.specs.Exports.{auditing_stated}
+use Rattle.command_inputs.specs.Exports.{auditing_stated}
 use Rattle.difane_cli.proofs.ProgramAuditEnds.{audited, verdict_on, yes_told}
 use Rattle.difane_cli.proofs.ProgramStatus.{after_work, by_failed, by_memory, of_failed}
 use Rattle.difane_cli.proofs.auditing.check_trace.Goals as goal

@@ -7,4 +7,4 @@ returns g c =
     ∙ c.format.ensures.text in
     let notes : c.as_bytes-notes.result.now ≡ decimal c.args.notes = c.as_bytes-notes.ensures.value
     ∙ c.format-2.ensures.text in
-    rw (port, notes) at c.write_output_pieces.ensures
+    rw (port, notes) at c.write_pieces.ensures

@@ -2,7 +2,8 @@ use Rattle.std.proofs.Common.{◌∙◌, ◌≡◌, ap, arith, drop, flat_map, g
 use Rattle.base.proofs.Exports.{err_from_is_err_and, flat_map-one, flat_map-there, middle_none}
 use Rattle.shelf.specs.Exports.{gained-gained, sink_with_gained}
 use Rattle.difane_cli.specs.Exports.{meter_line}
-use Rattle.difane_cli.proofs.ProgramMeterLines.{lines_of, piece_cut}
+use Rattle.difane_cli.proofs.ProgramMeterLines.{lines_of}
+use Rattle.shelf.proofs.SinkGains.{piece_cut}
 use Rattle.difane_cli.proofs.meter_lines.write_meters.Goals as goal
 
 pub loop-meter-preserved : goal.loop-meter-preserved

@@ -3,7 +3,8 @@ use Rattle.meters.specs.Exports.{gone_records, kept_meters}
 use Rattle.meters.specs.declared.flows.FlowRecord.{FlowRecord}
 use Rattle.update_machine.specs.Exports.{Event, IsPlay, Net}
 use Rattle.replay.specs.Leavings.{left_in, kept_by}
-use Rattle.difane_cli.specs.Exports.{IsAfterText, gone_records_by, task_inputs_stated, is_asked, is_output_made, play_text}
+use Rattle.difane_cli.specs.Exports.{IsAfterText, gone_records_by, is_asked, is_output_made, play_text}
+use Rattle.command_inputs.specs.Exports.{task_inputs_stated}
 use Rattle.difane_cli.proofs.ProgramPlayOutcomes.{judged, played, told, unjudged}
 use Rattle.difane_cli.proofs.ProgramStatus.{after_work, by_failed, by_memory, of_failed, on_err, out_of_judging, out_of_writing}
 use Rattle.difane_cli.proofs.playing.play.Goals as goal

@@ -1,7 +1,8 @@
 use Rattle.std.proofs.Common.{◌∙◌, map}
 use Rattle.base.proofs.Exports.{err_from_is_err_and}
 use Rattle.difane_cli.specs.Exports.{meter_lines, quiet_line}
-use Rattle.difane_cli.proofs.ProgramMeterLines.{both_written, first_part, none_left, none_right}
+use Rattle.difane_cli.proofs.ProgramMeterLines.{none_left, none_right}
+use Rattle.shelf.proofs.SinkGains.{both_written, first_part}
 use Rattle.difane_cli.proofs.playing.write_last_lines.Goals as goal
 
 pub returns-clause-after : goal.returns-clause-after

@@ -3,7 +3,8 @@ use Rattle.base.proofs.Exports.{err_from_is_err_and}
 use Rattle.journal_text.specs.Lines.{journal_text}
 use Rattle.shelf.specs.Exports.{IsAfterWrite}
 use Rattle.difane_cli.specs.Exports.{last_lines}
-use Rattle.difane_cli.proofs.ProgramMeterLines.{both_written, cut_short, none_left, none_right, none_of_text, text_whole}
+use Rattle.difane_cli.proofs.ProgramMeterLines.{cut_short, none_left, none_right, none_of_text, text_whole}
+use Rattle.shelf.proofs.SinkGains.{both_written}
 use Rattle.difane_cli.proofs.playing.write_played.Goals as goal
 
 pub returns-in-None-clause-after : goal.returns-in-None-clause-after

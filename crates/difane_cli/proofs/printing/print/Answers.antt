@@ -1,6 +1,6 @@
 use Rattle.std.proofs.Common.{◌∙◌, List, ap, subst, ℕ}
 use Rattle.shelf.specs.Exports.{IsAfterWrite}
-use Rattle.difane_cli.specs.Exports.{printing_stated}
+use Rattle.command_inputs.specs.Exports.{printing_stated}
 use Rattle.difane_cli.proofs.PrintedTexts.{printed}
 use Rattle.difane_cli.proofs.printing.print.Goals as goal
 

@@ -1,9 +1,10 @@
 -- The plan that a play leaves is the one whose placement is proposed.
-use Rattle.std.proofs.Common.{◌∙◌, List, Option, subst, sym, ℕ}
+use Rattle.std.proofs.Common.{List, subst, sym}
 use Rattle.update_machine.specs.Exports.{Event, IsPlay, Net}
 use Rattle.command_line.specs.Commands as grammar
 use Rattle.partition.specs.Plan.{IsPartitionPlan}
-use Rattle.difane_cli.specs.Exports.{IsAfterProposing, task_inputs_stated}
+use Rattle.difane_cli.specs.Exports.{IsAfterProposing}
+use Rattle.command_inputs.specs.Exports.{task_inputs_stated}
 use Rattle.difane_cli.proofs.ProgramPlayOutcomes.{played}
 use Rattle.difane_cli.proofs.ProposalOutcomes.{out_of_proposing, proposing_ends, whole_told}
 use Rattle.difane_cli.proofs.proposing.propose.Goals as goal

@@ -1,0 +1,216 @@
+-- A network on which a policy begins to be in force, and the events that may happen on it.
+use Rattle.std.proofs.Common.{[], ◌<◌, ◌∙◌, ◌∷◌, ◌≡◌, ◌≤◌, All, Bor, Err, IsErrAnd, IsOk, IsSome, IsTrue, List, None, Ok, Option, Result, Some, ap, arith, false, length, map, refl, slice_index_or, subst, sym, true, unwrap_or, ℕ}
+use Rattle.base.proofs.Exports.{ForSome, get_or-map, length-map}
+use Rattle.schedule.specs.Case.{IsPlayableCase, LoadCase, CaseNamesPort}
+use Rattle.net_file.specs.Exports.{IsNet, PortLaws, port_mask}
+use Rattle.update_machine.specs.Exports.{Action, Add, Change, Edit, Event, IsSetting, NamesOwnPort, Net, PolicyFile, Remove, Row, Setting, Whole, setting_of}
+use Rattle.partition.specs.Plan.{Hosted, plan_of}
+use Rattle.policy_file.specs.Exports.{file_length, names_port_of}
+use Rattle.policy_rules.specs.declared.policy.Action.TheVariants as action
+use Rattle.policy_rules.specs.Exports.{EditAddsOnly, PolicyFileGivesOnly, IsPolicy, IsPolicyFile, NoPlan}
+use Rattle.steps.specs.Exports.{IsEvent, max_events}
+use Rattle.world.specs.Exports.{RefinesJournal, WorldValue, first_policy, world_setting_at}
+use Rattle.shelf.specs.Exports.{Files, ShelfState}
+use Rattle.command_inputs.specs.Exports.{StatusAccounts, CommandEndsRead, Inputs, IsNetOf, IsReplayOf, NeedsReadFault, CommandStopsCheck, and_then_input, case_files, first_plan, replay_inputs_of, input_plan_from, read_files, read_net, read_schedule, status_of}
+use Rattle.command_line.specs.Exports.{MayBePolicies, ReplayCommand, most_policies, argument_names_seen}
+use Rattle.command_inputs.specs.declared.status.Refusal.{Refusal}
+use Rattle.command_inputs.specs.declared.status.Status.{Status}
+use Rattle.command_inputs.specs.declared.status.Status.TheVariants as status
+use Rattle.command_inputs.specs.declared.status.Stop.{Stop}
+use Rattle.command_inputs.specs.declared.status.Stop.TheVariants as stop
+
+-- ---- ports
+
+own_port : PortLaws → (net : Net) (files : List PolicyFile) → IsNet net → (a : Action)
+    → IsTrue (names_port_of (port_mask net.switches) a) → NamesOwnPort (setting_of net files) a
+own_port laws net files sound action.Drop has = tt
+own_port laws net files sound (action.Out port) has = sym (laws.mask net port sound) ∙ has
+
+-- what each row that a file gives is follows for each from what else it is
+adds_weaker : {P Q : Row → Type 0} → ((row : Row) → P row → Q row) → (edit : Edit)
+    → EditAddsOnly P edit → EditAddsOnly Q edit
+adds_weaker weaker (Remove priority) given = tt
+adds_weaker weaker (Add row) given = weaker row given
+
+gives_weaker : {P Q : Row → Type 0} → ((row : Row) → P row → Q row) → (file : PolicyFile)
+    → PolicyFileGivesOnly P file → PolicyFileGivesOnly Q file
+gives_weaker weaker (Whole rows) given = λ i d within. weaker _ (given i d within)
+gives_weaker weaker (Change edits) given = λ i d within. adds_weaker weaker _ (given i d within)
+
+pub own_ports : PortLaws → (net : Net) (files : List PolicyFile) → IsNet net
+    → All (PolicyFileGivesOnly (λ row. IsTrue (names_port_of (port_mask net.switches) row.action))) files
+    → All (PolicyFileGivesOnly (λ row. NamesOwnPort (setting_of net files) row.action)) files
+own_ports laws net files sound has = λ i d within.
+    gives_weaker (λ row. own_port laws net files sound row.action) _ (has i d within)
+
+drawn_port : PortLaws → (net : Net) → IsNet net → (a : Action) → CaseNamesPort net a
+    → IsTrue (names_port_of (port_mask net.switches) a)
+drawn_port laws net sound action.Drop names = refl
+drawn_port laws net sound (action.Out port) names = laws.mask net port sound ∙ names
+
+-- what is true of each policy is true of the files that have them
+all_whole : (P : PolicyFile → Type 0) (policies : List (List Row))
+    → All (λ rows. P (Whole rows)) policies → All P (map Whole policies)
+all_whole P policies given = λ i d within.
+    let there : i < length policies = omega (arith, within, length-map policies Whole) in
+    subst P (sym (get_or-map Whole policies i [] d there)) (given i [] there)
+
+-- the files of a load case begin with a policy, are sound, and name ports of its network alone
+pub record AreDrawn (load : LoadCase) (files : List PolicyFile) : Type 0 where
+  pub first : IsSome (first_policy files)
+  pub sound : All IsPolicyFile files
+  pub ports : All (PolicyFileGivesOnly (λ row.
+      IsTrue (names_port_of (port_mask load.net.switches) row.action))) files
+
+first_drawn : (policies : List (List Row)) → 1 ≤ length policies
+    → IsSome (first_policy (map Whole policies))
+first_drawn [] some = absurd (omega (arith, some))
+first_drawn (rows ∷ policies) some = refl
+
+pub are_drawn : PortLaws → (load : LoadCase) (files : List PolicyFile) → 1 ≤ length load.policies
+    → All IsPolicy load.policies → IsPlayableCase load → files ≡ case_files load → AreDrawn load files
+are_drawn laws load files some sound may same =
+    let HasPort : Row → Type 0 =
+    λ row. IsTrue (names_port_of (port_mask load.net.switches) row.action) in
+    subst (AreDrawn load) (sym same) (record {
+      first = first_drawn load.policies some;
+      sound = all_whole IsPolicyFile load.policies sound;
+      ports = all_whole (PolicyFileGivesOnly HasPort) load.policies (λ i d within j e inside.
+          drawn_port laws load.net may.net _ (may.ports i d within j e inside));
+    })
+
+-- ---- the first plan
+
+-- a policy that is in force has a plan
+pub has_plan : (names : List (List ℕ)) (net : Net) (files : List PolicyFile)
+    → IsOk (plan_of (unwrap_or (first_policy files) []) net) → IsOk (first_plan names net files)
+has_plan names net files is =
+    by (slice_index_or names 0 []) (plan_of (unwrap_or (first_policy files) []) net) is
+  where
+    by : (name : List ℕ) (plan : Result (List Hosted) NoPlan) → IsOk plan → IsOk (input_plan_from name plan)
+    by name (Ok hosted) is = refl
+    by name (Err why) is = cc is
+
+pub sound_by_tie : (world : WorldValue) → world.is_spent ≡ false
+    → (world.is_spent ≡ false → RefinesJournal world) → IsSetting (world_setting_at world)
+sound_by_tie world able refines = (refines able).sound
+
+-- ---- events
+
+pub all_are_events : (net : Net) (files : List PolicyFile) (count : ℕ) (setting : Setting)
+    (events : List Event) → setting ≡ setting_of net files → length files ≡ count
+    → All (IsEvent net count) events → All (IsEvent setting.net (length setting.files)) events
+all_are_events net files count setting events same many may =
+    subst (λ (s : Setting). All (IsEvent s.net (length s.files)) events) (sym same)
+    (subst (λ n. All (IsEvent net n) events) (sym many) may)
+
+-- there are as many names as the command has
+pub as_many : (names owned : List (Bor (List ℕ))) → names ≡ owned
+    → length names ≡ length (argument_names_seen owned)
+as_many names owned same = ap length same ∙ sym (length-map owned (λ name. name.now))
+
+-- a command names at most so many
+pub few_named : (owned : List (Bor (List ℕ))) → MayBePolicies (length owned)
+    → length (argument_names_seen owned) ≤ most_policies
+few_named owned may =
+    subst (λ (count : ℕ). count ≤ most_policies) (sym (length-map owned (λ name. name.now))) may.1
+
+-- ---- the inputs of a replay
+
+-- they are as the command asks for them
+pub asked_for : (args : ReplayCommand) (net : Net) (read : List PolicyFile) (events : List Event)
+    (setting : Setting) → IsNetOf args.net net → setting ≡ setting_of net read
+    → length read ≡ length args.policies → length args.policies ≤ most_policies → length events
+    ≤ max_events → All (λ file. file_length file ≤ 2000) read
+    → IsReplayOf args (record { setting = setting; events = events; report = args.report })
+asked_for args net read events setting named own many some few short = record {
+  net = subst (λ s. IsNetOf args.net s.net) (sym own) named;
+  policies = named_each;
+  report = refl;
+  limits = record {
+    files = subst (λ (count : ℕ). count ≤ most_policies) (sym named_each) some;
+    events = few;
+    rows = subst (λ s. All (λ file. file_length file ≤ 2000) s.files) (sym own) short;
+  };
+} where
+  named_each : length setting.files ≡ length args.policies
+  named_each = ap (λ s. length s.files) own ∙ many
+
+-- what is planned goes on
+and_then_ok : {X Y : Type 0} (read : Result X Refusal) (result : Result Y Refusal) → IsOk read
+    → and_then_input read (λ x. result) ≡ result
+and_then_ok (Ok x) result is = refl
+and_then_ok (Err refusal) result is = cc is
+
+-- what a replay is to play, where its files are read and the first policy is planned
+abbrev pub planned_inputs : ReplayCommand → Net → List PolicyFile → List Event
+    → Result Inputs Refusal
+planned_inputs args net read events = and_then_input (first_plan args.policies net read)
+    (λ hosted. Ok (record { setting = setting_of net read; events = events; report = args.report }))
+
+-- where all is read, what is left is to plan the first policy
+pub inputs_then : (known middle later : Option Files) (args : ReplayCommand) (net : Net)
+    (read : List PolicyFile) (events : List Event) (count ports : ℕ) → middle ≡ known
+    → later ≡ known → count ≡ length args.policies → ports ≡ port_mask net.switches
+    → ForSome known (λ files. read_net files args.net ≡ Ok net)
+    → ForSome middle (λ files. read_schedule net count files args.schedule ≡ Ok events)
+    → ForSome later (λ files. read_files true ports files args.policies ≡ Ok read)
+    → ForSome known (λ files. replay_inputs_of files args ≡ planned_inputs args net read events)
+inputs_then known middle later args net read events count ports first second many mask net_is
+    events_are files_are = λ files is. let own_events =
+    subst (λ (n : ℕ). read_schedule net n files args.schedule ≡ Ok events) many
+    (events_are files (first ∙ is)) in
+    let own_files = subst (λ (p : ℕ). read_files true p files args.policies ≡ Ok read) mask
+    (files_are files (second ∙ is)) in
+    rw (net_is files is, own_events, own_files) refl
+
+-- the inputs are what the files state, where these are known
+pub inputs_are : (known : Option Files) (args : ReplayCommand) (net : Net)
+    (read : List PolicyFile) (events : List Event) (setting : Setting)
+    → ForSome known (λ files. replay_inputs_of files args ≡ planned_inputs args net read events)
+    → IsOk (first_plan args.policies net read) → setting ≡ setting_of net read
+    → ForSome known (λ files. replay_inputs_of files args
+    ≡ Ok (record { setting = setting; events = events; report = args.report }))
+inputs_are known args net read events setting left planned own = λ files is.
+    left files is ∙ and_then_ok (first_plan args.policies net read) _ planned
+    ∙ ap (λ s. Ok (record { setting = s; events = events; report = args.report })) (sym own)
+
+-- what accounts for a stop goes on to do so
+then_accounts : {X Y : Type 0} (read : Result X Refusal) (next : X → Result Y Refusal) (why : Stop)
+    → StatusAccounts read (status_of why) → StatusAccounts (and_then_input read next) (status_of why)
+then_accounts read next (stop.Refused refusal) is = rw is refl
+then_accounts read next stop.ReadFault is = tt
+then_accounts read next stop.NoMemory is = tt
+
+-- where the first policy has no plan, what the files state accounts for the stop
+pub plan_accounts : (known : Option Files) (args : ReplayCommand) (net : Net)
+    (read : List PolicyFile) (events : List Event) (why : Stop)
+    → ForSome known (λ files. replay_inputs_of files args ≡ planned_inputs args net read events)
+    → StatusAccounts (first_plan args.policies net read) (status_of why)
+    → ForSome known (λ files. StatusAccounts (replay_inputs_of files args) (status_of why))
+plan_accounts known args net read events why left accounts = λ files is.
+    subst (λ (inputs : Result Inputs Refusal). StatusAccounts inputs (status_of why))
+    (sym (left files is)) (then_accounts (first_plan args.policies net read) _ why accounts)
+
+-- a check gives no stop that only a fault gives
+no_fault_needed : (files : Option Files) (status : Status) → (NeedsReadFault None status → ⊥)
+    → NeedsReadFault files status → ⊥
+no_fault_needed None status never needs = never needs
+no_fault_needed (Some files) status.ReadFault never needs = never tt
+no_fault_needed (Some files) status.Ok never needs = needs
+no_fault_needed (Some files) (status.No line) never needs = needs
+no_fault_needed (Some files) status.Words never needs = needs
+no_fault_needed (Some files) (status.Input file code row) never needs = needs
+no_fault_needed (Some files) status.WriteFault never needs = needs
+no_fault_needed (Some files) (status.Full row) never needs = needs
+no_fault_needed (Some files) status.NoMemory never needs = needs
+
+-- a reading that ends at a check of what was read
+pub ends_in_check : {X V Y : Type 0} (read : Files → Result X Refusal) (seen : V → X)
+    (checked : Result Y Refusal) (old new : ShelfState) (why : Stop) (result : Result V Stop)
+    → IsErrAnd result (λ stop. stop ≡ why) → CommandStopsCheck checked why
+    → ForSome old.files (λ files. StatusAccounts (read files) (status_of why))
+    → CommandEndsRead old.files read seen old new result
+ends_in_check read seen checked old new why (Ok value) is check accounts = absurd is
+ends_in_check read seen checked old new why (Err stop) is check accounts =
+    rw is (accounts, λ needs. absurd (no_fault_needed old.files (status_of why) check.1 needs))

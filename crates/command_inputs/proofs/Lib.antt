@@ -1,0 +1,7 @@
+mod InputAuditReads
+mod InputBegunNetwork
+mod InputCalmReads
+pub mod InputFileChecks
+mod InputFileReads
+mod InputRefusedNames
+mod InputShelfReads

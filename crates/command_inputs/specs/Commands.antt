@@ -1,0 +1,59 @@
+-- The values of the definitions that contracts see for what a command read.
+use Rattle.std.specs.Prelude.{◌≡◌, ◌≤◌, length, ⊤}
+use Rattle.net_file.specs.Exports.{IsNet}
+use Rattle.steps.specs.Exports.{max_events}
+use Rattle.world.specs.Exports.{IsWorldBegun, world_setting_at}
+use Rattle.command_inputs.specs.Asked.{IsPlayOf, MayBePlayed}
+use Rattle.command_inputs.specs.PrintsAndAudits.{IsAuditingOf, IsPrintingOf}
+use Rattle.command_inputs.specs.Tasks.{Auditing, Inputs, Printing, Task, Audit, Play, Print}
+use Rattle.command_line.specs.Commands as grammar
+use Rattle.command_inputs.specs.declared.auditing.AuditInputs.{AuditInputs}
+use Rattle.command_inputs.specs.declared.inputs.PlayInputs.{PlayInputs}
+use Rattle.command_inputs.specs.declared.printing.PrintInputs.{PrintInputs}
+use Rattle.command_inputs.specs.declared.task.Task as declared_task
+use Rattle.command_inputs.specs.declared.task.Task.TheVariants as asked
+
+-- the inputs that were read
+abbrev pub task_inputs_stated : PlayInputs → Inputs
+task_inputs_stated inputs = record {
+  setting = world_setting_at inputs.world;
+  events = inputs.events.items;
+  report = inputs.report;
+}
+
+abbrev pub printing_stated : PrintInputs → Printing
+printing_stated inputs = record {
+  policy = inputs.plan.policy;
+  net = inputs.net;
+  hosted = inputs.plan.hosted;
+  switch = inputs.switch;
+}
+
+abbrev pub auditing_stated : AuditInputs → Auditing
+auditing_stated inputs = record { trace = inputs.trace.items; files = inputs.files.items }
+
+abbrev pub task_stated : declared_task.Task → Task
+task_stated (asked.Play inputs) = Play (task_inputs_stated inputs)
+task_stated (asked.Print inputs) = Print (printing_stated inputs)
+task_stated (asked.Audit inputs) = Audit (auditing_stated inputs)
+
+-- in the world of a play nothing happened yet, its network is the one that was read, and the
+-- events may happen on it
+pub record AreReadyToPlay (inputs : PlayInputs) : Type 0 where
+  pub begun : IsWorldBegun (world_setting_at inputs.world) inputs.world
+  pub net : inputs.world.net ≡ inputs.net
+  pub sound : MayBePlayed (task_inputs_stated inputs)
+  pub few : length inputs.events.items ≤ max_events
+
+-- what is required of a task before its work; nothing of a trace
+abbrev pub IsReadyTask : declared_task.Task → Type 0
+IsReadyTask (asked.Play inputs) = AreReadyToPlay inputs
+IsReadyTask (asked.Print inputs) = IsNet inputs.net
+IsReadyTask (asked.Audit inputs) = ⊤
+
+-- the task is of the command's kind, and is as the command names it
+abbrev pub IsTaskOf : grammar.Command → Task → Type 0
+IsTaskOf command (Play inputs) = IsPlayOf command inputs
+IsTaskOf (grammar.Print args) (Print printing) = IsPrintingOf args printing
+IsTaskOf (grammar.Audit args) (Audit auditing) = IsAuditingOf args auditing
+IsTaskOf _ _ = ⊥

@@ -1,0 +1,11 @@
+pub mod Codes
+pub mod Inputs
+pub mod NotPlayed
+pub mod Tasks
+pub mod Limits
+pub mod Asked
+pub mod PrintsAndAudits
+pub mod StatusLines
+pub mod Ending
+pub mod Commands
+pub mod Exports

@@ -1,0 +1,24 @@
+-- First tier. What a command does, once its files are read.
+use Rattle.std.specs.Prelude.{◌≡◌, List, None, Option, Some, ℕ}
+use Rattle.update_machine.specs.Exports.{Event, Net, Setting}
+use Rattle.net_file.specs.Exports.{IsNet, solo_net}
+use Rattle.command_line.specs.declared.report.Report.{Report}
+pub use Rattle.command_inputs.specs.NotPlayed.{Auditing, Printing}
+
+pub record Inputs : Type 0 where
+  pub setting : Setting
+  pub events : List Event
+  -- what the play prints
+  pub report : Report
+
+-- what a command does: it plays inputs, prints a plan or the tables of a switch, or checks a trace,
+-- once its files are read
+pub data Task : Type 0 where
+  Play : Inputs → Task
+  Print : Printing → Task
+  Audit : Auditing → Task
+
+-- the network is that of a file, or of one switch
+abbrev pub IsNetOf : Option (List ℕ) → Net → Type 0
+IsNetOf None net = net ≡ solo_net
+IsNetOf (Some name) net = IsNet net

@@ -1,0 +1,154 @@
+//! The policies and changes of commands: read from bytes, and checked against the network.
+ghost use Rattle.std.specs.Prelude.{◌≡◌, ◌≤◌, All, List, IfOk, IfErr, IsOk, IsSome, IsTrue, None, Ok, OnOk, [], ◌∷◌, length, map, true};
+ghost use Rattle.policy_file.specs.Changes.{file_length};
+ghost use Rattle.policy_file.specs.Reading.{policy_code};
+ghost use Rattle.policy_file.specs.Ports.{names_port_of};
+ghost use Rattle.policy_rules.specs.Exports.{PolicyFileGivesOnly, IsPolicy, IsPolicyFile};
+ghost use Rattle.policy_rules.specs.declared.file.PolicyFile.TheVariants.{Whole};
+ghost use Rattle.policy_rules.specs.declared.policy.Row.{Row};
+ghost use Rattle.controller.specs.Leads.{LeadEveryHeader};
+ghost use Rattle.controller.specs.Plan.{RefusesPlan};
+ghost use Rattle.command_inputs.specs.Exports.{NeedsReadFault, StopNamesOneOf, CommandStopsCheck, CommandStopsText, status_of, first_plan, input_plan_on, policy_stated, input_stated_as};
+ghost use Rattle.net_file.specs.Exports.{IsNet, port_mask};
+ghost use Rattle.net_file.specs.declared.net.Net.{Net};
+ghost use Rattle.partition.specs.Plan.{IsPartitionPlan, plan_of};
+ghost use Rattle.update_machine.specs.Setting.{setting_of, IsSetting};
+ghost use Rattle.command_line.specs.Named.{argument_names_seen};
+ghost use Rattle.world.specs.Files.{first_policy, own_policy};
+ghost use Rattle.world.specs.State.{IsWorldBegun, world_setting_at};
+
+use crate::inputs::refused;
+use crate::status::Stop;
+use controller::{Plan, PlanError, compile};
+use net_file::{Net, net_port_laws};
+use policy_file::{PolicyError, check_file_ports, check_ports, is_change, read_file, read_policy};
+use policy_rules::{Policy, PolicyFile};
+use std::alloc::{AllocError, Global};
+use world::World;
+use world::codes::code_of;
+
+/// The code of a row that names a port that the network doesn't have.
+pub const NO_PORT: u32 = 13;
+
+/// The code of a first file that is a change.
+pub const FIRST_CHANGE: u32 = 23;
+
+/// The code of a switch that the network doesn't have.
+pub const NO_SWITCH: u32 = 21;
+
+/// The stop at a file whose text is refused or for which memory runs out.
+fn not_read(alloc: Global, name: &str, error: PolicyError) -> Stop
+    ensures text { CommandStopsText policy_code name.now error result }
+    ensures no_fault { ¬ NeedsReadFault None (status_of result) }
+{
+    match error {
+        PolicyError::Refused(why) => refused(alloc, name, why.refusal.code(), why.row),
+        PolicyError::NoMemory => Stop::NoMemory,
+    }
+}
+
+/// The policy that the bytes of this file state, which names only ports of the mask.
+pub fn check_policy(alloc: Global, name: &str, bytes: &[u8], ports: u64) -> Result<Policy, Stop>
+    ensures value { IfOk result (λ policy. policy_stated ports name.now bytes.now ≡ Ok policy) }
+    ensures stopped { IfErr result (CommandStopsCheck (policy_stated ports name.now bytes.now)) }
+    ensures own_ports { IfOk result (All (λ row. IsTrue (names_port_of ports row.action))) }
+    ensures sound { IfOk result IsPolicy }
+    ensures few { IfOk result (λ policy. length policy ≤ 2000) }
+{
+    let policy = read_policy(alloc, bytes).map_err(|error| not_read(alloc, name, error))?;
+    check_ports(&policy, ports).map_err(|lack| refused(alloc, name, NO_PORT, lack.row))?;
+    Ok(policy)
+}
+
+/// The policy or the change that the bytes of this file state, whose rows name only ports of the
+/// mask. A first file that is a change is refused before its rows are read.
+pub fn check_file(
+    alloc: Global,
+    name: &str,
+    bytes: &[u8],
+    ports: u64,
+    is_first: bool,
+) -> Result<PolicyFile, Stop>
+    ensures value { IfOk result (λ file.
+        input_stated_as is_first ports name.now bytes.now ≡ Ok file) }
+    ensures stopped { IfErr result (CommandStopsCheck (input_stated_as is_first ports name.now bytes.now)) }
+    ensures own_ports { IfOk result (PolicyFileGivesOnly (λ row. IsTrue (names_port_of ports row.action))) }
+    ensures sound { IfOk result IsPolicyFile }
+    ensures few { IfOk result (λ file. file_length file ≤ 2000) }
+    ensures whole { is_first ≡ true → IfOk result (λ file. IsSome (own_policy file)) }
+{
+    if is_first && is_change(alloc, bytes)? {
+        return Err(refused(alloc, name, FIRST_CHANGE, 0));
+    }
+    let file = read_file(alloc, bytes).map_err(|error| not_read(alloc, name, error))?;
+    check_file_ports(&file, ports).map_err(|lack| refused(alloc, name, NO_PORT, lack.row))?;
+    Ok(file)
+}
+
+/// Each of these policies as a policy file.
+pub fn as_policy_files(alloc: Global, policies: Vec<Policy>) -> Result<Vec<PolicyFile>, AllocError>
+    ensures { IfOk result (λ files. files.items ≡ map Whole policies.items) }
+{
+    let mut files = Vec::with_capacity(alloc, policies.len())?;
+    for policy in policies {
+        files.push(PolicyFile::Whole(policy))?;
+    }
+    Ok(files)
+}
+
+/// The stop at a policy of this file that has no plan.
+fn no_plan(alloc: Global, name: &str, error: PlanError) -> Stop
+    ensures { (rows : List Row) (net : Net) → RefusesPlan rows net error
+        → CommandStopsCheck (input_plan_on name.now net rows) result }
+{
+    let row = match error {
+        PlanError::NoRoom { partition } => partition,
+        _ => 0,
+    };
+    match code_of(error) {
+        Some(code) => refused(alloc, name, code, row),
+        None => Stop::NoMemory,
+    }
+}
+
+/// The network with the policy of the first of these files in force as version 1, or why that has
+/// no plan. The first of these names is that file's.
+pub fn begin_world(
+    alloc: Global,
+    names: &[&str],
+    files: Vec<PolicyFile>,
+    net: &Net,
+) -> Result<World, Stop>
+    requires net { IsNet net.now }
+    requires first { IsSome (first_policy files.items) }
+    requires named { 1 ≤ length names.now }
+    requires sound { All IsPolicyFile files.items }
+    requires ports { All (PolicyFileGivesOnly (λ row.
+        IsTrue (names_port_of (port_mask net.now.switches) row.action))) files.items }
+    ensures planned { OnOk result
+        (IsOk (first_plan (argument_names_seen names.now) net.now files.items)) }
+    ensures begun { IfOk result (IsWorldBegun (setting_of net.now files.items)) }
+    ensures sound { IfOk result (λ world. IsSetting (world_setting_at world)) }
+    ensures stopped { IfErr result
+        (CommandStopsCheck (first_plan (argument_names_seen names.now) net.now files.items)) }
+{
+    net_port_laws();
+    let name = names[0];
+    let world = World::begin(alloc, net, files).map_err(|error| no_plan(alloc, name, error))?;
+    world.refines();
+    Ok(world)
+}
+
+/// The plan of the policy of this file on the network, or why it has none.
+pub fn plan_policy(alloc: Global, name: &str, policy: &Policy, net: &Net) -> Result<Plan, Stop>
+    requires { IsNet net.now }
+    ensures value { IfOk result (λ plan. input_plan_on name.now net.now policy.now ≡ Ok plan.hosted) }
+    ensures planned { IfOk result (λ plan. plan_of policy.now net.now ≡ Ok plan.hosted) }
+    ensures parts { IfOk result (λ plan. IsPartitionPlan policy.now net.now plan.hosted) }
+    ensures leads { IfOk result (λ plan. LeadEveryHeader policy.now plan.hosted) }
+    ensures policy { IfOk result (λ plan. plan.policy ≡ policy.now) }
+    ensures stopped { IfErr result (CommandStopsCheck (input_plan_on name.now net.now policy.now)) }
+    ensures stops { StopNamesOneOf (name.now ∷ []) result }
+{
+    compile(alloc, policy, net).map_err(|error| no_plan(alloc, name, error))
+}

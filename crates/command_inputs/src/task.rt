@@ -1,0 +1,59 @@
+//! The task of a command: its files are read and checked, or its load case is made.
+ghost use Rattle.std.specs.Prelude.{◌≡◌, Some, IfOk};
+ghost use Rattle.command_inputs.specs.Exports.{CommandEndsRead, CommandReadsFor, CommandReadsNothing, IsReadyTask, IsTaskOf, known_command_task, task_stated};
+ghost use Rattle.command_line.specs.Named.{NamesPolicies, command_named};
+
+use crate::auditing::{AuditInputs, read_auditing};
+use crate::inputs::{PlayInputs, read_inputs};
+use crate::load::draw_inputs;
+use crate::printing::{PrintInputs, read_printing};
+use crate::status::Stop;
+use command_line::Command;
+use shelf::Shelf;
+use std::alloc::Global;
+
+/// What a command does once its files are read.
+#[derive(Drop)]
+pub enum Task {
+    Play(PlayInputs),
+    Print(PrintInputs),
+    Audit(AuditInputs),
+}
+
+/// Reads the task of a command: reads and checks one file after another, or makes its load case.
+pub fn read_task<F: Shelf>(
+    alloc: Global,
+    shelf: &mut F,
+    command: &Command<'_>,
+) -> Result<Task, Stop>
+    requires { NamesPolicies command.now }
+    ensures read { CommandEndsRead
+        (known_command_task (F.state shelf.old).files (Some (command_named command.now))) (λ read. read)
+        task_stated (F.state shelf.old) (F.state shelf.new) result }
+    ensures shelf { CommandReadsFor (command_named command.now)
+        (F.state shelf.old) (F.state shelf.new) result }
+    ensures unread { CommandReadsNothing (Some (command_named command.now))
+        → F.state shelf.new ≡ F.state shelf.old }
+    ensures ready { IfOk result IsReadyTask }
+    ensures asked { IfOk result (λ task.
+        IsTaskOf (command_named command.now) (task_stated task)) }
+{
+    match command {
+        Command::Replay(args) => {
+            let inputs = read_inputs(alloc, shelf, args)?;
+            Ok(Task::Play(inputs))
+        }
+        Command::Print(args) => {
+            let inputs = read_printing(alloc, shelf, args)?;
+            Ok(Task::Print(inputs))
+        }
+        Command::Load(n) => {
+            let inputs = draw_inputs(alloc, *n)?;
+            Ok(Task::Play(inputs))
+        }
+        Command::Audit(args) => {
+            let inputs = read_auditing(alloc, shelf, args)?;
+            Ok(Task::Audit(inputs))
+        }
+    }
+}

@@ -1,0 +1,43 @@
+//! How a call of the program ended, and what it gives back.
+ghost use Rattle.std.specs.Prelude.{◌≡◌};
+ghost use Rattle.command_inputs.specs.Exports.{OutputWritesLine, status_line};
+ghost use Rattle.command_inputs.specs.declared.status.Status.TheVariants.{Ok as DoneStatus};
+
+use command_inputs::{Status, write_status};
+use journal::Journal;
+use meters::Meter;
+use shelf::Sink;
+
+/// How a command ended, the journal of its play, and the meters that stayed. The journal is empty
+/// if nothing was played, or if memory ran out before the play was done.
+#[derive(Drop)]
+pub struct Ended<M> {
+    pub status: Status,
+    pub journal: Journal,
+    pub meters: Vec<M>,
+}
+
+/// The same with boxed meters, which may be of several kinds.
+pub type Finished = Ended<Box<dyn Meter>>;
+
+/// A command that ended so: its status's line is written.
+pub fn end<M: Meter, E: Sink>(
+    status: Status,
+    journal: Journal,
+    meters: Vec<M>,
+    errs: &mut E,
+) -> Ended<M>
+    ensures status { result.status ≡ status }
+    ensures journal { result.journal ≡ journal }
+    ensures meters { result.meters ≡ meters }
+    ensures line { OutputWritesLine (status_line status) E.takes_memory
+        (E.state errs.old) (E.state errs.new) }
+    ensures silent { status ≡ DoneStatus → errs.new ≡ errs.old }
+{
+    write_status(&status, errs);
+    Ended {
+        status,
+        journal,
+        meters,
+    }
+}

@@ -1,0 +1,75 @@
+//! The work of a command, once its files are read.
+ghost use Rattle.std.specs.Prelude.{◌≡◌, Ok, Option, Some, Result, [], map};
+ghost use Rattle.std.specs.Option.{ForSome};
+ghost use Rattle.shelf.specs.Shelf.{Files};
+ghost use Rattle.command_inputs.specs.Exports.{IsReadyTask, IsTaskOf, StatusAccounts, Task as Stated, known_command_task, task_stated};
+ghost use Rattle.command_inputs.specs.declared.status.Refusal.{Refusal};
+ghost use Rattle.command_inputs.specs.declared.status.Status.TheVariants as status;
+ghost use Rattle.difane_cli.specs.Exports.{CommandGivesBackMeters, CommandRanOut, Outcome, StatusEndsWork};
+ghost use Rattle.command_line.specs.Named.{command_named};
+ghost use Rattle.command_line.specs.Commands as grammar;
+
+use crate::auditing::check_trace;
+use crate::ended::Ended;
+use crate::playing::play;
+use crate::printing::print;
+use crate::proposing::propose;
+use command_inputs::{Status, Task};
+use command_line::{Command, Report};
+use journal::Journal;
+use meters::Meter;
+use shelf::Sink;
+use std::alloc::Global;
+
+/// Does the task and writes its result. The outcome is stated for whatever is known of the files.
+pub fn work<M: Meter, K: Sink>(alloc: Global, task: Task, meters: Vec<M>, out: &mut K) -> Ended<M>
+    requires { IsReadyTask task }
+    ensures outcome { (command : grammar.Command) (files : Option Files)
+        → IsTaskOf command (task_stated task)
+        → ForSome (known_command_task files (Some command)) (λ read. read ≡ Ok (task_stated task))
+        → Outcome (Some command) files K.takes_memory result.status result.journal
+        (map M.seen meters.items) (map M.seen result.meters.items)
+        (K.state out.old) (K.state out.new) }
+    ensures meters { (command : grammar.Command) → IsTaskOf command (task_stated task)
+        → CommandGivesBackMeters (Some command) → result.meters ≡ meters }
+    ensures accounts { (read : Result Stated Refusal) → read ≡ Ok (task_stated task)
+        → StatusAccounts read result.status }
+    ensures no_memory { (command : grammar.Command) → IsTaskOf command (task_stated task)
+        → result.status ≡ status.NoMemory
+        → CommandRanOut (Some command) K.takes_memory result.journal
+        (K.state out.old) (K.state out.new) }
+    ensures ended { StatusEndsWork result.status (K.state out.old) (K.state out.new) }
+{
+    match task {
+        Task::Play(inputs) => match inputs.report {
+            Report::Placement => propose(alloc, inputs, meters, out),
+            _ => play(alloc, inputs, meters, out),
+        },
+        Task::Print(inputs) => Ended {
+            status: Status::after(print(alloc, &inputs, out), None),
+            journal: Journal::new(alloc),
+            meters,
+        },
+        Task::Audit(inputs) => Ended {
+            status: check_trace(alloc, &inputs, out),
+            journal: Journal::new(alloc),
+            meters,
+        },
+    }
+}
+
+/// The meters that remain if nothing was played: all of them if the command gives them back,
+/// otherwise none.
+pub fn unplayed_meters<M: Meter>(alloc: Global, command: &Command<'_>, meters: Vec<M>) -> Vec<M>
+    ensures none { ¬ CommandGivesBackMeters (Some (command_named command.now)) → result.items ≡ [] }
+    ensures all { CommandGivesBackMeters (Some (command_named command.now)) → result ≡ meters }
+{
+    match command {
+        Command::Replay(args) => match args.report {
+            Report::Placement => meters,
+            _ => Vec::new(alloc),
+        },
+        Command::Load(_) => Vec::new(alloc),
+        Command::Print(_) | Command::Audit(_) => meters,
+    }
+}

@@ -1,5 +1,0 @@
-mod assembled;
-mod caches;
-mod messages;
-mod spellings;
-mod switches;
