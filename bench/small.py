@@ -441,7 +441,7 @@ SWITCHES = """//! Hands packets to a switch again and again.
 #![tactic(auto)]
 ghost use Rattle.std.specs.Prelude.{◌≡◌};
 ghost use Rattle.net_file.specs.Exports.{IsNet};
-ghost use Rattle.switch_table.specs.Exports.{AreSoundTables};
+ghost use Rattle.switch_table.specs.Exports.{AreSoundSwitchTables};
 
 use controller::{compile, tables_of};
 use ctrl_msg::SharedTables;
@@ -533,7 +533,7 @@ fn links_near(net: &Net) -> [u64; 64]
 
 // The first switch, with the tables of version 1.
 fn first_switch(alloc: Global, tables: SharedTables, base: &[u64; 64]) -> Result<Switch, AllocError>
-    requires sound { AreSoundTables tables }
+    requires sound { AreSoundSwitchTables tables }
     requires version { tables.version ≡ 1 }
 {
     switch_laws();

@@ -21,16 +21,16 @@ PAGES = ("README.md", "docs/PROVED.md", "docs/CLAUSES.md", "docs/THEOREM.md", "d
 # Each with its file and what is before the number there.
 LIMITS = (
     ("policy_file/specs/Reading.antt", r"if place == "),
-    ("partition/specs/Plan.antt", r"plan_of rows net = if nat_lt "),
-    ("difane_cli/specs/Codes.antt", r"most_file_bytes = "),
-    ("difane_cli/specs/Codes.antt", r"most_trace_bytes = "),
-    ("update_machine/specs/Full.antt", r"journal_full_at = "),
+    ("partition/specs/Plan.antt", r"partition_plan_of rows net = if nat_lt "),
+    ("command_inputs/specs/Codes.antt", r"program_most_file_bytes = "),
+    ("command_inputs/specs/Codes.antt", r"program_most_trace_bytes = "),
+    ("update_machine/specs/Full.antt", r"machine_journal_full_at = "),
     ("control_laws/specs/Sends.antt", r"StepsSendAtMost setting journal |StepsSendAtMost "),
-    ("control_laws/specs/Sends.antt", r"messages_sent_count journal ≤ "),
-    ("packet_laws/specs/Hops.antt", r"most_hops = "),
+    ("control_laws/specs/Sends.antt", r"control_messages_sent_count journal ≤ "),
+    ("packet_laws/specs/Hops.antt", r"most_packet_hops = "),
     ("steps/specs/Limits.antt", r"max_events = "),
-    ("steps/specs/Steps.antt", r"max_number = "),
-    ("command_line/specs/Grammar.antt", r"greatest_load_number = "),
+    ("steps/specs/Steps.antt", r"max_step_number = "),
+    ("command_line/specs/Grammar.antt", r"greatest_load_argument = "),
     ("net_file/specs/Net.antt", r"row.room ≤ "),
     ("net_file/specs/Net.antt", r"net.cache ≤ "),
     ("lines/specs/Pushes.antt", r"take "),
@@ -81,11 +81,11 @@ def counts():
     for page in ("docs/PROVED.md", "docs/CLAUSES.md", "docs/FORMATS.md"):
         yield page, "eleven counts|eleven lines", counted
     yield "docs/THEOREM.md", "thirteen kinds of steps", variants("crates/steps/src/step.rt", "Step")
-    whole = fields("crates/packet_laws/specs/Whole.antt", "KeepVersionsWhole")
+    whole = fields("crates/packet_laws/specs/Whole.antt", "KeepVersionsWholeForPackets")
     yield "docs/THEOREM.md", "first fourteen are fields of its `versions`", whole
     laws = text_of("crates/wrong_journals/src/laws.rt")
     right = re.search(r"pub fn right_journals_hold.*?\{\}", laws, re.S)[0]
-    yield "docs/THEOREM.md", "six right journals", right.count("IsRight ")
+    yield "docs/THEOREM.md", "six right journals", right.count("IsRightTriedJournal ")
     refused = body_of("crates/wire/specs/Assembly.antt", "pub data IsRefusedFrame")
     cases = len(re.findall(r"^  \w+ :", refused, re.M))
     yield "docs/CLAUSES.md", "six cases (`IsRefusedFrame`)", cases

@@ -27,30 +27,30 @@ WRONG = HOME / "crates/wrong_journals/src/laws.rt"
 OFFICE = HOME / "crates/wrong_journals/specs/Office.antt"
 # Where the second tier begins, each with what it is about; with its crate where it shares its name.
 STOPS = {
-    "IsPlay": "the exact journal",
+    "IsMachinePlay": "the exact journal",
     "StrongCause": "strong causes",
-    "plan_of": "plans",
+    "partition_plan_of": "plans",
     "applied": "changes of policies",
-    "IsPolicyFile": "what holds of each policy",
-    "PolicyFileGivesOnly": "what holds of each policy",
+    "IsPolicyOrAmendment": "what holds of each policy",
+    "PolicyRulesGiveOnly": "what holds of each policy",
     "PrintCommand": "plans and tables in print",
     "Printing": "plans and tables in print",
     "PrintOutcome": "plans and tables in print",
     "AuditCommand": "checks of traces",
-    "Auditing": "checks of traces",
-    "AuditOutcome": "checks of traces",
-    "IsGoodTrace": "checks of traces",
+    "CommandAuditInputs": "checks of traces",
+    "ProgramAuditOutcome": "checks of traces",
+    "IsCommandTraceGood": "checks of traces",
     "kept_by": "meters",
-    "gone_records_by": "flow records",
-    "flows_text": "flow records",
-    "CountFlows": "flow records",
-    "ProposalOutcome": "placements that are proposed",
+    "command_gone_records_by": "flow records",
+    "command_flow_text_unless_full": "flow records",
+    "CommandCountsFlows": "flow records",
+    "CommandProposalOutcome": "placements that are proposed",
     "HeldOnTheWay": "what held on the way",
-    "AreWithinLimits": "limits of files",
-    "KeepsWorking": "recovery and rollouts",
-    "IsQuietVerdict": "quiet networks",
-    "asks_quiet": "quiet networks",
-    "is_asked": "quiet networks",
+    "AreInputsWithinLimits": "limits of files",
+    "KeepsForwarding": "recovery and rollouts",
+    "IsCommandQuietVerdict": "quiet networks",
+    "command_asks_quiet": "quiet networks",
+    "is_command_verdict_asked": "quiet networks",
     "command_of": "the grammar of the arguments",
     "net_file.net_of": "how the bytes of a file are read",
     "schedule.schedule_of": "how the bytes of a file are read",
@@ -59,18 +59,18 @@ STOPS = {
     "Files": "how files are held",
     "file_named": "how files are held",
     "known_command_task": "the exact task, and refusals",
-    "case_inputs": "load cases",
+    "load_command_inputs": "load cases",
     "load_case": "load cases",
     "summary_counts_text": "load cases",
     "IsTaskAccepted": "refusals",
-    "StatusAccounts": "refusals",
-    "NamesOneOf": "refusals",
+    "CommandStatusAccounts": "refusals",
+    "CommandStatusNamesOneOf": "refusals",
     "names_in": "refusals",
     "CommandRanOut": "running out of memory",
     "CommandGivesBackMeters": "meters",
     "NeedsReadFault": "faults",
-    "MayFollowFault": "faults",
-    "most_reads": "reads",
+    "CommandMayFollowFault": "faults",
+    "command_most_reads": "reads",
     "IsAfterReads": "reads",
     "CommandReadsNothing": "reads",
 }
@@ -82,12 +82,12 @@ TOKEN = re.compile(r"[A-Za-z_][\w-]*(?:\.[A-Za-z_][\w-]*)*")
 # the facts of which a wrong journal lacks one or two, and what its law says so by
 FACT = re.compile(r"`(IsRun|HasCause|AreEntered)`")
 LINE = re.compile(r'codes " *([^"]*)"')
-PRINTS = re.compile(r"PrintsAs (\w+)\s+\((printed_\w+)?(.*?)\}", re.S)
+PRINTS = re.compile(r"TriedJournalPrintsAs (\w+)\s+\((\w*printed_\w+)?(.*?)\}", re.S)
 REFUSES = {
     "IsNoRun": ["IsRun"],
     "IsNoRunNorCaused": ["IsRun", "HasCause"],
-    "LacksCause": ["HasCause"],
-    "LacksRow": ["AreEntered"],
+    "WrongJournalLacksCause": ["HasCause"],
+    "WrongJournalLacksRow": ["AreEntered"],
 }
 # names of fields, which are no definitions
 FIELD = re.compile(r"^  +pub [\w-]+ :|(?<=[{;] )[\w-]+ =|^ +[\w-]+ =(?= .*;$)", re.M)
@@ -311,7 +311,7 @@ def misprinted(page):
     rows = re.findall(r"^\| (.*?) \|.*\| (.*?) \| `(\w+)` \|$", page, re.M)
     told = {name: (re.findall(r"`([^`]*)`", cell), FACT.findall(by)) for cell, by, name in rows}
     prints, refused = re.findall(r"^pub fn wrong_.*?^\{\}", WRONG.read_text(), re.M | re.S)
-    begun = re.findall(r"^(printed_\w+) =(.*?\[\])$", OFFICE.read_text(), re.M | re.S)
+    begun = re.findall(r"^(\w*printed_\w+) =(.*?\[\])$", OFFICE.read_text(), re.M | re.S)
     begins = {name: LINE.findall(text) for name, text in begun}
     lines = {
         name: begins.get(begin, []) + LINE.findall(clause)

@@ -1,6 +1,6 @@
 -- The lemmas that others use: of this crate, and of the library those that its Common doesn't pass
 -- on, with definitions that they speak of.
-pub use Rattle.base.proofs.CallerLemmas.{get_or-switches, has-and, has-or, has-pow_other, has-pow_same, has-xor_other, has-zero, has_above, has_least, has_mask, has_mask_past, has_only_other, has_only_same, least_below, least_lt, length-switches, mask_of_is, mask_of_lt, mask_where_at, mask_where_lt, only_if_lt, same_masks, same_sets, some_of}
+pub use Rattle.base.proofs.BaseCallerLemmas.{get_or-switches, has-and, has-or, has-pow_other, has-pow_same, has-xor_other, has-zero, has_above, has_least, has_mask, has_mask_past, has_only_other, has_only_same, least_below, least_lt, length-switches, mask_of_is, mask_of_lt, mask_where_at, mask_where_lt, only_if_lt, same_masks, same_sets, some_of}
 pub use Rattle.base.proofs.ListLemmas.{in_cons_option, length-filter_map, none_from_not_some}
 pub use Rattle.base.proofs.ListsByPlace.{at_item, drop_at_item, drop_removed, drop_set, get_push_at, get_push_left, get_pushed, get_replicate, get_set_found, get_set_other, get_set_same, map-remove, mapped_more, mapped_read, none_removed, one_item, put_last, remove-set, seam_at, set-replicate, take_put_back}
 pub use Rattle.base.proofs.ListsFiltered.{count_by-map, each_short, filter_all, filter_filter, filter_implied, filter_made, filter_same_on, length_filter_less, map_twice, sum_each, sum_filter, sum_some}

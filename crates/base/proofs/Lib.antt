@@ -1,6 +1,6 @@
 pub mod RefusalWeakening
 pub mod ListLemmas
-pub mod CallerLemmas
+pub mod BaseCallerLemmas
 pub mod ListsByPlace
 pub mod ListsFiltered
 pub mod ListsFound

@@ -8,13 +8,13 @@ abbrev pub only_if : Bool → ℕ → ℕ
 only_if test k = if test then 2 ^ k else 0
 
 -- the places, counted from k, of the elements that pass a test
-unfoldable pub mask_where : {X : Type 0} → (X → Bool) → ℕ → List X → ℕ
-mask_where test k [] = 0
-mask_where test k (x ∷ xs) = bit_or (only_if (test x) k) (mask_where test (k + 1) xs)
+unfoldable pub number_set_where : {X : Type 0} → (X → Bool) → ℕ → List X → ℕ
+number_set_where test k [] = 0
+number_set_where test k (x ∷ xs) = bit_or (only_if (test x) k) (number_set_where test (k + 1) xs)
 
 -- the numbers below 64 that pass a test
-unfoldable pub mask_of : (ℕ → Bool) → ℕ
-mask_of test = mask_where test 0 switches
+unfoldable pub small_number_mask : (ℕ → Bool) → ℕ
+small_number_mask test = number_set_where test 0 switches
 
 -- the least number of a set that isn't empty
 unfoldable pub least_in : ℕ → ℕ

@@ -1,10 +1,10 @@
 -- The definitions that others use: of this crate, and those of the library that its Prelude lacks.
 pub use Rattle.base.specs.ComputedMasks.{only_if}
-unfoldable pub use Rattle.base.specs.ComputedMasks.{least_in, mask_of, mask_where}
-pub use Rattle.base.specs.Filled.{filled-take, filled_places}
+unfoldable pub use Rattle.base.specs.ComputedMasks.{least_in, small_number_mask, number_set_where}
+pub use Rattle.base.specs.Filled.{filled-take, zero_filled_list}
 pub use Rattle.base.specs.MaskLaws.{MaskLaws}
 unfoldable pub use Rattle.base.specs.Masks.{has, switches}
-pub use Rattle.base.specs.Refusals.{IfRefused, IsRefusal, in_row}
+pub use Rattle.base.specs.Refusals.{IfRefused, IsCallRefusal, in_row}
 pub use Rattle.std.specs.BTreeMap.{get}
 pub use Rattle.std.specs.Bool.{beq}
 pub use Rattle.std.specs.Borrow.{Bor}

@@ -10,9 +10,9 @@ IfRefused is (Refused refusal) = is refusal
 IfRefused is NoMemory = ⊤
 
 -- the error is the refusal, or out of memory
-abbrev pub IsRefusal : {X R : Type 0} → Result X R → Failure R → Type 0
-IsRefusal read (Refused refusal) = read ≡ Err refusal
-IsRefusal read NoMemory = ⊤
+abbrev pub IsCallRefusal : {X R : Type 0} → Result X R → Failure R → Type 0
+IsCallRefusal read (Refused refusal) = read ≡ Err refusal
+IsCallRefusal read NoMemory = ⊤
 
 -- a value, or its refusal in this row
 abbrev pub in_row : {X R : Type 0} → ℕ → Result X R → Result X (InRow R)

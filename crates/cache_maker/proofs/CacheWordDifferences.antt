@@ -6,10 +6,10 @@ use Rattle.std.proofs.lemmas.Bool.Decides.{nat_tests}
 use Rattle.std.proofs.lemmas.Option.{slice_get-get_or}
 use Rattle.std.proofs.lemmas.Nat.{and_mod, and_shr, xor_mod, xor_shr}
 use Rattle.std.proofs.lemmas.Nat.Bits.{bit_at_and, bit_at_xor, bit_at-lt, bit_at_above}
-use Rattle.ternary.specs.Exports.{CoversLaws, ExactLaws, FreeLaws, IsWord, WordValue, words_agree_at, covers_of, exact_word, free_of, is_fixed_of}
+use Rattle.ternary.specs.Exports.{CoversLaws, ExactLaws, FreeLaws, IsWord, WordValue, words_agree_at, word_covers_of, exact_word, free_of, is_fixed_of}
 use Rattle.policy_rules.specs.declared.rules.Rule.{Rule}
-use Rattle.cache_maker.specs.Independent.{IsIndependent, is_word_apart, is_independent, widening_of}
-use Rattle.cache_maker.specs.Differing.{widened_difference, is_met}
+use Rattle.cache_maker.specs.Independent.{IsIndependentCacheWord, is_cache_word_apart, is_independent, widening_of}
+use Rattle.cache_maker.specs.Differing.{cache_widening_difference, meets_widened_word}
 use Rattle.cache_maker.proofs.IndependentCacheWords.{is_independent_at}
 use Rattle.cache_maker.proofs.WidenedCacheWords.{widened_wider}
 
@@ -54,7 +54,7 @@ none_of n = omega arith
 digits_agree : (a b m : ℕ) → a < 2 → b < 2 → m < 2 → differ a b m ≡ true → min ((a + b) % 2) m ≡ 0
 digits_agree a b m p q r e = grind (arith, nat_tests)
 
-bit_at_differing : (h : ℕ) (rule : WordValue) (j : ℕ) → bit_at (widened_difference h rule) j ≡ min
+bit_at_differing : (h : ℕ) (rule : WordValue) (j : ℕ) → bit_at (cache_widening_difference h rule) j ≡ min
     ((bit_at h j + bit_at rule.value j) % 2) (bit_at rule.mask j)
 bit_at_differing h rule j = search (rules, bit_at_and, bit_at_xor)
 
@@ -67,18 +67,18 @@ agrees_as word rule h j fixed same = cc (fixed, same)
 
 pub differs_at : (word rule : WordValue) (h j : ℕ) → IsTrue (is_fixed_of word j)
     → bit_at word.value j ≡ bit_at h j
-    → words_agree_at word rule j ≡ false → bit_at (widened_difference h rule) j ≡ 1
+    → words_agree_at word rule j ≡ false → bit_at (cache_widening_difference h rule) j ≡ 1
 differs_at word rule h j fixed same e =
     search (rules, bit_at_differing, digits_differ, bit_at-lt, agrees_as)
 
 pub same_at : (word rule : WordValue) (h j : ℕ) → IsTrue (is_fixed_of word j)
     → bit_at word.value j ≡ bit_at h j → IsTrue (words_agree_at word rule j)
-    → bit_at (widened_difference h rule) j ≡ 0
+    → bit_at (cache_widening_difference h rule) j ≡ 0
 same_at word rule h j fixed same e = bit_at_differing h rule j ∙ digits_agree _ _ _ (bit_at-lt h j)
     (bit_at-lt rule.value j) (bit_at-lt rule.mask j) (sym (agrees_as word rule h j fixed same) ∙ e)
 
 pub past_header : (h j : ℕ) (rule : WordValue) → IsWord rule → 104 ≤ j
-    → bit_at (widened_difference h rule) j ≡ 0
+    → bit_at (cache_widening_difference h rule) j ≡ 0
 past_header h j rule is past = search (rules, bit_at_differing, bit_at_above)
 
 -- ---- the test
@@ -86,32 +86,32 @@ past_header h j rule is past = search (rules, bit_at_differing, bit_at_above)
 and_one : (a b c : Bool) → a ≡ (b && c) → c ≡ true → a ≡ b
 and_one a b c e one = search rules
 
-freed_cover : FreeLaws → (a word : WordValue) (bit : ℕ) → IsTrue (covers_of a word)
-    → covers_of a (free_of word bit) ≡ not (is_fixed_of a bit)
+freed_cover : FreeLaws → (a word : WordValue) (bit : ℕ) → IsTrue (word_covers_of a word)
+    → word_covers_of a (free_of word bit) ≡ not (is_fixed_of a bit)
 freed_cover free a word bit covered = and_one _ _ _ (free.freed_covered a word bit) covered
 
 pub test_parts : FreeLaws → (region : WordValue) (rules : List Rule) (index bit : ℕ)
-    (word : WordValue) (d : Rule) → index < length rules → IsIndependent region rules index word
+    (word : WordValue) (d : Rule) → index < length rules → IsIndependentCacheWord region rules index word
     → ((not (is_fixed_of region bit) && not (is_fixed_of (get_or rules index d).word bit))
-    && is_word_apart (free_of word bit) (take index rules)) ≡ is_independent region rules index
+    && is_cache_word_apart (free_of word bit) (take index rules)) ≡ is_independent region rules index
     (free_of word bit)
 test_parts free region rules index bit word d within is =
     sym (is_independent_at region rules index (free_of word bit) d within
-    ∙ ap (λ b. (b && covers_of (get_or rules index d).word (free_of word bit))
-    && is_word_apart (free_of word bit) (take index rules))
+    ∙ ap (λ b. (b && word_covers_of (get_or rules index d).word (free_of word bit))
+    && is_cache_word_apart (free_of word bit) (take index rules))
     (freed_cover free region word bit is.in_region) ∙ ap (λ b. (not (is_fixed_of region bit) && b)
-    && is_word_apart (free_of word bit) (take index rules)) (freed_cover free (get_or rules index d).word
-    word bit (subst (λ o. IsSomeAnd o (λ (rule : Rule). IsTrue (covers_of rule.word word)))
+    && is_cache_word_apart (free_of word bit) (take index rules)) (freed_cover free (get_or rules index d).word
+    word bit (subst (λ o. IsSomeAnd o (λ (rule : Rule). IsTrue (word_covers_of rule.word word)))
     (slice_get-get_or rules index d within) is.in_rule)))
 
 -- ---- the upper halves
 
-upper_is : (h : ℕ) (word : WordValue) (fixed : ℕ) → bit_and (widened_difference h word) fixed / 2 ^ 64
+upper_is : (h : ℕ) (word : WordValue) (fixed : ℕ) → bit_and (cache_widening_difference h word) fixed / 2 ^ 64
     ≡ bit_and (bit_and (bit_xor (h / 2 ^ 64) (word.value / 2 ^ 64)) (word.mask / 2 ^ 64))
     (fixed / 2 ^ 64)
 upper_is h word fixed = search (rules, and_shr, xor_shr)
 
-lower_is : (h : ℕ) (word : WordValue) (fixed : ℕ) → bit_and (widened_difference h word) fixed % 2 ^ 64
+lower_is : (h : ℕ) (word : WordValue) (fixed : ℕ) → bit_and (cache_widening_difference h word) fixed % 2 ^ 64
     ≡ bit_and (bit_and (bit_xor (h % 2 ^ 64) (word.value % 2 ^ 64)) (word.mask % 2 ^ 64))
     (fixed % 2 ^ 64)
 lower_is h word fixed = search (rules, and_mod, xor_mod)
@@ -119,7 +119,7 @@ lower_is h word fixed = search (rules, and_mod, xor_mod)
 -- a bit of the upper half tells them apart
 pub upper_tells : (h fixed : ℕ) (word : WordValue) → (bit_and (bit_and (bit_xor (h / 2 ^ 64)
     (word.value / 2 ^ 64)) (word.mask / 2 ^ 64)) (fixed / 2 ^ 64) ≡ 0 → ⊥)
-    → is_met h fixed word ≡ false
+    → meets_widened_word h fixed word ≡ false
 upper_tells h fixed word some = ne_eqb _ _ (λ none. some (sym (upper_is h word fixed)
     ∙ ap (λ x. x / 2 ^ 64) none))
 
@@ -127,9 +127,9 @@ upper_tells h fixed word some = ne_eqb _ _ (λ none. some (sym (upper_is h word 
 pub lower_tells : (h fixed : ℕ) (word : WordValue) → bit_and (bit_and (bit_xor (h / 2 ^ 64)
     (word.value / 2 ^ 64)) (word.mask / 2 ^ 64)) (fixed / 2 ^ 64) ≡ 0
     → (bit_and (bit_and (bit_xor (h % 2 ^ 64) (word.value % 2 ^ 64)) (word.mask % 2 ^ 64))
-    (fixed % 2 ^ 64) == 0) ≡ is_met h fixed word
+    (fixed % 2 ^ 64) == 0) ≡ meets_widened_word h fixed word
 lower_tells h fixed word upper = ap (λ x. x == 0) (sym (lower_is h word fixed))
-    ∙ same_test (bit_and (widened_difference h word) fixed) (upper_is h word fixed ∙ upper)
+    ∙ same_test (bit_and (cache_widening_difference h word) fixed) (upper_is h word fixed ∙ upper)
   where
     same_test : (n : ℕ) → n / 2 ^ 64 ≡ 0 → (n % 2 ^ 64 == 0) ≡ (n == 0)
     same_test n none = elim (cases_eq n 0) [

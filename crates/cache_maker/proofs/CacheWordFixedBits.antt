@@ -14,11 +14,11 @@ use Rattle.std.proofs.Math.Nat.{div-eq_of_lt-le}
 use Rattle.std.proofs.Math.Pow.{pow-lt}
 use Rattle.std.proofs.lemmas.Nat.{or_lt, xor_lt}
 use Rattle.std.proofs.lemmas.Nat.Bits.{and_pow, bit_at_and, bit_at_or, bit_at_xor, bit_at-lt, bit_at-zero, bit_at_above, bit_at-pow_other, bit_at-pow_same, same_from_bits}
-use Rattle.ternary.proofs.CallerLemmas.{or_left, or_right}
+use Rattle.ternary.proofs.TernaryCallerLemmas.{or_left, or_right}
 use Rattle.ternary.specs.Exports.{CoversLaws, ExactLaws, FreeLaws, IsWord, MeetLaws, WordValue, words_agree_at, exact_word, free_of, is_fixed_of, meet_of, meets}
 use Rattle.policy_rules.specs.declared.rules.Rule.{Rule}
-use Rattle.cache_maker.specs.Independent.{IsIndependent, is_word_apart, is_independent, widening_of}
-use Rattle.cache_maker.specs.Differing.{IsWithoutReasons, widened_difference, rule_is_met}
+use Rattle.cache_maker.specs.Independent.{IsIndependentCacheWord, is_cache_word_apart, is_independent, widening_of}
+use Rattle.cache_maker.specs.Differing.{IsWideningWithoutReasons, cache_widening_difference, rule_meets_widened_word}
 use Rattle.cache_maker.proofs.IndependentCacheWords.{true_not}
 use Rattle.cache_maker.proofs.WidenedCacheWords.{widened_independent, widened_word}
 use Rattle.cache_maker.proofs.CacheWordDifferences.{as_header, differs_at, past_header, same_at, still_fixed, test_parts}
@@ -31,7 +31,7 @@ pub record IsGiven (h : ℕ) (region : WordValue) (rules : List Rule) (index clo
   pub free : FreeLaws
   pub bound : h < 2 ^ 104
   pub words : All (λ (rule : Rule). IsWord rule.word) rules
-  pub start : IsIndependent region rules index (exact_word h)
+  pub start : IsIndependentCacheWord region rules index (exact_word h)
   pub within : index < length rules
   pub d : Rule
   pub closes : (n : ℕ) → not (bit_at closed n == 1)
@@ -42,7 +42,7 @@ pub record IsOfRule (h : ℕ) (earlier : List Rule) (reason : ℕ) : Type 0 wher
   pub place : ℕ
   pub d : Rule
   pub within : place < length earlier
-  pub is : widened_difference h (get_or earlier place d).word ≡ reason
+  pub is : cache_widening_difference h (get_or earlier place d).word ≡ reason
 
 -- a bit is fixed because it is closed, or because it is the highest one by which an earlier rule
 -- differs from the header, which does so in none of the fixed bits below
@@ -110,17 +110,17 @@ turn exact free h region rules index n m before below =
 
 pub independent_at : {h : ℕ} {region : WordValue} {rules : List Rule} {index closed : ℕ}
     → IsGiven h region rules index closed → (n : ℕ)
-    → IsIndependent region rules index (widening_of h region rules index n)
+    → IsIndependentCacheWord region rules index (widening_of h region rules index n)
 independent_at {h} {region} {rules} {index} given n = search (rules, widened_independent)
 
 -- whether a bit is fixed at last
 at_last : {h : ℕ} {region : WordValue} {rules : List Rule} {index closed : ℕ}
     → IsGiven h region rules index closed → (n : ℕ) → n < 104
     → is_fixed_of (widening_of h region rules index 104) n ≡ not (not (bit_at closed n == 1)
-    && is_word_apart (free_of (widening_of h region rules index n) n) (take index rules))
+    && is_cache_word_apart (free_of (widening_of h region rules index n) n) (take index rules))
 at_last {h} {region} {rules} {index} {closed} given n below =
     let word = widening_of h region rules index n in
-    let apart = is_word_apart (free_of word n) (take index rules) in
+    let apart = is_cache_word_apart (free_of word n) (take index rules) in
     turn given.exact given.free h region rules index n 104 below below
     ∙ ap not (sym (ap (λ b. b && apart) (given.closes n)
     ∙ test_parts given.free region rules index n word given.d given.within (independent_at given n)))
@@ -131,7 +131,7 @@ at_last {h} {region} {rules} {index} {closed} given n below =
 met_if : {h : ℕ} {region : WordValue} {rules : List Rule} {index closed : ℕ}
     → IsGiven h region rules index closed → (n : ℕ) (rule : WordValue)
     → ((j : ℕ) → j ≢ n → IsTrue (is_fixed_of (widening_of h region rules index n) j)
-    → bit_at (widened_difference h rule) j ≡ 0)
+    → bit_at (cache_widening_difference h rule) j ≡ 0)
     → IsTrue (meets (free_of (widening_of h region rules index n) n) rule)
 unfolding is_fixed_of words_agree_at
 met_if {h} {region} {rules} {index} given n rule none = (given.free.meets_others word rule n).1 agrees
@@ -155,7 +155,7 @@ met_only : {h : ℕ} {region : WordValue} {rules : List Rule} {index closed : �
     → IsGiven h region rules index closed → (n : ℕ) (rule : WordValue)
     → IsTrue (meets (free_of (widening_of h region rules index n) n) rule)
     → (j : ℕ) → j ≢ n → IsTrue (is_fixed_of (widening_of h region rules index n) j)
-    → bit_at (widened_difference h rule) j ≡ 0
+    → bit_at (cache_widening_difference h rule) j ≡ 0
 met_only {h} {region} {rules} {index} given n rule met j other fixed =
     let word = widening_of h region rules index n in
     same_at word rule h j fixed (as_header given.covers given.free h region rules index n j fixed)
@@ -184,10 +184,10 @@ reason_meets : {h : ℕ} {region : WordValue} {rules : List Rule} {index closed 
     → AreFixed h closed (take index rules) fixed reasons → (n : ℕ) → n < 104
     → AreSameBelow fixed (widening_of h region rules index 104) n → bit_at fixed n ≡ 1
     → IsOfRule h (take index rules) (get_or reasons n 0)
-    → is_word_apart (free_of (widening_of h region rules index n) n) (take index rules) ≡ false
-unfolding is_word_apart
+    → is_cache_word_apart (free_of (widening_of h region rules index n) n) (take index rules) ≡ false
+unfolding is_cache_word_apart
 reason_meets {h} {region} {rules} {index} {closed} {fixed} {reasons} given are n below same one of =
-    elim (cases_Bool (is_word_apart freed (take index rules))) [
+    elim (cases_Bool (is_cache_word_apart freed (take index rules))) [
       | inr apart ↦ apart
       | inl apart ↦ absurd (both_ways (meets freed rule.word) (sym (given.meet.some freed rule.word)
           ∙ (not-true _ (AllPass-from_list_all (λ rule. is_none (meet_of freed rule.word))
@@ -204,7 +204,7 @@ reason_meets {h} {region} {rules} {index} {closed} {fixed} {reasons} given are n
     met = met_if given n rule.word (λ j other fixed_there. elim (cases_lt j n) [
       | inl before ↦
           let set = eqb-true _ _ (sym (in_turn given fixed n below same j before) ∙ fixed_there) in
-          zero_of _ (bit_at-lt (widened_difference h rule.word) j) (λ differs.
+          zero_of _ (bit_at-lt (cache_widening_difference h rule.word) j) (λ differs.
           omega (arith, are.lower n j one before (ap (λ x. bit_at x j) (sym of.is) ∙ differs), set))
       | inr past ↦ ap (λ x. bit_at x j) of.is
           ∙ bit_at_above (get_or reasons n 0) (suc n) j (are.highest n one) (omega arith)
@@ -213,10 +213,10 @@ reason_meets {h} {region} {rules} {index} {closed} {fixed} {reasons} given are n
 -- where n not_so fixed, the freed word meets no rule
 unfixed_apart : {h : ℕ} {region : WordValue} {rules : List Rule} {index closed : ℕ}
     → IsGiven h region rules index closed → (fixed n : ℕ) → n < 104
-    → All (λ rule. IsFalse (rule_is_met h fixed rule)) (take index rules)
+    → All (λ rule. IsFalse (rule_meets_widened_word h fixed rule)) (take index rules)
     → AreSameBelow fixed (widening_of h region rules index 104) n → bit_at fixed n ≢ 1
-    → IsTrue (is_word_apart (free_of (widening_of h region rules index n) n) (take index rules))
-unfolding is_word_apart
+    → IsTrue (is_cache_word_apart (free_of (widening_of h region rules index n) n) (take index rules))
+unfolding is_cache_word_apart
 unfixed_apart {h} {region} {rules} {index} {closed} given fixed n below told same unset =
     list_all-from_AllPass (λ rule. is_none (meet_of freed rule.word)) (take index rules)
     (λ k d within. true_not _ (given.meet.some freed (get_or (take index rules) k d).word
@@ -228,23 +228,23 @@ unfixed_apart {h} {region} {rules} {index} {closed} given fixed n below told sam
     words : All (λ (rule : Rule). IsWord rule.word) (take index rules)
     words = All-take (λ (rule : Rule). IsWord rule.word) index rules given.words
 
-    apart : (rule : Rule) → IsWord rule.word → IsFalse (rule_is_met h fixed rule)
+    apart : (rule : Rule) → IsWord rule.word → IsFalse (rule_meets_widened_word h fixed rule)
         → meets freed rule.word ≡ false
     apart rule is_word unmet = elim (cases_Bool (meets freed rule.word)) [
       | inr gone ↦ gone
-      | inl met ↦ absurd (both_ways (rule_is_met h fixed rule) unmet
-          (eq-eqb _ _ (same_from_bits _ 0 (λ j. bit_at_and (widened_difference h rule.word) fixed j
+      | inl met ↦ absurd (both_ways (rule_meets_widened_word h fixed rule) unmet
+          (eq-eqb _ _ (same_from_bits _ 0 (λ j. bit_at_and (cache_widening_difference h rule.word) fixed j
           ∙ none met j ∙ sym (bit_at-zero j)))))
     ] where
       none : IsTrue (meets freed rule.word) → (j : ℕ)
-          → min (bit_at (widened_difference h rule.word) j) (bit_at fixed j) ≡ 0
+          → min (bit_at (cache_widening_difference h rule.word) j) (bit_at fixed j) ≡ 0
       none met j = elim (cases_eq (bit_at fixed j) 1) [
         | inr other ↦ omega (arith, zero_of _ (bit_at-lt fixed j) other)
         | inl set ↦ let other : j ≢ n = λ here. unset (ap (λ k. bit_at fixed k) (sym here) ∙ set) in
             omega (arith, differs_not met j other set)
       ] where
         differs_not : IsTrue (meets freed rule.word) → (j : ℕ) → j ≢ n → bit_at fixed j ≡ 1
-            → bit_at (widened_difference h rule.word) j ≡ 0
+            → bit_at (cache_widening_difference h rule.word) j ≡ 0
         differs_not met j other set = elim (cases_lt j n) [
           | inl before ↦ met_only given n rule.word met j other
               (in_turn given fixed n below same j before ∙ eq-eqb _ _ set)
@@ -258,7 +258,7 @@ unfixed_apart {h} {region} {rules} {index} {closed} given fixed n below told sam
 same_bit : {h : ℕ} {region : WordValue} {rules : List Rule} {index closed fixed : ℕ}
     {reasons : List ℕ} → IsGiven h region rules index closed
     → AreFixed h closed (take index rules) fixed reasons
-    → All (λ rule. IsFalse (rule_is_met h fixed rule)) (take index rules) → (n : ℕ) → n < 104
+    → All (λ rule. IsFalse (rule_meets_widened_word h fixed rule)) (take index rules) → (n : ℕ) → n < 104
     → AreSameBelow fixed (widening_of h region rules index 104) n
     → bit_at fixed n ≡ bit_at (widening_of h region rules index 104).mask n
 unfolding is_fixed_of
@@ -272,7 +272,7 @@ same_bit {h} {region} {rules} {index} {closed} {fixed} {reasons} given are told 
     ])
   where
     apart : Bool
-    apart = is_word_apart (free_of (widening_of h region rules index n) n) (take index rules)
+    apart = is_cache_word_apart (free_of (widening_of h region rules index n) n) (take index rules)
 
     caused : (bit_at closed n ≡ 1) ⊎ IsOfRule h (take index rules) (get_or reasons n 0)
         → bit_at fixed n ≡ 1 → not (not (bit_at closed n == 1) && apart) ≡ true
@@ -287,7 +287,7 @@ same_bit {h} {region} {rules} {index} {closed} {fixed} {reasons} given are told 
 same_below : {h : ℕ} {region : WordValue} {rules : List Rule} {index closed fixed : ℕ}
     {reasons : List ℕ} → IsGiven h region rules index closed
     → AreFixed h closed (take index rules) fixed reasons
-    → All (λ rule. IsFalse (rule_is_met h fixed rule)) (take index rules) → (n : ℕ) → n ≤ 104
+    → All (λ rule. IsFalse (rule_meets_widened_word h fixed rule)) (take index rules) → (n : ℕ) → n ≤ 104
     → AreSameBelow fixed (widening_of h region rules index 104) n
 same_below given are told zero upto j before = absurd (omega (arith, before))
 same_below {h} {region} {rules} {index} {closed} {fixed} given are told (suc n) upto j before =
@@ -302,7 +302,7 @@ same_below {h} {region} {rules} {index} {closed} {fixed} given are told (suc n) 
 pub word_at_last : {h : ℕ} {region : WordValue} {rules : List Rule} {index closed fixed : ℕ}
     {reasons : List ℕ} → IsGiven h region rules index closed
     → AreFixed h closed (take index rules) fixed reasons
-    → All (λ rule. IsFalse (rule_is_met h fixed rule)) (take index rules)
+    → All (λ rule. IsFalse (rule_meets_widened_word h fixed rule)) (take index rules)
     → let word : WordValue = record { value = bit_and h fixed; mask = fixed } in
     word ≡ widening_of h region rules index 104
 unfolding is_fixed_of
@@ -338,7 +338,7 @@ word_at_last {h} {region} {rules} {index} {closed} {fixed} given are told =
 pub word_is_sound : {h : ℕ} {region : WordValue} {rules : List Rule} {index closed fixed : ℕ}
     {reasons : List ℕ} → IsGiven h region rules index closed
     → AreFixed h closed (take index rules) fixed reasons
-    → All (λ rule. IsFalse (rule_is_met h fixed rule)) (take index rules)
+    → All (λ rule. IsFalse (rule_meets_widened_word h fixed rule)) (take index rules)
     → let word : WordValue = record { value = bit_and h fixed; mask = fixed } in IsWord word
 word_is_sound {h} {region} {rules} {index} given are told = rw (word_at_last given are told)
     (widened_word given.free h region rules index 104 (given.exact.word h given.bound))
@@ -381,7 +381,7 @@ none_of_both a b j none set = let small = bit_at-lt b j in
     omega (arith, sym (bit_at_and a b j) ∙ ap (λ x. bit_at x j) none ∙ bit_at-zero j, set, small)
 
 -- a bit of the new ones
-new_is : (fixed : ℕ) (reasons : List ℕ) (b stays : ℕ) → IsWithoutReasons fixed reasons b stays → (n : ℕ)
+new_is : (fixed : ℕ) (reasons : List ℕ) (b stays : ℕ) → IsWideningWithoutReasons fixed reasons b stays → (n : ℕ)
     → bit_at (bit_or stays (2 ^ b)) n ≡ 1
     → (n ≡ b) ⊎ ((n ≢ b) × (bit_at fixed n ≡ 1) × (bit_at (get_or reasons n 0) b ≡ 0))
 new_is fixed reasons b stays without n set = elim (cases_eq n b) [
@@ -394,8 +394,8 @@ new_is fixed reasons b stays without n set = elim (cases_eq n b) [
 -- the closed bits have no reasons, so they stay with those that stay of the others
 pub without_open : {h closed fixed : ℕ} {earlier : List Rule} {reasons : List ℕ} {b kept : ℕ}
     → AreFixed h closed earlier fixed reasons → closed < 2 ^ 104
-    → IsWithoutReasons (bit_xor fixed closed) reasons b kept
-    → IsWithoutReasons fixed reasons b (bit_or closed kept)
+    → IsWideningWithoutReasons (bit_xor fixed closed) reasons b kept
+    → IsWideningWithoutReasons fixed reasons b (bit_or closed kept)
 without_open {h} {closed} {fixed} {earlier} {reasons} {b} {kept} are bound without = record {
   small = or_lt 104 closed kept bound without.small;
   gone = λ n one. elim (cases_eq (bit_at closed n) 1) [
@@ -418,7 +418,7 @@ without_open {h} {closed} {fixed} {earlier} {reasons} {b} {kept} are bound witho
 
 pub fixed_next : (h closed fixed : ℕ) (earlier : List Rule) (reasons : List ℕ)
     (reason b stays : ℕ) → AreFixed h closed earlier fixed reasons
-    → IsNewReason h fixed earlier reason b → IsWithoutReasons fixed reasons b stays
+    → IsNewReason h fixed earlier reason b → IsWideningWithoutReasons fixed reasons b stays
     → AreFixed h closed earlier (bit_or stays (2 ^ b)) (set reasons b reason)
 fixed_next h closed fixed earlier reasons reason b stays are new without = record {
   sized = length-set reasons b reason ∙ are.sized;
@@ -510,7 +510,7 @@ left_over fixed = 2 ^ 104 - rank fixed 104
 
 pub left_less : (h closed fixed : ℕ) (earlier : List Rule) (reasons : List ℕ) (reason b stays : ℕ)
     → AreFixed h closed earlier fixed reasons → IsNewReason h fixed earlier reason b
-    → IsWithoutReasons fixed reasons b stays → left_over (bit_or stays (2 ^ b)) < left_over fixed
+    → IsWideningWithoutReasons fixed reasons b stays → left_over (bit_or stays (2 ^ b)) < left_over fixed
 unfolding left_over
 left_less h closed fixed earlier reasons reason b stays are new without =
     let more = rank_more fixed (bit_or stays (2 ^ b)) b 104 new.within same
@@ -570,7 +570,7 @@ pub part_at_first : (fixed : ℕ) (reasons : List ℕ) (b : ℕ) → fixed < 2 ^
 part_at_first fixed reasons b small = search rules
 
 pub part_at_last : {fixed : ℕ} {reasons : List ℕ} {b stays : ℕ}
-    → IsPartWithout fixed reasons b stays 0 → IsWithoutReasons fixed reasons b stays
+    → IsPartWithout fixed reasons b stays 0 → IsWideningWithoutReasons fixed reasons b stays
 part_at_last part = search (rules, bit_at-zero)
 
 -- the bit n stays, since its reason doesn't have b
@@ -619,7 +619,7 @@ part_goes {fixed} {reasons} {b} {stays} {left} part n one some = record {
 -- each earlier rule differs from the header
 pub differs_somewhere : {h : ℕ} {region : WordValue} {rules : List Rule} {index closed : ℕ}
     → IsGiven h region rules index closed → (place : ℕ) (d : Rule) → place < length (take index rules)
-    → widened_difference h (get_or (take index rules) place d).word ≢ 0
+    → cache_widening_difference h (get_or (take index rules) place d).word ≢ 0
 unfolding widening_of
 differs_somewhere {h} {region} {rules} {index} given place d within none =
     both_ways (meets (exact_word h) rule.word)
@@ -631,7 +631,7 @@ differs_somewhere {h} {region} {rules} {index} given place d within none =
     rule : Rule
     rule = get_or (take index rules) place d
 
-    zero_at : (j : ℕ) → bit_at (widened_difference h rule.word) j ≡ 0
+    zero_at : (j : ℕ) → bit_at (cache_widening_difference h rule.word) j ≡ 0
     zero_at j = ap (λ x. bit_at x j) none ∙ bit_at-zero j
 
     agrees : IsTrue (words_agree_at (exact_word h) rule.word 0)
@@ -646,13 +646,13 @@ differs_somewhere {h} {region} {rules} {index} given place d within none =
 pub is_new_reason : {h : ℕ} {region : WordValue} {rules : List Rule} {index closed : ℕ}
     → IsGiven h region rules index closed → (fixed place : ℕ) (d : Rule) (reason b : ℕ)
     → (place < length (take index rules)) × IsSomeAnd (slice_get (take index rules) place)
-    (λ rule. IsTrue (rule_is_met h fixed rule))
-    → reason ≡ widened_difference h (get_or (take index rules) place d).word
+    (λ rule. IsTrue (rule_meets_widened_word h fixed rule))
+    → reason ≡ cache_widening_difference h (get_or (take index rules) place d).word
     → 2 ^ b ≤ reason → reason < 2 * 2 ^ b → IsNewReason h fixed (take index rules) reason b
 is_new_reason {h} {region} {rules} {index} given fixed place d reason b met made low high = record {
   of = record { place = place; d = d; within = met.0; is = sym made };
   unfixed = ap (λ n. bit_and n fixed) made ∙ eqb-true _ _ (subst (λ o. IsSomeAnd o (λ rule.
-      IsTrue (rule_is_met h fixed rule))) (slice_get-get_or (take index rules) place d met.0) met.1);
+      IsTrue (rule_meets_widened_word h fixed rule))) (slice_get-get_or (take index rules) place d met.0) met.1);
   within = elim (cases_lt b 104) [
     | inl below ↦ below
     | inr beyond ↦ absurd (omega (

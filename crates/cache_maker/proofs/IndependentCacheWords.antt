@@ -5,11 +5,11 @@ use Rattle.std.proofs.lemmas.Bool.{and_parts, not-true}
 use Rattle.std.proofs.lemmas.Option.{slice_get_within, slice_get-get_or, get_or_from_slice_get}
 use Rattle.std.proofs.lemmas.List.Quantifiers.{position-Some}
 use Rattle.std.proofs.lemmas.List.Sums.{AllPass-from_list_all, list_all-from_AllPass, position_or_len_is}
-use Rattle.ternary.specs.Exports.{CoversLaws, IsWord, MeetLaws, WordValue, covers_of, exact_word, holds, meet_of}
+use Rattle.ternary.specs.Exports.{CoversLaws, IsWord, MeetLaws, WordValue, word_covers_of, exact_word, holds, meet_of}
 use Rattle.policy_rules.specs.declared.rules.Rule.{Rule}
 use Rattle.policy_rules.specs.Exports.{is_held}
-use Rattle.policy_rules.proofs.CallerLemmas.{none_from_not_some}
-use Rattle.cache_maker.specs.Independent.{IsIndependent, is_word_apart, is_independent}
+use Rattle.policy_rules.proofs.PolicyRulesCallerLemmas.{none_from_not_some}
+use Rattle.cache_maker.specs.Independent.{IsIndependentCacheWord, is_cache_word_apart, is_independent}
 
 -- ---- tests and facts
 
@@ -17,26 +17,26 @@ pub true_not : (b : Bool) → b ≡ false → not b ≡ true
 true_not b e = search rules
 
 some_and : (index : ℕ) (rules : List Rule) (word : WordValue)
-    → option_map_or (λ rule. covers_of rule.word word) (slice_get rules index) false ≡ true
-    → IsSomeAnd (slice_get rules index) (λ rule. IsTrue (covers_of rule.word word))
+    → option_map_or (λ rule. word_covers_of rule.word word) (slice_get rules index) false ≡ true
+    → IsSomeAnd (slice_get rules index) (λ rule. IsTrue (word_covers_of rule.word word))
 some_and index rules word = by_rule (slice_get rules index) where
-  by_rule : (o : Option Rule) → option_map_or (λ rule. covers_of rule.word word) o false ≡ true
-      → IsSomeAnd o (λ rule. IsTrue (covers_of rule.word word))
+  by_rule : (o : Option Rule) → option_map_or (λ rule. word_covers_of rule.word word) o false ≡ true
+      → IsSomeAnd o (λ rule. IsTrue (word_covers_of rule.word word))
   by_rule None e = cc
   by_rule (Some rule) e = e
 
 and_some : (index : ℕ) (rules : List Rule) (word : WordValue) → IsSomeAnd (slice_get rules index)
-    (λ rule. IsTrue (covers_of rule.word word)) → option_map_or (λ rule. covers_of rule.word word)
+    (λ rule. IsTrue (word_covers_of rule.word word)) → option_map_or (λ rule. word_covers_of rule.word word)
     (slice_get rules index) false ≡ true
 and_some index rules word = by_rule (slice_get rules index) where
-  by_rule : (o : Option Rule) → IsSomeAnd o (λ rule. IsTrue (covers_of rule.word word))
-      → option_map_or (λ rule. covers_of rule.word word) o false ≡ true
+  by_rule : (o : Option Rule) → IsSomeAnd o (λ rule. IsTrue (word_covers_of rule.word word))
+      → option_map_or (λ rule. word_covers_of rule.word word) o false ≡ true
   by_rule None e = absurd e
   by_rule (Some rule) e = e
 
 pub test_true : (region : WordValue) (rules : List Rule) (index : ℕ) (word : WordValue)
-    → IsTrue (is_independent region rules index word) → IsIndependent region rules index word
-unfolding is_independent is_word_apart
+    → IsTrue (is_independent region rules index word) → IsIndependentCacheWord region rules index word
+unfolding is_independent is_cache_word_apart
 test_true region rules index word test =
     let both = and_parts _ _ test in
     let parts = and_parts _ _ both.0 in record {
@@ -47,8 +47,8 @@ test_true region rules index word test =
     }
 
 pub test_of : (region : WordValue) (rules : List Rule) (index : ℕ) (word : WordValue)
-    → IsIndependent region rules index word → IsTrue (is_independent region rules index word)
-unfolding is_independent is_word_apart
+    → IsIndependentCacheWord region rules index word → IsTrue (is_independent region rules index word)
+unfolding is_independent is_cache_word_apart
 test_of region rules index word is =
     let earlier = list_all-from_AllPass (λ rule. is_none (meet_of word rule.word))
     (take index rules) (λ k d within. true_not _ (is.earlier k d within)) in
@@ -57,13 +57,13 @@ test_of region rules index word is =
 -- ---- headers
 
 pub first_hit : CoversLaws → MeetLaws → (region : WordValue) (rules : List Rule) (index : ℕ)
-    (word : WordValue) (h : ℕ) → IsIndependent region rules index word → IsTrue (holds word h)
+    (word : WordValue) (h : ℕ) → IsIndependentCacheWord region rules index word → IsTrue (holds word h)
     → position (is_held h) rules ≡ Some index
 first_hit covers meet region rules index word h is held = by_rule (slice_get rules index) refl
     is.in_rule
   where
     by_rule : (o : Option Rule) → slice_get rules index ≡ o
-        → IsSomeAnd o (λ rule. IsTrue (covers_of rule.word word)) → position (is_held h) rules
+        → IsSomeAnd o (λ rule. IsTrue (word_covers_of rule.word word)) → position (is_held h) rules
         ≡ Some index
     by_rule None at no_rule = absurd no_rule
     by_rule (Some rule) at covered =
@@ -90,15 +90,15 @@ first_hit covers meet region rules index word h is held = by_rule (slice_get rul
             (get_or-take index rules k rule below) (is.earlier k rule there))
 
 pub smaller : CoversLaws → MeetLaws → (region : WordValue) (rules : List Rule) (index : ℕ)
-    (word part : WordValue) → IsTrue (covers_of word part) → IsIndependent region rules index word
-    → IsIndependent region rules index part
+    (word part : WordValue) → IsTrue (word_covers_of word part) → IsIndependentCacheWord region rules index word
+    → IsIndependentCacheWord region rules index part
 smaller covers meet region rules index word part inside is = record {
   in_region = covers.transitive region word part is.in_region inside;
   in_rule = by_rule (slice_get rules index) is.in_rule;
   earlier = λ k d within. apart (get_or (take index rules) k d) (is.earlier k d within);
 } where
-  by_rule : (o : Option Rule) → IsSomeAnd o (λ rule. IsTrue (covers_of rule.word word))
-      → IsSomeAnd o (λ rule. IsTrue (covers_of rule.word part))
+  by_rule : (o : Option Rule) → IsSomeAnd o (λ rule. IsTrue (word_covers_of rule.word word))
+      → IsSomeAnd o (λ rule. IsTrue (word_covers_of rule.word part))
   by_rule None no_rule = no_rule
   by_rule (Some rule) covered = covers.transitive rule.word word part covered inside
 
@@ -117,7 +117,7 @@ hit_within h (first ∷ rules) index hit at =
 pub exact_independent : CoversLaws → MeetLaws → (region : WordValue) (rules : List Rule)
     (index h : ℕ) → IsWord region → All (λ rule. IsWord rule.word) rules → h < 2 ^ 104
     → IsTrue (holds region h) → position (is_held h) rules ≡ Some index
-    → IsIndependent region rules index (exact_word h)
+    → IsIndependentCacheWord region rules index (exact_word h)
 exact_independent covers meet region rules index h region_word words bound held hit = record {
   in_region = covers.exact region h region_word bound ∙ held;
   in_rule = by_rule (slice_get rules index) refl;
@@ -131,7 +131,7 @@ exact_independent covers meet region rules index h region_word words bound held 
       (sym (get_or-take index rules k d below)) apart;
 } where
   by_rule : (o : Option Rule) → slice_get rules index ≡ o
-      → IsSomeAnd o (λ rule. IsTrue (covers_of rule.word (exact_word h)))
+      → IsSomeAnd o (λ rule. IsTrue (word_covers_of rule.word (exact_word h)))
   by_rule None at = absurd (hit_within h rules index hit at)
   by_rule (Some rule) at =
       let found = position-Some (is_held h) rules index rule hit in
@@ -142,7 +142,7 @@ exact_independent covers meet region rules index h region_word words bound held 
 -- the test, a part at a time
 pub is_independent_at : (region : WordValue) (rules : List Rule) (index : ℕ) (word : WordValue)
     (d : Rule) → index < length rules → is_independent region rules index word
-    ≡ ((covers_of region word && covers_of (get_or rules index d).word word)
-    && is_word_apart word (take index rules))
+    ≡ ((word_covers_of region word && word_covers_of (get_or rules index d).word word)
+    && is_cache_word_apart word (take index rules))
 unfolding is_independent
 is_independent_at region rules index word d within = cc (slice_get-get_or rules index d within)

@@ -2,32 +2,32 @@
 use Rattle.std.proofs.Common.{◌<◌, ◌^◌, ◌≡◌, ◌≤◌, Bool, IsTrue, List, arith, cond, eq-eqb, eqb-true, false, inl, inr, refl, subst, suc, sym, true, zero, ℕ, rules}
 use Rattle.std.specs.Int.{bit_at}
 use Rattle.std.proofs.lemmas.Bool.{cases_lt}
-use Rattle.ternary.specs.Exports.{CoversLaws, ExactLaws, FreeLaws, IsWord, MeetLaws, WordValue, covers_of, exact_word, free_of, holds, is_fixed_of}
+use Rattle.ternary.specs.Exports.{CoversLaws, ExactLaws, FreeLaws, IsWord, MeetLaws, WordValue, word_covers_of, exact_word, free_of, holds, is_fixed_of}
 use Rattle.policy_rules.specs.declared.rules.Rule.{Rule}
-use Rattle.cache_maker.specs.Independent.{IsIndependent, is_independent, with_bit_freed, widening_of}
+use Rattle.cache_maker.specs.Independent.{IsIndependentCacheWord, is_independent, with_cache_bit_freed, widening_of}
 use Rattle.cache_maker.proofs.IndependentCacheWords.{test_true, test_of, smaller}
 
 -- a step widens
 freed_wider : CoversLaws → FreeLaws → (region : WordValue) (rules : List Rule) (index bit : ℕ)
-    (word : WordValue) → IsTrue (covers_of (with_bit_freed region rules index bit word) word)
+    (word : WordValue) → IsTrue (word_covers_of (with_cache_bit_freed region rules index bit word) word)
 freed_wider covers free region rules index bit word =
     by_test (is_independent region rules index (free_of word bit))
   where
-    by_test : (b : Bool) → IsTrue (covers_of (cond b (free_of word bit) word) word)
+    by_test : (b : Bool) → IsTrue (word_covers_of (cond b (free_of word bit) word) word)
     by_test true = free.wider word bit
     by_test false = covers.reflexive word
 
 -- later words are wider
 pub widened_wider : CoversLaws → FreeLaws → (h : ℕ) (region : WordValue) (rules : List Rule)
     (index n m : ℕ) → n ≤ m → IsTrue
-    (covers_of (widening_of h region rules index m) (widening_of h region rules index n))
+    (word_covers_of (widening_of h region rules index m) (widening_of h region rules index n))
 unfolding widening_of
 widened_wider covers free h region rules index n zero upto = let none : 0 ≡ n = omega arith in
-    subst (λ k. IsTrue (covers_of (exact_word h) (widening_of h region rules index k))) none
+    subst (λ k. IsTrue (word_covers_of (exact_word h) (widening_of h region rules index k))) none
     (covers.reflexive (exact_word h))
 widened_wider covers free h region rules index n (suc m) upto = elim (cases_lt m n) [
   | inl past ↦ let same : suc m ≡ n = omega arith in
-      subst (λ k. IsTrue (covers_of (widening_of h region rules index (suc m))
+      subst (λ k. IsTrue (word_covers_of (widening_of h region rules index (suc m))
       (widening_of h region rules index k))) same
       (covers.reflexive (widening_of h region rules index (suc m)))
   | inr within ↦ covers.transitive _ (widening_of h region rules index m) _
@@ -57,7 +57,7 @@ unfreed covers free h region rules index bit m within fixed =
 -- and can't be freed at last
 pub widest : CoversLaws → MeetLaws → FreeLaws → (h : ℕ) (region : WordValue) (rules : List Rule)
     (index bit : ℕ) → bit < 104 → IsTrue (is_fixed_of (widening_of h region rules index 104) bit)
-    → IsIndependent region rules index (free_of (widening_of h region rules index 104) bit) → ⊥
+    → IsIndependentCacheWord region rules index (free_of (widening_of h region rules index 104) bit) → ⊥
 widest covers meet free h region rules index bit within fixed is =
     let wider = free.monotone _ _ bit
     (widened_wider covers free h region rules index bit 104 (omega arith)) in
@@ -76,9 +76,9 @@ widened_holds covers exact free h region rules index n bound = covers.held _ (ex
 -- ---- one turn, with its test
 
 pub turn_independent : (region : WordValue) (rules : List Rule) (index bit : ℕ) (test : Bool)
-    (word after : WordValue) → IsIndependent region rules index word
+    (word after : WordValue) → IsIndependentCacheWord region rules index word
     → test ≡ is_independent region rules index (free_of word bit)
-    → after ≡ cond test (free_of word bit) word → IsIndependent region rules index after
+    → after ≡ cond test (free_of word bit) word → IsIndependentCacheWord region rules index after
 turn_independent region rules index bit true word after is tested made = rw made
     (test_true region rules index (free_of word bit) (sym tested))
 turn_independent region rules index bit false word after is tested made = rw made is
@@ -90,7 +90,7 @@ turn_word free bit test word after is made = search rules
 -- ---- all turns so far
 
 pub widened_independent : (h : ℕ) (region : WordValue) (rules : List Rule) (index n : ℕ)
-    → IsIndependent region rules index (exact_word h) → IsIndependent region rules index
+    → IsIndependentCacheWord region rules index (exact_word h) → IsIndependentCacheWord region rules index
     (widening_of h region rules index n)
 unfolding widening_of
 widened_independent h region rules index zero start = start

@@ -1,26 +1,26 @@
 -- The laws of independent words and of `widen`: `x_laws` of the crate ensures the record of each.
 use Rattle.std.specs.Prelude.{◌<◌, ◌^◌, ◌↔◌, ◌≡◌, All, IsTrue, List, Some, position, ℕ}
-use Rattle.ternary.specs.Exports.{IsWord, WordValue, covers_of, free_of, holds, is_fixed_of}
+use Rattle.ternary.specs.Exports.{IsWord, WordValue, word_covers_of, free_of, holds, is_fixed_of}
 use Rattle.policy_rules.specs.declared.rules.Rule.{Rule}
 use Rattle.policy_rules.specs.Exports.{is_held}
-use Rattle.cache_maker.specs.Independent.{IsIndependent, is_independent, widen}
+use Rattle.cache_maker.specs.Independent.{IsIndependentCacheWord, is_independent, widen}
 
-pub record IndependentLaws : Type 0 where
+pub record IndependentCacheWordLaws : Type 0 where
   pub test : (region : WordValue) (rules : List Rule) (index : ℕ) (word : WordValue)
-      → IsTrue (is_independent region rules index word) ↔ IsIndependent region rules index word
+      → IsTrue (is_independent region rules index word) ↔ IsIndependentCacheWord region rules index word
   -- whatever header the word holds, this rule is the first to hold it
   pub first_hit : (region : WordValue) (rules : List Rule) (index : ℕ) (word : WordValue) (h : ℕ)
-      → IsIndependent region rules index word → IsTrue (holds word h) →
+      → IsIndependentCacheWord region rules index word → IsTrue (holds word h) →
       position (is_held h) rules ≡ Some index
   pub within : (region : WordValue) (rules : List Rule) (index : ℕ) (word : WordValue) (h : ℕ)
-      → IsIndependent region rules index word → IsTrue (holds word h) → IsTrue (holds region h)
+      → IsIndependentCacheWord region rules index word → IsTrue (holds word h) → IsTrue (holds region h)
   -- a smaller word is independent too
   pub smaller : (region : WordValue) (rules : List Rule) (index : ℕ) (word part : WordValue)
-      → IsTrue (covers_of word part) → IsIndependent region rules index word →
-      IsIndependent region rules index part
+      → IsTrue (word_covers_of word part) → IsIndependentCacheWord region rules index word →
+      IsIndependentCacheWord region rules index part
 
 -- the header is in the region, and the rule at this place is the first to hold it
-pub record IsDecidedWithin (h : ℕ) (region : WordValue) (rules : List Rule) (index : ℕ) : Type 0 where
+pub record IsDecidedBeforeWidening (h : ℕ) (region : WordValue) (rules : List Rule) (index : ℕ) : Type 0 where
   pub bound : h < 2 ^ 104
   pub region_word : IsWord region
   pub words : All (λ (rule : Rule). IsWord rule.word) rules
@@ -32,11 +32,11 @@ pub record IsWidestWord (h : ℕ) (region : WordValue) (rules : List Rule) (inde
     (word : WordValue) : Type 0 where
   pub is_word : IsWord word
   pub header : IsTrue (holds word h)
-  pub independent : IsIndependent region rules index word
+  pub independent : IsIndependentCacheWord region rules index word
   pub widest : (bit : ℕ) → bit < 104 → IsTrue (is_fixed_of word bit)
-      → ¬ IsIndependent region rules index (free_of word bit)
+      → ¬ IsIndependentCacheWord region rules index (free_of word bit)
 
 -- what `widen` ensures of its result, for proofs in which no call runs
 pub record WidenLaws : Type 0 where
   pub widest : (h : ℕ) (region : WordValue) (rules : List Rule) (index : ℕ)
-      → IsDecidedWithin h region rules index → IsWidestWord h region rules index (widen h region rules index)
+      → IsDecidedBeforeWidening h region rules index → IsWidestWord h region rules index (widen h region rules index)

@@ -5,8 +5,8 @@ ghost use Rattle.ternary.specs.WordBits.{IsWord};
 ghost use Rattle.ternary.specs.Meets.{is_fixed_of, free_of};
 ghost use Rattle.policy_rules.specs.Rules.{is_held};
 ghost use Rattle.policy_rules.specs.declared.rules.Rule.{Rule};
-ghost use Rattle.cache_maker.specs.Independent.{IsIndependent, widen};
-ghost use Rattle.cache_maker.specs.Differing.{IsWithoutReasons, widened_difference, is_met, rule_is_met};
+ghost use Rattle.cache_maker.specs.Independent.{IsIndependentCacheWord, widen};
+ghost use Rattle.cache_maker.specs.Differing.{IsWideningWithoutReasons, cache_widening_difference, meets_widened_word, rule_meets_widened_word};
 
 use five_tuple::Header;
 use policy_rules::Rule;
@@ -33,9 +33,9 @@ pub fn widen(h: &Header, region: &Word, rules: &[Rule], index: u32) -> Word
     requires first_hit { position (is_held (number_of h.now)) rules.now ≡ Some index }
     ensures widened { result ≡ widen (number_of h.now) region.now rules.now index }
     ensures header { IsTrue (holds result (number_of h.now)) }
-    ensures independent { IsIndependent region.now rules.now index result }
+    ensures independent { IsIndependentCacheWord region.now rules.now index result }
     ensures widest { (bit : ℕ) → bit < 104 → IsTrue (is_fixed_of result bit)
-        → ¬ IsIndependent region.now rules.now index (free_of result bit) }
+        → ¬ IsIndependentCacheWord region.now rules.now index (free_of result bit) }
     ensures word { IsWord result }
 {
     words_are_sound(region, rules);
@@ -71,8 +71,8 @@ fn no_reasons() -> [u128; 104]
 fn next_overlapped_rule(h: u128, fixed: u128, rules: &[Rule], from: usize) -> Option<usize>
     requires { from ≤ length rules.now }
     ensures met { IfSome result (λ place. (place < length rules.now)
-        × IsSomeAnd (slice_get rules.now place) (λ rule. IsTrue (rule_is_met h fixed rule))) }
-    ensures none { IsNone result → All (λ rule. IsFalse (rule_is_met h fixed rule)) rules.now }
+        × IsSomeAnd (slice_get rules.now place) (λ rule. IsTrue (rule_meets_widened_word h fixed rule))) }
+    ensures none { IsNone result → All (λ rule. IsFalse (rule_meets_widened_word h fixed rule)) rules.now }
 {
     let (before, after) = rules.split_at(from);
     match first_overlapped_rule(h, fixed, after) {
@@ -82,14 +82,16 @@ fn next_overlapped_rule(h: u128, fixed: u128, rules: &[Rule], from: usize) -> Op
 }
 
 fn first_overlapped_rule(h: u128, fixed: u128, rules: &[Rule]) -> Option<usize>
-    ensures { result ≡ position (rule_is_met h fixed) rules.now }
+    ensures { result ≡ position (rule_meets_widened_word h fixed) rules.now }
 {
-    rules.iter().position(|rule| is_met(h, fixed, &rule.word))
+    rules
+        .iter()
+        .position(|rule| meets_widened_word(h, fixed, &rule.word))
 }
 
 // Whether the word of these bits of the header meets another: mostly the upper halves decide.
-fn is_met(h: u128, fixed: u128, word: &Word) -> bool
-    ensures { result ≡ is_met h fixed word.now }
+fn meets_widened_word(h: u128, fixed: u128, word: &Word) -> bool
+    ensures { result ≡ meets_widened_word h fixed word.now }
 {
     let upper = (upper_word_half(h) ^ upper_word_half(word.value())) & upper_word_half(word.mask());
     upper & upper_word_half(fixed) == 0
@@ -124,7 +126,7 @@ fn lower_word_half(n: u128) -> u64
 
 // The bits that the word fixes to a value that h doesn't have.
 fn differing(h: u128, word: &Word) -> u128
-    ensures { result ≡ widened_difference h word.now }
+    ensures { result ≡ cache_widening_difference h word.now }
 {
     (h ^ word.value()) & word.mask()
 }
@@ -133,7 +135,7 @@ fn differing(h: u128, word: &Word) -> u128
 fn without(fixed: u128, reasons: &[u128; 104], bit: u32) -> u128
     requires fixed { fixed < 2 ^ 104 }
     requires bit { bit < 104 }
-    ensures { IsWithoutReasons fixed reasons.now bit result }
+    ensures { IsWideningWithoutReasons fixed reasons.now bit result }
 {
     let mut stays = fixed;
     let mut left = fixed;

@@ -1,10 +1,10 @@
-ghost use Rattle.cache_maker.specs.Laws.{IndependentLaws, WidenLaws};
+ghost use Rattle.cache_maker.specs.Laws.{IndependentCacheWordLaws, WidenLaws};
 
 use ternary::{covers_laws, exact_laws, free_laws, meet_laws};
 
 /// The rule at the place of an independent word decides each header that the word holds.
 pub fn independent_laws()
-    ensures { IndependentLaws }
+    ensures { IndependentCacheWordLaws }
 {
     covers_laws();
     meet_laws();

@@ -2,17 +2,17 @@
 use Rattle.std.proofs.Common.{[], ◌<◌, ◌∙◌, ◌∷◌, ◌≡◌, ◌≤◌, All, Bor, Err, IsErrAnd, IsOk, IsSome, IsTrue, List, None, Ok, Option, Result, Some, ap, arith, false, length, map, refl, slice_index_or, subst, sym, true, unwrap_or, ℕ}
 use Rattle.base.proofs.Exports.{ForSome, get_or-map, length-map}
 use Rattle.schedule.specs.Case.{IsPlayableCase, LoadCase, CaseNamesPort}
-use Rattle.net_file.specs.Exports.{IsNet, PortLaws, port_mask}
-use Rattle.update_machine.specs.Exports.{Action, Add, Change, Edit, Event, IsSetting, NamesOwnPort, Net, PolicyFile, Remove, Row, Setting, Whole, setting_of}
-use Rattle.partition.specs.Plan.{Hosted, plan_of}
-use Rattle.policy_file.specs.Exports.{file_length, names_port_of}
+use Rattle.net_file.specs.Exports.{IsNet, NetPortLaws, port_mask}
+use Rattle.update_machine.specs.Exports.{Action, Add, Change, Edit, Event, IsSetting, NamesSettingPort, Net, PolicyFile, Remove, Row, Setting, Whole, setting_of}
+use Rattle.partition.specs.Plan.{Hosted, partition_plan_of}
+use Rattle.policy_file.specs.Exports.{policy_file_length, policy_file_names_port}
 use Rattle.policy_rules.specs.declared.policy.Action.TheVariants as action
-use Rattle.policy_rules.specs.Exports.{EditAddsOnly, PolicyFileGivesOnly, IsPolicy, IsPolicyFile, NoPlan}
+use Rattle.policy_rules.specs.Exports.{EditAddsOnly, PolicyRulesGiveOnly, IsPolicy, IsPolicyOrAmendment, NoPolicyPlan}
 use Rattle.steps.specs.Exports.{IsEvent, max_events}
-use Rattle.world.specs.Exports.{RefinesJournal, WorldValue, first_policy, world_setting_at}
+use Rattle.world.specs.Exports.{WorldRefinesJournal, WorldValue, first_policy, world_setting_at}
 use Rattle.shelf.specs.Exports.{Files, ShelfState}
-use Rattle.command_inputs.specs.Exports.{StatusAccounts, CommandEndsRead, Inputs, IsNetOf, IsReplayOf, NeedsReadFault, CommandStopsCheck, and_then_input, case_files, first_plan, replay_inputs_of, input_plan_from, read_files, read_net, read_schedule, status_of}
-use Rattle.command_line.specs.Exports.{MayBePolicies, ReplayCommand, most_policies, argument_names_seen}
+use Rattle.command_inputs.specs.Exports.{CommandStatusAccounts, CommandEndsRead, Inputs, IsCommandNetOf, IsCommandReplayOf, NeedsReadFault, CommandStopsCheck, and_then_input, load_command_files, first_plan, command_replay_inputs, input_plan_from, read_files, read_net, read_schedule, command_status_of}
+use Rattle.command_line.specs.Exports.{MayBePolicyArguments, ReplayCommand, most_policy_arguments, argument_names_seen}
 use Rattle.command_inputs.specs.declared.status.Refusal.{Refusal}
 use Rattle.command_inputs.specs.declared.status.Status.{Status}
 use Rattle.command_inputs.specs.declared.status.Status.TheVariants as status
@@ -21,8 +21,8 @@ use Rattle.command_inputs.specs.declared.status.Stop.TheVariants as stop
 
 -- ---- ports
 
-own_port : PortLaws → (net : Net) (files : List PolicyFile) → IsNet net → (a : Action)
-    → IsTrue (names_port_of (port_mask net.switches) a) → NamesOwnPort (setting_of net files) a
+own_port : NetPortLaws → (net : Net) (files : List PolicyFile) → IsNet net → (a : Action)
+    → IsTrue (policy_file_names_port (port_mask net.switches) a) → NamesSettingPort (setting_of net files) a
 own_port laws net files sound action.Drop has = tt
 own_port laws net files sound (action.Out port) has = sym (laws.mask net port sound) ∙ has
 
@@ -33,18 +33,18 @@ adds_weaker weaker (Remove priority) given = tt
 adds_weaker weaker (Add row) given = weaker row given
 
 gives_weaker : {P Q : Row → Type 0} → ((row : Row) → P row → Q row) → (file : PolicyFile)
-    → PolicyFileGivesOnly P file → PolicyFileGivesOnly Q file
+    → PolicyRulesGiveOnly P file → PolicyRulesGiveOnly Q file
 gives_weaker weaker (Whole rows) given = λ i d within. weaker _ (given i d within)
 gives_weaker weaker (Change edits) given = λ i d within. adds_weaker weaker _ (given i d within)
 
-pub own_ports : PortLaws → (net : Net) (files : List PolicyFile) → IsNet net
-    → All (PolicyFileGivesOnly (λ row. IsTrue (names_port_of (port_mask net.switches) row.action))) files
-    → All (PolicyFileGivesOnly (λ row. NamesOwnPort (setting_of net files) row.action)) files
+pub own_ports : NetPortLaws → (net : Net) (files : List PolicyFile) → IsNet net
+    → All (PolicyRulesGiveOnly (λ row. IsTrue (policy_file_names_port (port_mask net.switches) row.action))) files
+    → All (PolicyRulesGiveOnly (λ row. NamesSettingPort (setting_of net files) row.action)) files
 own_ports laws net files sound has = λ i d within.
     gives_weaker (λ row. own_port laws net files sound row.action) _ (has i d within)
 
-drawn_port : PortLaws → (net : Net) → IsNet net → (a : Action) → CaseNamesPort net a
-    → IsTrue (names_port_of (port_mask net.switches) a)
+drawn_port : NetPortLaws → (net : Net) → IsNet net → (a : Action) → CaseNamesPort net a
+    → IsTrue (policy_file_names_port (port_mask net.switches) a)
 drawn_port laws net sound action.Drop names = refl
 drawn_port laws net sound (action.Out port) names = laws.mask net port sound ∙ names
 
@@ -58,24 +58,24 @@ all_whole P policies given = λ i d within.
 -- the files of a load case begin with a policy, are sound, and name ports of its network alone
 pub record AreDrawn (load : LoadCase) (files : List PolicyFile) : Type 0 where
   pub first : IsSome (first_policy files)
-  pub sound : All IsPolicyFile files
-  pub ports : All (PolicyFileGivesOnly (λ row.
-      IsTrue (names_port_of (port_mask load.net.switches) row.action))) files
+  pub sound : All IsPolicyOrAmendment files
+  pub ports : All (PolicyRulesGiveOnly (λ row.
+      IsTrue (policy_file_names_port (port_mask load.net.switches) row.action))) files
 
 first_drawn : (policies : List (List Row)) → 1 ≤ length policies
     → IsSome (first_policy (map Whole policies))
 first_drawn [] some = absurd (omega (arith, some))
 first_drawn (rows ∷ policies) some = refl
 
-pub are_drawn : PortLaws → (load : LoadCase) (files : List PolicyFile) → 1 ≤ length load.policies
-    → All IsPolicy load.policies → IsPlayableCase load → files ≡ case_files load → AreDrawn load files
+pub are_drawn : NetPortLaws → (load : LoadCase) (files : List PolicyFile) → 1 ≤ length load.policies
+    → All IsPolicy load.policies → IsPlayableCase load → files ≡ load_command_files load → AreDrawn load files
 are_drawn laws load files some sound may same =
     let HasPort : Row → Type 0 =
-    λ row. IsTrue (names_port_of (port_mask load.net.switches) row.action) in
+    λ row. IsTrue (policy_file_names_port (port_mask load.net.switches) row.action) in
     subst (AreDrawn load) (sym same) (record {
       first = first_drawn load.policies some;
-      sound = all_whole IsPolicyFile load.policies sound;
-      ports = all_whole (PolicyFileGivesOnly HasPort) load.policies (λ i d within j e inside.
+      sound = all_whole IsPolicyOrAmendment load.policies sound;
+      ports = all_whole (PolicyRulesGiveOnly HasPort) load.policies (λ i d within j e inside.
           drawn_port laws load.net may.net _ (may.ports i d within j e inside));
     })
 
@@ -83,16 +83,16 @@ are_drawn laws load files some sound may same =
 
 -- a policy that is in force has a plan
 pub has_plan : (names : List (List ℕ)) (net : Net) (files : List PolicyFile)
-    → IsOk (plan_of (unwrap_or (first_policy files) []) net) → IsOk (first_plan names net files)
+    → IsOk (partition_plan_of (unwrap_or (first_policy files) []) net) → IsOk (first_plan names net files)
 has_plan names net files is =
-    by (slice_index_or names 0 []) (plan_of (unwrap_or (first_policy files) []) net) is
+    by (slice_index_or names 0 []) (partition_plan_of (unwrap_or (first_policy files) []) net) is
   where
-    by : (name : List ℕ) (plan : Result (List Hosted) NoPlan) → IsOk plan → IsOk (input_plan_from name plan)
+    by : (name : List ℕ) (plan : Result (List Hosted) NoPolicyPlan) → IsOk plan → IsOk (input_plan_from name plan)
     by name (Ok hosted) is = refl
     by name (Err why) is = cc is
 
 pub sound_by_tie : (world : WorldValue) → world.is_spent ≡ false
-    → (world.is_spent ≡ false → RefinesJournal world) → IsSetting (world_setting_at world)
+    → (world.is_spent ≡ false → WorldRefinesJournal world) → IsSetting (world_setting_at world)
 sound_by_tie world able refines = (refines able).sound
 
 -- ---- events
@@ -110,27 +110,27 @@ pub as_many : (names owned : List (Bor (List ℕ))) → names ≡ owned
 as_many names owned same = ap length same ∙ sym (length-map owned (λ name. name.now))
 
 -- a command names at most so many
-pub few_named : (owned : List (Bor (List ℕ))) → MayBePolicies (length owned)
-    → length (argument_names_seen owned) ≤ most_policies
+pub few_named : (owned : List (Bor (List ℕ))) → MayBePolicyArguments (length owned)
+    → length (argument_names_seen owned) ≤ most_policy_arguments
 few_named owned may =
-    subst (λ (count : ℕ). count ≤ most_policies) (sym (length-map owned (λ name. name.now))) may.1
+    subst (λ (count : ℕ). count ≤ most_policy_arguments) (sym (length-map owned (λ name. name.now))) may.1
 
 -- ---- the inputs of a replay
 
 -- they are as the command asks for them
 pub asked_for : (args : ReplayCommand) (net : Net) (read : List PolicyFile) (events : List Event)
-    (setting : Setting) → IsNetOf args.net net → setting ≡ setting_of net read
-    → length read ≡ length args.policies → length args.policies ≤ most_policies → length events
-    ≤ max_events → All (λ file. file_length file ≤ 2000) read
-    → IsReplayOf args (record { setting = setting; events = events; report = args.report })
+    (setting : Setting) → IsCommandNetOf args.net net → setting ≡ setting_of net read
+    → length read ≡ length args.policies → length args.policies ≤ most_policy_arguments → length events
+    ≤ max_events → All (λ file. policy_file_length file ≤ 2000) read
+    → IsCommandReplayOf args (record { setting = setting; events = events; report = args.report })
 asked_for args net read events setting named own many some few short = record {
-  net = subst (λ s. IsNetOf args.net s.net) (sym own) named;
+  net = subst (λ s. IsCommandNetOf args.net s.net) (sym own) named;
   policies = named_each;
   report = refl;
   limits = record {
-    files = subst (λ (count : ℕ). count ≤ most_policies) (sym named_each) some;
+    files = subst (λ (count : ℕ). count ≤ most_policy_arguments) (sym named_each) some;
     events = few;
-    rows = subst (λ s. All (λ file. file_length file ≤ 2000) s.files) (sym own) short;
+    rows = subst (λ s. All (λ file. policy_file_length file ≤ 2000) s.files) (sym own) short;
   };
 } where
   named_each : length setting.files ≡ length args.policies
@@ -155,7 +155,7 @@ pub inputs_then : (known middle later : Option Files) (args : ReplayCommand) (ne
     → ForSome known (λ files. read_net files args.net ≡ Ok net)
     → ForSome middle (λ files. read_schedule net count files args.schedule ≡ Ok events)
     → ForSome later (λ files. read_files true ports files args.policies ≡ Ok read)
-    → ForSome known (λ files. replay_inputs_of files args ≡ planned_inputs args net read events)
+    → ForSome known (λ files. command_replay_inputs files args ≡ planned_inputs args net read events)
 inputs_then known middle later args net read events count ports first second many mask net_is
     events_are files_are = λ files is. let own_events =
     subst (λ (n : ℕ). read_schedule net n files args.schedule ≡ Ok events) many
@@ -167,9 +167,9 @@ inputs_then known middle later args net read events count ports first second man
 -- the inputs are what the files state, where these are known
 pub inputs_are : (known : Option Files) (args : ReplayCommand) (net : Net)
     (read : List PolicyFile) (events : List Event) (setting : Setting)
-    → ForSome known (λ files. replay_inputs_of files args ≡ planned_inputs args net read events)
+    → ForSome known (λ files. command_replay_inputs files args ≡ planned_inputs args net read events)
     → IsOk (first_plan args.policies net read) → setting ≡ setting_of net read
-    → ForSome known (λ files. replay_inputs_of files args
+    → ForSome known (λ files. command_replay_inputs files args
     ≡ Ok (record { setting = setting; events = events; report = args.report }))
 inputs_are known args net read events setting left planned own = λ files is.
     left files is ∙ and_then_ok (first_plan args.policies net read) _ planned
@@ -177,7 +177,7 @@ inputs_are known args net read events setting left planned own = λ files is.
 
 -- what accounts for a stop goes on to do so
 then_accounts : {X Y : Type 0} (read : Result X Refusal) (next : X → Result Y Refusal) (why : Stop)
-    → StatusAccounts read (status_of why) → StatusAccounts (and_then_input read next) (status_of why)
+    → CommandStatusAccounts read (command_status_of why) → CommandStatusAccounts (and_then_input read next) (command_status_of why)
 then_accounts read next (stop.Refused refusal) is = rw is refl
 then_accounts read next stop.ReadFault is = tt
 then_accounts read next stop.NoMemory is = tt
@@ -185,11 +185,11 @@ then_accounts read next stop.NoMemory is = tt
 -- where the first policy has no plan, what the files state accounts for the stop
 pub plan_accounts : (known : Option Files) (args : ReplayCommand) (net : Net)
     (read : List PolicyFile) (events : List Event) (why : Stop)
-    → ForSome known (λ files. replay_inputs_of files args ≡ planned_inputs args net read events)
-    → StatusAccounts (first_plan args.policies net read) (status_of why)
-    → ForSome known (λ files. StatusAccounts (replay_inputs_of files args) (status_of why))
+    → ForSome known (λ files. command_replay_inputs files args ≡ planned_inputs args net read events)
+    → CommandStatusAccounts (first_plan args.policies net read) (command_status_of why)
+    → ForSome known (λ files. CommandStatusAccounts (command_replay_inputs files args) (command_status_of why))
 plan_accounts known args net read events why left accounts = λ files is.
-    subst (λ (inputs : Result Inputs Refusal). StatusAccounts inputs (status_of why))
+    subst (λ (inputs : Result Inputs Refusal). CommandStatusAccounts inputs (command_status_of why))
     (sym (left files is)) (then_accounts (first_plan args.policies net read) _ why accounts)
 
 -- a check gives no stop that only a fault gives
@@ -209,8 +209,8 @@ no_fault_needed (Some files) status.NoMemory never needs = needs
 pub ends_in_check : {X V Y : Type 0} (read : Files → Result X Refusal) (seen : V → X)
     (checked : Result Y Refusal) (old new : ShelfState) (why : Stop) (result : Result V Stop)
     → IsErrAnd result (λ stop. stop ≡ why) → CommandStopsCheck checked why
-    → ForSome old.files (λ files. StatusAccounts (read files) (status_of why))
+    → ForSome old.files (λ files. CommandStatusAccounts (read files) (command_status_of why))
     → CommandEndsRead old.files read seen old new result
 ends_in_check read seen checked old new why (Ok value) is check accounts = absurd is
 ends_in_check read seen checked old new why (Err stop) is check accounts =
-    rw is (accounts, λ needs. absurd (no_fault_needed old.files (status_of why) check.1 needs))
+    rw is (accounts, λ needs. absurd (no_fault_needed old.files (command_status_of why) check.1 needs))

@@ -2,7 +2,7 @@
 use Rattle.std.proofs.Common.{◌∙◌, ◌≡◌, ◌⊎◌, Err, IsErrAnd, List, None, Ok, Option, Result, Some, refl, subst, sym, ℕ}
 use Rattle.base.proofs.Exports.{ForSome}
 use Rattle.shelf.specs.Exports.{Files, IsAfterReads, ShelfState}
-use Rattle.command_inputs.specs.Exports.{IsCalmRead, MayFollowFault, NamesOneOf, ReadsFiles, RefusesInput, missing_file_code, status_of, too_long}
+use Rattle.command_inputs.specs.Exports.{IsCalmCommandRead, CommandMayFollowFault, CommandStatusNamesOneOf, ReadsFiles, RefusesInput, missing_file_code, command_status_of, too_long}
 use Rattle.command_inputs.specs.declared.status.Refusal.{Refusal}
 use Rattle.command_inputs.specs.declared.status.Stop.{Stop}
 use Rattle.command_inputs.specs.declared.status.Stop.TheVariants as stop
@@ -10,18 +10,18 @@ use Rattle.command_inputs.proofs.InputRefusedNames.{AreAmong, among}
 
 -- no fault was counted, unless the stop is one that may follow a fault
 abbrev pub IsCalmStop : (old new : ShelfState) → Stop → Type 0
-IsCalmStop old new why = ¬ MayFollowFault old.files (status_of why) → new.faults ≡ old.faults
+IsCalmStop old new why = ¬ CommandMayFollowFault old.files (command_status_of why) → new.faults ≡ old.faults
 
 -- a reading that ends with this stop
 pub stops_with : {V : Type 0} (few all : List (List ℕ)) (most : ℕ) (old new : ShelfState)
     (why : Stop) (result : Result V Stop) → IsErrAnd result (λ stop. stop ≡ why)
     → AreAmong few all → IsAfterReads most old new → IsCalmStop old new why
-    → NamesOneOf few (status_of why) → ReadsFiles all most old new result
+    → CommandStatusNamesOneOf few (command_status_of why) → ReadsFiles all most old new result
 stops_with few all most old new why (Ok value) is wider after calm named = absurd is
 stops_with few all most old new why (Err stop) is wider after calm named = rw is (record {
   after = after;
   calm = calm;
-  stops = among few all (status_of why) wider named;
+  stops = among few all (command_status_of why) wider named;
 })
 
 -- one that ends with the stop of the last of its readings, before which no fault was counted
@@ -29,16 +29,16 @@ pub stops_behind : {V : Type 0} {n m : ℕ} (few all : List (List ℕ)) (most : 
     (old middle new : ShelfState) (why : Stop) (result : Result V Stop)
     → IsErrAnd result (λ stop. stop ≡ why) → AreAmong few all → IsAfterReads most old new
     → IsAfterReads n old middle → middle.faults ≡ old.faults → IsAfterReads m middle new
-    → IsCalmStop middle new why → NamesOneOf few (status_of why)
+    → IsCalmStop middle new why → CommandStatusNamesOneOf few (command_status_of why)
     → ReadsFiles all most old new result
 stops_behind few all most old middle new why result is wider after first none second calm named =
     stops_with few all most old new why result is wider after
     (λ may. calm (λ follows. may (subst (λ (files : Option Files).
-    MayFollowFault files (status_of why)) first.same_files follows)) ∙ none) named
+    CommandMayFollowFault files (command_status_of why)) first.same_files follows)) ∙ none) named
 
 -- none was counted at all
 pub all_calm : {V : Type 0} (old new : ShelfState) (result : Result V Stop)
-    → new.faults ≡ old.faults → IsCalmRead old new result
+    → new.faults ≡ old.faults → IsCalmCommandRead old new result
 all_calm old new (Ok value) calm = calm
 all_calm old new (Err why) calm = λ may. calm
 
@@ -47,7 +47,7 @@ pub refused_calm : (old new : ShelfState) (given : Refusal) (why : Stop)
     → (given.code ≡ missing_file_code) ⊎ (given.code ≡ too_long) → RefusesInput given why
     → ForSome old.files (λ files. new.faults ≡ old.faults) → IsCalmStop old new why
 refused_calm old new given why code refuses known = by old.files refl where
-  follows : (why : Stop) → RefusesInput given why → MayFollowFault None (status_of why)
+  follows : (why : Stop) → RefusesInput given why → CommandMayFollowFault None (command_status_of why)
   follows (stop.Refused refusal) is =
       subst (λ (other : Refusal). (other.code ≡ missing_file_code) ⊎ (other.code ≡ too_long)) (sym is)
       code
@@ -56,6 +56,6 @@ refused_calm old new given why code refuses known = by old.files refl where
 
   by : (files : Option Files) → old.files ≡ files → IsCalmStop old new why
   by None is = λ may. absurd (may
-      (subst (λ (files : Option Files). MayFollowFault files (status_of why)) (sym is)
+      (subst (λ (files : Option Files). CommandMayFollowFault files (command_status_of why)) (sym is)
       (follows why refuses)))
   by (Some files) is = λ may. known files is

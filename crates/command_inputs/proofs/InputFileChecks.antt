@@ -1,22 +1,22 @@
 -- Checks of what the bytes of a file of a policy state.
 use Rattle.std.proofs.Common.{◌≡◌, Bool, Err, IsSome, List, None, Ok, Option, Result, Some, ap, false, refl, sym, true, ℕ}
-use Rattle.base.specs.Exports.{IsRefusal}
+use Rattle.base.specs.Exports.{IsCallRefusal}
 use Rattle.update_machine.specs.Exports.{Failure, InRow, PolicyFile, Row, Whole}
 use Rattle.base.specs.declared.error.Failure.TheVariants as failure
-use Rattle.policy_file.specs.Exports.{first_in_file, first_without_port, is_change_text, on_ok, policy_code, policy_file_of, policy_of}
+use Rattle.policy_file.specs.Exports.{first_in_policy_file, first_policy_row_without_port, is_change_text, on_ok, policy_file_refusal_code, policy_file_of, policy_of}
 use Rattle.policy_file.specs.declared.error.PolicyRefusal.{PolicyRefusal}
 use Rattle.policy_file.specs.declared.ports.NoPort.{NoPort}
 use Rattle.world.specs.Exports.{own_policy}
-use Rattle.command_inputs.specs.Exports.{StatusAccounts, CommandStopsText, and_then_input, input_file_stated, first_input_stated, input_read_from, input_stated_as, status_of, input_with_ports}
+use Rattle.command_inputs.specs.Exports.{CommandStatusAccounts, CommandStopsText, and_then_input, input_file_stated, first_command_input_stated, input_read_from, input_stated_as, command_status_of, input_with_ports}
 use Rattle.command_inputs.specs.declared.status.Refusal.{Refusal}
 use Rattle.command_inputs.specs.declared.status.Stop.{Stop}
 use Rattle.command_inputs.specs.declared.status.Stop.TheVariants as stop
 
 -- a stop at the text is one of all that is read from it
 pub text_accounts : {X Y R : Type 0} (code : R → ℕ) (name : List ℕ) (read : Result X (InRow R))
-    (next : X → Result Y Refusal) (error : Failure (InRow R)) (why : Stop) → IsRefusal read error
+    (next : X → Result Y Refusal) (error : Failure (InRow R)) (why : Stop) → IsCallRefusal read error
     → CommandStopsText code name error why
-    → StatusAccounts (and_then_input (input_read_from code name read) next) (status_of why)
+    → CommandStatusAccounts (and_then_input (input_read_from code name read) next) (command_status_of why)
 text_accounts code name read next (failure.Refused row) (stop.Refused refusal) is same =
     rw is (ap Err (sym same))
 text_accounts code name read next (failure.Refused row) stop.NoMemory is same = tt
@@ -42,7 +42,7 @@ is_whole bytes file none is = by (policy_of bytes) file (rw (is_policy bytes non
 
 -- so a first file that is no change is checked as any other
 first_is : (ports : ℕ) (name bytes : List ℕ) → is_change_text bytes ≡ false
-    → first_input_stated ports name bytes ≡ input_file_stated ports name bytes
+    → first_command_input_stated ports name bytes ≡ input_file_stated ports name bytes
 first_is ports name bytes none = rw (none, is_policy bytes none) (by (policy_of bytes)) where
   by_ports : (rows : List Row) (lack : Option NoPort)
       → and_then_input (input_with_ports name rows lack) (λ own. Ok (Whole own))
@@ -51,11 +51,11 @@ first_is ports name bytes none = rw (none, is_policy bytes none) (by (policy_of 
   by_ports rows (Some lack) = refl
 
   by : (read : Result (List Row) (InRow PolicyRefusal))
-      → and_then_input (and_then_input (input_read_from policy_code name read)
-      (λ rows. input_with_ports name rows (first_without_port ports rows))) (λ own. Ok (Whole own))
-      ≡ and_then_input (input_read_from policy_code name (on_ok Whole read))
-      (λ file. input_with_ports name file (first_in_file ports file))
-  by (Ok rows) = by_ports rows (first_without_port ports rows)
+      → and_then_input (and_then_input (input_read_from policy_file_refusal_code name read)
+      (λ rows. input_with_ports name rows (first_policy_row_without_port ports rows))) (λ own. Ok (Whole own))
+      ≡ and_then_input (input_read_from policy_file_refusal_code name (on_ok Whole read))
+      (λ file. input_with_ports name file (first_in_policy_file ports file))
+  by (Ok rows) = by_ports rows (first_policy_row_without_port ports rows)
   by (Err refused) = refl
 
 pub stated_so : (is_first : Bool) (ports : ℕ) (name bytes : List ℕ)

@@ -6,7 +6,7 @@ use Rattle.shelf.specs.Exports.{Files, IsAfterReads, ShelfState}
 use Rattle.world.specs.Exports.{first_policy, own_policy}
 use Rattle.command_inputs.proofs.InputShelfReads.{reads_then}
 use Rattle.command_line.specs.Exports.{argument_names_seen}
-use Rattle.command_inputs.specs.Exports.{StatusAccounts, CommandEndsRead, and_then_input, command_file_reads, read_file, read_files, status_of, up_to_refusal}
+use Rattle.command_inputs.specs.Exports.{CommandStatusAccounts, CommandEndsRead, and_then_input, command_file_reads, read_file, read_files, command_status_of, command_files_to_refusal}
 use Rattle.command_inputs.specs.declared.status.Refusal.{Refusal}
 use Rattle.command_inputs.specs.declared.status.Stop.{Stop}
 use Rattle.command_inputs.specs.declared.status.Stop.TheVariants as stop
@@ -118,8 +118,8 @@ one_read ports names left name own file old middle now so_far read then =
 
 -- what the next one is refused for, all are
 refuses : (read : Result PolicyFile Refusal) (own : List PolicyFile)
-    (next : PolicyFile → Result (List PolicyFile) Refusal) (given : Stop) → StatusAccounts read
-    (status_of given) → StatusAccounts (and_more own (and_then_input read next)) (status_of given)
+    (next : PolicyFile → Result (List PolicyFile) Refusal) (given : Stop) → CommandStatusAccounts read
+    (command_status_of given) → CommandStatusAccounts (and_more own (and_then_input read next)) (command_status_of given)
 refuses read own next (stop.Refused refusal) is = rw is refl
 refuses read own next stop.ReadFault is = tt
 refuses read own next stop.NoMemory is = tt
@@ -135,7 +135,7 @@ pub stops_at : {V : Type 0} (ports : ℕ) (names left : List (List ℕ)) (name :
 stops_at ports names left name own seen old middle now given (Ok value) same so_far ends =
     absurd same
 stops_at ports names left name own seen old middle now given (Err stop) same so_far ends = rw same (
-  λ files is. subst (λ (read : Result (List PolicyFile) Refusal). StatusAccounts read (status_of given))
+  λ files is. subst (λ (read : Result (List PolicyFile) Refusal). CommandStatusAccounts read (command_status_of given))
       (sym (so_far.value files is))
       (refuses _ own _ given (ends.0 files (so_far.after.same_files ∙ is))),
   λ needs. omega (arith, so_far.after.faults, ends.1 (rw so_far.after.same_files needs)),
@@ -146,7 +146,7 @@ some_read : (is_first : Bool) (ports : ℕ) (known : Option Files) (name : List 
     (left : List (List ℕ)) → 1 ≤ command_file_reads is_first ports known (name ∷ left)
 some_read is_first ports None name left = omega arith
 some_read is_first ports (Some files) name left = by _ _ where
-  by : (accepted : Bool) (others : List Bool) → 1 ≤ up_to_refusal (accepted ∷ others)
+  by : (accepted : Bool) (others : List Bool) → 1 ≤ command_files_to_refusal (accepted ∷ others)
   by true others = omega arith
   by false others = omega arith
 

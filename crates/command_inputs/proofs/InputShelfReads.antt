@@ -3,14 +3,14 @@ use Rattle.std.proofs.Common.{◌+◌, ◌∙◌, ◌∷◌, ◌≡◌, ◌≤�
 use Rattle.base.proofs.Exports.{ForSome}
 use Rattle.net_file.specs.Exports.{port_mask}
 use Rattle.update_machine.specs.Exports.{Event, Net}
-use Rattle.shelf.specs.Exports.{Files, IsAfterReads, ShelfState, faults_counted_up, next_count}
-use Rattle.command_inputs.specs.Exports.{command_file_reads, most_reads, command_net_reads, read_net, read_schedule, switch_on, up_to_refusal}
+use Rattle.shelf.specs.Exports.{Files, IsAfterReads, ShelfState, shelf_faults_counted_up, next_count}
+use Rattle.command_inputs.specs.Exports.{command_file_reads, command_most_reads, command_net_reads, read_net, read_schedule, command_switch_on, command_files_to_refusal}
 use Rattle.command_line.specs.Exports.{Print, PrintCommand, Replay, ReplayCommand}
 
-faults_counted_up-faults_counted_up : (n m x : ℕ) → faults_counted_up n (faults_counted_up m x) ≡ faults_counted_up (n + m) x
-faults_counted_up-faults_counted_up zero m x = ap (λ k. faults_counted_up k x) (omega arith)
-faults_counted_up-faults_counted_up (suc n) m x = let sum : suc (n + m) ≡ suc n + m = omega arith in
-    ap next_count (faults_counted_up-faults_counted_up n m x) ∙ ap (λ k. faults_counted_up k x) sum
+shelf_faults_counted_up-shelf_faults_counted_up : (n m x : ℕ) → shelf_faults_counted_up n (shelf_faults_counted_up m x) ≡ shelf_faults_counted_up (n + m) x
+shelf_faults_counted_up-shelf_faults_counted_up zero m x = ap (λ k. shelf_faults_counted_up k x) (omega arith)
+shelf_faults_counted_up-shelf_faults_counted_up (suc n) m x = let sum : suc (n + m) ≡ suc n + m = omega arith in
+    ap next_count (shelf_faults_counted_up-shelf_faults_counted_up n m x) ∙ ap (λ k. shelf_faults_counted_up k x) sum
 
 -- some reads, and then others
 pub reads_then : (a b most : ℕ) (old middle new : ShelfState) → a + b ≤ most
@@ -23,7 +23,7 @@ reads_then a b most old middle new few first then =
       reads = (
         m + n,
         omega (arith, few, first.reads.1, then.reads.1),
-        then.reads.2 ∙ ap (faults_counted_up m) first.reads.2 ∙ faults_counted_up-faults_counted_up m n old.reads,
+        then.reads.2 ∙ ap (shelf_faults_counted_up m) first.reads.2 ∙ shelf_faults_counted_up-shelf_faults_counted_up m n old.reads,
       );
     }
 
@@ -38,18 +38,18 @@ fewer_reads n most old new few after = record {
 
 -- a replay reads its network
 pub net_read : (known : Option Files) (command : ReplayCommand)
-    → command_net_reads command.net ≤ most_reads known (Some (Replay command))
+    → command_net_reads command.net ≤ command_most_reads known (Some (Replay command))
 net_read None command = omega arith
 net_read (Some files) command = omega arith
 
 -- a replay reads its schedule too, where the network is accepted
 pub schedule_read : (known : Option Files) (command : ReplayCommand) (net : Net)
     → ForSome known (λ files. read_net files command.net ≡ Ok net)
-    → command_net_reads command.net + 1 ≤ most_reads known (Some (Replay command))
+    → command_net_reads command.net + 1 ≤ command_most_reads known (Some (Replay command))
 schedule_read None command net read = omega arith
 schedule_read (Some files) command net read = rw (read files refl) (more _ _) where
   more : (accepted : Bool) (others : List Bool) → command_net_reads command.net + 1
-      ≤ command_net_reads command.net + up_to_refusal (accepted ∷ others)
+      ≤ command_net_reads command.net + command_files_to_refusal (accepted ∷ others)
   more true others = omega arith
   more false others = omega arith
 
@@ -59,7 +59,7 @@ pub policies_read : (known : Option Files) (command : ReplayCommand) (net : Net)
     → ForSome known (λ files.
     read_schedule net (length command.policies) files command.schedule ≡ Ok events)
     → command_net_reads command.net + 1 + command_file_reads true (port_mask net.switches) known command.policies
-    ≤ most_reads known (Some (Replay command))
+    ≤ command_most_reads known (Some (Replay command))
 policies_read None command net events read accepted = omega arith
 policies_read (Some files) command net events read accepted =
     rw (read files refl, accepted files refl) (omega arith)
@@ -72,7 +72,7 @@ pub all_reads : (command : ReplayCommand) (net : Net) (events : List Event) (cou
     → ForSome one.files (λ files. read_schedule net count files command.schedule ≡ Ok events)
     → IsAfterReads (command_net_reads command.net) old one → IsAfterReads 1 one two
     → IsAfterReads (command_file_reads true ports two.files command.policies) two new
-    → IsAfterReads (most_reads old.files (Some (Replay command))) old new
+    → IsAfterReads (command_most_reads old.files (Some (Replay command))) old new
 all_reads command net events count ports old one two new many mask net_read events_read first second
     third =
     let most = command_net_reads command.net + 1 in
@@ -89,22 +89,22 @@ all_reads command net events count ports old one two new many mask net_read even
 
 -- a printing command reads its network
 pub net_asked_read : (known : Option Files) (command : PrintCommand)
-    → command_net_reads command.net ≤ most_reads known (Some (Print command))
+    → command_net_reads command.net ≤ command_most_reads known (Some (Print command))
 net_asked_read None command = omega arith
 net_asked_read (Some files) command = omega arith
 
 -- a printing command reads its policy too, where the network and the switch are accepted
 policy_read : (known : Option Files) (command : PrintCommand) (net : Net) (switch : Option ℕ)
-    → ForSome known (λ files. read_net files command.net ≡ Ok net) → switch_on net command.switch
-    ≡ Ok switch → command_net_reads command.net + 1 ≤ most_reads known (Some (Print command))
+    → ForSome known (λ files. read_net files command.net ≡ Ok net) → command_switch_on net command.switch
+    ≡ Ok switch → command_net_reads command.net + 1 ≤ command_most_reads known (Some (Print command))
 policy_read None command net switch read found = omega arith
 policy_read (Some files) command net switch read found = rw (read files refl, found) (omega arith)
 
 -- its reads, of its network and its policy
 pub both_reads : (command : PrintCommand) (net : Net) (switch : Option ℕ) (old one new : ShelfState)
     → ForSome old.files (λ files. read_net files command.net ≡ Ok net)
-    → switch_on net command.switch ≡ Ok switch → IsAfterReads (command_net_reads command.net) old one
-    → IsAfterReads 1 one new → IsAfterReads (most_reads old.files (Some (Print command))) old new
+    → command_switch_on net command.switch ≡ Ok switch → IsAfterReads (command_net_reads command.net) old one
+    → IsAfterReads 1 one new → IsAfterReads (command_most_reads old.files (Some (Print command))) old new
 both_reads command net switch old one new read found first second =
     reads_then (command_net_reads command.net) 1 _ old one new
     (policy_read old.files command net switch read found) first second

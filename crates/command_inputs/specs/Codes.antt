@@ -3,12 +3,12 @@
 use Rattle.std.specs.Prelude.{ℕ}
 
 -- a file has at most this many bytes
-abbrev pub most_file_bytes : ℕ
-most_file_bytes = 16_777_216
+abbrev pub program_most_file_bytes : ℕ
+program_most_file_bytes = 16_777_216
 
 -- a trace has at most this many bytes
-abbrev pub most_trace_bytes : ℕ
-most_trace_bytes = 268_435_456
+abbrev pub program_most_trace_bytes : ℕ
+program_most_trace_bytes = 268_435_456
 
 -- there is no such file
 abbrev pub missing_file_code : ℕ
@@ -19,13 +19,13 @@ abbrev pub too_long : ℕ
 too_long = 20
 
 -- a row names a port that the network doesn't have
-abbrev pub no_port : ℕ
-no_port = 13
+abbrev pub command_no_port_code : ℕ
+command_no_port_code = 13
 
 -- the first file of a command is a change
-abbrev pub first_change_code : ℕ
-first_change_code = 23
+abbrev pub command_first_change_code : ℕ
+command_first_change_code = 23
 
 -- the network doesn't have the switch
-abbrev pub no_such_switch : ℕ
-no_such_switch = 21
+abbrev pub command_missing_switch_code : ℕ
+command_missing_switch_code = 21

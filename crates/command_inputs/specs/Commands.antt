@@ -3,9 +3,9 @@ use Rattle.std.specs.Prelude.{◌≡◌, ◌≤◌, length, ⊤}
 use Rattle.net_file.specs.Exports.{IsNet}
 use Rattle.steps.specs.Exports.{max_events}
 use Rattle.world.specs.Exports.{IsWorldBegun, world_setting_at}
-use Rattle.command_inputs.specs.Asked.{IsPlayOf, MayBePlayed}
-use Rattle.command_inputs.specs.PrintsAndAudits.{IsAuditingOf, IsPrintingOf}
-use Rattle.command_inputs.specs.Tasks.{Auditing, Inputs, Printing, Task, Audit, Play, Print}
+use Rattle.command_inputs.specs.Asked.{IsPlayOfCommand, MayPlayCommandInputs}
+use Rattle.command_inputs.specs.PrintsAndAudits.{IsCommandAuditingOf, IsCommandPrintingOf}
+use Rattle.command_inputs.specs.Tasks.{CommandAuditInputs, Inputs, Printing, Task, Audit, Play, Print}
 use Rattle.command_line.specs.Commands as grammar
 use Rattle.command_inputs.specs.declared.auditing.AuditInputs.{AuditInputs}
 use Rattle.command_inputs.specs.declared.inputs.PlayInputs.{PlayInputs}
@@ -29,7 +29,7 @@ printing_stated inputs = record {
   switch = inputs.switch;
 }
 
-abbrev pub auditing_stated : AuditInputs → Auditing
+abbrev pub auditing_stated : AuditInputs → CommandAuditInputs
 auditing_stated inputs = record { trace = inputs.trace.items; files = inputs.files.items }
 
 abbrev pub task_stated : declared_task.Task → Task
@@ -39,21 +39,21 @@ task_stated (asked.Audit inputs) = Audit (auditing_stated inputs)
 
 -- in the world of a play nothing happened yet, its network is the one that was read, and the
 -- events may happen on it
-pub record AreReadyToPlay (inputs : PlayInputs) : Type 0 where
+pub record AreCommandInputsReady (inputs : PlayInputs) : Type 0 where
   pub begun : IsWorldBegun (world_setting_at inputs.world) inputs.world
   pub net : inputs.world.net ≡ inputs.net
-  pub sound : MayBePlayed (task_inputs_stated inputs)
+  pub sound : MayPlayCommandInputs (task_inputs_stated inputs)
   pub few : length inputs.events.items ≤ max_events
 
 -- what is required of a task before its work; nothing of a trace
 abbrev pub IsReadyTask : declared_task.Task → Type 0
-IsReadyTask (asked.Play inputs) = AreReadyToPlay inputs
+IsReadyTask (asked.Play inputs) = AreCommandInputsReady inputs
 IsReadyTask (asked.Print inputs) = IsNet inputs.net
 IsReadyTask (asked.Audit inputs) = ⊤
 
 -- the task is of the command's kind, and is as the command names it
-abbrev pub IsTaskOf : grammar.Command → Task → Type 0
-IsTaskOf command (Play inputs) = IsPlayOf command inputs
-IsTaskOf (grammar.Print args) (Print printing) = IsPrintingOf args printing
-IsTaskOf (grammar.Audit args) (Audit auditing) = IsAuditingOf args auditing
-IsTaskOf _ _ = ⊥
+abbrev pub IsTaskOfCommand : grammar.Command → Task → Type 0
+IsTaskOfCommand command (Play inputs) = IsPlayOfCommand command inputs
+IsTaskOfCommand (grammar.Print args) (Print printing) = IsCommandPrintingOf args printing
+IsTaskOfCommand (grammar.Audit args) (Audit auditing) = IsCommandAuditingOf args auditing
+IsTaskOfCommand _ _ = ⊥

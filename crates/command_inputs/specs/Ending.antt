@@ -8,7 +8,7 @@ use Rattle.shelf.specs.declared.output.SinkError.{SinkError}
 use Rattle.command_line.specs.Exports.{Command}
 use Rattle.command_line.specs.Commands as asked
 use Rattle.command_inputs.specs.Codes.{missing_file_code, too_long}
-use Rattle.command_inputs.specs.Inputs.{load_input_name, most_reads}
+use Rattle.command_inputs.specs.Inputs.{command_load_input_name, command_most_reads}
 use Rattle.command_inputs.specs.declared.status.Refusal.{Refusal}
 use Rattle.command_inputs.specs.declared.status.Status.{Status}
 use Rattle.command_inputs.specs.declared.status.Stop.{Stop}
@@ -17,18 +17,18 @@ use Rattle.command_inputs.specs.declared.status.Status.TheVariants as status
 use Rattle.command_inputs.specs.declared.status.Stop.TheVariants as stop
 
 -- the status of a command that ended before its work
-abbrev pub status_of : Stop → Status
-status_of (stop.Refused refusal) = status.Input refusal.file refusal.code refusal.row
-status_of stop.ReadFault = status.ReadFault
-status_of stop.NoMemory = status.NoMemory
+abbrev pub command_status_of : Stop → Status
+command_status_of (stop.Refused refusal) = status.Input refusal.file refusal.code refusal.row
+command_status_of stop.ReadFault = status.ReadFault
+command_status_of stop.NoMemory = status.NoMemory
 
 -- the status of a command after its work: by whether that was written, and whether its play ran to
 -- its end or stopped full at a row
-abbrev pub status_after : Result (⊤) SinkError → Option ℕ → Status
-status_after (Ok done) None = status.Ok
-status_after (Ok done) (Some row) = status.Full row
-status_after (Err sink.Failed) full = status.WriteFault
-status_after (Err sink.NoMemory) full = status.NoMemory
+abbrev pub command_status_after : Result (⊤) SinkError → Option ℕ → Status
+command_status_after (Ok done) None = status.Ok
+command_status_after (Ok done) (Some row) = status.Full row
+command_status_after (Err sink.Failed) full = status.WriteFault
+command_status_after (Err sink.NoMemory) full = status.NoMemory
 
 abbrev pub status_number : Status → ℕ
 status_number status.Ok = 0
@@ -49,23 +49,23 @@ NeedsReadFault _ _ = ⊥
 
 -- a status with which the shelf may have counted a fault: one that only a fault causes; and if the
 -- files are not known, out of memory, which may occur while an absent file is reported
-abbrev pub MayFollowFault : Option Files → Status → Type 0
-MayFollowFault files status.ReadFault = ⊤
-MayFollowFault None (status.Input file code row) = (code ≡ missing_file_code) ⊎ (code ≡ too_long)
-MayFollowFault None status.NoMemory = ⊤
-MayFollowFault _ _ = ⊥
+abbrev pub CommandMayFollowFault : Option Files → Status → Type 0
+CommandMayFollowFault files status.ReadFault = ⊤
+CommandMayFollowFault None (status.Input file code row) = (code ≡ missing_file_code) ⊎ (code ≡ too_long)
+CommandMayFollowFault None status.NoMemory = ⊤
+CommandMayFollowFault _ _ = ⊥
 
 -- what a status says of what there is to read: a refusal is the one that the definitions give, and
 -- work was done only on what they accept
-abbrev pub StatusAccounts : {X : Type 0} → Result X Refusal → Status → Type 0
-StatusAccounts read (status.Input file code row) =
+abbrev pub CommandStatusAccounts : {X : Type 0} → Result X Refusal → Status → Type 0
+CommandStatusAccounts read (status.Input file code row) =
     read ≡ Err (record { file = file; code = code; row = row })
-StatusAccounts read status.Words = ⊥
-StatusAccounts read status.Ok = IsOk read
-StatusAccounts read (status.No line) = IsOk read
-StatusAccounts read status.WriteFault = IsOk read
-StatusAccounts read (status.Full row) = IsOk read
-StatusAccounts read _ = ⊤
+CommandStatusAccounts read status.Words = ⊥
+CommandStatusAccounts read status.Ok = IsOk read
+CommandStatusAccounts read (status.No line) = IsOk read
+CommandStatusAccounts read status.WriteFault = IsOk read
+CommandStatusAccounts read (status.Full row) = IsOk read
+CommandStatusAccounts read _ = ⊤
 
 -- how a reading ends: with the value that the known files give, as `seen` shows it; or with a stop
 -- for which the known files account, and with a fault of the shelf if it needs one
@@ -73,14 +73,14 @@ abbrev pub CommandEndsRead : {K X V : Type 0} → (known : Option K) → (read :
     → (seen : V → X) → (old new : ShelfState) → Result V Stop → Type 0
 CommandEndsRead known read seen old new (Ok value) = ForSome known (λ given. read given ≡ Ok (seen value))
 CommandEndsRead known read seen old new (Err stop) =
-    ForSome known (λ given. StatusAccounts (read given) (status_of stop))
-    × (NeedsReadFault old.files (status_of stop) → FaultsRose old.faults new.faults)
+    ForSome known (λ given. CommandStatusAccounts (read given) (command_status_of stop))
+    × (NeedsReadFault old.files (command_status_of stop) → FaultsRose old.faults new.faults)
 
 -- a reading counts no fault, unless it stops as one that met a fault may
-abbrev pub IsCalmRead : {V : Type 0} → (old new : ShelfState) → Result V Stop → Type 0
-IsCalmRead old new (Ok value) = new.faults ≡ old.faults
-IsCalmRead old new (Err stop) =
-    ¬ MayFollowFault old.files (status_of stop) → new.faults ≡ old.faults
+abbrev pub IsCalmCommandRead : {V : Type 0} → (old new : ShelfState) → Result V Stop → Type 0
+IsCalmCommandRead old new (Ok value) = new.faults ≡ old.faults
+IsCalmCommandRead old new (Err stop) =
+    ¬ CommandMayFollowFault old.files (command_status_of stop) → new.faults ≡ old.faults
 
 -- ---- which names a refusal may name
 
@@ -91,36 +91,36 @@ names_in None = []
 names_in (Some (asked.Replay args)) = option_to_list args.net ++ args.schedule ∷ args.policies
 names_in (Some (asked.Print args)) =
     option_to_list args.net ++ args.policy ∷ option_to_list args.switch
-names_in (Some (asked.Load n)) = load_input_name ∷ []
+names_in (Some (asked.Load n)) = command_load_input_name ∷ []
 names_in (Some (asked.Audit args)) = args.trace ∷ args.policies
 
-abbrev pub IsOneOf : List (List ℕ) → List ℕ → Type 0
-IsOneOf [] file = ⊥
-IsOneOf (name ∷ names) file = (file ≡ name) ⊎ IsOneOf names file
+abbrev pub IsOneOfCommandFiles : List (List ℕ) → List ℕ → Type 0
+IsOneOfCommandFiles [] file = ⊥
+IsOneOfCommandFiles (name ∷ names) file = (file ≡ name) ⊎ IsOneOfCommandFiles names file
 
 -- a refusal names one of these; and that of a file that is absent, or too long, names row 0
-abbrev pub NamesOneOf : List (List ℕ) → Status → Type 0
-NamesOneOf names (status.Input file code row) = IsOneOf names file
+abbrev pub CommandStatusNamesOneOf : List (List ℕ) → Status → Type 0
+CommandStatusNamesOneOf names (status.Input file code row) = IsOneOfCommandFiles names file
     × ((code ≡ missing_file_code) ⊎ (code ≡ too_long) → row ≡ 0)
-NamesOneOf names _ = ⊤
+CommandStatusNamesOneOf names _ = ⊤
 
 -- the same for a reading that stops
-abbrev pub StopNamesOneOf : {V : Type 0} → List (List ℕ) → Result V Stop → Type 0
-StopNamesOneOf names (Ok value) = ⊤
-StopNamesOneOf names (Err stop) = NamesOneOf names (status_of stop)
+abbrev pub CommandStopNamesOneOf : {V : Type 0} → List (List ℕ) → Result V Stop → Type 0
+CommandStopNamesOneOf names (Ok value) = ⊤
+CommandStopNamesOneOf names (Err stop) = CommandStatusNamesOneOf names (command_status_of stop)
 
 -- a reading of the files of these names, by at most this many reads of the shelf: it counts no
 -- fault, unless it stops as one that met a fault may, and what it refuses is one of them
 pub record ReadsFiles {V : Type 0} (names : List (List ℕ)) (most : ℕ) (old new : ShelfState)
     (result : Result V Stop) : Type 0 where
   pub after : IsAfterReads most old new
-  pub calm : IsCalmRead old new result
-  pub stops : StopNamesOneOf names result
+  pub calm : IsCalmCommandRead old new result
+  pub stops : CommandStopNamesOneOf names result
 
 -- the same for what a command names
 abbrev pub CommandReadsFor : {V : Type 0} → Command → (old new : ShelfState) → Result V Stop → Type 0
 CommandReadsFor command old new result =
-    ReadsFiles (names_in (Some command)) (most_reads old.files (Some command)) old new result
+    ReadsFiles (names_in (Some command)) (command_most_reads old.files (Some command)) old new result
 
 -- no file is read: a load case has none, and arguments that the grammar refuses name none to read
 abbrev pub CommandReadsNothing : Option Command → Type 0
@@ -138,7 +138,7 @@ RefusesInput given stop.ReadFault = ⊥
 
 -- a stop at a check of what was read: this accounts for it, and no fault causes it
 abbrev pub CommandStopsCheck : {X : Type 0} → Result X Refusal → Stop → Type 0
-CommandStopsCheck read stop = StatusAccounts read (status_of stop) × (NeedsReadFault None (status_of stop) → ⊥)
+CommandStopsCheck read stop = CommandStatusAccounts read (command_status_of stop) × (NeedsReadFault None (command_status_of stop) → ⊥)
 
 -- a stop at a text that is refused in a row by a refusal of this code, or for which memory ran out
 abbrev pub CommandStopsText : {R : Type 0} → (R → ℕ) → List ℕ → Failure (InRow R) → Stop → Type 0

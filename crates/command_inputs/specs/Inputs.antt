@@ -4,11 +4,11 @@ use Rattle.std.specs.Prelude.{[], if◌then◌else◌, ◌+◌, ◌∷◌, Bool,
 use Rattle.base.specs.Exports.{option_map_or}
 use Rattle.schedule.specs.Case.{LoadCase, load_case}
 use Rattle.net_file.specs.Exports.{net_code, net_of, port_mask, solo_net, switch_number}
-use Rattle.update_machine.specs.Exports.{Event, InRow, Net, PolicyFile, Row, Whole, plan_code, setting_of}
-use Rattle.partition.specs.Plan.{Hosted, plan_of}
+use Rattle.update_machine.specs.Exports.{Event, InRow, Net, PolicyFile, Row, Whole, machine_plan_code, setting_of}
+use Rattle.partition.specs.Plan.{Hosted, partition_plan_of}
 use Rattle.policy_rules.specs.Hosted as no_plan
-use Rattle.policy_rules.specs.Exports.{NoPlan}
-use Rattle.policy_file.specs.Exports.{first_in_file, first_without_port, is_change_text, policy_code, policy_file_of, policy_of}
+use Rattle.policy_rules.specs.Exports.{NoPolicyPlan}
+use Rattle.policy_file.specs.Exports.{first_in_policy_file, first_policy_row_without_port, is_change_text, policy_file_refusal_code, policy_file_of, policy_of}
 use Rattle.policy_file.specs.declared.ports.NoPort.{NoPort}
 use Rattle.schedule.specs.Reading.{schedule_of}
 use Rattle.schedule.specs.Refusals.{schedule_code}
@@ -16,10 +16,10 @@ use Rattle.shelf.specs.Exports.{Files, file_named}
 use Rattle.world.specs.Exports.{first_policy}
 use Rattle.command_line.specs.Exports.{AuditCommand, Command, PrintCommand, ReplayCommand}
 use Rattle.command_line.specs.Commands as asked
-use Rattle.command_inputs.specs.Codes.{first_change_code, missing_file_code, most_file_bytes, most_trace_bytes, no_port, no_such_switch, too_long}
+use Rattle.command_inputs.specs.Codes.{command_first_change_code, missing_file_code, program_most_file_bytes, program_most_trace_bytes, command_no_port_code, command_missing_switch_code, too_long}
 use Rattle.command_line.specs.declared.report.Report.TheVariants as report
 use Rattle.command_inputs.specs.declared.status.Refusal.{Refusal}
-use Rattle.command_inputs.specs.Tasks.{Auditing, Inputs, Printing, Task, Audit, Play, Print}
+use Rattle.command_inputs.specs.Tasks.{CommandAuditInputs, Inputs, Printing, Task, Audit, Play, Print}
 
 -- the reading continues from a value that was read; a refusal ends it
 abbrev pub and_then_input : {X Y : Type 0} → Result X Refusal → (X → Result Y Refusal) → Result Y Refusal
@@ -29,21 +29,21 @@ and_then_input (Err refusal) next = Err refusal
 -- ---- one file
 
 -- a file that is refused as a whole
-abbrev pub refused_whole_file : List ℕ → ℕ → Refusal
-refused_whole_file name code = record { file = name; code = code; row = 0 }
+abbrev pub command_refused_whole_file : List ℕ → ℕ → Refusal
+command_refused_whole_file name code = record { file = name; code = code; row = 0 }
 
-abbrev pub shelf_content_from : ℕ → List ℕ → Option (List ℕ) → Result (List ℕ) Refusal
-shelf_content_from most name None = Err (refused_whole_file name missing_file_code)
-shelf_content_from most name (Some bytes) =
-    if nat_le (length bytes) most then Ok bytes else Err (refused_whole_file name too_long)
+abbrev pub command_content_from : ℕ → List ℕ → Option (List ℕ) → Result (List ℕ) Refusal
+command_content_from most name None = Err (command_refused_whole_file name missing_file_code)
+command_content_from most name (Some bytes) =
+    if nat_le (length bytes) most then Ok bytes else Err (command_refused_whole_file name too_long)
 
 -- the content of the file of this name, unless there is none or it has more than this many bytes
-abbrev pub shelf_content_within : ℕ → Files → List ℕ → Result (List ℕ) Refusal
-shelf_content_within most files name = shelf_content_from most name (file_named files name)
+abbrev pub command_content_within : ℕ → Files → List ℕ → Result (List ℕ) Refusal
+command_content_within most files name = command_content_from most name (file_named files name)
 
 -- the same for any file but a trace
 abbrev pub content_of : Files → List ℕ → Result (List ℕ) Refusal
-content_of files name = shelf_content_within most_file_bytes files name
+content_of files name = command_content_within program_most_file_bytes files name
 
 -- the value that the file states, or the refusal of its row, by its code
 abbrev pub input_read_from : {X R : Type 0} → (R → ℕ) → List ℕ → Result X (InRow R) → Result X Refusal
@@ -52,42 +52,42 @@ input_read_from code name (Err refused) =
     Err (record { file = name; code = code refused.refusal; row = refused.row })
 
 -- the events that the bytes of this file state for the network and this many policy files
-abbrev pub schedule_in : Net → ℕ → List ℕ → List ℕ → Result (List Event) Refusal
-schedule_in net policies name bytes = input_read_from schedule_code name (schedule_of net policies bytes)
+abbrev pub command_schedule_in : Net → ℕ → List ℕ → List ℕ → Result (List Event) Refusal
+command_schedule_in net policies name bytes = input_read_from schedule_code name (schedule_of net policies bytes)
 
 abbrev pub input_with_ports : {X : Type 0} → List ℕ → X → Option NoPort → Result X Refusal
 input_with_ports name value None = Ok value
-input_with_ports name value (Some lack) = Err (record { file = name; code = no_port; row = lack.row })
+input_with_ports name value (Some lack) = Err (record { file = name; code = command_no_port_code; row = lack.row })
 
 -- the rows that the bytes of this file state, unless one names a port outside this mask
-abbrev pub policy_stated : ℕ → List ℕ → List ℕ → Result (List Row) Refusal
-policy_stated ports name bytes =
-    and_then_input (input_read_from policy_code name (policy_of bytes)) (λ rows.
-    input_with_ports name rows (first_without_port ports rows))
+abbrev pub command_policy_stated : ℕ → List ℕ → List ℕ → Result (List Row) Refusal
+command_policy_stated ports name bytes =
+    and_then_input (input_read_from policy_file_refusal_code name (policy_of bytes)) (λ rows.
+    input_with_ports name rows (first_policy_row_without_port ports rows))
 
 -- what the bytes of this file state, a policy or a change, unless a row that it states names a
 -- port outside this mask
 abbrev pub input_file_stated : ℕ → List ℕ → List ℕ → Result PolicyFile Refusal
 input_file_stated ports name bytes =
-    and_then_input (input_read_from policy_code name (policy_file_of bytes)) (λ file.
-    input_with_ports name file (first_in_file ports file))
+    and_then_input (input_read_from policy_file_refusal_code name (policy_file_of bytes)) (λ file.
+    input_with_ports name file (first_in_policy_file ports file))
 
 -- the same for a first file, unless it is a change
-abbrev pub first_input_stated : ℕ → List ℕ → List ℕ → Result PolicyFile Refusal
-first_input_stated ports name bytes =
-    if is_change_text bytes then Err (refused_whole_file name first_change_code)
-    else and_then_input (policy_stated ports name bytes) (λ rows. Ok (Whole rows))
+abbrev pub first_command_input_stated : ℕ → List ℕ → List ℕ → Result PolicyFile Refusal
+first_command_input_stated ports name bytes =
+    if is_change_text bytes then Err (command_refused_whole_file name command_first_change_code)
+    else and_then_input (command_policy_stated ports name bytes) (λ rows. Ok (Whole rows))
 
 abbrev pub input_stated_as : Bool → ℕ → List ℕ → List ℕ → Result PolicyFile Refusal
-input_stated_as true ports name bytes = first_input_stated ports name bytes
+input_stated_as true ports name bytes = first_command_input_stated ports name bytes
 input_stated_as false ports name bytes = input_file_stated ports name bytes
 
 abbrev pub read_schedule : Net → ℕ → Files → List ℕ → Result (List Event) Refusal
 read_schedule net policies files name =
-    and_then_input (content_of files name) (schedule_in net policies name)
+    and_then_input (content_of files name) (command_schedule_in net policies name)
 
 abbrev pub read_policy : ℕ → Files → List ℕ → Result (List Row) Refusal
-read_policy ports files name = and_then_input (content_of files name) (policy_stated ports name)
+read_policy ports files name = and_then_input (content_of files name) (command_policy_stated ports name)
 
 -- the policy or the change of this file, which may be the first one
 abbrev pub read_file : Bool → ℕ → Files → List ℕ → Result PolicyFile Refusal
@@ -103,25 +103,25 @@ read_files is_first ports files (name ∷ names) =
     (λ file. and_then_input (read_files false ports files names) (λ more. Ok (file ∷ more)))
 
 -- the network that the bytes of this file state
-abbrev pub net_stated : List ℕ → List ℕ → Result Net Refusal
-net_stated name bytes = input_read_from net_code name (net_of bytes)
+abbrev pub command_net_stated : List ℕ → List ℕ → Result Net Refusal
+command_net_stated name bytes = input_read_from net_code name (net_of bytes)
 
 -- the network of this file, or that of one switch if none is named
 abbrev pub read_net : Files → Option (List ℕ) → Result Net Refusal
 read_net files None = Ok solo_net
-read_net files (Some name) = and_then_input (content_of files name) (net_stated name)
+read_net files (Some name) = and_then_input (content_of files name) (command_net_stated name)
 
 -- ---- plans
 
-abbrev pub input_plan_from : List ℕ → Result (List Hosted) NoPlan → Result (List Hosted) Refusal
+abbrev pub input_plan_from : List ℕ → Result (List Hosted) NoPolicyPlan → Result (List Hosted) Refusal
 input_plan_from name (Ok hosted) = Ok hosted
 input_plan_from name (Err (no_plan.NoRoom partition)) =
-    Err (record { file = name; code = plan_code (no_plan.NoRoom partition); row = partition })
-input_plan_from name (Err why) = Err (refused_whole_file name (plan_code why))
+    Err (record { file = name; code = machine_plan_code (no_plan.NoRoom partition); row = partition })
+input_plan_from name (Err why) = Err (command_refused_whole_file name (machine_plan_code why))
 
 -- the plan of the rows of this file on the network
 abbrev pub input_plan_on : List ℕ → Net → List Row → Result (List Hosted) Refusal
-input_plan_on name net rows = input_plan_from name (plan_of rows net)
+input_plan_on name net rows = input_plan_from name (partition_plan_of rows net)
 
 -- the plan of the policy of the first of these files, which have these names
 abbrev pub first_plan : List (List ℕ) → Net → List PolicyFile → Result (List Hosted) Refusal
@@ -132,8 +132,8 @@ first_plan names net files =
 
 -- the files of a replay: the network is read and checked, then the schedule, then the policies
 -- and changes in their order, and then the first policy is planned
-abbrev pub replay_inputs_of : Files → ReplayCommand → Result Inputs Refusal
-replay_inputs_of files command =
+abbrev pub command_replay_inputs : Files → ReplayCommand → Result Inputs Refusal
+command_replay_inputs files command =
     and_then_input (read_net files command.net) (λ net.
     and_then_input (read_schedule net (length command.policies) files command.schedule) (λ events.
     and_then_input (read_files true (port_mask net.switches) files command.policies) (λ read.
@@ -145,41 +145,41 @@ replay_inputs_of files command =
     })))))
 
 -- the policies of a load case, each in its own file
-abbrev pub case_files : LoadCase → List PolicyFile
-case_files load = map Whole load.policies
+abbrev pub load_command_files : LoadCase → List PolicyFile
+load_command_files load = map Whole load.policies
 
 -- a load case, whose summary is printed
-abbrev pub case_inputs : LoadCase → Inputs
-case_inputs load = record {
-  setting = setting_of load.net (case_files load);
+abbrev pub load_command_inputs : LoadCase → Inputs
+load_command_inputs load = record {
+  setting = setting_of load.net (load_command_files load);
   events = load.events;
   report = report.Summary;
 }
 
 -- the file that a refusal of a load case names
-abbrev pub load_input_name : List ℕ
-load_input_name = codes "load"
+abbrev pub command_load_input_name : List ℕ
+command_load_input_name = codes "load"
 
 -- the load case of this number, whose first policy is planned
-abbrev pub load_inputs : ℕ → Result Inputs Refusal
-load_inputs n =
+abbrev pub command_load_inputs : ℕ → Result Inputs Refusal
+command_load_inputs n =
     let load = load_case n in
-    and_then_input (first_plan (load_input_name ∷ []) load.net (case_files load)) (λ hosted.
-    Ok (case_inputs load))
+    and_then_input (first_plan (command_load_input_name ∷ []) load.net (load_command_files load)) (λ hosted.
+    Ok (load_command_inputs load))
 
 -- ---- all files of a plan
 
 -- the number of the switch of this name, if one is named
-abbrev pub switch_on : Net → Option (List ℕ) → Result (Option ℕ) Refusal
-switch_on net None = Ok None
-switch_on net (Some name) =
-    option_map_or (λ s. Ok (Some s)) (switch_number net.switches name) (Err (refused_whole_file name no_such_switch))
+abbrev pub command_switch_on : Net → Option (List ℕ) → Result (Option ℕ) Refusal
+command_switch_on net None = Ok None
+command_switch_on net (Some name) =
+    option_map_or (λ s. Ok (Some s)) (switch_number net.switches name) (Err (command_refused_whole_file name command_missing_switch_code))
 
 -- the network, and the switch on it
 abbrev pub printed_net_asked : Files → PrintCommand → Result (Net × Option ℕ) Refusal
 printed_net_asked files command =
     and_then_input (read_net files command.net) (λ net.
-    and_then_input (switch_on net command.switch) (λ switch.
+    and_then_input (command_switch_on net command.switch) (λ switch.
     Ok (net, switch)))
 
 -- the network is read and checked, then the switch is looked for, then the policy is read and
@@ -194,14 +194,14 @@ printing_task_of files command =
 -- ---- all files of an audit
 
 -- the ports of a network of one switch, which are 0 to 63
-abbrev pub solo_ports : ℕ
-solo_ports = 18446744073709551615
+abbrev pub command_solo_ports : ℕ
+command_solo_ports = 18446744073709551615
 
 -- the trace is read, then the policies and changes in their order
-abbrev pub auditing_of : Files → AuditCommand → Result Auditing Refusal
+abbrev pub auditing_of : Files → AuditCommand → Result CommandAuditInputs Refusal
 auditing_of files command =
-    and_then_input (shelf_content_within most_trace_bytes files command.trace) (λ trace.
-    and_then_input (read_files true solo_ports files command.policies) (λ read.
+    and_then_input (command_content_within program_most_trace_bytes files command.trace) (λ trace.
+    and_then_input (read_files true command_solo_ports files command.policies) (λ read.
     Ok (record { trace = trace; files = read })))
 
 -- ---- all commands
@@ -212,15 +212,15 @@ play_task read = and_then_input read (λ inputs. Ok (Play inputs))
 abbrev pub print_task : Result Printing Refusal → Result Task Refusal
 print_task read = and_then_input read (λ printing. Ok (Print printing))
 
-abbrev pub audit_task : Result Auditing Refusal → Result Task Refusal
+abbrev pub audit_task : Result CommandAuditInputs Refusal → Result Task Refusal
 audit_task read = and_then_input read (λ auditing. Ok (Audit auditing))
 
 -- the task or the refusal, if it is known: that of a load case always is, because it reads no
 -- files, and that of another command is if the files are known
 abbrev pub task_of : Option Files → Command → Option (Result Task Refusal)
-task_of files (asked.Replay args) = option_map (λ all. play_task (replay_inputs_of all args)) files
+task_of files (asked.Replay args) = option_map (λ all. play_task (command_replay_inputs all args)) files
 task_of files (asked.Print args) = option_map (λ all. print_task (printing_task_of all args)) files
-task_of files (asked.Load n) = Some (play_task (load_inputs n))
+task_of files (asked.Load n) = Some (play_task (command_load_inputs n))
 task_of files (asked.Audit args) = option_map (λ all. audit_task (auditing_of all args)) files
 
 -- the same, if the arguments are a command
@@ -234,10 +234,10 @@ IsTaskAccepted (Some (Ok task)) = ⊤
 IsTaskAccepted _ = ⊥
 
 -- of files in order, accepted or not, how many are read: none after the first that is refused
-abbrev pub up_to_refusal : List Bool → ℕ
-up_to_refusal [] = 0
-up_to_refusal (true ∷ files) = 1 + up_to_refusal files
-up_to_refusal (false ∷ files) = 1
+abbrev pub command_files_to_refusal : List Bool → ℕ
+command_files_to_refusal [] = 0
+command_files_to_refusal (true ∷ files) = 1 + command_files_to_refusal files
+command_files_to_refusal (false ∷ files) = 1
 
 -- how many reads the network takes: one if it has a file
 abbrev pub command_net_reads : Option (List ℕ) → ℕ
@@ -254,31 +254,31 @@ are_inputs_accepted is_first ports files (name ∷ names) =
 abbrev pub command_file_reads : Bool → ℕ → Option Files → List (List ℕ) → ℕ
 command_file_reads is_first ports None names = length names
 command_file_reads is_first ports (Some files) names =
-    up_to_refusal (are_inputs_accepted is_first ports files names)
+    command_files_to_refusal (are_inputs_accepted is_first ports files names)
 
 -- how many reads a replay makes at most after that of its network
-abbrev pub replay_reads : Files → ReplayCommand → Result Net Refusal → ℕ
-replay_reads files args (Err refusal) = 0
-replay_reads files args (Ok net) =
-    up_to_refusal (is_ok (read_schedule net (length args.policies) files args.schedule)
+abbrev pub command_replay_reads : Files → ReplayCommand → Result Net Refusal → ℕ
+command_replay_reads files args (Err refusal) = 0
+command_replay_reads files args (Ok net) =
+    command_files_to_refusal (is_ok (read_schedule net (length args.policies) files args.schedule)
     ∷ are_inputs_accepted true (port_mask net.switches) files args.policies)
 
 -- how many reads an audit makes at most
-abbrev pub audit_reads : Files → AuditCommand → ℕ
-audit_reads files args =
-    up_to_refusal (is_ok (shelf_content_within most_trace_bytes files args.trace)
-    ∷ are_inputs_accepted true solo_ports files args.policies)
+abbrev pub command_audit_reads : Files → AuditCommand → ℕ
+command_audit_reads files args =
+    command_files_to_refusal (is_ok (command_content_within program_most_trace_bytes files args.trace)
+    ∷ are_inputs_accepted true command_solo_ports files args.policies)
 
 -- how many reads a command makes at most
-abbrev pub most_reads : Option Files → Option Command → ℕ
-most_reads files None = 0
-most_reads None (Some (asked.Replay args)) = command_net_reads args.net + 1 + length args.policies
-most_reads None (Some (asked.Print args)) = command_net_reads args.net + 1
-most_reads None (Some (asked.Load n)) = 0
-most_reads None (Some (asked.Audit args)) = 1 + length args.policies
-most_reads (Some files) (Some (asked.Replay args)) =
-    command_net_reads args.net + replay_reads files args (read_net files args.net)
-most_reads (Some files) (Some (asked.Print args)) =
+abbrev pub command_most_reads : Option Files → Option Command → ℕ
+command_most_reads files None = 0
+command_most_reads None (Some (asked.Replay args)) = command_net_reads args.net + 1 + length args.policies
+command_most_reads None (Some (asked.Print args)) = command_net_reads args.net + 1
+command_most_reads None (Some (asked.Load n)) = 0
+command_most_reads None (Some (asked.Audit args)) = 1 + length args.policies
+command_most_reads (Some files) (Some (asked.Replay args)) =
+    command_net_reads args.net + command_replay_reads files args (read_net files args.net)
+command_most_reads (Some files) (Some (asked.Print args)) =
     command_net_reads args.net + (if is_ok (printed_net_asked files args) then 1 else 0)
-most_reads (Some files) (Some (asked.Load n)) = 0
-most_reads (Some files) (Some (asked.Audit args)) = audit_reads files args
+command_most_reads (Some files) (Some (asked.Load n)) = 0
+command_most_reads (Some files) (Some (asked.Audit args)) = command_audit_reads files args

@@ -11,6 +11,6 @@ pub record Printing : Type 0 where
   pub switch : Option ℕ
 
 -- a trace, and the files of the policies and changes of its versions
-pub record Auditing : Type 0 where
+pub record CommandAuditInputs : Type 0 where
   pub trace : List ℕ
   pub files : List PolicyFile

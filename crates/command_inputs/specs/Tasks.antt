@@ -3,7 +3,7 @@ use Rattle.std.specs.Prelude.{◌≡◌, List, None, Option, Some, ℕ}
 use Rattle.update_machine.specs.Exports.{Event, Net, Setting}
 use Rattle.net_file.specs.Exports.{IsNet, solo_net}
 use Rattle.command_line.specs.declared.report.Report.{Report}
-pub use Rattle.command_inputs.specs.NotPlayed.{Auditing, Printing}
+pub use Rattle.command_inputs.specs.NotPlayed.{CommandAuditInputs, Printing}
 
 pub record Inputs : Type 0 where
   pub setting : Setting
@@ -16,9 +16,9 @@ pub record Inputs : Type 0 where
 pub data Task : Type 0 where
   Play : Inputs → Task
   Print : Printing → Task
-  Audit : Auditing → Task
+  Audit : CommandAuditInputs → Task
 
 -- the network is that of a file, or of one switch
-abbrev pub IsNetOf : Option (List ℕ) → Net → Type 0
-IsNetOf None net = net ≡ solo_net
-IsNetOf (Some name) net = IsNet net
+abbrev pub IsCommandNetOf : Option (List ℕ) → Net → Type 0
+IsCommandNetOf None net = net ≡ solo_net
+IsCommandNetOf (Some name) net = IsNet net

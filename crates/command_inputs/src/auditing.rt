@@ -1,7 +1,7 @@
 //! Audits: reads a trace and its policies, and then checks the trace.
 ghost use Rattle.std.specs.Prelude.{Ok, IfOk, length};
-ghost use Rattle.command_inputs.specs.Exports.{Audit, CommandEndsRead, IsAuditingOf, CommandReadsFor, auditing_of, auditing_stated};
-ghost use Rattle.command_line.specs.Named.{MayBePolicies, audit_named};
+ghost use Rattle.command_inputs.specs.Exports.{Audit, CommandEndsRead, IsCommandAuditingOf, CommandReadsFor, auditing_of, auditing_stated};
+ghost use Rattle.command_line.specs.Named.{MayBePolicyArguments, audit_arguments_named};
 ghost use Rattle.command_line.specs.Commands as grammar;
 
 use crate::inputs::{read_file_within, read_files};
@@ -31,14 +31,14 @@ pub fn read_auditing<F: Shelf>(
     shelf: &mut F,
     args: &AuditArgs<'_>,
 ) -> Result<AuditInputs, Stop>
-    requires { MayBePolicies (length args.now.policies.items) }
+    requires { MayBePolicyArguments (length args.now.policies.items) }
     ensures read { CommandEndsRead (F.state shelf.old).files
-        (λ files. auditing_of files (audit_named args.now)) auditing_stated
+        (λ files. auditing_of files (audit_arguments_named args.now)) auditing_stated
         (F.state shelf.old) (F.state shelf.new) result }
-    ensures shelf { CommandReadsFor (grammar.Audit (audit_named args.now))
+    ensures shelf { CommandReadsFor (grammar.Audit (audit_arguments_named args.now))
         (F.state shelf.old) (F.state shelf.new) result }
     ensures asked { IfOk result (λ inputs.
-        IsAuditingOf (audit_named args.now) (auditing_stated inputs)) }
+        IsCommandAuditingOf (audit_arguments_named args.now) (auditing_stated inputs)) }
 {
     let trace = read_file_within(alloc, shelf, args.trace, MAX_TRACE_BYTES)?;
     let names: &[&str] = &args.policies;

@@ -1,13 +1,13 @@
 //! Reads and checks the files of a command, one after another.
 ghost use Rattle.std.specs.Prelude.{◌≡◌, ◌<◌, ◌≤◌, All, IsSome, IsTrue, IfOk, IfErr, Ok, [], ◌∷◌, length, true};
 ghost use Rattle.net_file.specs.Net.{IsNet};
-ghost use Rattle.policy_file.specs.Ports.{names_port_of};
-ghost use Rattle.policy_rules.specs.Exports.{PolicyFileGivesOnly, IsPolicy, IsPolicyFile};
-ghost use Rattle.schedule.specs.Reading.{AreSoundEvents};
-ghost use Rattle.policy_file.specs.Changes.{file_length};
+ghost use Rattle.policy_file.specs.Ports.{policy_file_names_port};
+ghost use Rattle.policy_rules.specs.Exports.{PolicyRulesGiveOnly, IsPolicy, IsPolicyOrAmendment};
+ghost use Rattle.schedule.specs.Reading.{AreSoundScheduleEvents};
+ghost use Rattle.policy_file.specs.Changes.{policy_file_length};
 ghost use Rattle.world.specs.Files.{first_policy, own_policy};
-ghost use Rattle.command_inputs.specs.Exports.{AreReadyToPlay, CommandEndsRead, IsReplayOf, ReadsFiles, CommandReadsFor, RefusesInput, CommandStopsCheck, content_of, shelf_content_within, command_file_reads, replay_inputs_of, task_inputs_stated, read_file, read_files, read_policy, read_schedule, schedule_in};
-ghost use Rattle.command_line.specs.Named.{HasPolicies, argument_names_seen, replay_named};
+ghost use Rattle.command_inputs.specs.Exports.{AreCommandInputsReady, CommandEndsRead, IsCommandReplayOf, ReadsFiles, CommandReadsFor, RefusesInput, CommandStopsCheck, content_of, command_content_within, command_file_reads, command_replay_inputs, task_inputs_stated, read_file, read_files, read_policy, read_schedule, command_schedule_in};
+ghost use Rattle.command_line.specs.Named.{HasPolicyArguments, argument_names_seen, replay_arguments_named};
 ghost use Rattle.command_line.specs.Commands.{Replay};
 
 use crate::networks::take_network;
@@ -58,7 +58,7 @@ pub fn read_file_within<F: Shelf>(
     most: u64,
 ) -> Result<Vec<u8>, Stop>
     ensures read { CommandEndsRead (F.state shelf.old).files
-        (λ files. shelf_content_within most files name.now)
+        (λ files. command_content_within most files name.now)
         (λ bytes. bytes.items) (F.state shelf.old) (F.state shelf.new) result }
     ensures shelf { ReadsFiles (name.now ∷ []) 1 (F.state shelf.old) (F.state shelf.new) result }
     ensures within { IfOk result (λ bytes. length bytes.items ≤ most) }
@@ -82,10 +82,10 @@ fn check_schedule(
 ) -> Result<Vec<Event>, Stop>
     requires { IsNet net.now }
     ensures value { IfOk result (λ events.
-        schedule_in net.now policies name.now bytes.now ≡ Ok events.items) }
+        command_schedule_in net.now policies name.now bytes.now ≡ Ok events.items) }
     ensures stopped { IfErr result
-        (CommandStopsCheck (schedule_in net.now policies name.now bytes.now)) }
-    ensures sound { IfOk result (λ events. AreSoundEvents net.now policies events.items) }
+        (CommandStopsCheck (command_schedule_in net.now policies name.now bytes.now)) }
+    ensures sound { IfOk result (λ events. AreSoundScheduleEvents net.now policies events.items) }
 {
     match schedule::read_schedule(alloc, bytes, net, policies) {
         Ok(events) => Ok(events),
@@ -107,7 +107,7 @@ fn read_schedule<F: Shelf>(
         (λ files. read_schedule net.now policies files name.now) (λ events. events.items)
         (F.state shelf.old) (F.state shelf.new) result }
     ensures shelf { ReadsFiles (name.now ∷ []) 1 (F.state shelf.old) (F.state shelf.new) result }
-    ensures sound { IfOk result (λ events. AreSoundEvents net.now policies events.items) }
+    ensures sound { IfOk result (λ events. AreSoundScheduleEvents net.now policies events.items) }
 {
     let bytes = read_bytes(alloc, shelf, name)?;
     check_schedule(alloc, name, &bytes, net, policies)
@@ -123,7 +123,7 @@ pub fn read_policy<F: Shelf>(
     ensures read { CommandEndsRead (F.state shelf.old).files (λ files. read_policy ports files name.now)
         (λ policy. policy) (F.state shelf.old) (F.state shelf.new) result }
     ensures shelf { ReadsFiles (name.now ∷ []) 1 (F.state shelf.old) (F.state shelf.new) result }
-    ensures own_ports { IfOk result (All (λ row. IsTrue (names_port_of ports row.action))) }
+    ensures own_ports { IfOk result (All (λ row. IsTrue (policy_file_names_port ports row.action))) }
     ensures sound { IfOk result IsPolicy }
     ensures few { IfOk result (λ policy. length policy ≤ 2000) }
 {
@@ -144,9 +144,9 @@ fn read_file<F: Shelf>(
         (λ files. read_file is_first ports files name.now) (λ file. file)
         (F.state shelf.old) (F.state shelf.new) result }
     ensures shelf { ReadsFiles (name.now ∷ []) 1 (F.state shelf.old) (F.state shelf.new) result }
-    ensures own_ports { IfOk result (PolicyFileGivesOnly (λ row. IsTrue (names_port_of ports row.action))) }
-    ensures sound { IfOk result IsPolicyFile }
-    ensures few { IfOk result (λ file. file_length file ≤ 2000) }
+    ensures own_ports { IfOk result (PolicyRulesGiveOnly (λ row. IsTrue (policy_file_names_port ports row.action))) }
+    ensures sound { IfOk result IsPolicyOrAmendment }
+    ensures few { IfOk result (λ file. policy_file_length file ≤ 2000) }
     ensures whole { is_first ≡ true → IfOk result (λ file. IsSome (own_policy file)) }
 {
     let bytes = read_bytes(alloc, shelf, name)?;
@@ -171,9 +171,9 @@ pub fn read_files<F: Shelf>(
     ensures many { IfOk result (λ read. length read.items ≡ length names.now) }
     ensures first { IfOk result (λ read. IsSome (first_policy read.items)) }
     ensures own_ports { IfOk result (λ read.
-        All (PolicyFileGivesOnly (λ row. IsTrue (names_port_of ports row.action))) read.items) }
-    ensures sound { IfOk result (λ read. All IsPolicyFile read.items) }
-    ensures few { IfOk result (λ read. All (λ file. file_length file ≤ 2000) read.items) }
+        All (PolicyRulesGiveOnly (λ row. IsTrue (policy_file_names_port ports row.action))) read.items) }
+    ensures sound { IfOk result (λ read. All IsPolicyOrAmendment read.items) }
+    ensures few { IfOk result (λ read. All (λ file. policy_file_length file ≤ 2000) read.items) }
 {
     let mut read = Vec::new(alloc);
     for name in names {
@@ -200,15 +200,15 @@ pub fn read_inputs<F: Shelf>(
     shelf: &mut F,
     args: &ReplayArgs<'_>,
 ) -> Result<PlayInputs, Stop>
-    requires { HasPolicies args.now }
+    requires { HasPolicyArguments args.now }
     ensures read { CommandEndsRead (F.state shelf.old).files
-        (λ files. replay_inputs_of files (replay_named args.now)) task_inputs_stated
+        (λ files. command_replay_inputs files (replay_arguments_named args.now)) task_inputs_stated
         (F.state shelf.old) (F.state shelf.new) result }
-    ensures shelf { CommandReadsFor (Replay (replay_named args.now))
+    ensures shelf { CommandReadsFor (Replay (replay_arguments_named args.now))
         (F.state shelf.old) (F.state shelf.new) result }
-    ensures ready { IfOk result AreReadyToPlay }
+    ensures ready { IfOk result AreCommandInputsReady }
     ensures asked { IfOk result (λ inputs.
-        IsReplayOf (replay_named args.now) (task_inputs_stated inputs)) }
+        IsCommandReplayOf (replay_arguments_named args.now) (task_inputs_stated inputs)) }
 {
     let net = take_network(alloc, shelf, args.net)?;
     let names: &[&str] = &args.policies;

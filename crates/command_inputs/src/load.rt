@@ -1,6 +1,6 @@
 //! Load cases as a command uses them.
 ghost use Rattle.std.specs.Prelude.{◌≡◌, ◌≤◌, IfOk, IfErr, Ok, [], ◌∷◌};
-ghost use Rattle.command_inputs.specs.Exports.{AreReadyToPlay, StopNamesOneOf, CommandStopsCheck, case_inputs, task_inputs_stated, load_inputs, load_input_name};
+ghost use Rattle.command_inputs.specs.Exports.{AreCommandInputsReady, CommandStopNamesOneOf, CommandStopsCheck, load_command_inputs, task_inputs_stated, command_load_inputs, command_load_input_name};
 ghost use Rattle.schedule.specs.Case.{load_case};
 
 use crate::inputs::PlayInputs;
@@ -17,11 +17,11 @@ const LOAD_NAME: &str = "load";
 /// The inputs of the load case of this number, with its first policy in force.
 pub fn draw_inputs(alloc: Global, n: u32) -> Result<PlayInputs, Stop>
     requires { (1 ≤ n) × (n ≤ 1000) }
-    ensures value { IfOk result (λ inputs. load_inputs n ≡ Ok (task_inputs_stated inputs)) }
-    ensures stopped { IfErr result (CommandStopsCheck (load_inputs n)) }
-    ensures stops { StopNamesOneOf (load_input_name ∷ []) result }
-    ensures ready { IfOk result AreReadyToPlay }
-    ensures drawn { IfOk result (λ inputs. task_inputs_stated inputs ≡ case_inputs (load_case n)) }
+    ensures value { IfOk result (λ inputs. command_load_inputs n ≡ Ok (task_inputs_stated inputs)) }
+    ensures stopped { IfErr result (CommandStopsCheck (command_load_inputs n)) }
+    ensures stops { CommandStopNamesOneOf (command_load_input_name ∷ []) result }
+    ensures ready { IfOk result AreCommandInputsReady }
+    ensures drawn { IfOk result (λ inputs. task_inputs_stated inputs ≡ load_command_inputs (load_case n)) }
 {
     net_port_laws();
     let Ok(case) = load_case(alloc, n) else {

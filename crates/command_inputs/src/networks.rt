@@ -1,8 +1,8 @@
 //! The networks of commands, from a file or of one switch, and the switches on them.
 ghost use Rattle.std.specs.Prelude.{◌≡◌, IfOk, IfErr, Ok, option_to_list};
 ghost use Rattle.net_file.specs.Net.{IsNet};
-ghost use Rattle.command_line.specs.Named.{net_named};
-ghost use Rattle.command_inputs.specs.Exports.{CommandEndsRead, IsNetOf, IsSwitchOf, ReadsFiles, StopNamesOneOf, CommandStopsCheck, command_net_reads, net_stated, read_net, switch_on};
+ghost use Rattle.command_line.specs.Named.{argument_name_seen};
+ghost use Rattle.command_inputs.specs.Exports.{CommandEndsRead, IsCommandNetOf, IsCommandSwitchOf, ReadsFiles, CommandStopNamesOneOf, CommandStopsCheck, command_net_reads, command_net_stated, read_net, command_switch_on};
 
 use crate::inputs::{read_bytes, refused};
 use crate::policies::NO_SWITCH;
@@ -13,8 +13,8 @@ use std::alloc::Global;
 
 /// The network that the bytes of this file state.
 fn check_net_file(alloc: Global, name: &str, bytes: &[u8]) -> Result<Net, Stop>
-    ensures value { IfOk result (λ net. net_stated name.now bytes.now ≡ Ok net) }
-    ensures stopped { IfErr result (CommandStopsCheck (net_stated name.now bytes.now)) }
+    ensures value { IfOk result (λ net. command_net_stated name.now bytes.now ≡ Ok net) }
+    ensures stopped { IfErr result (CommandStopsCheck (command_net_stated name.now bytes.now)) }
     ensures sound { IfOk result IsNet }
 {
     match read_net(alloc, bytes) {
@@ -26,7 +26,7 @@ fn check_net_file(alloc: Global, name: &str, bytes: &[u8]) -> Result<Net, Stop>
 
 /// The network of one switch.
 fn one_switch(alloc: Global) -> Result<Net, Stop>
-    ensures value { IfOk result (IsNetOf None) }
+    ensures value { IfOk result (IsCommandNetOf None) }
     ensures sound { IfOk result IsNet }
     ensures stopped { IfErr result (λ stop. stop ≡ Stop.NoMemory) }
 {
@@ -38,12 +38,12 @@ fn one_switch(alloc: Global) -> Result<Net, Stop>
 
 /// The network of the file, or that of one switch if none is named.
 pub fn take_network<F: Shelf>(alloc: Global, shelf: &mut F, name: Option<&str>) -> Result<Net, Stop>
-    ensures read { CommandEndsRead (F.state shelf.old).files (λ files. read_net files (net_named name.entry))
+    ensures read { CommandEndsRead (F.state shelf.old).files (λ files. read_net files (argument_name_seen name.entry))
         (λ net. net) (F.state shelf.old) (F.state shelf.new) result }
-    ensures shelf { ReadsFiles (option_to_list (net_named name.entry))
-        (command_net_reads (net_named name.entry)) (F.state shelf.old) (F.state shelf.new) result }
+    ensures shelf { ReadsFiles (option_to_list (argument_name_seen name.entry))
+        (command_net_reads (argument_name_seen name.entry)) (F.state shelf.old) (F.state shelf.new) result }
     ensures sound { IfOk result IsNet }
-    ensures named { IfOk result (IsNetOf (net_named name.entry)) }
+    ensures named { IfOk result (IsCommandNetOf (argument_name_seen name.entry)) }
 {
     match name {
         Some(name) => {
@@ -61,10 +61,10 @@ pub fn find_printed_switch(
     name: Option<&str>,
 ) -> Result<Option<u32>, Stop>
     requires { IsNet net.now }
-    ensures value { IfOk result (λ switch. switch_on net.now (net_named name.entry) ≡ Ok switch) }
-    ensures stopped { IfErr result (CommandStopsCheck (switch_on net.now (net_named name.entry))) }
-    ensures stops { StopNamesOneOf (option_to_list (net_named name.entry)) result }
-    ensures named { IfOk result (IsSwitchOf (net_named name.entry) net.now) }
+    ensures value { IfOk result (λ switch. command_switch_on net.now (argument_name_seen name.entry) ≡ Ok switch) }
+    ensures stopped { IfErr result (CommandStopsCheck (command_switch_on net.now (argument_name_seen name.entry))) }
+    ensures stops { CommandStopNamesOneOf (option_to_list (argument_name_seen name.entry)) result }
+    ensures named { IfOk result (IsCommandSwitchOf (argument_name_seen name.entry) net.now) }
 {
     let Some(name) = name else {
         return Ok(None);

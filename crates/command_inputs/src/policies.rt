@@ -1,17 +1,17 @@
 //! The policies and changes of commands: read from bytes, and checked against the network.
 ghost use Rattle.std.specs.Prelude.{◌≡◌, ◌≤◌, All, List, IfOk, IfErr, IsOk, IsSome, IsTrue, None, Ok, OnOk, [], ◌∷◌, length, map, true};
-ghost use Rattle.policy_file.specs.Changes.{file_length};
-ghost use Rattle.policy_file.specs.Reading.{policy_code};
-ghost use Rattle.policy_file.specs.Ports.{names_port_of};
-ghost use Rattle.policy_rules.specs.Exports.{PolicyFileGivesOnly, IsPolicy, IsPolicyFile};
+ghost use Rattle.policy_file.specs.Changes.{policy_file_length};
+ghost use Rattle.policy_file.specs.Reading.{policy_file_refusal_code};
+ghost use Rattle.policy_file.specs.Ports.{policy_file_names_port};
+ghost use Rattle.policy_rules.specs.Exports.{PolicyRulesGiveOnly, IsPolicy, IsPolicyOrAmendment};
 ghost use Rattle.policy_rules.specs.declared.file.PolicyFile.TheVariants.{Whole};
 ghost use Rattle.policy_rules.specs.declared.policy.Row.{Row};
-ghost use Rattle.controller.specs.Leads.{LeadEveryHeader};
+ghost use Rattle.controller.specs.Leads.{PlanLeadsEveryHeader};
 ghost use Rattle.controller.specs.Plan.{RefusesPlan};
-ghost use Rattle.command_inputs.specs.Exports.{NeedsReadFault, StopNamesOneOf, CommandStopsCheck, CommandStopsText, status_of, first_plan, input_plan_on, policy_stated, input_stated_as};
+ghost use Rattle.command_inputs.specs.Exports.{NeedsReadFault, CommandStopNamesOneOf, CommandStopsCheck, CommandStopsText, command_status_of, first_plan, input_plan_on, command_policy_stated, input_stated_as};
 ghost use Rattle.net_file.specs.Exports.{IsNet, port_mask};
 ghost use Rattle.net_file.specs.declared.net.Net.{Net};
-ghost use Rattle.partition.specs.Plan.{IsPartitionPlan, plan_of};
+ghost use Rattle.partition.specs.Plan.{IsPartitionPlan, partition_plan_of};
 ghost use Rattle.update_machine.specs.Setting.{setting_of, IsSetting};
 ghost use Rattle.command_line.specs.Named.{argument_names_seen};
 ghost use Rattle.world.specs.Files.{first_policy, own_policy};
@@ -38,8 +38,8 @@ pub const NO_SWITCH: u32 = 21;
 
 /// The stop at a file whose text is refused or for which memory runs out.
 fn not_read(alloc: Global, name: &str, error: PolicyError) -> Stop
-    ensures text { CommandStopsText policy_code name.now error result }
-    ensures no_fault { ¬ NeedsReadFault None (status_of result) }
+    ensures text { CommandStopsText policy_file_refusal_code name.now error result }
+    ensures no_fault { ¬ NeedsReadFault None (command_status_of result) }
 {
     match error {
         PolicyError::Refused(why) => refused(alloc, name, why.refusal.code(), why.row),
@@ -49,9 +49,9 @@ fn not_read(alloc: Global, name: &str, error: PolicyError) -> Stop
 
 /// The policy that the bytes of this file state, which names only ports of the mask.
 pub fn check_policy(alloc: Global, name: &str, bytes: &[u8], ports: u64) -> Result<Policy, Stop>
-    ensures value { IfOk result (λ policy. policy_stated ports name.now bytes.now ≡ Ok policy) }
-    ensures stopped { IfErr result (CommandStopsCheck (policy_stated ports name.now bytes.now)) }
-    ensures own_ports { IfOk result (All (λ row. IsTrue (names_port_of ports row.action))) }
+    ensures value { IfOk result (λ policy. command_policy_stated ports name.now bytes.now ≡ Ok policy) }
+    ensures stopped { IfErr result (CommandStopsCheck (command_policy_stated ports name.now bytes.now)) }
+    ensures own_ports { IfOk result (All (λ row. IsTrue (policy_file_names_port ports row.action))) }
     ensures sound { IfOk result IsPolicy }
     ensures few { IfOk result (λ policy. length policy ≤ 2000) }
 {
@@ -72,9 +72,9 @@ pub fn check_file(
     ensures value { IfOk result (λ file.
         input_stated_as is_first ports name.now bytes.now ≡ Ok file) }
     ensures stopped { IfErr result (CommandStopsCheck (input_stated_as is_first ports name.now bytes.now)) }
-    ensures own_ports { IfOk result (PolicyFileGivesOnly (λ row. IsTrue (names_port_of ports row.action))) }
-    ensures sound { IfOk result IsPolicyFile }
-    ensures few { IfOk result (λ file. file_length file ≤ 2000) }
+    ensures own_ports { IfOk result (PolicyRulesGiveOnly (λ row. IsTrue (policy_file_names_port ports row.action))) }
+    ensures sound { IfOk result IsPolicyOrAmendment }
+    ensures few { IfOk result (λ file. policy_file_length file ≤ 2000) }
     ensures whole { is_first ≡ true → IfOk result (λ file. IsSome (own_policy file)) }
 {
     if is_first && is_change(alloc, bytes)? {
@@ -122,9 +122,9 @@ pub fn begin_world(
     requires net { IsNet net.now }
     requires first { IsSome (first_policy files.items) }
     requires named { 1 ≤ length names.now }
-    requires sound { All IsPolicyFile files.items }
-    requires ports { All (PolicyFileGivesOnly (λ row.
-        IsTrue (names_port_of (port_mask net.now.switches) row.action))) files.items }
+    requires sound { All IsPolicyOrAmendment files.items }
+    requires ports { All (PolicyRulesGiveOnly (λ row.
+        IsTrue (policy_file_names_port (port_mask net.now.switches) row.action))) files.items }
     ensures planned { OnOk result
         (IsOk (first_plan (argument_names_seen names.now) net.now files.items)) }
     ensures begun { IfOk result (IsWorldBegun (setting_of net.now files.items)) }
@@ -143,12 +143,12 @@ pub fn begin_world(
 pub fn plan_policy(alloc: Global, name: &str, policy: &Policy, net: &Net) -> Result<Plan, Stop>
     requires { IsNet net.now }
     ensures value { IfOk result (λ plan. input_plan_on name.now net.now policy.now ≡ Ok plan.hosted) }
-    ensures planned { IfOk result (λ plan. plan_of policy.now net.now ≡ Ok plan.hosted) }
+    ensures planned { IfOk result (λ plan. partition_plan_of policy.now net.now ≡ Ok plan.hosted) }
     ensures parts { IfOk result (λ plan. IsPartitionPlan policy.now net.now plan.hosted) }
-    ensures leads { IfOk result (λ plan. LeadEveryHeader policy.now plan.hosted) }
+    ensures leads { IfOk result (λ plan. PlanLeadsEveryHeader policy.now plan.hosted) }
     ensures policy { IfOk result (λ plan. plan.policy ≡ policy.now) }
     ensures stopped { IfErr result (CommandStopsCheck (input_plan_on name.now net.now policy.now)) }
-    ensures stops { StopNamesOneOf (name.now ∷ []) result }
+    ensures stops { CommandStopNamesOneOf (name.now ∷ []) result }
 {
     compile(alloc, policy, net).map_err(|error| no_plan(alloc, name, error))
 }

@@ -1,8 +1,8 @@
 //! Reads the files of a plan or of a switch's tables, and writes their text.
 ghost use Rattle.std.specs.Prelude.{Ok, Option, IfOk};
 ghost use Rattle.net_file.specs.Net.{IsNet};
-ghost use Rattle.command_inputs.specs.Exports.{CommandEndsRead, IsPrintingOf, Print, CommandReadsFor, printing_task_of, printing_stated};
-ghost use Rattle.command_line.specs.Named.{print_named};
+ghost use Rattle.command_inputs.specs.Exports.{CommandEndsRead, IsCommandPrintingOf, Print, CommandReadsFor, printing_task_of, printing_stated};
+ghost use Rattle.command_line.specs.Named.{print_arguments_named};
 ghost use Rattle.command_line.specs.Commands as grammar;
 
 use crate::inputs::read_policy;
@@ -31,13 +31,13 @@ pub fn read_printing<F: Shelf>(
     args: &PrintArgs<'_>,
 ) -> Result<PrintInputs, Stop>
     ensures read { CommandEndsRead (F.state shelf.old).files
-        (λ files. printing_task_of files (print_named args.now)) printing_stated
+        (λ files. printing_task_of files (print_arguments_named args.now)) printing_stated
         (F.state shelf.old) (F.state shelf.new) result }
-    ensures shelf { CommandReadsFor (grammar.Print (print_named args.now))
+    ensures shelf { CommandReadsFor (grammar.Print (print_arguments_named args.now))
         (F.state shelf.old) (F.state shelf.new) result }
     ensures sound { IfOk result (λ inputs. IsNet inputs.net) }
     ensures planned { IfOk result (λ inputs.
-        IsPrintingOf (print_named args.now) (printing_stated inputs)) }
+        IsCommandPrintingOf (print_arguments_named args.now) (printing_stated inputs)) }
 {
     policy_laws();
     let net = take_network(alloc, shelf, args.net)?;

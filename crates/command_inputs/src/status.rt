@@ -3,7 +3,7 @@ ghost use Rattle.std.specs.Prelude.{◌≡◌, IfOk};
 ghost use Rattle.shelf.specs.SinkWrites.{IsAfterWrite};
 ghost use Rattle.command_inputs.specs.declared.status.Status.TheVariants.{Ok as DoneStatus};
 ghost use Rattle.command_inputs.specs.declared.status.Stop.TheVariants.{NoMemory};
-ghost use Rattle.command_inputs.specs.Exports.{OutputWritesLine, input_line, numbered_line, status_after, status_line, status_number, status_of};
+ghost use Rattle.command_inputs.specs.Exports.{OutputWritesLine, command_input_line, command_numbered_line, command_status_after, command_status_line, status_number, command_status_of};
 
 use itoa::Buffer;
 use shelf::{Sink, SinkError, write_pieces, write_whole};
@@ -108,7 +108,7 @@ pub enum Status {
 }
 
 impl From<Stop> for Status {
-    ghost from_gives = { λ stop status. status ≡ status_of stop };
+    ghost from_gives = { λ stop status. status ≡ command_status_of stop };
 
     fn from(stop: Stop) -> Self {
         match stop {
@@ -123,7 +123,7 @@ impl Status {
     /// The status of a command after its work: by whether that was written, and whether its play
     /// ran to its end or stopped full at a row.
     pub fn after(written: Result<(), SinkError>, full: Option<u32>) -> Status
-        ensures { result ≡ status_after written full }
+        ensures { result ≡ command_status_after written full }
     {
         match written {
             Ok(()) => match full {
@@ -157,7 +157,7 @@ impl Status {
 ///
 /// A fault of the sink changes nothing but the sink, which then has a part of the line.
 pub fn write_status<E: Sink>(status: &Status, errs: &mut E)
-    ensures line { OutputWritesLine (status_line status.now) E.takes_memory
+    ensures line { OutputWritesLine (command_status_line status.now) E.takes_memory
         (E.state errs.old) (E.state errs.new) }
     ensures silent { status.now ≡ DoneStatus → errs.new ≡ errs.old }
 {
@@ -165,7 +165,7 @@ pub fn write_status<E: Sink>(status: &Status, errs: &mut E)
 }
 
 fn write_status_line<E: Sink>(status: &Status, errs: &mut E) -> Result<(), SinkError>
-    ensures after { IsAfterWrite (status_line status.now) E.takes_memory
+    ensures after { IsAfterWrite (command_status_line status.now) E.takes_memory
         (E.state errs.old) (E.state errs.new) result }
     ensures silent { status.now ≡ DoneStatus → errs.new ≡ errs.old }
 {
@@ -182,7 +182,7 @@ fn write_status_line<E: Sink>(status: &Status, errs: &mut E) -> Result<(), SinkE
 }
 
 fn write_numbered_status<E: Sink>(text: &[u8], number: u32, errs: &mut E) -> Result<(), SinkError>
-    ensures { IsAfterWrite (numbered_line text.now number) E.takes_memory
+    ensures { IsAfterWrite (command_numbered_line text.now number) E.takes_memory
         (E.state errs.old) (E.state errs.new) result }
 {
     let mut digits = Buffer::new();
@@ -197,7 +197,7 @@ fn write_input_line<E: Sink>(
     row: u32,
     errs: &mut E,
 ) -> Result<(), SinkError>
-    ensures { IsAfterWrite (input_line file.now code row) E.takes_memory
+    ensures { IsAfterWrite (command_input_line file.now code row) E.takes_memory
         (E.state errs.old) (E.state errs.new) result }
 {
     let mut code_digits = Buffer::new();

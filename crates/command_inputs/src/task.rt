@@ -1,7 +1,7 @@
 //! The task of a command: its files are read and checked, or its load case is made.
 ghost use Rattle.std.specs.Prelude.{◌≡◌, Some, IfOk};
-ghost use Rattle.command_inputs.specs.Exports.{CommandEndsRead, CommandReadsFor, CommandReadsNothing, IsReadyTask, IsTaskOf, known_command_task, task_stated};
-ghost use Rattle.command_line.specs.Named.{NamesPolicies, command_named};
+ghost use Rattle.command_inputs.specs.Exports.{CommandEndsRead, CommandReadsFor, CommandReadsNothing, IsReadyTask, IsTaskOfCommand, known_command_task, task_stated};
+ghost use Rattle.command_line.specs.Named.{ArgumentsNamePolicies, command_named};
 
 use crate::auditing::{AuditInputs, read_auditing};
 use crate::inputs::{PlayInputs, read_inputs};
@@ -26,7 +26,7 @@ pub fn read_task<F: Shelf>(
     shelf: &mut F,
     command: &Command<'_>,
 ) -> Result<Task, Stop>
-    requires { NamesPolicies command.now }
+    requires { ArgumentsNamePolicies command.now }
     ensures read { CommandEndsRead
         (known_command_task (F.state shelf.old).files (Some (command_named command.now))) (λ read. read)
         task_stated (F.state shelf.old) (F.state shelf.new) result }
@@ -36,7 +36,7 @@ pub fn read_task<F: Shelf>(
         → F.state shelf.new ≡ F.state shelf.old }
     ensures ready { IfOk result IsReadyTask }
     ensures asked { IfOk result (λ task.
-        IsTaskOf (command_named command.now) (task_stated task)) }
+        IsTaskOfCommand (command_named command.now) (task_stated task)) }
 {
     match command {
         Command::Replay(args) => {

@@ -2,7 +2,7 @@
 use Rattle.std.proofs.Common.{[], ◌&&◌, ◌++◌, ◌+◌, ◌∙◌, ◌∷◌, ◌≡◌, Bool, List, None, Option, Some, ap, append-nil, append_assoc, ap₂, arith, bytes_eq, codes, cond, drop, eqb, eqb-true, false, is_some, length, refl, subst, suc, sym, take, true, true≢false, unwrap_or, ℕ}
 use Rattle.base.proofs.Exports.{bytes_eq-Decides, list_all, option_map_or, pointwise, prefix_len, starts_with}
 use Rattle.clap.proofs.WalkLemmas.{both}
-use Rattle.command_line.specs.Exports.{Cut, cut_net_option, cut_options, cut_option_pair, cut_quiet_flag, is_file_name, joined_net_option, net_and_quiet, quiet_and_net}
+use Rattle.command_line.specs.Exports.{Cut, cut_net_option_argument, cut_argument_options, cut_option_pair, cut_quiet_argument, is_name_argument, joined_net_argument, net_option_then_quiet, quiet_flag_then_net}
 
 -- an option, as it is written
 pub data Given : Type 0 where
@@ -21,7 +21,7 @@ spelled (g ∷ gs) = spell g ++ spelled gs
 
 abbrev pub is_good : Given → Bool
 is_good (joined net) = true
-is_good (pair net) = is_file_name net
+is_good (pair net) = is_name_argument net
 is_good quiet = true
 
 -- options that give this network and this flag, in one of their orders
@@ -60,13 +60,13 @@ pub record IsNetCut (all : List (List ℕ)) (net : List ℕ) (rest : List (List 
   pub args : all ≡ spell (net_given form net) ++ rest
   pub good : is_good (net_given form net) ≡ true
 
-joined_is : (arg net : List ℕ) → joined_net_option arg ≡ Some net → arg ≡ codes "--net=" ++ net
+joined_is : (arg net : List ℕ) → joined_net_argument arg ≡ Some net → arg ≡ codes "--net=" ++ net
 joined_is arg net e = go (starts_with eqb arg (codes "--net=")) refl e where
   go : (b : Bool) → starts_with eqb arg (codes "--net=") ≡ b
-      → cond (b && is_file_name (drop 6 arg)) (Some (drop 6 arg)) None ≡ Some net
+      → cond (b && is_name_argument (drop 6 arg)) (Some (drop 6 arg)) None ≡ Some net
       → arg ≡ codes "--net=" ++ net
   go false s e = absurd (true≢false (ap is_some (sym e)))
-  go true s e = named (is_file_name (drop 6 arg)) e where
+  go true s e = named (is_name_argument (drop 6 arg)) e where
     named : (b : Bool) → cond b (Some (drop 6 arg)) None ≡ Some net
         → arg ≡ codes "--net=" ++ net
     named false e = absurd (true≢false (ap is_some (sym e)))
@@ -79,12 +79,12 @@ unfolding cut_or
 pair_is option [] net rest e = absurd (true≢false (ap is_some (sym e)))
 pair_is option (value ∷ args) net rest e = go (bytes_eq option (codes "--net")) refl e where
   go : (b : Bool) → bytes_eq option (codes "--net") ≡ b
-      → cond {A = Option (List ℕ × List (List ℕ))} (b && is_file_name value) (Some (value, args)) None
+      → cond {A = Option (List ℕ × List (List ℕ))} (b && is_name_argument value) (Some (value, args)) None
       ≡ Some (net, rest)
       → IsNetCut (option ∷ value ∷ args) net rest
   go false s e = absurd (true≢false (ap is_some (sym e)))
-  go true s e = named (is_file_name value) refl e where
-    named : (b : Bool) → is_file_name value ≡ b → cond {A = Option (List ℕ × List (List ℕ))} b
+  go true s e = named (is_name_argument value) refl e where
+    named : (b : Bool) → is_name_argument value ≡ b → cond {A = Option (List ℕ × List (List ℕ))} b
         (Some (value, args)) None ≡ Some (net, rest) → IsNetCut (option ∷ value ∷ args) net rest
     named false n e = absurd (true≢false (ap is_some (sym e)))
     named true n e = record {
@@ -92,15 +92,15 @@ pair_is option (value ∷ args) net rest e = go (bytes_eq option (codes "--net")
       args = ap (λ o. o ∷ value ∷ args) ((bytes_eq-Decides option (codes "--net")).0 s)
           ∙ ap₂ (λ v ws. codes "--net" ∷ v ∷ ws) (ap (λ o. (cut_or o).0) e)
           (ap (λ o. (cut_or o).1) e);
-      good = ap (λ o. is_file_name (cut_or o).0) (sym e) ∙ n;
+      good = ap (λ o. is_name_argument (cut_or o).0) (sym e) ∙ n;
     }
 
 net_cut : (args : List (List ℕ)) (net : List ℕ) (rest : List (List ℕ))
-    → cut_net_option args ≡ Some (net, rest) → IsNetCut args net rest
+    → cut_net_option_argument args ≡ Some (net, rest) → IsNetCut args net rest
 unfolding cut_or
 net_cut [] net rest e = absurd (true≢false (ap is_some (sym e)))
-net_cut (option ∷ args) net rest e = go (joined_net_option option) refl e where
-  go : (o : Option (List ℕ)) → joined_net_option option ≡ o
+net_cut (option ∷ args) net rest e = go (joined_net_argument option) refl e where
+  go : (o : Option (List ℕ)) → joined_net_argument option ≡ o
       → option_map_or (λ n. Some (n, args)) o (cut_option_pair option args) ≡ Some (net, rest)
       → IsNetCut (option ∷ args) net rest
   go None s e = pair_is option args net rest e
@@ -112,7 +112,7 @@ net_cut (option ∷ args) net rest e = go (joined_net_option option) refl e wher
     good = refl;
   }
 
-quiet_cut : (args rest : List (List ℕ)) → cut_quiet_flag args ≡ Some rest
+quiet_cut : (args rest : List (List ℕ)) → cut_quiet_argument args ≡ Some rest
     → args ≡ codes "--quiet" ∷ rest
 quiet_cut [] rest e = absurd (true≢false (ap is_some (sym e)))
 quiet_cut (option ∷ args) rest e = go (bytes_eq option (codes "--quiet")) refl e where
@@ -127,9 +127,9 @@ form_good : (form : Bool) (net : List ℕ) (more : Bool) → is_good (net_given 
 form_good form net more e m = rw (e, m) refl
 
 pub quiet_and_net_is : (args : List (List ℕ))
-    → IsCut (codes "--quiet" ∷ args) (quiet_and_net args)
-quiet_and_net_is args = go (cut_net_option args) refl where
-  go : (o : Option (List ℕ × List (List ℕ))) → cut_net_option args ≡ o
+    → IsCut (codes "--quiet" ∷ args) (quiet_flag_then_net args)
+quiet_and_net_is args = go (cut_net_option_argument args) refl where
+  go : (o : Option (List ℕ × List (List ℕ))) → cut_net_option_argument args ≡ o
       → IsCut (codes "--quiet" ∷ args) (elim o [
         | None ↦ record { net = None; quiet = true; args = args }
         | Some found ↦ record { net = Some found.0; quiet = true; args = found.1 }
@@ -145,12 +145,12 @@ quiet_and_net_is args = go (cut_net_option args) refl where
 
 pub net_and_quiet_is : (form : Bool) (net : List ℕ) (args : List (List ℕ))
     → is_good (net_given form net) ≡ true
-    → IsCut (spell (net_given form net) ++ args) (net_and_quiet net args)
-net_and_quiet_is form net args good = go (cut_quiet_flag args) refl where
+    → IsCut (spell (net_given form net) ++ args) (net_option_then_quiet net args)
+net_and_quiet_is form net args good = go (cut_quiet_argument args) refl where
   spelling : List (List ℕ)
   spelling = spell (net_given form net)
 
-  go : (o : Option (List (List ℕ))) → cut_quiet_flag args ≡ o
+  go : (o : Option (List (List ℕ))) → cut_quiet_argument args ≡ o
       → IsCut (spell (net_given form net) ++ args) (elim o [
         | None ↦ record { net = Some net; quiet = false; args = args }
         | Some rest ↦ record { net = Some net; quiet = true; args = rest }
@@ -169,37 +169,37 @@ net_and_quiet_is form net args good = go (cut_quiet_flag args) refl where
     good = form_good form net true good refl;
   }
 
-pub cut_is : (args : List (List ℕ)) → IsCut args (cut_options args)
-cut_is args = go (cut_quiet_flag args) refl where
-  after_net : (o : Option (List ℕ × List (List ℕ))) → cut_net_option args ≡ o → IsCut args (elim o [
+pub cut_is : (args : List (List ℕ)) → IsCut args (cut_argument_options args)
+cut_is args = go (cut_quiet_argument args) refl where
+  after_net : (o : Option (List ℕ × List (List ℕ))) → cut_net_option_argument args ≡ o → IsCut args (elim o [
     | None ↦ record { net = None; quiet = false; args = args }
-    | Some found ↦ net_and_quiet found.0 found.1
+    | Some found ↦ net_option_then_quiet found.0 found.1
   ])
   after_net None e = record { first = true; form = true; args = refl; good = refl }
   after_net (Some found) e = let net = net_cut args found.0 found.1 e in
-      subst (λ ws. IsCut ws (net_and_quiet found.0 found.1)) (sym net.args)
+      subst (λ ws. IsCut ws (net_option_then_quiet found.0 found.1)) (sym net.args)
       (net_and_quiet_is net.form found.0 found.1 net.good)
 
-  go : (o : Option (List (List ℕ))) → cut_quiet_flag args ≡ o → IsCut args (elim o [
-    | Some rest ↦ quiet_and_net rest
-    | None ↦ elim (cut_net_option args) [
+  go : (o : Option (List (List ℕ))) → cut_quiet_argument args ≡ o → IsCut args (elim o [
+    | Some rest ↦ quiet_flag_then_net rest
+    | None ↦ elim (cut_net_option_argument args) [
       | None ↦ record { net = None; quiet = false; args = args }
-      | Some found ↦ net_and_quiet found.0 found.1
+      | Some found ↦ net_option_then_quiet found.0 found.1
     ]
   ])
-  go None e = after_net (cut_net_option args) refl
+  go None e = after_net (cut_net_option_argument args) refl
   go (Some rest) e = rw (quiet_cut args rest e) (quiet_and_net_is rest)
 
 -- ---- names
 
 pub names_good : (args : List (List ℕ))
-    → list_all is_file_name (take (prefix_len is_file_name args) args) ≡ true
+    → list_all is_name_argument (take (prefix_len is_name_argument args) args) ≡ true
 names_good [] = refl
-names_good (arg ∷ args) = go (is_file_name arg) refl (names_good args) where
-  go : (b : Bool) → is_file_name arg ≡ b
-      → list_all is_file_name (take (prefix_len is_file_name args) args) ≡ true
-      → list_all is_file_name (take (cond b (1 + prefix_len is_file_name args) 0) (arg ∷ args)) ≡ true
+names_good (arg ∷ args) = go (is_name_argument arg) refl (names_good args) where
+  go : (b : Bool) → is_name_argument arg ≡ b
+      → list_all is_name_argument (take (prefix_len is_name_argument args) args) ≡ true
+      → list_all is_name_argument (take (cond b (1 + prefix_len is_name_argument args) 0) (arg ∷ args)) ≡ true
   go false e rest = refl
   go true e rest =
-      let one : 1 + prefix_len is_file_name args ≡ suc (prefix_len is_file_name args) = omega arith in
+      let one : 1 + prefix_len is_name_argument args ≡ suc (prefix_len is_name_argument args) = omega arith in
       rw (one, e) rest

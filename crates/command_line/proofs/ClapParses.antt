@@ -12,14 +12,14 @@ use Rattle.clap.specs.Walk.{Row, Walk, all_of, finished, first_of, nothing_held,
 use Rattle.clap.proofs.OnLiterals.{clap_on_literals}
 use Rattle.clap.proofs.TakesLemmas.{leaf_takes}
 use Rattle.clap.proofs.WalkLemmas.{both, first_value-rows, one_text-rows, raw_values-rows}
-use Rattle.command_line.specs.Exports.{Cut, IsFlagRead, IsNetRead, CommandOptions, StatedLine, app_with, cut_options, options_end_together, is_file_name, line_of, net_and, none}
+use Rattle.command_line.specs.Exports.{Cut, IsFlagRead, IsNetArgumentRead, CommandOptions, StatedArgumentLine, app_with, cut_argument_options, options_end_together, is_name_argument, line_of, net_and, none}
 use Rattle.command_line.proofs.ArgumentShapes.{IsCut, cut_is, given_in, names_good, spelled}
 use Rattle.command_line.proofs.ClapWalks.{At, Goes, IsFew, MayStand, apart, goes_far, may_give, name_first, named, names_rule, names_walk, net_rule, options_walk, quiet_rule, rows_at, rules, settles, shape, shape_is, takes_flag, takes_net, use_all, valued, walk_at}
 
 -- what is found in the matches
-pub record Found (o : CommandOptions) (rows : List Row) (line : StatedLine) : Type 0 where
+pub record Found (o : CommandOptions) (rows : List Row) (line : StatedArgumentLine) : Type 0 where
   pub names : all_of (codes "names") rows ≡ Some line.names
-  pub net : IsNetRead o (first_of (codes "net") rows) line.net
+  pub net : IsNetArgumentRead o (first_of (codes "net") rows) line.net
   pub quiet : IsFlagRead o (one_of (codes "quiet") rows) line.quiet
 
 -- what was given is what the options have
@@ -151,30 +151,30 @@ no_args [] e = refl
 no_args (x ∷ xs) e = absurd (omega (arith, eqb-true _ _ e))
 
 -- options, names and options, none of them twice
-pub record HasParts (args : List (List ℕ)) (line : StatedLine) : Type 0 where
+pub record HasParts (args : List (List ℕ)) (line : StatedArgumentLine) : Type 0 where
   pub front : Cut
   pub back : Cut
   pub front_cut : IsCut args front
   pub back_cut : IsCut (drop (length line.names) front.args) back
   pub names : front.args ≡ line.names ++ drop (length line.names) front.args
-  pub good : list_all is_file_name line.names ≡ true
+  pub good : list_all is_name_argument line.names ≡ true
   pub ends : back.args ≡ []
   pub net : line.net ≡ option_or front.net back.net
   pub quiet : line.quiet ≡ (front.quiet || back.quiet)
   pub one_net : (is_some front.net && is_some back.net) ≡ false
   pub one_flag : (front.quiet && back.quiet) ≡ false
 
-parts_of : (args : List (List ℕ)) (line : StatedLine) → line_of args ≡ Some line
+parts_of : (args : List (List ℕ)) (line : StatedArgumentLine) → line_of args ≡ Some line
     → HasParts args line
 parts_of args line e = go (options_end_together front back) refl e where
   front : Cut
-  front = cut_options args
+  front = cut_argument_options args
 
   count : ℕ
-  count = prefix_len is_file_name front.args
+  count = prefix_len is_name_argument front.args
 
   back : Cut
-  back = cut_options (drop count front.args)
+  back = cut_argument_options (drop count front.args)
 
   names : List (List ℕ)
   names = take count front.args
@@ -194,7 +194,7 @@ parts_of args line e = go (options_end_together front back) refl e where
       let q = both (not (is_some front.net && is_some back.net)
       && not (front.quiet && back.quiet)) _ s in
       let p = both (not (is_some front.net && is_some back.net)) _ q.0 in
-      let size : length names ≡ count = length-prefix_len is_file_name front.args in
+      let size : length names ≡ count = length-prefix_len is_name_argument front.args in
       subst (HasParts args) line_is (record {
         front = front;
         back = back;
@@ -211,7 +211,7 @@ parts_of args line e = go (options_end_together front back) refl e where
 
 -- the walk over them, to its end
 pub record WalksTo (name : List ℕ) (o : CommandOptions) (args : List (List ℕ))
-    (line : StatedLine) : Type 0 where
+    (line : StatedArgumentLine) : Type 0 where
   pub at : At
   pub left : List Row
   pub goes : Goes name o (walk_at apart []) args (walk_at at left)
@@ -242,7 +242,7 @@ module _ (name : List ℕ) (o : CommandOptions) (args : List (List ℕ))
       let rows = rows_at one.at one.left in
       let two = options_walk name o back (named n ns) rows parts.back_cut.good
       (within o parts.back_cut.first parts.back_cut.form parts.back.net parts.back.quiet aft) few in
-      let good = both (is_file_name n) _ parts.good in
+      let good = both (is_name_argument n) _ parts.good in
       let first = name_first name o one.at one.left n good.0 one.stands (one.apart tt) in
       let more = names_walk name o n [] ns rows good.1 in
       let all_names = goes_far name o _ _ _ (n ∷ []) ns first more in
@@ -275,7 +275,7 @@ module _ (name : List ℕ) where
   simple (net_and true) = refl
   simple (net_and false) = refl
 
-  passes : (o : CommandOptions) (args : List (List ℕ)) (line : StatedLine) → WalksTo name o args line
+  passes : (o : CommandOptions) (args : List (List ℕ)) (line : StatedArgumentLine) → WalksTo name o args line
       → level_passes (shape name o) [] nothing_held args false ≡ true
   passes none args line w = rw (w.goes.passes, w.goes.walk, settles none w.at w.left w.stands) refl
   passes (net_and true) args line w =
@@ -283,7 +283,7 @@ module _ (name : List ℕ) where
   passes (net_and false) args line w =
       rw (w.goes.passes, w.goes.walk, settles (net_and false) w.at w.left w.stands) refl
 
-  pub taken : (o : CommandOptions) (all : List (List ℕ)) (line : StatedLine) → WalksTo name o (drop 1 all) line
+  pub taken : (o : CommandOptions) (all : List (List ℕ)) (line : StatedArgumentLine) → WalksTo name o (drop 1 all) line
       → takes (app_with name o) all ≡ true
   taken none all line w = rw (simple none) (leaf_takes (built (app_with name none)) nothing_held
       (drop 1 all) refl (passes none (drop 1 all) line w))
@@ -315,7 +315,7 @@ module _ (name : List ℕ) where
   no_program (net_and true) all = refl
   no_program (net_and false) all = refl
 
-  pub matched : (o : CommandOptions) (all : List (List ℕ)) (line : StatedLine)
+  pub matched : (o : CommandOptions) (all : List (List ℕ)) (line : StatedArgumentLine)
       → WalksTo name o (drop 1 all) line → Found o (matches_of (app_with name o) all) line
   matched o all line w = subst (λ rows. Found o rows line) (sym rows_are) w.found where
     rows_are : matches_of (app_with name o) all ≡ rows_of_line o (rows_at w.at w.left)
@@ -328,7 +328,7 @@ module _ (name : List ℕ) where
         ∙ settled_at o w.at w.left w.stands
 
   -- each line with names is read
-  pub reads : (o : CommandOptions) (args : List (List ℕ)) (line : StatedLine) → line_of args ≡ Some line
+  pub reads : (o : CommandOptions) (args : List (List ℕ)) (line : StatedArgumentLine) → line_of args ≡ Some line
       → 0 < length line.names → IsFew line.names → IsWithin o line.net line.quiet
       → WalksTo name o args line
   reads o args line e some few allowed =
@@ -345,7 +345,7 @@ module _ (name : List ℕ) where
 -- ---- what was matched
 
 pub matches_found : (name : List ℕ) (o : CommandOptions) (app : App) (all : List (List ℕ))
-    (m : ArgMatches) (line : StatedLine) → app ≡ app_with name o → HasMatchesOf app all m
+    (m : ArgMatches) (line : StatedArgumentLine) → app ≡ app_with name o → HasMatchesOf app all m
     → WalksTo name o (drop 1 all) line → Found o (rows_of (found_of m)) line
 matches_found name o app all m line is has w =
     let rows : rows_of (found_of m) ≡ matches_of app all =
@@ -353,8 +353,8 @@ matches_found name o app all m line is has w =
     subst (λ r. Found o r line) (sym (rows ∙ ap (λ a. matches_of a all) is))
     (matched name o all line w)
 
-one_net : (o : CommandOptions) (found net again : Option (List ℕ)) → IsNetRead o found net
-    → IsNetRead o found again → net ≡ again
+one_net : (o : CommandOptions) (found net again : Option (List ℕ)) → IsNetArgumentRead o found net
+    → IsNetArgumentRead o found again → net ≡ again
 one_net none there net again a b = a ∙ sym b
 one_net (net_and flag) there net again a b = a ∙ sym b
 
@@ -373,7 +373,7 @@ one_flag (net_and false) there quiet again a b = a ∙ sym b
 one_flag (net_and true) there quiet again a b =
     by_text quiet again (ap (λ o. unwrap_or o []) (sym a ∙ b))
 
-module _ (o : CommandOptions) (f : matches.Found) (line : StatedLine) (found : Found o (rows_of f) line) where
+module _ (o : CommandOptions) (f : matches.Found) (line : StatedArgumentLine) (found : Found o (rows_of f) line) where
   pub names_there : is_some (matched_of f (codes "names")) ≡ true
   names_there =
       go (matched_of f (codes "names")) (raw_values-rows f (codes "names") ∙ found.names)
@@ -382,8 +382,8 @@ module _ (o : CommandOptions) (f : matches.Found) (line : StatedLine) (found : F
       go None e = ap is_some e
       go (Some x) e = refl
 
-  net_there : IsNetRead o (first_value f (codes "net")) line.net
-  net_there = subst (λ x. IsNetRead o x line.net) (sym (first_value-rows f (codes "net"))) found.net
+  net_there : IsNetArgumentRead o (first_value f (codes "net")) line.net
+  net_there = subst (λ x. IsNetArgumentRead o x line.net) (sym (first_value-rows f (codes "net"))) found.net
 
   pub flag_there : IsFlagRead o (one_text f (codes "quiet")) line.quiet
   flag_there =
@@ -392,7 +392,7 @@ module _ (o : CommandOptions) (f : matches.Found) (line : StatedLine) (found : F
   -- a line that holds what was matched is the line
   pub line_is : (names : List (List ℕ)) (net : Option (List ℕ)) (quiet : Bool)
       → option_map raw_values (matched_of f (codes "names")) ≡ Some names
-      → IsNetRead o (first_value f (codes "net")) net
+      → IsNetArgumentRead o (first_value f (codes "net")) net
       → IsFlagRead o (one_text f (codes "quiet")) quiet
       → line ≡ record { names = names; net = net; quiet = quiet }
   line_is names net quiet given_names given_net given_quiet =

@@ -8,7 +8,7 @@ use Rattle.clap.specs.Walk.{Row, Rule, Waiting, Walk, has_row, idle, positional,
 use Rattle.clap.specs.Walk as clap
 use Rattle.clap.specs.declared.builder.value_parser.ValueParser.TheVariants as vp
 use Rattle.clap.proofs.WalkLemmas.{both}
-use Rattle.command_line.specs.Exports.{CommandOptions, app_with, is_file_name, names_arg, net_and, net_arg, none, quiet_arg}
+use Rattle.command_line.specs.Exports.{CommandOptions, app_with, is_name_argument, names_arg, net_and, net_arg, none, quiet_argument}
 use Rattle.command_line.proofs.ArgumentShapes.{Given, is_good, joined, pair, quiet, spell, spelled}
 
 -- the arguments as they are built
@@ -22,7 +22,7 @@ net_rule = record net_arg {
 }
 
 abbrev pub quiet_rule : Rule
-quiet_rule = record quiet_arg {
+quiet_rule = record quiet_argument {
   range = Some (record { start_inclusive = 0; end_inclusive = 0 });
   defaults = codes "false" ∷ [];
   missing = codes "true" ∷ [];
@@ -135,7 +135,7 @@ record IsPlainArg (arg : List ℕ) : Type 0 where
   pub long : long_of arg ≡ None
   pub short : short_of arg ≡ None
 
-plain_arg : (arg : List ℕ) → is_file_name arg ≡ true → IsPlainArg arg
+plain_arg : (arg : List ℕ) → is_name_argument arg ≡ true → IsPlainArg arg
 plain_arg [] e = absurd (true≢false (sym e))
 plain_arg (x ∷ xs) e = go (x == 45) refl e where
   go : (b : Bool) → (x == 45) ≡ b → (nat_lt 0 (length (x ∷ xs)) && not b) ≡ true
@@ -269,7 +269,7 @@ module _ (name : List ℕ) where
       (record { walk = front.walk; passes = p.1 }) back)
 
   -- a name behind options
-  pub name_first : (o : CommandOptions) (a : At) (rows : List Row) (n : List ℕ) → is_file_name n ≡ true
+  pub name_first : (o : CommandOptions) (a : At) (rows : List Row) (n : List ℕ) → is_name_argument n ≡ true
       → MayStand o a → IsApart a
       → Goes name o (walk_at a rows) (n ∷ []) (walk_at (named n []) (rows_at a rows))
   unfolding walked
@@ -285,12 +285,12 @@ module _ (name : List ℕ) where
 
   -- more names behind one
   pub names_walk : (o : CommandOptions) (n : List ℕ) (ns ms : List (List ℕ)) (rows : List Row)
-      → list_all is_file_name ms ≡ true
+      → list_all is_name_argument ms ≡ true
       → Goes name o (walk_at (named n ns) rows) ms (walk_at (named n (ns ++ ms)) rows)
   unfolding walked
   names_walk o n ns [] rows good = rw (append-nil ns) (goes_nowhere o (walk_at (named n ns) rows))
   names_walk o n ns (m ∷ ms) rows good =
-      let p = both (is_file_name m) _ good in
+      let p = both (is_name_argument m) _ good in
       let arg = plain_arg m p.0 in
       goes_on o (walk_at (named n ns) rows) (walk_at (named n (ns ++ m ∷ [])) rows) _ m ms
       (rw (arg.dashes, arg.long, arg.short) refl)
@@ -304,7 +304,7 @@ module _ (name : List ℕ) where
   may_ask flag (valued net) rows few = rw (again_passes (codes "net") rows) refl
   may_ask flag (named n ns) rows few = rw (names_pass n ns rows few) refl
 
-  told : (flag : Bool) (net : List ℕ) (rows : List Row) → is_file_name net ≡ true
+  told : (flag : Bool) (net : List ℕ) (rows : List Row) → is_name_argument net ≡ true
       → Goes name (net_and flag) (walk_asking rows) (net ∷ []) (walk_at (valued net) rows)
   unfolding walked
   told flag net rows good = let arg = plain_arg net good in

@@ -7,7 +7,7 @@ use Rattle.clap.specs.Takes.{takes}
 use Rattle.clap.specs.Walk.{rows_of}
 use Rattle.clap.specs.declared.parser.matches.ArgMatches.{ArgMatches}
 use Rattle.clap.proofs.WalkLemmas.{both}
-use Rattle.command_line.specs.Exports.{Command, StatedLine, audit_from, audit_of, command_by, command_of_kind, command_kind_name, command_app, line_of, load_command_from, load_number, load_of, net_and, none, command_options_of, play_from, print_of}
+use Rattle.command_line.specs.Exports.{Command, StatedArgumentLine, audit_from, audit_by_grammar, command_by, command_of_kind, command_kind_name, command_app, line_of, load_from_argument, load_number_argument, load_of_arguments, net_and, none, command_options_of, play_from_arguments, grammar_print_of}
 use Rattle.command_line.proofs.ClapParses.{Found, IsWithin, WalksTo, matches_found, reads, taken}
 use Rattle.command_line.specs.declared.grammar.CommandKind.{CommandKind}
 use Rattle.command_line.specs.declared.grammar.CommandKind.TheVariants as kind
@@ -18,8 +18,8 @@ use Rattle.command_line.specs.declared.report.Report.TheVariants as report
 abbrev pub HaveNames : List (List ℕ) → Type 0
 HaveNames names = (0 < length names) × (length names < 2 ^ 16)
 
-play_names : (told : Report) (line : StatedLine) (names : List (List ℕ))
-    → is_some (play_from told line names) ≡ true → HaveNames names
+play_names : (told : Report) (line : StatedArgumentLine) (names : List (List ℕ))
+    → is_some (play_from_arguments told line names) ≡ true → HaveNames names
 play_names told line [] e = absurd (true≢false (sym e))
 play_names told line (s ∷ ps) e =
     let may = both (nat_le 1 (length ps)) _ (passes_from_is_some _ _ e) in
@@ -31,22 +31,22 @@ unflagged : (quiet : Bool) (o : Option Command) → is_some (cond quiet None o) 
 unflagged true o e = absurd (true≢false (sym e))
 unflagged false o e = (refl, e)
 
-print_names : (count : ℕ) (line : StatedLine) → 0 < count → count < 3
-    → is_some (print_of count line) ≡ true → HaveNames line.names
+print_names : (count : ℕ) (line : StatedArgumentLine) → 0 < count → count < 3
+    → is_some (grammar_print_of count line) ≡ true → HaveNames line.names
 print_names count line some few e =
     let is = eqb-true _ _ (both (length line.names == count) _ (passes_from_is_some _ _ e)).0 in
     (omega (arith, is, some), omega (arith, is, few))
 
-load_names : (line : StatedLine) → is_some (load_of line) ≡ true → HaveNames line.names
+load_names : (line : StatedArgumentLine) → is_some (load_of_arguments line) ≡ true → HaveNames line.names
 load_names line e = go (is_some line.net || line.quiet) line.names e where
   go : (b : Bool) (names : List (List ℕ))
-      → is_some (cond b None (load_command_from (load_number names))) ≡ true → HaveNames names
+      → is_some (cond b None (load_from_argument (load_number_argument names))) ≡ true → HaveNames names
   go true names e = absurd (true≢false (sym e))
   go false [] e = absurd (true≢false (sym e))
   go false (n ∷ []) e = (omega arith, omega arith)
   go false (n ∷ m ∷ ns) e = absurd (true≢false (sym e))
 
-audit_names : (line : StatedLine) → is_some (audit_of line) ≡ true → HaveNames line.names
+audit_names : (line : StatedArgumentLine) → is_some (audit_by_grammar line) ≡ true → HaveNames line.names
 audit_names line e = go (is_some line.net || line.quiet) line.names e where
   go : (b : Bool) (names : List (List ℕ)) → is_some (cond b None (audit_from names)) ≡ true
       → HaveNames names
@@ -56,7 +56,7 @@ audit_names line e = go (is_some line.net || line.quiet) line.names e where
       (omega arith, omega (arith, leb-true (length ps) 64 may.1))
 
 -- each line of a command has names
-line_names : (k : CommandKind) (line : StatedLine) → is_some (command_by (command_kind_name k) line) ≡ true
+line_names : (k : CommandKind) (line : StatedArgumentLine) → is_some (command_by (command_kind_name k) line) ≡ true
     → HaveNames line.names
 line_names kind.Replay line e = play_names (report.Lines line.quiet) line line.names e
 line_names kind.Flows line e = play_names report.Flows line line.names (unflagged line.quiet _ e).1
@@ -75,21 +75,21 @@ neither true quiet o e = absurd (true≢false (sym e))
 neither false true o e = absurd (true≢false (sym e))
 neither false false o e = (refl, refl)
 
-print_within : (count : ℕ) (line : StatedLine) → is_some (print_of count line) ≡ true
+print_within : (count : ℕ) (line : StatedArgumentLine) → is_some (grammar_print_of count line) ≡ true
     → IsWithin (net_and false) line.net line.quiet
 print_within count line e =
     let none : line.quiet ≡ false =
     not-true line.quiet (both (length line.names == count) _ (passes_from_is_some _ _ e)).1 in
     record { has_net = λ some. refl; has_flag = λ some. sym none ∙ some }
 
-bare_within : (line : StatedLine) (o : Option Command)
+bare_within : (line : StatedArgumentLine) (o : Option Command)
     → is_some (cond (is_some line.net || line.quiet) None o) ≡ true
     → IsWithin none line.net line.quiet
 bare_within line o e = let bare = neither (is_some line.net) line.quiet o e in
     record { has_net = λ some. sym bare.0 ∙ some; has_flag = λ some. sym bare.1 ∙ some }
 
 -- each line of a command has options of its own alone
-line_within : (k : CommandKind) (line : StatedLine) → is_some (command_by (command_kind_name k) line) ≡ true
+line_within : (k : CommandKind) (line : StatedArgumentLine) → is_some (command_by (command_kind_name k) line) ≡ true
     → IsWithin (command_options_of k) line.net line.quiet
 line_within kind.Replay line e = record { has_net = λ some. refl; has_flag = λ some. refl }
 line_within kind.Flows line e = let none = (unflagged line.quiet _ e).0 in
@@ -98,19 +98,19 @@ line_within kind.Rebalance line e = let none = (unflagged line.quiet _ e).0 in
     record { has_net = λ some. refl; has_flag = λ some. sym none ∙ some }
 line_within kind.Compile line e = print_within 1 line e
 line_within kind.Show line e = print_within 2 line e
-line_within kind.Load line e = bare_within line (load_command_from (load_number line.names)) e
+line_within kind.Load line e = bare_within line (load_from_argument (load_number_argument line.names)) e
 line_within kind.Audit line e = bare_within line (audit_from line.names) e
 
 -- the line of arguments that are a command of this kind, and the walk of that command over them
 pub record Walked (k : CommandKind) (args : List (List ℕ)) : Type 0 where
-  pub line : StatedLine
+  pub line : StatedArgumentLine
   pub is : line_of args ≡ Some line
   pub walks : WalksTo (command_kind_name k) (command_options_of k) args line
 
 pub line_walked : (k : CommandKind) (args : List (List ℕ)) → is_some (command_of_kind k args) ≡ true
     → Walked k args
 line_walked k args e = go (line_of args) refl e where
-  go : (o : Option StatedLine) → line_of args ≡ o
+  go : (o : Option StatedArgumentLine) → line_of args ≡ o
       → is_some (option_and_then (command_by (command_kind_name k)) o) ≡ true → Walked k args
   go None is e = absurd (true≢false (sym e))
   go (Some line) is e = let names = line_names k line e in record {

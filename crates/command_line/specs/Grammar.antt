@@ -7,15 +7,15 @@ use Rattle.command_line.specs.declared.report.Report.{Report}
 use Rattle.command_line.specs.declared.report.Report.TheVariants as report
 
 -- an argument that may name a file or a switch: it isn't empty and doesn't begin with a dash
-abbrev pub is_file_name : List ℕ → Bool
-is_file_name arg = nat_lt 0 (length arg) && not (slice_index arg 0 == 45)
+abbrev pub is_name_argument : List ℕ → Bool
+is_name_argument arg = nat_lt 0 (length arg) && not (slice_index arg 0 == 45)
 
 -- ---- options
 
 -- the network of an option `--net=NET`
-abbrev pub joined_net_option : List ℕ → Option (List ℕ)
-joined_net_option arg =
-    if starts_with eqb arg (codes "--net=") && is_file_name (drop 6 arg)
+abbrev pub joined_net_argument : List ℕ → Option (List ℕ)
+joined_net_argument arg =
+    if starts_with eqb arg (codes "--net=") && is_name_argument (drop 6 arg)
     then Some (drop 6 arg)
     else None
 
@@ -23,18 +23,18 @@ joined_net_option arg =
 abbrev pub cut_option_pair : List ℕ → List (List ℕ) → Option (List ℕ × List (List ℕ))
 cut_option_pair option [] = None
 cut_option_pair option (net ∷ args) =
-    if bytes_eq option (codes "--net") && is_file_name net then Some (net, args) else None
+    if bytes_eq option (codes "--net") && is_name_argument net then Some (net, args) else None
 
 -- the network of an option, in either form, that begins the arguments, and the arguments after it
-abbrev pub cut_net_option : List (List ℕ) → Option (List ℕ × List (List ℕ))
-cut_net_option [] = None
-cut_net_option (option ∷ args) =
-    option_map_or (λ net. Some (net, args)) (joined_net_option option) (cut_option_pair option args)
+abbrev pub cut_net_option_argument : List (List ℕ) → Option (List ℕ × List (List ℕ))
+cut_net_option_argument [] = None
+cut_net_option_argument (option ∷ args) =
+    option_map_or (λ net. Some (net, args)) (joined_net_argument option) (cut_option_pair option args)
 
 -- the arguments after a flag `--quiet`, if they begin with it
-abbrev pub cut_quiet_flag : List (List ℕ) → Option (List (List ℕ))
-cut_quiet_flag [] = None
-cut_quiet_flag (option ∷ args) = if bytes_eq option (codes "--quiet") then Some args else None
+abbrev pub cut_quiet_argument : List (List ℕ) → Option (List (List ℕ))
+cut_quiet_argument [] = None
+cut_quiet_argument (option ∷ args) = if bytes_eq option (codes "--quiet") then Some args else None
 
 -- the options that begin some arguments, each at most once, and the arguments after them
 pub record Cut : Type 0 where
@@ -43,32 +43,32 @@ pub record Cut : Type 0 where
   pub args : List (List ℕ)
 
 -- a network's option may follow the flag
-abbrev pub quiet_and_net : List (List ℕ) → Cut
-quiet_and_net args = elim (cut_net_option args) [
+abbrev pub quiet_flag_then_net : List (List ℕ) → Cut
+quiet_flag_then_net args = elim (cut_net_option_argument args) [
   | None ↦ record { net = None; quiet = true; args = args }
   | Some found ↦ record { net = Some found.0; quiet = true; args = found.1 }
 ]
 
 -- a flag may follow the network's option
-abbrev pub net_and_quiet : List ℕ → List (List ℕ) → Cut
-net_and_quiet net args = elim (cut_quiet_flag args) [
+abbrev pub net_option_then_quiet : List ℕ → List (List ℕ) → Cut
+net_option_then_quiet net args = elim (cut_quiet_argument args) [
   | None ↦ record { net = Some net; quiet = false; args = args }
   | Some rest ↦ record { net = Some net; quiet = true; args = rest }
 ]
 
-abbrev pub cut_options : List (List ℕ) → Cut
-cut_options args = elim (cut_quiet_flag args) [
-  | Some rest ↦ quiet_and_net rest
-  | None ↦ elim (cut_net_option args) [
+abbrev pub cut_argument_options : List (List ℕ) → Cut
+cut_argument_options args = elim (cut_quiet_argument args) [
+  | Some rest ↦ quiet_flag_then_net rest
+  | None ↦ elim (cut_net_option_argument args) [
     | None ↦ record { net = None; quiet = false; args = args }
-    | Some found ↦ net_and_quiet found.0 found.1
+    | Some found ↦ net_option_then_quiet found.0 found.1
   ]
 ]
 
 -- ---- the arguments after a command
 
 -- names, and options before or after them
-pub record StatedLine : Type 0 where
+pub record StatedArgumentLine : Type 0 where
   pub names : List (List ℕ)
   pub net : Option (List ℕ)
   pub quiet : Bool
@@ -79,7 +79,7 @@ options_end_together front back =
     not (is_some front.net && is_some back.net) && not (front.quiet && back.quiet)
     && length back.args == 0
 
-abbrev pub argument_line_from : Cut → List (List ℕ) → Cut → Option StatedLine
+abbrev pub argument_line_from : Cut → List (List ℕ) → Cut → Option StatedArgumentLine
 argument_line_from front names back = if options_end_together front back then Some (record {
   names = names;
   net = option_or front.net back.net;
@@ -88,26 +88,26 @@ argument_line_from front names back = if options_end_together front back then So
     else None
 
 -- options, then names up to the next option or the end, then options
-abbrev pub line_of : List (List ℕ) → Option StatedLine
+abbrev pub line_of : List (List ℕ) → Option StatedArgumentLine
 line_of args =
-    let front = cut_options args in
-    let count = prefix_len is_file_name front.args in
-    argument_line_from front (take count front.args) (cut_options (drop count front.args))
+    let front = cut_argument_options args in
+    let count = prefix_len is_name_argument front.args in
+    argument_line_from front (take count front.args) (cut_argument_options (drop count front.args))
 
 -- ---- the commands
 
 -- a play names at least one policy, and at most this many
-abbrev pub most_policies : ℕ
-most_policies = 64
+abbrev pub most_policy_arguments : ℕ
+most_policy_arguments = 64
 
-abbrev pub may_be_policies : ℕ → Bool
-may_be_policies count = nat_le 1 count && nat_le count most_policies
+abbrev pub may_be_policy_arguments : ℕ → Bool
+may_be_policy_arguments count = nat_le 1 count && nat_le count most_policy_arguments
 
 -- a play of these names that prints this
-abbrev pub play_from : Report → StatedLine → List (List ℕ) → Option Command
-play_from told line [] = None
-play_from told line (schedule ∷ policies) =
-    if may_be_policies (length policies)
+abbrev pub play_from_arguments : Report → StatedArgumentLine → List (List ℕ) → Option Command
+play_from_arguments told line [] = None
+play_from_arguments told line (schedule ∷ policies) =
+    if may_be_policy_arguments (length policies)
     then Some (Replay (record {
       schedule = schedule;
       policies = policies;
@@ -116,67 +116,67 @@ play_from told line (schedule ∷ policies) =
     }))
     else None
 
-abbrev pub replay_of : StatedLine → Option Command
-replay_of line = play_from (report.Lines line.quiet) line line.names
+abbrev pub replay_of_arguments : StatedArgumentLine → Option Command
+replay_of_arguments line = play_from_arguments (report.Lines line.quiet) line line.names
 
 -- `flows` has no flag
-abbrev pub flows_of : StatedLine → Option Command
-flows_of line = if line.quiet then None else play_from report.Flows line line.names
+abbrev pub flows_of_arguments : StatedArgumentLine → Option Command
+flows_of_arguments line = if line.quiet then None else play_from_arguments report.Flows line line.names
 
 -- `rebalance` has no flag
-abbrev pub rebalance_of : StatedLine → Option Command
-rebalance_of line = if line.quiet then None else play_from report.Placement line line.names
+abbrev pub rebalance_by_grammar : StatedArgumentLine → Option Command
+rebalance_by_grammar line = if line.quiet then None else play_from_arguments report.Placement line line.names
 
-abbrev pub print_from : StatedLine → List (List ℕ) → Option Command
-print_from line (policy ∷ []) =
+abbrev pub print_from_arguments : StatedArgumentLine → List (List ℕ) → Option Command
+print_from_arguments line (policy ∷ []) =
     Some (Print (record { policy = policy; switch = None; net = line.net }))
-print_from line (policy ∷ switch ∷ []) =
+print_from_arguments line (policy ∷ switch ∷ []) =
     Some (Print (record { policy = policy; switch = Some switch; net = line.net }))
-print_from line _ = None
+print_from_arguments line _ = None
 
 -- `compile` or `show`, with this many names and no `--quiet`
-abbrev pub print_of : ℕ → StatedLine → Option Command
-print_of count line =
-    if length line.names == count && not line.quiet then print_from line line.names else None
+abbrev pub grammar_print_of : ℕ → StatedArgumentLine → Option Command
+grammar_print_of count line =
+    if length line.names == count && not line.quiet then print_from_arguments line line.names else None
 
 -- the greatest number of `load N`, and the number that these names are, if they are one
-abbrev pub greatest_load_number : ℕ
-greatest_load_number = 1000
+abbrev pub greatest_load_argument : ℕ
+greatest_load_argument = 1000
 
-abbrev pub load_number : List (List ℕ) → Option ℕ
-load_number (number ∷ []) = number_up_to greatest_load_number number
-load_number _ = None
+abbrev pub load_number_argument : List (List ℕ) → Option ℕ
+load_number_argument (number ∷ []) = number_up_to greatest_load_argument number
+load_number_argument _ = None
 
-abbrev pub load_command_from : Option ℕ → Option Command
-load_command_from None = None
-load_command_from (Some n) = if nat_le 1 n then Some (Load n) else None
+abbrev pub load_from_argument : Option ℕ → Option Command
+load_from_argument None = None
+load_from_argument (Some n) = if nat_le 1 n then Some (Load n) else None
 
 -- `load` has no option
-abbrev pub load_of : StatedLine → Option Command
-load_of line = if is_some line.net || line.quiet then None else load_command_from (load_number line.names)
+abbrev pub load_of_arguments : StatedArgumentLine → Option Command
+load_of_arguments line = if is_some line.net || line.quiet then None else load_from_argument (load_number_argument line.names)
 
 -- an audit names as many policies as a replay may
 abbrev pub audit_from : List (List ℕ) → Option Command
 audit_from [] = None
 audit_from (trace ∷ policies) =
-    if may_be_policies (length policies)
+    if may_be_policy_arguments (length policies)
     then Some (Audit (record { trace = trace; policies = policies }))
     else None
 
 -- `audit` has no option
-abbrev pub audit_of : StatedLine → Option Command
-audit_of line = if is_some line.net || line.quiet then None else audit_from line.names
+abbrev pub audit_by_grammar : StatedArgumentLine → Option Command
+audit_by_grammar line = if is_some line.net || line.quiet then None else audit_from line.names
 
 -- the command of this name, with these arguments after it
-abbrev pub command_by : List ℕ → StatedLine → Option Command
+abbrev pub command_by : List ℕ → StatedArgumentLine → Option Command
 command_by name line =
-    if bytes_eq name (codes "replay") then replay_of line
-    else if bytes_eq name (codes "flows") then flows_of line
-    else if bytes_eq name (codes "rebalance") then rebalance_of line
-    else if bytes_eq name (codes "compile") then print_of 1 line
-    else if bytes_eq name (codes "show") then print_of 2 line
-    else if bytes_eq name (codes "load") then load_of line
-    else if bytes_eq name (codes "audit") then audit_of line
+    if bytes_eq name (codes "replay") then replay_of_arguments line
+    else if bytes_eq name (codes "flows") then flows_of_arguments line
+    else if bytes_eq name (codes "rebalance") then rebalance_by_grammar line
+    else if bytes_eq name (codes "compile") then grammar_print_of 1 line
+    else if bytes_eq name (codes "show") then grammar_print_of 2 line
+    else if bytes_eq name (codes "load") then load_of_arguments line
+    else if bytes_eq name (codes "audit") then audit_by_grammar line
     else None
 
 -- the command of these arguments; none if the grammar doesn't have them

@@ -19,8 +19,8 @@ names_arg = record (new_rule (codes "names")) {
 abbrev pub net_arg : Rule
 net_arg = record (new_rule (codes "net")) { long = Some (codes "net"); action = Some Set }
 
-abbrev pub quiet_arg : Rule
-quiet_arg = record (new_rule (codes "quiet")) { long = Some (codes "quiet"); action = Some SetTrue }
+abbrev pub quiet_argument : Rule
+quiet_argument = record (new_rule (codes "quiet")) { long = Some (codes "quiet"); action = Some SetTrue }
 
 -- the options that a command takes: none, or a network's, and perhaps the flag
 pub data CommandOptions : Type 0 where
@@ -37,7 +37,7 @@ command_options_of kind.Load = none
 command_options_of kind.Audit = none
 
 abbrev pub flag_args : Bool → List Rule
-flag_args true = quiet_arg ∷ []
+flag_args true = quiet_argument ∷ []
 flag_args false = []
 
 abbrev pub option_args : CommandOptions → List Rule
@@ -56,9 +56,9 @@ command_app k = app_with (command_kind_name k) (command_options_of k)
 -- ---- what is read of the matches
 
 -- a network, if the command takes one
-abbrev pub IsNetRead : CommandOptions → Option Text → Option Text → Type 0
-IsNetRead none found net = net ≡ None
-IsNetRead (net_and flag) found net = net ≡ found
+abbrev pub IsNetArgumentRead : CommandOptions → Option Text → Option Text → Type 0
+IsNetArgumentRead none found net = net ≡ None
+IsNetArgumentRead (net_and flag) found net = net ≡ found
 
 -- the flag, if the command takes it
 abbrev pub IsFlagRead : CommandOptions → Option Text → Bool → Type 0

@@ -3,7 +3,7 @@ use Rattle.std.specs.Prelude.{◌≤◌, List, Option, String, codes, length, ma
 use Rattle.base.specs.Exports.{Bor, Global}
 use Rattle.command_line.specs.Grammar as grammar
 use Rattle.command_line.specs.Commands as grammar_commands
-use Rattle.command_line.specs.Grammar.{command_by, line_of, greatest_load_number, most_policies}
+use Rattle.command_line.specs.Grammar.{command_by, line_of, greatest_load_argument, most_policy_arguments}
 use Rattle.command_line.specs.Others.{AuditCommand, PrintCommand}
 use Rattle.command_line.specs.declared.command.AuditArgs.{AuditArgs}
 use Rattle.command_line.specs.declared.command.Command.{Command}
@@ -17,52 +17,52 @@ use Rattle.command_line.specs.declared.grammar.ArgumentParts.{ArgumentParts}
 use Rattle.command_line.specs.declared.read.ArgumentLine.{ArgumentLine}
 
 -- a name that an argument may have given, and names
-abbrev pub net_named : Option (Bor (List ℕ)) → Option (List ℕ)
-net_named name = option_map (λ n. n.now) name
+abbrev pub argument_name_seen : Option (Bor (List ℕ)) → Option (List ℕ)
+argument_name_seen name = option_map (λ n. n.now) name
 
 abbrev pub argument_names_seen : List (Bor (List ℕ)) → List (List ℕ)
 argument_names_seen names = map (λ n. n.now) names
 
-abbrev pub replay_named : ReplayArgs → grammar_commands.ReplayCommand
-replay_named args = record {
+abbrev pub replay_arguments_named : ReplayArgs → grammar_commands.ReplayCommand
+replay_arguments_named args = record {
   schedule = args.schedule.now;
   policies = argument_names_seen args.policies.items;
-  net = net_named args.net;
+  net = argument_name_seen args.net;
   report = args.report;
 }
 
-abbrev pub print_named : PrintArgs → PrintCommand
-print_named args =
-    record { policy = args.policy.now; switch = net_named args.switch; net = net_named args.net }
+abbrev pub print_arguments_named : PrintArgs → PrintCommand
+print_arguments_named args =
+    record { policy = args.policy.now; switch = argument_name_seen args.switch; net = argument_name_seen args.net }
 
-abbrev pub audit_named : AuditArgs → AuditCommand
-audit_named args = record { trace = args.trace.now; policies = argument_names_seen args.policies.items }
+abbrev pub audit_arguments_named : AuditArgs → AuditCommand
+audit_arguments_named args = record { trace = args.trace.now; policies = argument_names_seen args.policies.items }
 
 -- the command that names these files
 abbrev pub command_named : Command → grammar_commands.Command
-command_named (given.Replay args) = grammar_commands.Replay (replay_named args)
-command_named (given.Print args) = grammar_commands.Print (print_named args)
+command_named (given.Replay args) = grammar_commands.Replay (replay_arguments_named args)
+command_named (given.Print args) = grammar_commands.Print (print_arguments_named args)
 command_named (given.Load n) = grammar_commands.Load n
-command_named (given.Audit args) = grammar_commands.Audit (audit_named args)
+command_named (given.Audit args) = grammar_commands.Audit (audit_arguments_named args)
 
 -- the arguments name a right number of policies, from 1 to 64, or of a load case, from 1 to 1,000
-abbrev pub MayBePolicies : ℕ → Type 0
-MayBePolicies count = (1 ≤ count) × (count ≤ most_policies)
+abbrev pub MayBePolicyArguments : ℕ → Type 0
+MayBePolicyArguments count = (1 ≤ count) × (count ≤ most_policy_arguments)
 
-abbrev pub HasPolicies : ReplayArgs → Type 0
-HasPolicies args = MayBePolicies (length args.policies.items)
+abbrev pub HasPolicyArguments : ReplayArgs → Type 0
+HasPolicyArguments args = MayBePolicyArguments (length args.policies.items)
 
-abbrev pub NamesPolicies : Command → Type 0
-NamesPolicies (given.Replay args) = HasPolicies args
-NamesPolicies (given.Print args) = ⊤
-NamesPolicies (given.Load n) = (1 ≤ n) × (n ≤ greatest_load_number)
-NamesPolicies (given.Audit args) = MayBePolicies (length args.policies.items)
+abbrev pub ArgumentsNamePolicies : Command → Type 0
+ArgumentsNamePolicies (given.Replay args) = HasPolicyArguments args
+ArgumentsNamePolicies (given.Print args) = ⊤
+ArgumentsNamePolicies (given.Load n) = (1 ≤ n) × (n ≤ greatest_load_argument)
+ArgumentsNamePolicies (given.Audit args) = MayBePolicyArguments (length args.policies.items)
 
 -- the line that was read
-abbrev pub argument_line_seen : ArgumentLine → grammar.StatedLine
+abbrev pub argument_line_seen : ArgumentLine → grammar.StatedArgumentLine
 argument_line_seen line = record {
   names = argument_names_seen line.names.items;
-  net = net_named line.net;
+  net = argument_name_seen line.net;
   quiet = line.quiet;
 }
 
@@ -71,15 +71,15 @@ argument_line_seen line = record {
 -- the options and arguments that were cut, and the parts of a line
 abbrev pub option_cut_seen : Cut → grammar.Cut
 option_cut_seen cut = record {
-  net = net_named cut.net;
+  net = argument_name_seen cut.net;
   quiet = cut.quiet;
   args = map string_bytes cut.args.now;
 }
 
-abbrev pub argument_parts_seen : ArgumentParts → grammar.StatedLine
+abbrev pub argument_parts_seen : ArgumentParts → grammar.StatedArgumentLine
 argument_parts_seen parts = record {
   names = map string_bytes parts.names.now;
-  net = net_named parts.net;
+  net = argument_name_seen parts.net;
   quiet = parts.quiet;
 }
 

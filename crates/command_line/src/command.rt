@@ -1,7 +1,7 @@
 ghost use Rattle.std.specs.Prelude.{◌≡◌, ◌≤◌, true, IfOk, IfErr, IfSome, Some, is_some, length, map, string_bytes, option_map};
-ghost use Rattle.command_line.specs.Named.{HasPolicies, MayBePolicies, NamesPolicies, audit_named, command_named, command_kind_name, argument_line_seen, argument_names_seen, replay_named};
+ghost use Rattle.command_line.specs.Named.{HasPolicyArguments, MayBePolicyArguments, ArgumentsNamePolicies, audit_arguments_named, command_named, command_kind_name, argument_line_seen, argument_names_seen, replay_arguments_named};
 ghost use Rattle.command_line.specs.Commands as grammar;
-ghost use Rattle.command_line.specs.Grammar.{audit_from, command_by, command_of, load_command_from, play_from};
+ghost use Rattle.command_line.specs.Grammar.{audit_from, command_by, command_of, load_from_argument, play_from_arguments};
 ghost use Rattle.five_tuple.specs.Texts.{number_up_to};
 
 use crate::grammar::{CommandKind, kind_of};
@@ -66,7 +66,7 @@ pub enum Command<'a> {
 pub fn read_command(alloc: Global, args: &[String]) -> Result<Option<Command<'_>>, AllocError>
     ensures value { IfOk result (λ found.
         option_map command_named found ≡ command_of (map string_bytes args.now)) }
-    ensures named { IfOk result (λ found. IfSome found NamesPolicies) }
+    ensures named { IfOk result (λ found. IfSome found ArgumentsNamePolicies) }
     ensures needless { IfErr result (λ _.
         is_some (command_of (map string_bytes args.now)) ≡ true) }
 {
@@ -82,7 +82,7 @@ fn command_from<'a>(kind: CommandKind, line: ArgumentLine<'a>) -> Command<'a>
     requires { is_some (command_by (command_kind_name kind) (argument_line_seen line)) ≡ true }
     ensures command { Some (command_named result)
         ≡ command_by (command_kind_name kind) (argument_line_seen line.entry) }
-    ensures named { NamesPolicies result }
+    ensures named { ArgumentsNamePolicies result }
 {
     match kind {
         CommandKind::Replay => {
@@ -96,17 +96,17 @@ fn command_from<'a>(kind: CommandKind, line: ArgumentLine<'a>) -> Command<'a>
             switch: line.names.get(1).copied(),
             net: line.net,
         }),
-        CommandKind::Load => Command::Load(load_command_from(line.names[0])),
+        CommandKind::Load => Command::Load(load_from_argument(line.names[0])),
         CommandKind::Audit => Command::Audit(audit_from(line.names)),
     }
 }
 
 // The files that a line names, for a play that prints this report.
 fn replay_command_from<'a>(report: Report, line: ArgumentLine<'a>) -> ReplayArgs<'a>
-    requires { is_some (play_from report (argument_line_seen line) (argument_names_seen line.names.items)) ≡ true }
-    ensures args { Some (grammar.Replay (replay_named result))
-        ≡ play_from report (argument_line_seen line.entry) (argument_names_seen line.entry.names.items) }
-    ensures few { HasPolicies result }
+    requires { is_some (play_from_arguments report (argument_line_seen line) (argument_names_seen line.names.items)) ≡ true }
+    ensures args { Some (grammar.Replay (replay_arguments_named result))
+        ≡ play_from_arguments report (argument_line_seen line.entry) (argument_names_seen line.entry.names.items) }
+    ensures few { HasPolicyArguments result }
 {
     let mut names = line.names;
     let schedule = names.remove(0);
@@ -120,9 +120,9 @@ fn replay_command_from<'a>(report: Report, line: ArgumentLine<'a>) -> ReplayArgs
 
 fn audit_from<'a>(names: Vec<&'a str>) -> AuditArgs<'a>
     requires { is_some (audit_from (argument_names_seen names.items)) ≡ true }
-    ensures args { Some (grammar.Audit (audit_named result))
+    ensures args { Some (grammar.Audit (audit_arguments_named result))
         ≡ audit_from (argument_names_seen names.entry.items) }
-    ensures few { MayBePolicies (length result.policies.items) }
+    ensures few { MayBePolicyArguments (length result.policies.items) }
 {
     let mut names = names;
     let trace = names.remove(0);
@@ -133,9 +133,9 @@ fn audit_from<'a>(names: Vec<&'a str>) -> AuditArgs<'a>
 }
 
 // The number of a load case.
-fn load_command_from(number: &str) -> u32
-    requires { is_some (load_command_from (number_up_to 1000 number.now)) ≡ true }
-    ensures number { Some (grammar.Load result) ≡ load_command_from (number_up_to 1000 number.now) }
+fn load_from_argument(number: &str) -> u32
+    requires { is_some (load_from_argument (number_up_to 1000 number.now)) ≡ true }
+    ensures number { Some (grammar.Load result) ≡ load_from_argument (number_up_to 1000 number.now) }
     ensures some { 1 ≤ result }
     ensures few { result ≤ 1000 }
 {

@@ -1,8 +1,8 @@
 //! The test of the grammar, which allocates nothing.
 ghost use Rattle.std.specs.Prelude.{◌≡◌, ◌≤◌, ◌⊎◌, true, IfSome, IfNone, None, drop, is_some, length, map, option_map, string_bytes};
 ghost use Rattle.std.specs.List.{prefix_len};
-ghost use Rattle.command_line.specs.Named.{command_of_kind, option_cut_seen, command_kind_name, net_named, option_pair_seen, argument_parts_seen};
-ghost use Rattle.command_line.specs.Grammar.{StatedLine as Stated, audit_of, command_by, command_of, cut_net_option, cut_options, cut_option_pair, cut_quiet_flag, options_end_together, is_file_name, joined_net_option, argument_line_from, line_of, load_of, net_and_quiet, print_of, play_from, quiet_and_net};
+ghost use Rattle.command_line.specs.Named.{command_of_kind, option_cut_seen, command_kind_name, argument_name_seen, option_pair_seen, argument_parts_seen};
+ghost use Rattle.command_line.specs.Grammar.{StatedArgumentLine as Stated, audit_by_grammar, command_by, command_of, cut_net_option_argument, cut_argument_options, cut_option_pair, cut_quiet_argument, options_end_together, is_name_argument, joined_net_argument, argument_line_from, line_of, load_of_arguments, net_option_then_quiet, grammar_print_of, play_from_arguments, quiet_flag_then_net};
 ghost use Rattle.command_line.specs.declared.report.Report.{Report};
 
 use crate::command::{MAX_LOAD, MAX_POLICIES};
@@ -88,7 +88,7 @@ impl CommandKind {
 // Whether the names are those of a play, whatever it prints.
 fn takes_replay(parts: &ArgumentParts<'_>) -> bool
     ensures { (report : Report) → result ≡
-        is_some (play_from report (argument_parts_seen parts.now) (map string_bytes parts.now.names.now)) }
+        is_some (play_from_arguments report (argument_parts_seen parts.now) (map string_bytes parts.now.names.now)) }
 {
     let [_schedule, policies @ ..] = parts.names else {
         return false;
@@ -97,7 +97,7 @@ fn takes_replay(parts: &ArgumentParts<'_>) -> bool
 }
 
 fn takes_audit(parts: &ArgumentParts<'_>) -> bool
-    ensures { result ≡ is_some (audit_of (argument_parts_seen parts.now)) }
+    ensures { result ≡ is_some (audit_by_grammar (argument_parts_seen parts.now)) }
 {
     if parts.net.is_some() || parts.quiet {
         return false;
@@ -110,13 +110,13 @@ fn takes_audit(parts: &ArgumentParts<'_>) -> bool
 
 fn takes_print(count: usize, parts: &ArgumentParts<'_>) -> bool
     requires { (count ≡ 1) ⊎ (count ≡ 2) }
-    ensures { result ≡ is_some (print_of count (argument_parts_seen parts.now)) }
+    ensures { result ≡ is_some (grammar_print_of count (argument_parts_seen parts.now)) }
 {
     parts.names.len() == count && !parts.quiet
 }
 
 fn takes_load(parts: &ArgumentParts<'_>) -> bool
-    ensures { result ≡ is_some (load_of (argument_parts_seen parts.now)) }
+    ensures { result ≡ is_some (load_of_arguments (argument_parts_seen parts.now)) }
 {
     if parts.net.is_some() || parts.quiet {
         return false;
@@ -134,9 +134,9 @@ fn takes_load(parts: &ArgumentParts<'_>) -> bool
 fn parts_of(args: &[String]) -> Option<ArgumentParts<'_>>
     ensures { option_map argument_parts_seen result ≡ line_of (map string_bytes args.now) }
 {
-    let front = cut_options(args);
+    let front = cut_argument_options(args);
     let (names, rest) = front.args.split_at(argument_name_count(front.args));
-    joined_argument_parts(front, names, cut_options(rest))
+    joined_argument_parts(front, names, cut_argument_options(rest))
 }
 
 // The names with the options around them; `None` if one is given twice, or arguments are left.
@@ -169,34 +169,34 @@ fn options_end_together(front: &Cut<'_>, back: &Cut<'_>) -> bool
 
 // How many of the first arguments may name a file, up to one that may not.
 fn argument_name_count(args: &[String]) -> usize
-    ensures value { result ≡ prefix_len is_file_name (map string_bytes args.now) }
+    ensures value { result ≡ prefix_len is_name_argument (map string_bytes args.now) }
     ensures within { result ≤ length args.now }
 {
     args.iter().take_while(|arg| is_name(arg)).count()
 }
 
 // The options that begin the arguments, and the arguments after them.
-fn cut_options(args: &[String]) -> Cut<'_>
-    ensures { option_cut_seen result ≡ cut_options (map string_bytes args.now) }
+fn cut_argument_options(args: &[String]) -> Cut<'_>
+    ensures { option_cut_seen result ≡ cut_argument_options (map string_bytes args.now) }
 {
-    if let Some(rest) = cut_quiet_flag(args) {
-        return quiet_and_net(rest);
+    if let Some(rest) = cut_quiet_argument(args) {
+        return quiet_flag_then_net(rest);
     }
-    match cut_net_option(args) {
+    match cut_net_option_argument(args) {
         None => Cut {
             net: None,
             quiet: false,
             args,
         },
-        Some((net, rest)) => net_and_quiet(net, rest),
+        Some((net, rest)) => net_option_then_quiet(net, rest),
     }
 }
 
 // A network's option may follow the flag.
-fn quiet_and_net(args: &[String]) -> Cut<'_>
-    ensures { option_cut_seen result ≡ quiet_and_net (map string_bytes args.now) }
+fn quiet_flag_then_net(args: &[String]) -> Cut<'_>
+    ensures { option_cut_seen result ≡ quiet_flag_then_net (map string_bytes args.now) }
 {
-    match cut_net_option(args) {
+    match cut_net_option_argument(args) {
         None => Cut {
             net: None,
             quiet: true,
@@ -211,10 +211,10 @@ fn quiet_and_net(args: &[String]) -> Cut<'_>
 }
 
 // A flag may follow the network's option.
-fn net_and_quiet<'a>(net: &'a str, args: &'a [String]) -> Cut<'a>
-    ensures { option_cut_seen result ≡ net_and_quiet net.entry.now (map string_bytes args.now) }
+fn net_option_then_quiet<'a>(net: &'a str, args: &'a [String]) -> Cut<'a>
+    ensures { option_cut_seen result ≡ net_option_then_quiet net.entry.now (map string_bytes args.now) }
 {
-    match cut_quiet_flag(args) {
+    match cut_quiet_argument(args) {
         None => Cut {
             net: Some(net),
             quiet: false,
@@ -229,9 +229,9 @@ fn net_and_quiet<'a>(net: &'a str, args: &'a [String]) -> Cut<'a>
 }
 
 // The arguments after a flag, if they begin with one.
-fn cut_quiet_flag(args: &[String]) -> Option<&[String]>
+fn cut_quiet_argument(args: &[String]) -> Option<&[String]>
     ensures { option_map (λ rest. map string_bytes rest.now) result
-        ≡ cut_quiet_flag (map string_bytes args.now) }
+        ≡ cut_quiet_argument (map string_bytes args.now) }
 {
     let [option, rest @ ..] = args else {
         return None;
@@ -244,13 +244,13 @@ fn cut_quiet_flag(args: &[String]) -> Option<&[String]>
 }
 
 // The network of an option that begins the arguments, and the arguments after it.
-fn cut_net_option(args: &[String]) -> Option<(&str, &[String])>
-    ensures { option_map option_pair_seen result ≡ cut_net_option (map string_bytes args.now) }
+fn cut_net_option_argument(args: &[String]) -> Option<(&str, &[String])>
+    ensures { option_map option_pair_seen result ≡ cut_net_option_argument (map string_bytes args.now) }
 {
     let [option, rest @ ..] = args else {
         return None;
     };
-    match joined_net_option(option.as_str()) {
+    match joined_net_argument(option.as_str()) {
         Some(net) => Some((net, rest)),
         None => cut_option_pair(option.as_str(), rest),
     }
@@ -271,8 +271,8 @@ fn cut_option_pair<'a>(option: &str, args: &'a [String]) -> Option<(&'a str, &'a
 }
 
 // The network of an option `--net=NET`.
-fn joined_net_option(arg: &str) -> Option<&str>
-    ensures { net_named result ≡ joined_net_option arg.now }
+fn joined_net_argument(arg: &str) -> Option<&str>
+    ensures { argument_name_seen result ≡ joined_net_argument arg.now }
 {
     let net = arg.strip_prefix("--net=")?;
     if is_name(net) { Some(net) } else { None }
@@ -280,7 +280,7 @@ fn joined_net_option(arg: &str) -> Option<&str>
 
 // Whether an argument may name a file or a switch: it is not empty and does not begin with a dash.
 fn is_name(arg: &str) -> bool
-    ensures { result ≡ is_file_name arg.now }
+    ensures { result ≡ is_name_argument arg.now }
 {
     !arg.is_empty() && arg.as_bytes()[0] != b'-'
 }

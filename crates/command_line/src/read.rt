@@ -1,8 +1,8 @@
 //! Reads arguments of the grammar with the crate `clap`.
 ghost use Rattle.std.specs.Prelude.{◌≡◌, Bool, true, false, IfOk, Some, codes, drop, is_some, map, option_map, string_bytes};
 ghost use Rattle.clap.specs.Words.{app_of, first_value, found_of, matched_of, one_text, raw_values, rule_of};
-ghost use Rattle.command_line.specs.Line.{IsFlagRead, IsNetRead, app_with, command_app, names_arg, net_and, net_arg, none, command_options_of, quiet_arg};
-ghost use Rattle.command_line.specs.Named.{command_of_kind, argument_line_seen, argument_names_seen, net_named};
+ghost use Rattle.command_line.specs.Line.{IsFlagRead, IsNetArgumentRead, app_with, command_app, names_arg, net_and, net_arg, none, command_options_of, quiet_argument};
+ghost use Rattle.command_line.specs.Named.{command_of_kind, argument_line_seen, argument_names_seen, argument_name_seen};
 ghost use Rattle.command_line.specs.Grammar.{line_of};
 
 use crate::grammar::CommandKind;
@@ -65,7 +65,7 @@ fn replay_command<'a>(alloc: Global) -> Result<Command<'a>, AllocError>
     let command = Command::new(alloc, "replay")
         .arg(names_arg(alloc))?
         .arg(net_arg(alloc))?
-        .arg(quiet_arg(alloc))?;
+        .arg(quiet_argument(alloc))?;
     Ok(command.args_override_self(true))
 }
 
@@ -102,8 +102,8 @@ fn net_arg<'a>(alloc: Global) -> Arg<'a>
     Arg::new(alloc, "net").long("net").action(ArgAction::Set)
 }
 
-fn quiet_arg<'a>(alloc: Global) -> Arg<'a>
-    ensures rule { rule_of result ≡ quiet_arg }
+fn quiet_argument<'a>(alloc: Global) -> Arg<'a>
+    ensures rule { rule_of result ≡ quiet_argument }
     ensures here { result.global ≡ false }
 {
     Arg::new(alloc, "quiet")
@@ -123,8 +123,8 @@ fn clap_line_in<'a>(
     ensures names { IfOk result (λ line.
         option_map raw_values (matched_of (found_of matches.now) (codes "names"))
         ≡ Some (argument_names_seen line.names.items)) }
-    ensures net { IfOk result (λ line. IsNetRead (command_options_of kind)
-        (first_value (found_of matches.now) (codes "net")) (net_named line.net)) }
+    ensures net { IfOk result (λ line. IsNetArgumentRead (command_options_of kind)
+        (first_value (found_of matches.now) (codes "net")) (argument_name_seen line.net)) }
     ensures quiet { IfOk result (λ line. IsFlagRead (command_options_of kind)
         (one_text (found_of matches.now) (codes "quiet")) line.quiet) }
 {
@@ -141,8 +141,8 @@ fn clap_line_in<'a>(
 
 // The network, if the command takes one.
 fn clap_net_in<'a>(kind: CommandKind, matches: &ArgMatches<'a>) -> Option<&'a str>
-    ensures { IsNetRead (command_options_of kind)
-        (first_value (found_of matches.now) (codes "net")) (net_named result) }
+    ensures { IsNetArgumentRead (command_options_of kind)
+        (first_value (found_of matches.now) (codes "net")) (argument_name_seen result) }
 {
     match kind {
         CommandKind::Replay

@@ -2,8 +2,8 @@
 -- while the switch is up in it.
 use Rattle.std.proofs.Common.{[], ◌++◌, ◌<◌, ◌==◌, ◌∷◌, ◌≡◌, ◌≤◌, Bool, IfSome, IsFalse, IsTrue, List, None, Option, Some, ap, arith, false, inl, inr, max, option_and_then, option_to_list, refl, subst, sym, true, ℕ, rules}
 use Rattle.base.proofs.Exports.{AllByRecursion, cases_lt, each_append, each_option, list_any, list_any-append, nat_tests}
-use Rattle.update_machine.specs.Exports.{AreSettled, Body, Hello, Installed, Item, Setting, Stamped, acked_stamp, body_to_controller, boot_of, controller_heard, current_mark, has_acked, heard, installed_version_in, installs_version, is_member, is_over, is_up, known_boot, message_of, next_retired, opened_at, retired_mark, speaking_in_body, stamp_of, stamped_version_in}
-use Rattle.control_laws.specs.Exports.{BootsAreKnown, HasItemCause, IsPresentIn, IsRightFrom}
+use Rattle.update_machine.specs.Exports.{AreMachineMarksSettled, Body, Hello, Installed, Item, Setting, Stamped, acked_stamp, journal_body_to_controller, journal_boot_of, controller_heard, journal_current_mark, has_acked, heard, journal_installed_in_body, installs_version, is_member, is_over, is_up, journal_known_boot, message_of, journal_next_retired, opened_at, journal_retired_mark, machine_speaking_in_body, journal_stamp_of, machine_stamped_version_in}
+use Rattle.control_laws.specs.Exports.{BootsAreKnown, HasControlItemCause, IsControlSenderPresent, IsRightMessageFrom}
 use Rattle.control_laws.proofs.ControlFactsGrown.{boot_more, boot_rises, by_number, heard_more, raised_up, stamp_told, up_more}
 use Rattle.ctrl_msg.specs.Exports.{to_controller}
 use Rattle.update_machine.proofs.Exports.{open_net, start_laws}
@@ -24,12 +24,12 @@ turns s _ = false
 -- a switch that is up in a boot that isn't new was so before, and its boot goes on
 pub record GoesOn (before : List Item) (next : Item) (s boot : ℕ) : Type 0 where
   pub up : IsTrue (is_up before s)
-  pub own : boot ≡ boot_of before s
+  pub own : boot ≡ journal_boot_of before s
   pub same : IsFalse (turns s next)
 
 pub goes_on : (setting : Setting) (before : List Item) (next : Item) (s boot : ℕ)
-    → HasItemCause setting before next → boot ≤ boot_of before s
-    → IsTrue (is_up (before ++ next ∷ []) s) → boot ≡ boot_of (before ++ next ∷ []) s
+    → HasControlItemCause setting before next → boot ≤ journal_boot_of before s
+    → IsTrue (is_up (before ++ next ∷ []) s) → boot ≡ journal_boot_of (before ++ next ∷ []) s
     → GoesOn before next s boot
 goes_on setting before next s boot cause past up own = search (rules, nat_tests, up_more, boot_more)
 
@@ -40,19 +40,19 @@ pub heard_kept : (test : Body → Bool) (before : List Item) (next : Item) (s : 
 heard_kept test before next s same any = search (rules, heard_more, list_any-append)
 
 stamp_delivered : (before : List Item) (number s : ℕ)
-    → stamp_of before s ≤ stamp_of (before ++ Item.Delivered number ∷ []) s
+    → journal_stamp_of before s ≤ journal_stamp_of (before ++ Item.Delivered number ∷ []) s
 stamp_delivered before number s = search (rules, stamp_told, raised_up)
 
 -- and its stamp never falls
 pub stamp_kept : (before : List Item) (next : Item) (s : ℕ) → IsFalse (turns s next)
-    → stamp_of before s ≤ stamp_of (before ++ next ∷ []) s
-unfolding stamp_of
+    → journal_stamp_of before s ≤ journal_stamp_of (before ++ next ∷ []) s
+unfolding journal_stamp_of
 stamp_kept before next s same = search (rules, heard_more, boot_more, up_more, stamp_delivered)
 
 -- an item that is no delivery gives it no stamp but the first one
 pub stamp_less : (before : List Item) (next : Item) (s : ℕ) → IsFalse (is_delivered next)
-    → stamp_of (before ++ next ∷ []) s ≤ max 1 (stamp_of before s)
-unfolding stamp_of
+    → journal_stamp_of (before ++ next ∷ []) s ≤ max 1 (journal_stamp_of before s)
+unfolding journal_stamp_of
 stamp_less before next s none = search (rules, heard_more, boot_more, up_more)
 
 -- ---- acknowledgement kinds
@@ -64,9 +64,9 @@ pub record AckKind : Type 1 where
   pub Holds : List Item → ℕ → ℕ → Type 0
   pub is : (s boot : ℕ) (body : Body) (version : ℕ) → reads s boot body ≡ Some version
       → body ≡ writes s boot version
-  pub speaks : (s boot version : ℕ) → speaking_in_body (writes s boot version) ≡ Some (s, boot)
-  pub right : (before : List Item) (s boot version : ℕ) → IsRightFrom before (writes s boot version)
-      → IsPresentIn before s boot × Holds before s version
+  pub speaks : (s boot version : ℕ) → machine_speaking_in_body (writes s boot version) ≡ Some (s, boot)
+  pub right : (before : List Item) (s boot version : ℕ) → IsRightMessageFrom before (writes s boot version)
+      → IsControlSenderPresent before s boot × Holds before s version
   pub kept : (before : List Item) (next : Item) (s version : ℕ) → IsFalse (turns s next)
       → Holds before s version → Holds (before ++ next ∷ []) s version
 
@@ -74,49 +74,49 @@ pub record AckKind : Type 1 where
 pub record AreTrue (kind : AckKind) (journal : List Item) : Type 0 where
   pub sent : (s boot version n : ℕ)
       → message_of journal n ≡ Some (to_controller (kind.writes s boot version))
-      → IsTrue (is_up journal s) → boot ≡ boot_of journal s → kind.Holds journal s version
+      → IsTrue (is_up journal s) → boot ≡ journal_boot_of journal s → kind.Holds journal s version
   pub told : (s : ℕ) → IsTrue (is_up journal s)
-      → AllByRecursion (kind.Holds journal s) (told_by (kind.reads s (boot_of journal s)) journal)
-  pub past : (s boot : ℕ) → boot_of journal s < boot → told_by (kind.reads s boot) journal ≡ []
+      → AllByRecursion (kind.Holds journal s) (told_by (kind.reads s (journal_boot_of journal s)) journal)
+  pub past : (s boot : ℕ) → journal_boot_of journal s < boot → told_by (kind.reads s boot) journal ≡ []
 
 -- no acknowledgement is of a boot to come
 past_sent : (kind : AckKind) (before : List Item) (s boot version n : ℕ) → BootsAreKnown before
     → message_of before n ≡ Some (to_controller (kind.writes s boot version))
-    → boot ≤ boot_of before s
+    → boot ≤ journal_boot_of before s
 past_sent kind before s boot version n boots sent = rw (kind.speaks s boot version) at
     (boots.sent n (to_controller (kind.writes s boot version)) sent)
 
 sent_on : (kind : AckKind) (setting : Setting) (before : List Item) (next : Item)
-    (s boot version n : ℕ) → HasItemCause setting before next → BootsAreKnown before
+    (s boot version n : ℕ) → HasControlItemCause setting before next → BootsAreKnown before
     → AreTrue kind before
     → message_of (before ++ next ∷ []) n ≡ Some (to_controller (kind.writes s boot version))
-    → IsTrue (is_up (before ++ next ∷ []) s) → boot ≡ boot_of (before ++ next ∷ []) s
+    → IsTrue (is_up (before ++ next ∷ []) s) → boot ≡ journal_boot_of (before ++ next ∷ []) s
     → kind.Holds (before ++ next ∷ []) s version
 sent_on kind setting before next s boot version n cause boots fact is up own =
     elim (by_number before next n (to_controller (kind.writes s boot version)) is) [
       | inl new ↦ kind.kept before next s version (ap (turns s) new)
-          (kind.right before s boot version (subst (HasItemCause setting before) new cause)).1
+          (kind.right before s boot version (subst (HasControlItemCause setting before) new cause)).1
       | inr old ↦ let on = goes_on _ _ _ s _ cause (past_sent kind _ s boot _ n boots old) up own in
           kind.kept before next s version on.same (fact.sent s boot version n old on.up on.own)
     ]
 
 -- a told acknowledgement was sent
 ack_sent : (kind : AckKind) (before : List Item) (s boot number version : ℕ)
-    → option_and_then (kind.reads s boot) (body_to_controller before number) ≡ Some version
+    → option_and_then (kind.reads s boot) (journal_body_to_controller before number) ≡ Some version
     → message_of before number ≡ Some (to_controller (kind.writes s boot version))
 ack_sent kind before s boot number version told = search (rules, told_sent)
 
 -- what an item says about the boot that lasts is true
 tells_true : (kind : AckKind) (before : List Item) (next : Item) (s boot : ℕ)
-    → AreTrue kind before → IsTrue (is_up before s) → boot ≡ boot_of before s
+    → AreTrue kind before → IsTrue (is_up before s) → boot ≡ journal_boot_of before s
     → AllByRecursion (kind.Holds before s) (tells (kind.reads s boot) before next)
 tells_true kind before next s boot fact up own = search (rules, each_option, ack_sent)
 
 -- and of a boot to come it tells nothing
 tells_past : (kind : AckKind) (before : List Item) (next : Item) (s boot : ℕ)
-    → BootsAreKnown before → boot_of before s < boot → tells (kind.reads s boot) before next ≡ []
+    → BootsAreKnown before → journal_boot_of before s < boot → tells (kind.reads s boot) before next ≡ []
 tells_past kind before (Item.Delivered number) s boot boots past = by_told _ refl where
-  by_told : (o : Option ℕ) → option_and_then (kind.reads s boot) (body_to_controller before number)
+  by_told : (o : Option ℕ) → option_and_then (kind.reads s boot) (journal_body_to_controller before number)
       ≡ o → option_to_list o ≡ []
   by_told None e = refl
   by_told (Some version) e =
@@ -125,23 +125,23 @@ tells_past kind before (Item.Delivered number) s boot boots past = by_told _ ref
 tells_past kind before _ s boot boots past = refl
 
 past_on : (kind : AckKind) (setting : Setting) (before : List Item) (next : Item) (s boot : ℕ)
-    → HasItemCause setting before next → BootsAreKnown before → AreTrue kind before
-    → boot_of (before ++ next ∷ []) s < boot
+    → HasControlItemCause setting before next → BootsAreKnown before → AreTrue kind before
+    → journal_boot_of (before ++ next ∷ []) s < boot
     → told_by (kind.reads s boot) (before ++ next ∷ []) ≡ []
 past_on kind setting before next s boot cause boots fact past =
     search (rules, boot_rises, told_by_more, tells_past)
 
 told_on : (kind : AckKind) (setting : Setting) (before : List Item) (next : Item) (s : ℕ)
-    → HasItemCause setting before next → BootsAreKnown before → AreTrue kind before
+    → HasControlItemCause setting before next → BootsAreKnown before → AreTrue kind before
     → IsTrue (is_up (before ++ next ∷ []) s) → AllByRecursion (kind.Holds (before ++ next ∷ []) s)
-    (told_by (kind.reads s (boot_of (before ++ next ∷ []) s)) (before ++ next ∷ []))
+    (told_by (kind.reads s (journal_boot_of (before ++ next ∷ []) s)) (before ++ next ∷ []))
 told_on kind setting before next s cause boots fact up =
-    let boot : ℕ = boot_of (before ++ next ∷ []) s in
+    let boot : ℕ = journal_boot_of (before ++ next ∷ []) s in
     let Holds : ℕ → Type 0 = kind.Holds (before ++ next ∷ []) s in
     let more : told_by (kind.reads s boot) (before ++ next ∷ [])
     ≡ told_by (kind.reads s boot) before ++ tells (kind.reads s boot) before next =
     told_by_more (kind.reads s boot) before next in
-    let none : boot_of before s < boot → told_by (kind.reads s boot) (before ++ next ∷ []) ≡ [] =
+    let none : journal_boot_of before s < boot → told_by (kind.reads s boot) (before ++ next ∷ []) ≡ [] =
     λ new. cc (more, fact.past s boot new, tells_past kind before next s boot boots new) in
     let by_going : GoesOn before next s boot → AllByRecursion Holds
     (told_by (kind.reads s boot) before ++ tells (kind.reads s boot) before next) = λ on.
@@ -151,13 +151,13 @@ told_on kind setting before next s cause boots fact up =
     (each_weaker (kind.Holds before s) Holds (λ version. kind.kept before next s version on.same)
     (tells (kind.reads s boot) before next)
     (tells_true kind before next s boot fact on.up on.own)) in
-    elim (cases_lt (boot_of before s) (boot_of (before ++ next ∷ []) s)) [
+    elim (cases_lt (journal_boot_of before s) (journal_boot_of (before ++ next ∷ []) s)) [
       | inl new ↦ subst (AllByRecursion Holds) (sym (none new)) tt
       | inr old ↦ rw more (by_going (goes_on setting before next s boot cause old up refl))
     ]
 
 pub true_on : (kind : AckKind) (setting : Setting) (before : List Item) (next : Item)
-    → HasItemCause setting before next → BootsAreKnown before → AreTrue kind before
+    → HasControlItemCause setting before next → BootsAreKnown before → AreTrue kind before
     → AreTrue kind (before ++ next ∷ [])
 true_on kind setting before next cause boots fact = record {
   sent = λ s boot version n is up own. sent_on kind _ _ next s boot _ n cause boots fact is up own;
@@ -173,10 +173,10 @@ true_at_first kind = search (rules, start_laws)
 -- ---- the two kinds
 
 pub installed_is : (s boot : ℕ) (body : Body) (version : ℕ)
-    → installed_version_in s boot body ≡ Some version → body ≡ Installed s boot version
+    → journal_installed_in_body s boot body ≡ Some version → body ≡ Installed s boot version
 installed_is s boot body version e = search (rules, nat_tests)
 
-pub stamped_is : (s boot : ℕ) (body : Body) (version : ℕ) → stamped_version_in s boot body ≡ Some version
+pub stamped_is : (s boot : ℕ) (body : Body) (version : ℕ) → machine_stamped_version_in s boot body ≡ Some version
     → body ≡ Stamped s boot version
 stamped_is s boot body version e = search (rules, nat_tests)
 
@@ -184,7 +184,7 @@ stamped_is s boot body version e = search (rules, nat_tests)
 abbrev pub of_tables : AckKind
 of_tables = record {
   writes = Installed;
-  reads = installed_version_in;
+  reads = journal_installed_in_body;
   Holds = λ journal s version. IsTrue (list_any (installs_version version) (heard journal s));
   is = installed_is;
   speaks = λ s boot version. refl;
@@ -197,8 +197,8 @@ of_tables = record {
 abbrev pub of_stamps : AckKind
 of_stamps = record {
   writes = Stamped;
-  reads = stamped_version_in;
-  Holds = λ journal s version. version ≤ stamp_of journal s;
+  reads = machine_stamped_version_in;
+  Holds = λ journal s version. version ≤ journal_stamp_of journal s;
   is = stamped_is;
   speaks = λ s boot version. refl;
   right = λ before s boot version right. (right.present, right.stamps);
@@ -212,8 +212,8 @@ abbrev joining : List Item
 joining = Item.Down 0 ∷ Item.Booted 0 2 ∷ Item.Sent 1 (to_controller (Hello 0 2)) ∷ Item.Delivered 1
     ∷ Item.Sent 2 (to_controller (Installed 0 2 1)) ∷ Item.Delivered 2 ∷ []
 
-not_unopened : AreSettled open_net joining → ⊥
-unfolding controller_heard current_mark has_acked is_member is_over known_boot message_of opened_at
+not_unopened : AreMachineMarksSettled open_net joining → ⊥
+unfolding controller_heard journal_current_mark has_acked is_member is_over journal_known_boot message_of opened_at
 not_unopened settled = let no : true ≡ false = settled.joining 0 0 (omega arith) refl in cc
 
 -- both switches stamp with version 2, and version 1 isn't retired
@@ -223,7 +223,7 @@ stamped = Item.Submitted 2 2 ∷ Item.Sent 1 (to_controller (Installed 0 1 2))
     ∷ Item.Current 2 ∷ Item.Sent 3 (to_controller (Stamped 0 1 2))
     ∷ Item.Sent 4 (to_controller (Stamped 1 1 2)) ∷ Item.Delivered 3 ∷ Item.Delivered 4 ∷ []
 
-not_unretired : AreSettled open_net stamped → ⊥
-unfolding controller_heard current_mark is_member is_over known_boot message_of opened_at acked_stamp
-    retired_mark next_retired
+not_unretired : AreMachineMarksSettled open_net stamped → ⊥
+unfolding controller_heard journal_current_mark is_member is_over journal_known_boot message_of opened_at acked_stamp
+    journal_retired_mark journal_next_retired
 not_unretired settled = let no : 0 ≡ 1 = settled.retired in omega (arith, no)

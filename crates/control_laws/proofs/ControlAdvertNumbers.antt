@@ -1,13 +1,13 @@
 -- How far boots and the numbers of own adverts rise with the messages that are sent.
 use Rattle.std.proofs.Common.{[], if◌then◌else◌, ◌&&◌, ◌*◌, ◌++◌, ◌+◌, ◌<◌, ◌==◌, ◌^◌, ◌∙◌, ◌∷◌, ◌≡◌, ◌≤◌, All, Bool, List, None, Some, ap, append_assoc, arith, cond, count_by, eqb-true, false, filter, inl, inr, length, map, ne_eqb, not, refl, subst, suc, sum_by, sym, true, unwrap_or, zero, ℕ}
 use Rattle.base.proofs.Exports.{All-cons, All-head, All-nil, All-tail, All-weaker, get_or-le-sum_by, get_or-range_with_len, given_some, has_least, length-flat_map, length-map, length-range_with_len, mask_of_lt, range_with_len, sum_by-cons, sum_filter}
-use Rattle.update_machine.specs.Exports.{HaveCauses, Item, LinksKeep, Message, NoneConcern, Setting, StepItems, StepOfRow, advert_to, adverts_known, journal_after_steps, boot_of, changes_steps, concerns_links, has_change, usable_links_changed, held_adverts, is_sending, is_up, link_changes, messages_of, messages_over_link, near, own_advert, own_seq, piece, steps_in, switches_of, usable_links, steps_with_item}
+use Rattle.update_machine.specs.Exports.{JournalItemsHaveCauses, Item, MachineLinksKeep, Message, NoneConcern, Setting, StepItems, StepOfRow, advert_to, journal_adverts_known, journal_after_steps, journal_boot_of, item_changes_steps, concerns_links, journal_step_changes_links, journal_usable_links_changed, journal_held_adverts, is_sending, is_up, journal_link_changes, machine_messages_of, machine_messages_over_link, near, own_advert, journal_own_seq, piece, journal_steps_in, switches_of, usable_links, steps_with_item}
 use Rattle.failover.specs.Exports.{held_advert}
 use Rattle.base.specs.Exports.{has, least_in, switches}
 use Rattle.net_file.specs.Exports.{IsNet, are_linked}
 use Rattle.net_file.proofs.NetFileRowPlaces.{links}
 use Rattle.update_machine.proofs.Exports.{count_of_append, folded_append, have_append, known_link_laws, links_keep, start_laws}
-use Rattle.control_laws.specs.Exports.{HasItemCause}
+use Rattle.control_laws.specs.Exports.{HasControlItemCause}
 use Rattle.control_laws.proofs.ControlFactsGrown.{AreKept, FromCauses, boot_more, boot_rises, from_causes, up_more}
 use Rattle.control_laws.proofs.ControlPieceCauses.{pieces_have}
 use Rattle.control_laws.proofs.ControlSaidToController.{ChangedNoLinks}
@@ -23,47 +23,47 @@ use Rattle.control_laws.proofs.ControlPieceKinds.{IsBootPiece, IsQuietPiece, Pie
 -- ---- steps began in past boots
 
 abbrev pub Began : ℕ → ℕ → List StepItems → Type 0
-Began s boot steps = All (λ (step : StepItems). boot_of step.before s ≤ boot) steps
+Began s boot steps = All (λ (step : StepItems). journal_boot_of step.before s ≤ boot) steps
 
 -- no step began in a boot of the switch that is to come
 pub record StepsArePast (journal : List Item) : Type 0 where
-  pub past : (s : ℕ) → Began s (boot_of journal s) (steps_in journal)
+  pub past : (s : ℕ) → Began s (journal_boot_of journal s) (journal_steps_in journal)
 
 began_with : (s boot : ℕ) (steps : List StepItems) (next : Item) → Began s boot steps
     → Began s boot (steps_with_item steps next)
 began_with s boot [] next began = began
 began_with s boot (newest ∷ steps) next began =
-    All-cons (λ (step : StepItems). boot_of step.before s ≤ boot)
+    All-cons (λ (step : StepItems). journal_boot_of step.before s ≤ boot)
     (record newest { items = newest.items ++ next ∷ [] }) steps
-    (All-head (λ (step : StepItems). boot_of step.before s ≤ boot) newest steps began)
-    (All-tail (λ (step : StepItems). boot_of step.before s ≤ boot) newest steps began)
+    (All-head (λ (step : StepItems). journal_boot_of step.before s ≤ boot) newest steps began)
+    (All-tail (λ (step : StepItems). journal_boot_of step.before s ≤ boot) newest steps began)
 
 began_more : (s boot : ℕ) (before : List Item) (steps : List StepItems) (next : Item)
-    → boot_of before s ≤ boot → Began s boot steps → Began s boot (changes_steps before steps next)
+    → journal_boot_of before s ≤ boot → Began s boot steps → Began s boot (item_changes_steps before steps next)
 began_more s boot before steps (Item.Row row step) now began =
-    All-cons (λ (one : StepItems). boot_of one.before s ≤ boot)
+    All-cons (λ (one : StepItems). journal_boot_of one.before s ≤ boot)
     (record { before = before; items = Item.Row row step ∷ [] }) steps now began
 began_more s boot before steps next now began = began_with s boot steps next began
 
-pub began_on : (s boot : ℕ) (before : List Item) (next : Item) → boot_of before s ≤ boot
-    → Began s boot (steps_in before) → Began s boot (steps_in (before ++ next ∷ []))
-unfolding steps_in
-began_on s boot before next now began = rw (folded_append changes_steps [] before (next ∷ []))
-    (began_more s boot before (steps_in before) next now began)
+pub began_on : (s boot : ℕ) (before : List Item) (next : Item) → journal_boot_of before s ≤ boot
+    → Began s boot (journal_steps_in before) → Began s boot (journal_steps_in (before ++ next ∷ []))
+unfolding journal_steps_in
+began_on s boot before next now began = rw (folded_append item_changes_steps [] before (next ∷ []))
+    (began_more s boot before (journal_steps_in before) next now began)
 
-past_on : (setting : Setting) → AreKept (HasItemCause setting) StepsArePast
+past_on : (setting : Setting) → AreKept (HasControlItemCause setting) StepsArePast
 past_on setting before next cause was = record {
   past = λ s. let rises = boot_rises setting before next s cause in
-      began_on s (boot_of (before ++ next ∷ []) s) before next rises
-      (All-weaker (λ (step : StepItems). boot_of step.before s ≤ boot_of before s)
-      (λ (step : StepItems). boot_of step.before s ≤ boot_of (before ++ next ∷ []) s)
-      (λ step below. omega (arith, below, rises)) (steps_in before) (was.past s));
+      began_on s (journal_boot_of (before ++ next ∷ []) s) before next rises
+      (All-weaker (λ (step : StepItems). journal_boot_of step.before s ≤ journal_boot_of before s)
+      (λ (step : StepItems). journal_boot_of step.before s ≤ journal_boot_of (before ++ next ∷ []) s)
+      (λ step below. omega (arith, below, rises)) (journal_steps_in before) (was.past s));
 }
 
 past_at_first : StepsArePast []
-unfolding steps_in
+unfolding journal_steps_in
 past_at_first = record {
-  past = λ s. All-nil (λ (step : StepItems). boot_of step.before s ≤ boot_of [] s);
+  past = λ s. All-nil (λ (step : StepItems). journal_boot_of step.before s ≤ journal_boot_of [] s);
 }
 
 pub steps_past : FromCauses (λ setting. StepsArePast)
@@ -71,19 +71,19 @@ steps_past = from_causes (λ setting. StepsArePast) past_on (λ setting. past_at
 
 -- so none of them counts in a new boot
 pub none_counted : (setting : Setting) (s old boot : ℕ) (steps : List StepItems) → old < boot
-    → Began s old steps → count_by (has_change setting s boot) steps ≡ 0
+    → Began s old steps → count_by (journal_step_changes_links setting s boot) steps ≡ 0
 none_counted setting s old boot [] below began = refl
 none_counted setting s old boot (step ∷ steps) below began =
-    let first = All-head (λ (one : StepItems). boot_of one.before s ≤ old) step steps began in
-    let here : has_change setting s boot step ≡ false =
+    let first = All-head (λ (one : StepItems). journal_boot_of one.before s ≤ old) step steps began in
+    let here : journal_step_changes_links setting s boot step ≡ false =
     ap (λ b. b && not (near setting step.before s == near setting (step.before ++ step.items) s))
-    (ne_eqb (boot_of step.before s) boot (λ same. absurd (omega (arith, same, first, below)))) in
-    sum_by-cons (λ x. cond (has_change setting s boot x) 1 0) step steps
-    ∙ ap (λ b. cond b 1 0 + count_by (has_change setting s boot) steps) here
+    (ne_eqb (journal_boot_of step.before s) boot (λ same. absurd (omega (arith, same, first, below)))) in
+    sum_by-cons (λ x. cond (journal_step_changes_links setting s boot x) 1 0) step steps
+    ∙ ap (λ b. cond b 1 0 + count_by (journal_step_changes_links setting s boot) steps) here
     ∙ omega (
       arith,
       none_counted setting s old boot steps below
-          (All-tail (λ (one : StepItems). boot_of one.before s ≤ old) step steps began),
+          (All-tail (λ (one : StepItems). journal_boot_of one.before s ≤ old) step steps began),
     )
 
 -- ---- what is kept, step by step
@@ -91,9 +91,9 @@ none_counted setting s old boot (step ∷ steps) below began =
 -- each boot but the first one took a message, and so did each two numbers of an own advert: of one
 -- of them nobody may have been told
 pub record FewNumbers (setting : Setting) (journal : List Item) : Type 0 where
-  pub boots : (s : ℕ) → boot_of journal s ≤ sent journal + 1
+  pub boots : (s : ℕ) → journal_boot_of journal s ≤ sent journal + 1
   pub seqs : (s : ℕ) → s < length setting.net.switches
-      → own_seq setting journal s ≤ 2 * sent journal + 1 + once (near setting journal s == 0)
+      → journal_own_seq setting journal s ≤ 2 * sent journal + 1 + once (near setting journal s == 0)
 
 pub sent_both : (before items : List Item) → sent (before ++ items) ≡ sent before + sent items
 sent_both before items = count_of_append is_sending before items
@@ -136,26 +136,26 @@ at_least f test n x there is = let term : ℕ → ℕ = λ y. cond (test y) (f y
 
 -- it holds its own advert
 holds_own : (setting : Setting) (now : List Item) (s : ℕ) → s < 64
-    → 1 ≤ own_seq setting now s → 1 ≤ length (held_adverts setting now s)
-unfolding held_adverts switches own_advert
-holds_own setting now s small told = given_some (held_advert (adverts_known setting now s)) 0 64 s
+    → 1 ≤ journal_own_seq setting now s → 1 ≤ length (journal_held_adverts setting now s)
+unfolding journal_held_adverts switches own_advert
+holds_own setting now s small told = given_some (held_advert (journal_adverts_known setting now s)) 0 64 s
     (own_advert setting now s) (omega arith) small
-    (known_link_laws.own setting now s small ∙ by_seq (own_seq setting now s == 0) refl)
+    (known_link_laws.own setting now s small ∙ by_seq (journal_own_seq setting now s == 0) refl)
   where
-    by_seq : (b : Bool) → (own_seq setting now s == 0) ≡ b
+    by_seq : (b : Bool) → (journal_own_seq setting now s == 0) ≡ b
         → (if b then None else Some (own_advert setting now s)) ≡ Some (own_advert setting now s)
-    by_seq true e = absurd (omega (arith, eqb-true (own_seq setting now s) 0 e, told))
+    by_seq true e = absurd (omega (arith, eqb-true (journal_own_seq setting now s) 0 e, told))
     by_seq false e = refl
 
 over_some : (setting : Setting) (before now : List Item) (s k : ℕ)
-    → 1 ≤ length (held_adverts setting now s) → 1 ≤ length (messages_over_link setting before now s k)
+    → 1 ≤ length (journal_held_adverts setting now s) → 1 ≤ length (machine_messages_over_link setting before now s k)
 over_some setting before now s k holds = by_link (has (near setting before s) k) where
   by_link : (old : Bool) → 1 ≤ length {A = Message} (elim old [
     | true ↦ advert_to k (own_advert setting now s) ∷ []
-    | false ↦ map (advert_to k) (held_adverts setting now s)
+    | false ↦ map (advert_to k) (journal_held_adverts setting now s)
   ])
   by_link true = omega arith
-  by_link false = omega (arith, holds, length-map (held_adverts setting now s) (advert_to k))
+  by_link false = omega (arith, holds, length-map (journal_held_adverts setting now s) (advert_to k))
 
 near_small : (setting : Setting) (journal : List Item) (s : ℕ) → near setting journal s < 2 ^ 64
 unfolding near
@@ -178,7 +178,7 @@ has_neighbour setting now s net some =
 
 tells_some : (setting : Setting) (before now : List Item) (s : ℕ) → IsNet setting.net
     → s < length setting.net.switches → is_up now s ≡ true
-    → (near setting before s == near setting now s) ≡ false → 1 ≤ own_seq setting now s
+    → (near setting before s == near setting now s) ≡ false → 1 ≤ journal_own_seq setting now s
     → (near setting now s == 0) ≡ false → 1 ≤ length (all_adverts_sent setting before now)
 tells_some setting before now s net there up changed told some =
     let neighbour = has_neighbour setting now s net some in
@@ -187,14 +187,14 @@ tells_some setting before now s net there up changed told some =
     let small : s < 64 = omega (arith, there, net.few_switches) in
     omega (
       arith,
-      length-flat_map (messages_of setting before now)
-          (filter (usable_links_changed setting before now) (switches_of setting)),
-      at_least (λ x. length (messages_of setting before now x)) (usable_links_changed setting before now)
+      length-flat_map (machine_messages_of setting before now)
+          (filter (journal_usable_links_changed setting before now) (switches_of setting)),
+      at_least (λ x. length (machine_messages_of setting before now x)) (journal_usable_links_changed setting before now)
           count s there
           (ap (λ b. b && not (near setting before s == near setting now s)) up ∙ ap not changed),
-      length-flat_map (messages_over_link setting before now s)
+      length-flat_map (machine_messages_over_link setting before now s)
           (filter (has (near setting now s)) (switches_of setting)),
-      at_least (λ x. length (messages_over_link setting before now s x)) (has (near setting now s))
+      at_least (λ x. length (machine_messages_over_link setting before now s x)) (has (near setting now s))
           count k neighbour.1 neighbour.2,
       over_some setting before now s k (holds_own setting now s small told),
     )
@@ -202,18 +202,18 @@ tells_some setting before now s net there up changed told some =
 -- ---- links that change
 
 pub down_none : (setting : Setting) (now : List Item) (s : ℕ) → is_up now s ≡ false
-    → own_seq setting now s ≡ 0
-unfolding own_seq
-down_none setting now s down = rw (down, own_seq) refl
+    → journal_own_seq setting now s ≡ 0
+unfolding journal_own_seq
+down_none setting now s down = rw (down, journal_own_seq) refl
 
 changed_few : (setting : Setting) (before now : List Item) (s told : ℕ) → IsNet setting.net
     → s < length setting.net.switches → OwnAfter setting before now s
-    → own_seq setting before s ≤ 2 * told + 1 + once (near setting before s == 0)
-    → own_seq setting now s
+    → journal_own_seq setting before s ≤ 2 * told + 1 + once (near setting before s == 0)
+    → journal_own_seq setting now s
     ≤ 2 * (told + length (all_adverts_sent setting before now)) + 1 + once (near setting now s == 0)
 changed_few setting before now s told net there after few = by_up (is_up now s) refl where
   by_mask : is_up now s ≡ true → IsNextAdvert setting before now s
-      → (none : Bool) → (near setting now s == 0) ≡ none → own_seq setting now s
+      → (none : Bool) → (near setting now s == 0) ≡ none → journal_own_seq setting now s
       ≤ 2 * (told + length (all_adverts_sent setting before now)) + 1 + once none
   by_mask up next true e =
       let zero_now : near setting now s ≡ 0 = eqb-true (near setting now s) 0 e in
@@ -228,20 +228,20 @@ changed_few setting before now s told net there after few = by_up (is_up now s) 
   )
 
   by_own : is_up now s ≡ true → AdvertGoesOn setting before now s
-      → own_seq setting now s ≤ 2 * (told + length (all_adverts_sent setting before now))
+      → journal_own_seq setting now s ≤ 2 * (told + length (all_adverts_sent setting before now))
       + 1 + once (near setting now s == 0)
   by_own up (inl same) =
       omega (arith, same_seq, ap (λ n. once (n == 0)) (same_near setting now before s same))
   by_own up (inr next) = by_mask up next (near setting now s == 0) refl
 
-  by_up : (up : Bool) → is_up now s ≡ up → own_seq setting now s ≤ 2 *
+  by_up : (up : Bool) → is_up now s ≡ up → journal_own_seq setting now s ≤ 2 *
       (told + length (all_adverts_sent setting before now)) + 1 + once (near setting now s == 0)
   by_up true e = by_own e (after.own e)
   by_up false e = omega (arith, down_none setting now s e)
 
 changes_silent : (setting : Setting) (before now : List Item)
-    → NoneConcern concerns_links now (link_changes setting before now)
-unfolding link_changes
+    → NoneConcern concerns_links now (journal_link_changes setting before now)
+unfolding journal_link_changes
 changes_silent setting before now = sends_silent now _
 
 links_few : (setting : Setting) (before items : List Item) → IsNet setting.net
@@ -269,7 +269,7 @@ links_few setting before items net piece few = subst (FewNumbers setting) (sym w
     now = piece.now
 
     messages : List Item
-    messages = link_changes setting before now
+    messages = journal_link_changes setting before now
 
     after : List Item
     after = now ++ messages
@@ -277,7 +277,7 @@ links_few setting before items net piece few = subst (FewNumbers setting) (sym w
     whole : before ++ items ≡ after
     whole = cc (piece.written, append_assoc before piece.changes messages, piece.is_now)
 
-    keep : LinksKeep setting now after
+    keep : MachineLinksKeep setting now after
     keep = links_keep setting now messages (changes_silent setting before now)
 
     sent_after : sent after ≡ sent before + sent messages
@@ -295,60 +295,60 @@ pub one_if : (b : Bool) → (if b then 1 else 0) ≤ 1
 one_if true = omega arith
 one_if false = omega arith
 
-booted_boot : (here : List Item) (s t boot : ℕ) → boot ≡ boot_of here t + 1
-    → boot_of (here ++ Item.Booted t boot ∷ []) s ≤ boot_of here s + 1
+booted_boot : (here : List Item) (s t boot : ℕ) → boot ≡ journal_boot_of here t + 1
+    → journal_boot_of (here ++ Item.Booted t boot ∷ []) s ≤ journal_boot_of here s + 1
 booted_boot here s t boot next = rw (boot_more here (Item.Booted t boot) s) (by_test (t == s) refl)
   where
     by_test : (b : Bool) → (t == s) ≡ b
-        → unwrap_or (if b then Some boot else None) (boot_of here s) ≤ boot_of here s + 1
-    by_test true e = omega (arith, next, ap (boot_of here) (eqb-true t s e))
+        → unwrap_or (if b then Some boot else None) (journal_boot_of here s) ≤ journal_boot_of here s + 1
+    by_test true e = omega (arith, next, ap (journal_boot_of here) (eqb-true t s e))
     by_test false e = omega arith
 
 -- in its new boot a switch told nothing yet; of another one at most the links changed
 booted_seq : (setting : Setting) (here : List Item) (s t boot : ℕ) → ChangedNoLinks here
-    → StepsArePast here → boot ≡ boot_of here t + 1
-    → own_seq setting (here ++ Item.Booted t boot ∷ []) s ≤ own_seq setting here s + 1
+    → StepsArePast here → boot ≡ journal_boot_of here t + 1
+    → journal_own_seq setting (here ++ Item.Booted t boot ∷ []) s ≤ journal_own_seq setting here s + 1
 booted_seq setting here s t boot first past next = by_up (is_up booted s) refl where
   booted : List Item
   booted = here ++ Item.Booted t boot ∷ []
 
   new : is_up booted s ≡ true → (t == s) ≡ true
-      → own_seq setting booted s ≤ own_seq setting here s + 1
+      → journal_own_seq setting booted s ≤ journal_own_seq setting here s + 1
   new up e =
       let own = boot_more here (Item.Booted t boot) s
-      ∙ ap (λ (b : Bool). unwrap_or (if b then Some boot else None) (boot_of here s)) e in
+      ∙ ap (λ (b : Bool). unwrap_or (if b then Some boot else None) (journal_boot_of here s)) e in
       omega (
         arith,
         seq_is setting booted s up,
-        none_counted setting s (boot_of here s) (boot_of booted s) (steps_in booted)
-            (omega (arith, own, next, ap (boot_of here) (eqb-true t s e)))
-            (began_on s (boot_of here s) here (Item.Booted t boot) (omega arith) (past.past s)),
-        one_if (boot_of booted s == 1),
+        none_counted setting s (journal_boot_of here s) (journal_boot_of booted s) (journal_steps_in booted)
+            (omega (arith, own, next, ap (journal_boot_of here) (eqb-true t s e)))
+            (began_on s (journal_boot_of here s) here (Item.Booted t boot) (omega arith) (past.past s)),
+        one_if (journal_boot_of booted s == 1),
       )
 
   other : is_up booted s ≡ true → (t == s) ≡ false
-      → own_seq setting booted s ≤ own_seq setting here s + 1
+      → journal_own_seq setting booted s ≤ journal_own_seq setting here s + 1
   other up e =
       let was_up = sym (up_more here (Item.Booted t boot) s
       ∙ ap (λ (b : Bool). unwrap_or (if b then Some true else None) (is_up here s)) e) ∙ up in
       let same = boot_more here (Item.Booted t boot) s
-      ∙ ap (λ (b : Bool). unwrap_or (if b then Some boot else None) (boot_of here s)) e in
+      ∙ ap (λ (b : Bool). unwrap_or (if b then Some boot else None) (journal_boot_of here s)) e in
       elim (advert_on setting here (Item.Booted t boot) s first was_up up same) [
         | inl stays ↦ omega (arith, same_seq setting booted here s stays)
         | inr more ↦ omega (arith, more.seq)
       ]
 
   by_test : is_up booted s ≡ true → (b : Bool) → (t == s) ≡ b
-      → own_seq setting booted s ≤ own_seq setting here s + 1
+      → journal_own_seq setting booted s ≤ journal_own_seq setting here s + 1
   by_test up true e = new up e
   by_test up false e = other up e
 
-  by_up : (up : Bool) → is_up booted s ≡ up → own_seq setting booted s ≤ own_seq setting here s + 1
+  by_up : (up : Bool) → is_up booted s ≡ up → journal_own_seq setting booted s ≤ journal_own_seq setting here s + 1
   by_up true e = by_test e (t == s) refl
   by_up false e = omega (arith, down_none setting booted s e)
 
 boots_few : (setting : Setting) (before items : List Item)
-    → HaveCauses (HasItemCause setting) [] before → IsBootPiece before items
+    → JournalItemsHaveCauses (HasControlItemCause setting) [] before → IsBootPiece before items
     → FewNumbers setting before → FewNumbers setting (before ++ items)
 boots_few setting before items have piece few = subst (FewNumbers setting) (sym whole) (record {
   boots = λ s. omega (
@@ -387,10 +387,10 @@ boots_few setting before items have piece few = subst (FewNumbers setting) (sym 
     whole = ap (λ xs. before ++ xs) piece.written ∙ sym (append_assoc here (next ∷ []) piece.hello
         ∙ append_assoc before (row ∷ []) (next ∷ piece.hello))
 
-    keep : LinksKeep setting booted (booted ++ piece.hello)
+    keep : MachineLinksKeep setting booted (booted ++ piece.hello)
     keep = links_keep setting booted piece.hello piece.silent
 
-    row_keeps : LinksKeep setting before here
+    row_keeps : MachineLinksKeep setting before here
     row_keeps = links_keep setting before (row ∷ []) (refl, tt)
 
     sent_after : sent (booted ++ piece.hello) ≡ sent before + 1
@@ -398,7 +398,7 @@ boots_few setting before items have piece few = subst (FewNumbers setting) (sym 
         (arith, sent_both, sent_both here (next ∷ []), sent_both before (row ∷ []), piece.told)
 
 pub numbers_on : (setting : Setting) (before items : List Item) → IsNet setting.net
-    → HaveCauses (HasItemCause setting) [] before → PieceKind setting before items
+    → JournalItemsHaveCauses (HasControlItemCause setting) [] before → PieceKind setting before items
     → FewNumbers setting before → FewNumbers setting (before ++ items)
 numbers_on setting before items net have (inl quiet) few = quiet_few setting before items quiet few
 numbers_on setting before items net have (inr (inl piece)) few =
@@ -415,12 +415,12 @@ numbers_at_first setting = record {
 }
 
 pub numbers_behind : (setting : Setting) → IsNet setting.net → (before : List Item)
-    (steps : List StepOfRow) → HaveCauses (HasItemCause setting) [] before
+    (steps : List StepOfRow) → JournalItemsHaveCauses (HasControlItemCause setting) [] before
     → FewNumbers setting before → FewNumbers setting (journal_after_steps setting before steps)
 numbers_behind setting net before [] have few = few
 numbers_behind setting net before (next ∷ steps) have few =
     let items : List Item = piece setting before next.row next.step in
     numbers_behind setting net (before ++ items) steps
-    (have_append (HasItemCause setting) [] before items have
+    (have_append (HasControlItemCause setting) [] before items have
     (pieces_have setting before next.row next.step))
     (numbers_on setting before items net have (piece_kind setting before next.row next.step) few)

@@ -1,14 +1,14 @@
 -- What each own advert that is told has, and each first one, and items keep, all adverts have.
 use Rattle.std.proofs.Common.{[], ◌&&◌, ◌++◌, ◌<◌, ◌==◌, ◌∙◌, ◌∷◌, ◌≡◌, ◌≢◌, All, Bool, IsFalse, IsTrue, List, None, Option, Some, ap, append_assoc, arith, false, filter_map, if◌then◌else◌, inl, inr, length, map, nat_lt, not, option_to_list, refl, slice_index, subst, sym, true, ℕ}
 use Rattle.base.proofs.Exports.{⊤, All-append, All-cons, All-nil, All-same, All-weaker, AllByRecursion, cases_eq, each_append, filter_map-append, get_or-map-range_with_len, get_or-replicate, nat_tests, option_map_or, recursion_from_All}
-use Rattle.update_machine.specs.Exports.{Advert, Advertise, Body, Confirm, Crash, Deliver, HaveCauses, Item, LinkDown, LinkUp, Message, Packet, Resend, Restart, Setting, Step, Update, advert_known, advert_to, adverts_begun, adverts_heard, body_to_switch, changes_steps, concerns_links, crash_items, deliver_items, heard, is_advert, is_in_first_boot, journal_items_then, link_changes, link_items, message_of, near, next_packet, other_advert, own_advert, own_if_sent, piece, restart_items, sent_from, stamp_of, step_items, steps_in, switch_items, switches_of, to_switch}
+use Rattle.update_machine.specs.Exports.{Advert, Advertise, Body, Confirm, Crash, Deliver, JournalItemsHaveCauses, Item, LinkDown, LinkUp, Message, Packet, Resend, Restart, Setting, Step, Update, journal_advert_known, advert_to, journal_adverts_begun, journal_adverts_heard, journal_body_to_switch, item_changes_steps, concerns_links, journal_crash_items, deliver_items, heard, is_advert, is_first_boot_in_journal, journal_items_then, journal_link_changes, machine_link_items, message_of, near, journal_next_packet, journal_other_advert, own_advert, journal_own_advert_sent, piece, restart_items, machine_sent_items_from, journal_stamp_of, step_items, journal_steps_in, journal_switch_items, switches_of, machine_message_to_switch}
 use Rattle.update_machine.proofs.Exports.{PiecesHave, folded_append, have_append, have_first, have_put, known_link_laws, start_laws}
 use Rattle.control_laws.proofs.ControlCommands.{changes_controller_heard, confirm_control, controller_control, last_heard, passed_told, resend_caused, sends_told, update_has}
 use Rattle.control_laws.proofs.ControlStampingSwitches.{ArePlain, IsPlain, behind_items, control_is_plain, control_plain, losts_have, packet_plain, step_plain}
 use Rattle.control_laws.proofs.ControlPieceCauses.{deliver_has, pieces_have, said_parts, said_row}
 use Rattle.control_laws.proofs.ControlFactsGrown.{AreKept, Both, by_number, fact_on, have_both, have_weaker, heard_more, piece_has}
 use Rattle.control_laws.proofs.ControlSaidToController.{ChangedNoLinks, HasLinkCause, HaveLinkCauses, IsTold, IsToldIn, switch_cases}
-use Rattle.control_laws.specs.Exports.{AllAdverts, HasItemCause, HoldsBehindItems}
+use Rattle.control_laws.specs.Exports.{AllControlAdverts, HasControlItemCause, HoldsBehindItems}
 use Rattle.failover.specs.Exports.{IsNewestAdvert, first_advert, first_adverts, held_advert, no_adverts}
 use Rattle.base.specs.Exports.{has}
 use Rattle.failover.proofs.FailoverHeldAdverts.{held-first}
@@ -43,22 +43,22 @@ are_caused setting before items plain =
 
 pub row_first : (before : List Item) (row : ℕ) (step : Step)
     → ChangedNoLinks (before ++ Item.Row row step ∷ [])
-unfolding steps_in
+unfolding journal_steps_in
 row_first before row step = record {
   newest = record { before = before; items = Item.Row row step ∷ [] };
-  earlier = steps_in before;
-  steps = folded_append changes_steps [] before (Item.Row row step ∷ []);
+  earlier = journal_steps_in before;
+  steps = folded_append item_changes_steps [] before (Item.Row row step ∷ []);
   ends = refl;
   none = (refl, tt);
 }
 
 pub delivered_first : (before : List Item) (number : ℕ) → ChangedNoLinks before
     → ChangedNoLinks (before ++ Item.Delivered number ∷ [])
-unfolding steps_in
+unfolding journal_steps_in
 delivered_first before number is = let next : List Item = Item.Delivered number ∷ [] in record {
   newest = record { before = is.newest.before; items = is.newest.items ++ next };
   earlier = is.earlier;
-  steps = cc (folded_append changes_steps [] before next, is.steps);
+  steps = cc (folded_append item_changes_steps [] before next, is.steps);
   ends = cc (append_assoc is.newest.before is.newest.items next, is.ends);
   none = have_append (λ journal other. IsFalse (concerns_links journal other))
       is.newest.before is.newest.items next is.none (refl, tt);
@@ -68,7 +68,7 @@ delivered_first before number is = let next : List Item = Item.Delivered number 
 
 -- what is said to a switch it has heard last, once it is delivered
 heard_now : (before : List Item) (row s number : ℕ) (step : Step) (body : Body)
-    → body_to_switch before s number ≡ Some body → let here = before ++ Item.Row row step ∷ [] in
+    → journal_body_to_switch before s number ≡ Some body → let here = before ++ Item.Row row step ∷ [] in
     heard (here ++ Item.Delivered number ∷ []) s ≡ heard here s ++ body ∷ []
 heard_now before row s number step body said =
     let here : List Item = before ++ Item.Row row step ∷ [] in
@@ -85,13 +85,13 @@ news_of_other origin s news is = by_test (origin == s) is where
 
 switch_caused : (setting : Setting) (before now : List Item) (s : ℕ) (bodies : List Body)
     (body : Body) → ChangedNoLinks now → heard now s ≡ bodies ++ body ∷ []
-    → HaveLinkCauses setting now (switch_items setting before s body now)
+    → HaveLinkCauses setting now (journal_switch_items setting before s body now)
 switch_caused setting before now s bodies body first heard =
     switch_cases (HaveLinkCauses setting now) setting before s body now
     (λ boot version. sends_told setting now _ (tt, tt))
     (λ boot version. sends_told setting now _ (tt, tt))
-    (λ boot version is. have_first (HasLinkCause setting) (Item.Opened s (stamp_of now s))
-    (link_changes setting before) now first (changes_controller_heard setting before _))
+    (λ boot version is. have_first (HasLinkCause setting) (Item.Opened s (journal_stamp_of now s))
+    (journal_link_changes setting before) now first (changes_controller_heard setting before _))
     (λ advert is news. passed_told setting now s advert (last_heard before now s bodies advert
     (heard ∙ ap (λ b. bodies ++ b ∷ []) is) (news_of_other advert.origin s _ news))) tt
 
@@ -108,28 +108,28 @@ deliver_caused setting before row number step = deliver_has (HasLinkCause settin
 
 link_caused : (setting : Setting) (before : List Item) (one two : ℕ) (up : Bool)
     (journal : List Item) → ChangedNoLinks journal
-    → HaveLinkCauses setting journal (link_items setting before one two up journal)
-unfolding link_items
+    → HaveLinkCauses setting journal (machine_link_items setting before one two up journal)
+unfolding machine_link_items
 link_caused setting before one two up journal first = grind
     (arith, have_first, changes_controller_heard)
 
 down_caused : (setting : Setting) (before : List Item) (s : ℕ) (packets : List ℕ)
     (journal : List Item) → ChangedNoLinks journal → HaveLinkCauses setting journal
-    (journal_items_then (Item.Down s ∷ map Item.Lost packets) (link_changes setting before) journal)
+    (journal_items_then (Item.Down s ∷ map Item.Lost packets) (journal_link_changes setting before) journal)
 down_caused setting before s packets journal first =
     let down : List Item = Item.Down s ∷ map Item.Lost packets in
-    have_put (HasLinkCause setting) down (link_changes setting before) journal
+    have_put (HasLinkCause setting) down (journal_link_changes setting before) journal
     (first, losts_have (HasLinkCause setting) (λ now i. tt) packets (journal ++ Item.Down s ∷ []))
     (changes_controller_heard setting before (journal ++ down))
 
 crash_caused : (setting : Setting) (before : List Item) (s : ℕ) (journal : List Item)
-    → ChangedNoLinks journal → HaveLinkCauses setting journal (crash_items setting before s journal)
-unfolding crash_items
+    → ChangedNoLinks journal → HaveLinkCauses setting journal (journal_crash_items setting before s journal)
+unfolding journal_crash_items
 crash_caused setting before s journal first = grind (arith, down_caused)
 
 restart_caused : (setting : Setting) (s : ℕ) (journal : List Item) → ChangedNoLinks journal
     → HaveLinkCauses setting journal (restart_items s journal)
-unfolding restart_items sent_from
+unfolding restart_items machine_sent_items_from
 restart_caused setting s journal first = grind arith
 
 -- ---- all steps
@@ -138,7 +138,7 @@ step_caused : (setting : Setting) (before : List Item) (row : ℕ) (step : Step)
     → let here = before ++ Item.Row row step ∷ [] in
     HaveLinkCauses setting here (step_items setting before step here)
 step_caused setting before row (Packet s header) =
-    are_caused setting _ _ (packet_plain setting (next_packet before) s header _)
+    are_caused setting _ _ (packet_plain setting (journal_next_packet before) s header _)
 step_caused setting before row (Deliver message) =
     deliver_caused setting before row message (Deliver message)
 step_caused setting before row (Update file) =
@@ -163,16 +163,16 @@ pieces_caused setting journal row step =
 -- ---- each item of any steps has both its causes
 
 abbrev pub HasBothCauses : Setting → List Item → Item → Type 0
-HasBothCauses setting = Both (HasItemCause setting) (HasLinkCause setting)
+HasBothCauses setting = Both (HasControlItemCause setting) (HasLinkCause setting)
 
 pieces_have_both : (setting : Setting) → PiecesHave (HasBothCauses setting) setting
-pieces_have_both setting journal row step = have_both (HasItemCause setting) (HasLinkCause setting)
+pieces_have_both setting journal row step = have_both (HasControlItemCause setting) (HasLinkCause setting)
     journal (piece setting journal row step) (pieces_have setting journal row step)
     (pieces_caused setting journal row step)
 
 -- so a fact that follows from both causes of items is true after each item
 pub behind_both : (Holds : Setting → List Item → Type 0)
-    → ((setting : Setting) (journal : List Item) → HaveCauses (HasBothCauses setting) [] journal
+    → ((setting : Setting) (journal : List Item) → JournalItemsHaveCauses (HasBothCauses setting) [] journal
     → Holds setting journal) → HoldsBehindItems Holds
 behind_both Holds caused = behind_items Holds HasBothCauses pieces_have_both caused
 
@@ -201,7 +201,7 @@ pub record AreSuch (setting : Setting) (P : List Item → Advert → Type 0) (jo
     : Type 0 where
   pub sent : (n : ℕ) (message : Message) → message_of journal n ≡ Some message →
       IfAdvert (P journal) message.body
-  pub heard : (s : ℕ) → All (P journal) (adverts_heard journal s)
+  pub heard : (s : ℕ) → All (P journal) (journal_adverts_heard journal s)
   pub first : (origin : ℕ) → HasSwitch setting.net origin → P journal (begun_with setting origin)
 
 -- ---- adverts that a switch knows
@@ -236,15 +236,15 @@ none_held origin small = get_or-replicate 64 origin None None small
 
 begun_such : (setting : Setting) (P : Advert → Type 0) (journal : List Item) (s origin : ℕ)
     → ((from : ℕ) → HasSwitch setting.net from → P (begun_with setting from)) → origin < 64
-    → AllByRecursion P (option_to_list (held_advert (adverts_begun setting journal s) origin))
-begun_such setting P journal s origin such small = by_test (is_in_first_boot journal s) where
+    → AllByRecursion P (option_to_list (held_advert (journal_adverts_begun setting journal s) origin))
+begun_such setting P journal s origin such small = by_test (is_first_boot_in_journal journal s) where
   by_test : (b : Bool) → AllByRecursion P
       (option_to_list (held_advert (if b then first_adverts (map (links_of setting.net.links)
       (switches_of setting)) (length setting.net.switches) else no_adverts) origin))
   by_test true = first_such setting P such origin small
   by_test false = rw (none_held origin small) tt
 
-pub own_told : (own advert : Advert) → own_if_sent own ≡ Some advert → own ≡ advert
+pub own_told : (own advert : Advert) → journal_own_advert_sent own ≡ Some advert → own ≡ advert
 own_told own advert told = by_test (own.seq == 0) told where
   by_test : (b : Bool) → (if b then None else Some own) ≡ Some advert → own ≡ advert
   by_test true told = absurd cc
@@ -252,9 +252,9 @@ own_told own advert told = by_test (own.seq == 0) told where
 
 -- an advert of another switch that it knows is the newest that it heard or began with
 pub is_newest : (setting : Setting) (journal : List Item) (s origin : ℕ) (advert : Advert)
-    → origin ≢ s → origin < 64 → advert_known setting journal s origin ≡ Some advert
-    → IsNewestAdvert origin (option_to_list (held_advert (adverts_begun setting journal s) origin)
-    ++ adverts_heard journal s) (Some advert)
+    → origin ≢ s → origin < 64 → journal_advert_known setting journal s origin ≡ Some advert
+    → IsNewestAdvert origin (option_to_list (held_advert (journal_adverts_begun setting journal s) origin)
+    ++ journal_adverts_heard journal s) (Some advert)
 is_newest setting journal s origin advert apart small known = rw known at
     (known_link_laws.newest setting journal s origin apart small)
 
@@ -262,18 +262,18 @@ is_newest setting journal s origin advert apart small known = rw known at
 pub known_such : (setting : Setting) (P : List Item → Advert → Type 0) (journal : List Item)
     → AreSuch setting P journal → (s origin : ℕ) (advert : Advert) → origin < 64
     → P journal (own_advert setting journal s)
-    → advert_known setting journal s origin ≡ Some advert → P journal advert
+    → journal_advert_known setting journal s origin ≡ Some advert → P journal advert
 known_such setting P journal such s origin advert small told known = elim (cases_eq origin s) [
   | inl same ↦
       let own = sym (known_link_laws.own setting journal s (subst (λ x. x < 64) same small))
-      ∙ ap (advert_known setting journal s) (sym same) ∙ known in
+      ∙ ap (journal_advert_known setting journal s) (sym same) ∙ known in
       subst (P journal) (own_told (own_advert setting journal s) advert own) told
   | inr apart ↦ let newest = is_newest setting journal s origin advert apart small known in
       middle (P journal) newest.0 advert newest.1
       (subst (AllByRecursion (P journal)) newest.2 (each_append (P journal)
-      (option_to_list (held_advert (adverts_begun setting journal s) origin))
-      (adverts_heard journal s) (begun_such setting (P journal) journal s origin such.first
-      small) (recursion_from_All (P journal) (adverts_heard journal s) (such.heard s))))
+      (option_to_list (held_advert (journal_adverts_begun setting journal s) origin))
+      (journal_adverts_heard journal s) (begun_such setting (P journal) journal s origin such.first
+      small) (recursion_from_All (P journal) (journal_adverts_heard journal s) (such.heard s))))
 ]
 
 -- ---- adverts that are sent
@@ -288,7 +288,7 @@ told_such setting P fact journal such advert told = elim told.which [
         held.held
     | inr last ↦ middle (P journal) last.earlier advert []
         (subst (AllByRecursion (P journal)) last.heard (recursion_from_All (P journal)
-        (adverts_heard journal told.switch) (such.heard told.switch)))
+        (journal_adverts_heard journal told.switch) (such.heard told.switch)))
   ]
 ] where
   tells : P journal (own_advert setting journal told.switch)
@@ -321,42 +321,42 @@ sent_on setting P fact before next both such n message is =
 -- ---- adverts that are heard
 
 one_heard : (Q : Advert → Type 0) (s : ℕ) (body : Body) → IfAdvert Q body
-    → All Q (filter_map (other_advert s) (body ∷ []))
+    → All Q (filter_map (journal_other_advert s) (body ∷ []))
 one_heard Q s (Advertise advert) such = by_test (advert.origin == s) refl where
   by_test : (b : Bool) → (advert.origin == s) ≡ b
-      → All Q (filter_map (other_advert s) (Advertise advert ∷ []))
+      → All Q (filter_map (journal_other_advert s) (Advertise advert ∷ []))
   by_test true e = rw e (All-nil Q)
   by_test false e = rw e (All-cons Q advert [] such (All-nil Q))
 one_heard Q s _ such = All-nil Q
 
 heard_such : (Q : Advert → Type 0) (before : List Item) (next : Item) (s : ℕ) → All Q
-    (adverts_heard before s)
+    (journal_adverts_heard before s)
     → ((n : ℕ) (message : Message) → message_of before n ≡ Some message → IfAdvert Q message.body)
-    → All Q (adverts_heard (before ++ next ∷ []) s)
+    → All Q (journal_adverts_heard (before ++ next ∷ []) s)
 heard_such Q before (Item.Down t) s old sent = rw (heard_more before (Item.Down t) s)
     (by_test (t == s))
   where
-    by_test : (b : Bool) → All Q (filter_map (other_advert s) (if b then [] else heard before s))
+    by_test : (b : Bool) → All Q (filter_map (journal_other_advert s) (if b then [] else heard before s))
     by_test true = All-nil Q
     by_test false = old
 heard_such Q before (Item.Booted t boot) s old sent = rw (heard_more before (Item.Booted t boot) s)
     (by_test (t == s))
   where
-    by_test : (b : Bool) → All Q (filter_map (other_advert s) (if b then [] else heard before s))
+    by_test : (b : Bool) → All Q (filter_map (journal_other_advert s) (if b then [] else heard before s))
     by_test true = All-nil Q
     by_test false = old
 heard_such Q before (Item.Delivered number) s old sent =
-    rw (heard_more before (Item.Delivered number) s) (by_said (body_to_switch before s number) refl)
+    rw (heard_more before (Item.Delivered number) s) (by_said (journal_body_to_switch before s number) refl)
   where
-    by_said : (said : Option Body) → body_to_switch before s number ≡ said
-        → All Q (filter_map (other_advert s)
+    by_said : (said : Option Body) → journal_body_to_switch before s number ≡ said
+        → All Q (filter_map (journal_other_advert s)
         (option_map_or (λ body. heard before s ++ body ∷ []) said (heard before s)))
     by_said None e = old
-    by_said (Some body) e = All-same Q (filter_map (other_advert s) (heard before s ++ body ∷ []))
-        (adverts_heard before s ++ filter_map (other_advert s) (body ∷ []))
-        (filter_map-append (other_advert s) (heard before s) (body ∷ [])) (All-append Q
-        (adverts_heard before s) (filter_map (other_advert s) (body ∷ [])) old (one_heard Q s body
-        (sent number (to_switch s body) (said_parts before s number body e).sent)))
+    by_said (Some body) e = All-same Q (filter_map (journal_other_advert s) (heard before s ++ body ∷ []))
+        (journal_adverts_heard before s ++ filter_map (journal_other_advert s) (body ∷ []))
+        (filter_map-append (journal_other_advert s) (heard before s) (body ∷ [])) (All-append Q
+        (journal_adverts_heard before s) (filter_map (journal_other_advert s) (body ∷ [])) old (one_heard Q s body
+        (sent number (machine_message_to_switch s body) (said_parts before s number body e).sent)))
 heard_such Q before next s old sent = rw (heard_more before next s) old
 
 -- ---- all of them
@@ -367,7 +367,7 @@ such_kept setting P fact before next both such = record {
   sent = λ n message is. sent_on setting P fact before next both such n message is;
   heard = λ s. heard_such (P (before ++ next ∷ [])) before next s
       (All-weaker (P before) (P (before ++ next ∷ [])) (fact.kept before next both)
-      (adverts_heard before s) (such.heard s)) (λ n message is. weaker_body (P before)
+      (journal_adverts_heard before s) (such.heard s)) (λ n message is. weaker_body (P before)
       (P (before ++ next ∷ [])) (fact.kept before next both) message.body (such.sent n message is));
   first = λ origin there. fact.kept before next both (begun_with setting origin)
       (such.first origin there);
@@ -383,15 +383,15 @@ such_at_first setting P fact = record {
 }
 
 pub such_on : (setting : Setting) (P : List Item → Advert → Type 0) → IsAdvertFact setting P
-    → (journal : List Item) → HaveCauses (HasBothCauses setting) [] journal
+    → (journal : List Item) → JournalItemsHaveCauses (HasBothCauses setting) [] journal
     → AreSuch setting P journal
 such_on setting P fact journal have = fact_on (HasBothCauses setting) (AreSuch setting P)
     (such_kept setting P fact) [] journal have (such_at_first setting P fact)
 
 -- where it is so of the own advert of each switch, told or not
 pub all_such : (setting : Setting) (P : List Item → Advert → Type 0) → IsAdvertFact setting P
-    → (journal : List Item) → HaveCauses (HasBothCauses setting) [] journal
-    → ((s : ℕ) → P journal (own_advert setting journal s)) → AllAdverts setting journal (P journal)
+    → (journal : List Item) → JournalItemsHaveCauses (HasBothCauses setting) [] journal
+    → ((s : ℕ) → P journal (own_advert setting journal s)) → AllControlAdverts setting journal (P journal)
 all_such setting P fact journal have own =
     let such : AreSuch setting P journal = such_on setting P fact journal have in record {
       sent = λ n s advert is. such.sent n (advert_to s advert) is;

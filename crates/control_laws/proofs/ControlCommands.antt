@@ -1,7 +1,7 @@
 -- What the controller writes: versions, marks, and commands to switches.
 use Rattle.std.proofs.Common.{[], ◌++◌, ◌+◌, ◌==◌, ◌∙◌, ◌∷◌, ◌≡◌, Bool, IsTrue, List, None, Option, Some, ap, arith, false, filter, filter_map, flat_map, inl, inr, is_some, map, not, refl, sym, true, ℕ}
 use Rattle.base.proofs.Exports.{⊤, AllByRecursion, each_always, each_filter, each_flat_map, each_flat_map_in, each_given, each_map, filter_map-append}
-use Rattle.update_machine.specs.Exports.{Advert, Advertise, Body, Collect, HaveCauses, Hello, Install, Item, KnownKeeps, LinksKeep, Message, OpenAt, Setting, Stamp, SwitchKeeps, advert_to, adverts_known, after_hello, confirm_items, controller_heard, controller_items, has_acked, usable_links_changed, heard, held_adverts, hello_of, install_for, installs_to, installs_to_all, is_member, is_over, is_up, journal_items_then, known_boot, link_changes, messages_of, messages_over_link, near, opened_at, other_advert, own_advert, advert_passed_on, resend_items, resent_by_switch, send_items, sends_or_nothing, settling, submitted_items, switches_in, switches_of, journal_unacked_installs, update_code, update_items, version_count, versions_from_current}
+use Rattle.update_machine.specs.Exports.{Advert, Advertise, Body, Collect, JournalItemsHaveCauses, Hello, Install, Item, JournalKnownKeeps, MachineLinksKeep, Message, OpenAt, Setting, Stamp, JournalSwitchKeeps, advert_to, journal_adverts_known, after_hello, confirm_items, controller_heard, controller_items, has_acked, journal_usable_links_changed, heard, journal_held_adverts, machine_hello_of, journal_install_for, machine_installs_to, machine_installs_to_all, is_member, is_over, is_up, journal_items_then, journal_known_boot, journal_link_changes, machine_messages_of, machine_messages_over_link, near, opened_at, journal_other_advert, own_advert, machine_advert_passed_on, resend_items, journal_resent_by_switch, send_items, machine_sends_or_nothing, settling, submitted_items, setting_switches_in, switches_of, journal_unacked_installs, machine_update_code, update_items, journal_version_count, journal_versions_from_current}
 use Rattle.control_laws.proofs.ControlMessageSends.{PartsHave, acked_same, parts_have, sends_kept, settling_has}
 use Rattle.update_machine.proofs.Exports.{have_first, have_in_turn, known_keeps, links_keep, switch_keeps}
 use Rattle.control_laws.proofs.ControlFactsGrown.{count_more, fact_on, have_weaker, known_more, over_more, told_more}
@@ -16,14 +16,14 @@ use Rattle.control_laws.proofs.ControlSaidToController.{HasLinkCause, HaveLinkCa
 pub sends_each : (cause : List Item → Item → Type 0) (P : Message → Type 0)
     → ((before : List Item) (n : ℕ) (message : Message) → P message
     → cause before (Item.Sent n message)) → (journal : List Item) (messages : List Message)
-    → AllByRecursion P messages → HaveCauses cause journal (send_items journal messages)
+    → AllByRecursion P messages → JournalItemsHaveCauses cause journal (send_items journal messages)
 sends_each cause P has = sends_kept cause (λ before. P) has (λ before n message other new is. is)
 
 -- where any message has it
 pub sends_any : (cause : List Item → Item → Type 0) →
     ((before : List Item) (n : ℕ) (message : Message) → cause before (Item.Sent n message)) →
     (journal : List Item) (messages : List Message)
-    → HaveCauses cause journal (send_items journal messages)
+    → JournalItemsHaveCauses cause journal (send_items journal messages)
 sends_any cause has journal messages =
     sends_each cause (λ message. ⊤) (λ before n message any. has before n message) journal messages
     (each_always (λ message. ⊤) (λ message. tt) messages)
@@ -32,27 +32,27 @@ sends_any cause has journal messages =
 pub resends_any : (cause : List Item → Item → Type 0) →
     ((before : List Item) (n : ℕ) (message : Message) → cause before (Item.Sent n message)) →
     (setting : Setting) (s : ℕ) (journal : List Item) → cause journal Item.Nothing
-    → HaveCauses cause journal (resend_items setting s journal)
+    → JournalItemsHaveCauses cause journal (resend_items setting s journal)
 unfolding resend_items
 resends_any cause has setting s journal none = by_messages _ where
   by_messages : (messages : List Message)
-      → HaveCauses cause journal (sends_or_nothing journal messages)
+      → JournalItemsHaveCauses cause journal (machine_sends_or_nothing journal messages)
   by_messages [] = (none, tt)
   by_messages (message ∷ messages) = sends_any cause has journal (message ∷ messages)
 
 -- ---- what a switch sends again: its hello, and to each neighbour the adverts that it holds
 
 pub each_by_switch : (P : Message → Type 0) (setting : Setting) (journal : List Item) (s : ℕ)
-    → (is_up journal s ≡ true → P (hello_of journal s)) → AllByRecursion P
-    (flat_map (λ neighbour. map (advert_to neighbour) (held_adverts setting journal s))
-    (switches_in setting (near setting journal s)))
-    → AllByRecursion P (resent_by_switch setting journal s)
+    → (is_up journal s ≡ true → P (machine_hello_of journal s)) → AllByRecursion P
+    (flat_map (λ neighbour. map (advert_to neighbour) (journal_held_adverts setting journal s))
+    (setting_switches_in setting (near setting journal s)))
+    → AllByRecursion P (journal_resent_by_switch setting journal s)
 each_by_switch P setting journal s hello adverts = by_up (is_up journal s) refl where
   by_up : (up : Bool) → is_up journal s ≡ up → AllByRecursion P (elim up [
     | false ↦ []
-    | true ↦ hello_of journal s
-        ∷ flat_map (λ neighbour. map (advert_to neighbour) (held_adverts setting journal s))
-        (switches_in setting (near setting journal s))
+    | true ↦ machine_hello_of journal s
+        ∷ flat_map (λ neighbour. map (advert_to neighbour) (journal_held_adverts setting journal s))
+        (setting_switches_in setting (near setting journal s))
   ])
   by_up false e = tt
   by_up true e = (hello e, adverts)
@@ -96,24 +96,24 @@ parts_settle setting =
     })
 
 pub settling_settles : (setting : Setting) (journal : List Item)
-    → HaveCauses IsOfSettling journal (settling setting journal)
+    → JournalItemsHaveCauses IsOfSettling journal (settling setting journal)
 settling_settles setting = settling_has IsOfSettling setting (parts_settle setting)
 
 -- ---- what settling leaves, and what grows
 
 pub record Grows (before after : List Item) : Type 0 where
-  pub count : version_count after ≡ version_count before
+  pub count : journal_version_count after ≡ journal_version_count before
   pub acked : (s v : ℕ) → has_acked after s v ≡ has_acked before s v
-  pub known : (s : ℕ) → known_boot after s ≡ known_boot before s
+  pub known : (s : ℕ) → journal_known_boot after s ≡ journal_known_boot before s
   pub over : (s : ℕ) → is_over after s ≡ is_over before s
   pub opened : (s : ℕ) → IsTrue (is_some (opened_at before s))
       → IsTrue (is_some (opened_at after s))
   pub member : (s : ℕ) → IsTrue (is_member before s) → IsTrue (is_member after s)
 
 grows_by : (before : List Item) (next : Item)
-    → version_count (before ++ next ∷ []) ≡ version_count before
+    → journal_version_count (before ++ next ∷ []) ≡ journal_version_count before
     → controller_heard (before ++ next ∷ []) ≡ controller_heard before
-    → ((s : ℕ) → known_boot (before ++ next ∷ []) s ≡ known_boot before s)
+    → ((s : ℕ) → journal_known_boot (before ++ next ∷ []) s ≡ journal_known_boot before s)
     → ((s : ℕ) → is_over (before ++ next ∷ []) s ≡ is_over before s)
     → Grows before (before ++ next ∷ [])
 grows_by before next count heard known over = record {
@@ -138,7 +138,7 @@ grows_one before (Item.Sent n message) of = let next : Item = Item.Sent n messag
     (over_more before next)
 grows_one before _ of = absurd of
 
-pub grows : (before items : List Item) → HaveCauses IsOfSettling before items
+pub grows : (before items : List Item) → JournalItemsHaveCauses IsOfSettling before items
     → Grows before (before ++ items)
 grows before items have = fact_on IsOfSettling (Grows before)
     (λ now next of so_far. grows_on before now (now ++ next ∷ []) so_far (grows_one now next of))
@@ -173,7 +173,7 @@ IsControl before Item.Nothing = ⊤
 IsControl before next = IsOfSettling before next
 
 abbrev pub Control : List Item → List Item → Type 0
-Control journal items = HaveCauses IsControl journal items
+Control journal items = JournalItemsHaveCauses IsControl journal items
 
 settling_is : (before : List Item) (next : Item) → IsOfSettling before next → IsControl before next
 settling_is before (Item.Current version) of = tt
@@ -192,19 +192,19 @@ commands_control =
     sends_each IsControl (λ message. IsCommand message.body) (λ before n message is. is)
 
 pub installs_control : (setting : Setting) (s : ℕ) (journal : List Item)
-    → Control journal (installs_to setting s journal)
-unfolding installs_to
+    → Control journal (machine_installs_to setting s journal)
+unfolding machine_installs_to
 installs_control setting s journal = commands_control journal _
-    (each_command (λ version. install_for setting journal version s) (λ version. tt) _)
+    (each_command (λ version. journal_install_for setting journal version s) (λ version. tt) _)
 
 pub all_installs_control : (setting : Setting) (journal : List Item)
-    → Control journal (installs_to_all setting journal)
-unfolding installs_to_all
+    → Control journal (machine_installs_to_all setting journal)
+unfolding machine_installs_to_all
 all_installs_control setting journal = commands_control journal _ (each_command _ (λ s. tt) _)
 
 submitted_control : (setting : Setting) (journal : List Item)
     → Control journal (submitted_items setting journal)
-submitted_control setting journal = have_in_turn IsControl (installs_to_all setting
+submitted_control setting journal = have_in_turn IsControl (machine_installs_to_all setting
     ∷ settling setting ∷ []) (all_installs_control setting, (settling_control setting, tt)) journal
 
 -- an update has causes that what the controller writes has, and the version that is submitted
@@ -212,19 +212,19 @@ pub update_has : (cause : List Item → Item → Type 0)
     → ((before : List Item) (next : Item) → IsControl before next → cause before next)
     → (setting : Setting) (file : ℕ) (journal : List Item)
     → ((version : ℕ) → cause journal (Item.Submitted file version))
-    → HaveCauses cause journal (update_items setting file journal)
+    → JournalItemsHaveCauses cause journal (update_items setting file journal)
 unfolding update_items
-update_has cause weaker setting file journal submits = by_code (update_code setting journal file)
+update_has cause weaker setting file journal submits = by_code (machine_update_code setting journal file)
   where
-    by_code : (o : Option ℕ) → HaveCauses cause journal (elim o [
+    by_code : (o : Option ℕ) → JournalItemsHaveCauses cause journal (elim o [
       | Some code ↦ Item.Refused file code ∷ []
       | None ↦ journal_items_then
-          (Item.Submitted file (version_count journal + 1) ∷ []) (submitted_items setting) journal
+          (Item.Submitted file (journal_version_count journal + 1) ∷ []) (submitted_items setting) journal
     ])
     by_code (Some code) = (weaker journal (Item.Refused file code) tt, tt)
     by_code None =
-        have_first cause (Item.Submitted file (version_count journal + 1)) (submitted_items setting)
-        journal (submits (version_count journal + 1))
+        have_first cause (Item.Submitted file (journal_version_count journal + 1)) (submitted_items setting)
+        journal (submits (journal_version_count journal + 1))
         (have_weaker IsControl cause weaker _ _ (submitted_control setting _))
 
 pub confirm_control : (setting : Setting) (s : ℕ) (journal : List Item)
@@ -261,7 +261,7 @@ heard_sent : (setting : Setting) (before : List Item) (n s : ℕ) (message : Mes
     → IsHeard (before ++ Item.Sent n message ∷ []) s advert
 heard_sent setting before n s message advert is = record {
   earlier = is.earlier;
-  heard = ap (filter_map (other_advert s))
+  heard = ap (filter_map (journal_other_advert s))
       (switch_keeps setting s before (Item.Sent n message ∷ []) (refl, tt)).heard ∙ is.heard;
 }
 
@@ -304,10 +304,10 @@ sends_told setting =
 -- each advert that it holds is told by it, where it has a neighbour
 each_held : (setting : Setting) (journal : List Item) (s neighbour : ℕ)
     → IsTrue (has (near setting journal s) neighbour)
-    → AllByRecursion (IsTold setting journal) (held_adverts setting journal s)
-unfolding held_adverts switches
+    → AllByRecursion (IsTold setting journal) (journal_held_adverts setting journal s)
+unfolding journal_held_adverts switches
 each_held setting journal s neighbour linked =
-    each_given (IsTold setting journal) (held_advert (adverts_known setting journal s)) 0 64
+    each_given (IsTold setting journal) (held_advert (journal_adverts_known setting journal s)) 0 64
     (λ origin above small advert holds. record {
       switch = s;
       neighbour = neighbour;
@@ -317,9 +317,9 @@ each_held setting journal s neighbour linked =
 
 pub held_told : (setting : Setting) (journal : List Item) (s neighbour : ℕ)
     → IsTrue (has (near setting journal s) neighbour) → AllByRecursion (Tells setting journal)
-    (map (advert_to neighbour) (held_adverts setting journal s))
+    (map (advert_to neighbour) (journal_held_adverts setting journal s))
 held_told setting journal s neighbour linked =
-    each_map (Tells setting journal) (advert_to neighbour) (held_adverts setting journal s)
+    each_map (Tells setting journal) (advert_to neighbour) (journal_held_adverts setting journal s)
     (each_held setting journal s neighbour linked)
 
 -- what a switch tells each of its neighbours
@@ -327,9 +327,9 @@ pub each_neighbour : (setting : Setting) (journal : List Item) (s : ℕ) (told :
     → ((neighbour : ℕ) → IsTrue (has (near setting journal s) neighbour)
     → AllByRecursion (Tells setting journal) (told neighbour))
     → AllByRecursion (Tells setting journal)
-    (flat_map told (switches_in setting (near setting journal s)))
+    (flat_map told (setting_switches_in setting (near setting journal s)))
 each_neighbour setting journal s told all =
-    each_flat_map_in (Tells setting journal) told (switches_in setting (near setting journal s))
+    each_flat_map_in (Tells setting journal) told (setting_switches_in setting (near setting journal s))
     (each_filter (λ neighbour. AllByRecursion (Tells setting journal) (told neighbour))
     (has (near setting journal s)) all (switches_of setting))
 
@@ -343,33 +343,33 @@ own_told setting journal s neighbour linked =
 
 over_told : (setting : Setting) (before journal : List Item) (s neighbour : ℕ)
     → IsTrue (has (near setting journal s) neighbour)
-    → AllByRecursion (Tells setting journal) (messages_over_link setting before journal s neighbour)
+    → AllByRecursion (Tells setting journal) (machine_messages_over_link setting before journal s neighbour)
 over_told setting before journal s neighbour linked =
     by_link (has (near setting before s) neighbour)
   where
     by_link : (old : Bool) → AllByRecursion (Tells setting journal) (elim old [
       | true ↦ advert_to neighbour (own_advert setting journal s) ∷ []
-      | false ↦ map (advert_to neighbour) (held_adverts setting journal s)
+      | false ↦ map (advert_to neighbour) (journal_held_adverts setting journal s)
     ])
     by_link true = (own_told setting journal s neighbour linked, tt)
     by_link false = held_told setting journal s neighbour linked
 
 pub changes_controller_heard : (setting : Setting) (before journal : List Item)
-    → HaveLinkCauses setting journal (link_changes setting before journal)
-unfolding link_changes
+    → HaveLinkCauses setting journal (journal_link_changes setting before journal)
+unfolding journal_link_changes
 changes_controller_heard setting before journal = sends_told setting journal _
-    (each_flat_map (Tells setting journal) (messages_of setting before journal) (λ s. each_neighbour
-    setting journal s (messages_over_link setting before journal s) (over_told setting before journal s))
-    (filter (usable_links_changed setting before journal) (switches_of setting)))
+    (each_flat_map (Tells setting journal) (machine_messages_of setting before journal) (λ s. each_neighbour
+    setting journal s (machine_messages_over_link setting before journal s) (over_told setting before journal s))
+    (filter (journal_usable_links_changed setting before journal) (switches_of setting)))
 
 -- ---- adverts that are passed on
 
 pub passed_told : (setting : Setting) (journal : List Item) (s : ℕ) (advert : Advert)
     → IsHeard journal s advert
-    → HaveLinkCauses setting journal (send_items journal (advert_passed_on setting journal s advert))
+    → HaveLinkCauses setting journal (send_items journal (machine_advert_passed_on setting journal s advert))
 passed_told setting journal s advert last = sends_told setting journal
-    (advert_passed_on setting journal s advert) (each_map (Tells setting journal)
-    (λ neighbour. advert_to neighbour advert) (switches_in setting (near setting journal s))
+    (machine_advert_passed_on setting journal s advert) (each_map (Tells setting journal)
+    (λ neighbour. advert_to neighbour advert) (setting_switches_in setting (near setting journal s))
     (each_filter (λ neighbour. Tells setting journal (advert_to neighbour advert))
     (has (near setting journal s)) (λ neighbour linked. record
     { switch = s; neighbour = neighbour; near = linked; which = inr (inr last) })
@@ -380,10 +380,10 @@ pub last_heard : (before now : List Item) (s : ℕ) (bodies : List Body) (advert
     → heard now s ≡ bodies ++ Advertise advert ∷ [] → (advert.origin == s) ≡ false
     → IsHeard now s advert
 last_heard before now s bodies advert heard other = record {
-  earlier = filter_map (other_advert s) bodies;
-  heard = cc (heard, filter_map-append (other_advert s) bodies (Advertise advert ∷ []), told);
+  earlier = filter_map (journal_other_advert s) bodies;
+  heard = cc (heard, filter_map-append (journal_other_advert s) bodies (Advertise advert ∷ []), told);
 } where
-  told : filter_map (other_advert s) (Advertise advert ∷ []) ≡ advert ∷ []
+  told : filter_map (journal_other_advert s) (Advertise advert ∷ []) ≡ advert ∷ []
   told = rw other refl
 
 -- ---- what is sent again has its causes: a switch tells what it holds, the controller no advert
@@ -391,9 +391,9 @@ last_heard before now s bodies advert heard other = record {
 unacked_told : (setting : Setting) (journal : List Item) (s : ℕ) (versions : List ℕ)
     → AllByRecursion (Tells setting journal) (journal_unacked_installs setting journal s versions)
 unacked_told setting journal s versions =
-    each_map (Tells setting journal) (λ version. install_for setting journal version s)
+    each_map (Tells setting journal) (λ version. journal_install_for setting journal version s)
     (filter (λ version. not (has_acked journal s version)) versions)
-    (each_always (λ version. Tells setting journal (install_for setting journal version s))
+    (each_always (λ version. Tells setting journal (journal_install_for setting journal version s))
     (λ version. tt) (filter (λ version. not (has_acked journal s version)) versions))
 
 pub resend_caused : (setting : Setting) (s : ℕ) (journal : List Item)
@@ -401,8 +401,8 @@ pub resend_caused : (setting : Setting) (s : ℕ) (journal : List Item)
 resend_caused setting s journal = resent_has (HasLinkCause setting) (Tells setting journal) setting
     s journal tt (sends_told setting journal) (each_by_switch (Tells setting journal) setting
     journal s (λ up. tt) (each_neighbour setting journal s (λ neighbour. map (advert_to neighbour)
-    (held_adverts setting journal s)) (held_told setting journal s)))
+    (journal_held_adverts setting journal s)) (held_told setting journal s)))
     (each_by_controller (Tells setting journal) setting journal s
     (λ none member. each_to_member (Tells setting journal) setting journal s tt
     (unacked_told setting journal s (later_versions journal)) tt (λ some. tt))
-    (λ none. unacked_told setting journal s (versions_from_current journal)))
+    (λ none. unacked_told setting journal s (journal_versions_from_current journal)))

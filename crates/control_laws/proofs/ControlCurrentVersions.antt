@@ -1,8 +1,8 @@
 -- Nobody stamps with a version that isn't current yet, or is told or said to.
 use Rattle.std.proofs.Common.{[], ◌++◌, ◌<◌, ◌==◌, ◌∙◌, ◌∷◌, ◌≡◌, ◌≤◌, Bool, IfSome, List, None, Option, Some, arith, false, if◌then◌else◌, inl, inr, map, option_and_then, refl, subst, sym, true, ℕ}
-use Rattle.update_machine.specs.Exports.{Body, Install, Item, Message, OpenAt, Place, Setting, Stamp, Stamped, Tables, VersionsAreNumbered, acked_stamp, body_to_controller, body_to_switch, controller_heard, current_mark, first_open_number, heard, known_boot, members, message_of, next_retired, open_sent, retired_mark, stamp_in, stamp_of, stamped_version_in, to_switch, version_count}
+use Rattle.update_machine.specs.Exports.{Body, Install, Item, Message, OpenAt, Place, Setting, Stamp, Stamped, Tables, VersionsAreNumbered, acked_stamp, journal_body_to_controller, journal_body_to_switch, controller_heard, journal_current_mark, machine_first_open, heard, journal_known_boot, members, message_of, journal_next_retired, machine_open_sent, journal_retired_mark, journal_stamp_in_body, journal_stamp_of, machine_stamped_version_in, machine_message_to_switch, journal_version_count}
 use Rattle.update_machine.proofs.Exports.{numbered_at_first, other_more, plan_stays, start_laws, submitted_more, touched_stays}
-use Rattle.control_laws.specs.Exports.{ArePlannedTables, HasItemCause, InstallsArePlanned, IsRightInstall, IsRightMessage, IsRightOpening, IsRightStamp, IsStampTouched, StampsSayTouched, stamp_message_to}
+use Rattle.control_laws.specs.Exports.{AreInstallTablesPlanned, HasControlItemCause, InstallsArePlanned, IsRightInstallMessage, IsRightMessage, IsRightOpening, IsRightStamp, IsStampMessageTouched, StampsSayTouched, stamp_message_to}
 use Rattle.control_laws.proofs.ControlFactsGrown.{AreKept, FromCauses, NeverFalls, by_number, count_more, current_more, from_causes, heard_more, known_rises, new_or_old, opened_in, opened_is, opened_more, opens_by, raised, retired_more, stamp_told}
 use Rattle.base.proofs.Exports.{⊤, AllByRecursion, IfSome_then, each_always, each_append, each_map, each_option, nat_tests, option_map_or, option_or}
 use Rattle.ctrl_msg.specs.Exports.{to_controller}
@@ -13,7 +13,7 @@ use Rattle.ternary.specs.Exports.{WordValue}
 
 -- ---- versions are numbered from 1 without a gap
 
-pub numbered_kept : (setting : Setting) → AreKept (HasItemCause setting) VersionsAreNumbered
+pub numbered_kept : (setting : Setting) → AreKept (HasControlItemCause setting) VersionsAreNumbered
 numbered_kept setting before (Item.Submitted file version) cause known =
     submitted_more before file version cause.next known
 numbered_kept setting before next cause known = other_more before next refl known
@@ -27,13 +27,13 @@ caused_numbered =
 
 -- ---- what never falls
 
-pub current_rises : NeverFalls current_mark
+pub current_rises : NeverFalls journal_current_mark
 current_rises setting before (Item.Current version) cause =
     let rises = cause.rises in rw (current_more before (Item.Current version)) (omega arith)
 current_rises setting before next cause = rw (current_more before next) (omega arith)
 
 pub count_rises : (before : List Item) (next : Item)
-    → version_count before ≤ version_count (before ++ next ∷ [])
+    → journal_version_count before ≤ journal_version_count (before ++ next ∷ [])
 count_rises before (Item.Submitted file version) =
     rw (count_more before (Item.Submitted file version)) (omega arith)
 count_rises before next = rw (count_more before next) (omega arith)
@@ -42,10 +42,10 @@ count_rises before next = rw (count_more before next) (omega arith)
 
 -- the current version is there
 pub record IsThere (journal : List Item) : Type 0 where
-  pub first : 1 ≤ current_mark journal
-  pub there : current_mark journal ≤ version_count journal
+  pub first : 1 ≤ journal_current_mark journal
+  pub there : journal_current_mark journal ≤ journal_version_count journal
 
-pub there_kept : (setting : Setting) → AreKept (HasItemCause setting) IsThere
+pub there_kept : (setting : Setting) → AreKept (HasControlItemCause setting) IsThere
 there_kept setting before (Item.Current version) cause is =
     let next : Item = Item.Current version in record {
       first = rw (current_more before next) (omega (arith, is.first));
@@ -65,8 +65,8 @@ there_at_first = record {
 -- ---- tables
 
 planned_on : (setting : Setting) (before : List Item) (next : Item) (s : ℕ) (installed : Tables)
-    → VersionsAreNumbered before → ArePlannedTables setting before s installed
-    → ArePlannedTables setting (before ++ next ∷ []) s installed
+    → VersionsAreNumbered before → AreInstallTablesPlanned setting before s installed
+    → AreInstallTablesPlanned setting (before ++ next ∷ []) s installed
 planned_on setting before next s installed numbered are = record {
   version = are.version;
   first = are.first;
@@ -75,8 +75,8 @@ planned_on setting before next s installed numbered are = record {
 }
 
 pub right_planned : (setting : Setting) (before : List Item) (s boot : ℕ) (installed : Tables)
-    → IsThere before → IsRightInstall setting before s boot installed
-    → ArePlannedTables setting before s installed
+    → IsThere before → IsRightInstallMessage setting before s boot installed
+    → AreInstallTablesPlanned setting before s installed
 right_planned setting before s boot installed is right = record {
   version = right.version;
   first = elim right.which [
@@ -93,14 +93,14 @@ pub record IsPlannedSoFar (setting : Setting) (journal : List Item) : Type 0 whe
   pub versions : VersionsAreNumbered journal
   pub installs : InstallsArePlanned setting journal
 
-pub planned_kept : (setting : Setting) → AreKept (HasItemCause setting) (IsPlannedSoFar setting)
+pub planned_kept : (setting : Setting) → AreKept (HasControlItemCause setting) (IsPlannedSoFar setting)
 planned_kept setting before next cause are = record {
   marks = there_kept setting before next cause are.marks;
   versions = numbered_kept setting before next cause are.versions;
   installs = λ s boot n installed is. elim
-      (by_number before next n (to_switch s (Install boot installed)) is) [
+      (by_number before next n (machine_message_to_switch s (Install boot installed)) is) [
         | inl new ↦ planned_on setting before next s installed are.versions (right_planned setting
-            before s boot installed are.marks (subst (HasItemCause setting before) new cause))
+            before s boot installed are.marks (subst (HasControlItemCause setting before) new cause))
         | inr old ↦ planned_on setting before next s installed are.versions
             (are.installs s boot n installed old)
       ];
@@ -111,7 +111,7 @@ planned_at_first setting = record {
   marks = there_at_first;
   versions = numbered_at_first;
   installs = λ s boot n installed is.
-      let none : None ≡ Some (to_switch s (Install boot installed)) =
+      let none : None ≡ Some (machine_message_to_switch s (Install boot installed)) =
       rw (start_laws.message n).message at is in absurd cc;
 }
 
@@ -126,8 +126,8 @@ installs_planned setting journal have = (caused_planned setting journal have).in
 -- a message that lets a switch stamp, or says that it does, is of a version that is current or was
 abbrev pub IsOfCurrent : List Item → Place → Body → Type 0
 IsOfCurrent journal (Place.Switch s) body =
-    IfSome (stamp_in body) (λ version. version ≤ current_mark journal)
-IsOfCurrent journal Place.Controller (Stamped s boot version) = version ≤ current_mark journal
+    IfSome (journal_stamp_in_body body) (λ version. version ≤ journal_current_mark journal)
+IsOfCurrent journal Place.Controller (Stamped s boot version) = version ≤ journal_current_mark journal
 IsOfCurrent journal to body = ⊤
 
 pub record StampsAreCurrent (journal : List Item) : Type 0 where
@@ -135,31 +135,31 @@ pub record StampsAreCurrent (journal : List Item) : Type 0 where
   pub sent : (n : ℕ) (message : Message) → message_of journal n ≡ Some message
       → IsOfCurrent journal message.to message.body
   pub opened : (s boot version : ℕ) → opened_in journal s boot ≡ Some version
-      → (version ≤ current_mark journal) × (boot ≤ known_boot journal s)
-  pub stamps : (s : ℕ) → stamp_of journal s ≤ current_mark journal
-  pub told : (s boot : ℕ) → AllByRecursion (λ version. version ≤ current_mark journal)
-      (told_by (stamped_version_in s boot) journal)
-  pub retired : retired_mark journal < current_mark journal
+      → (version ≤ journal_current_mark journal) × (boot ≤ journal_known_boot journal s)
+  pub stamps : (s : ℕ) → journal_stamp_of journal s ≤ journal_current_mark journal
+  pub told : (s boot : ℕ) → AllByRecursion (λ version. version ≤ journal_current_mark journal)
+      (told_by (machine_stamped_version_in s boot) journal)
+  pub retired : journal_retired_mark journal < journal_current_mark journal
 
 -- ---- openings
 
 pub right_current : (before : List Item) (s boot version : ℕ) → StampsAreCurrent before
-    → IsRightOpening before s boot version → version ≤ current_mark before
+    → IsRightOpening before s boot version → version ≤ journal_current_mark before
 right_current before s boot version are right = elim right.opens [
   | inl first ↦ omega (arith, first.current)
-  | inr same ↦ (are.opened s (known_boot before s) version (sym (opened_is before s) ∙ same)).0
+  | inr same ↦ (are.opened s (journal_known_boot before s) version (sym (opened_is before s) ∙ same)).0
 ]
 
 opened_on : (setting : Setting) (before : List Item) (next : Item) (s boot version : ℕ)
-    → HasItemCause setting before next → StampsAreCurrent before
+    → HasControlItemCause setting before next → StampsAreCurrent before
     → opened_in (before ++ next ∷ []) s boot ≡ Some version
-    → (version ≤ current_mark (before ++ next ∷ [])) × (boot ≤ known_boot (before ++ next ∷ []) s)
+    → (version ≤ journal_current_mark (before ++ next ∷ [])) × (boot ≤ journal_known_boot (before ++ next ∷ []) s)
 opened_on setting before next s boot version cause are opened =
     by_opened (opened_in before s boot) refl (sym (opened_more before next s boot) ∙ opened)
   where
-    later : (version ≤ current_mark before) × (boot ≤ known_boot before s)
-        → (version ≤ current_mark (before ++ next ∷ []))
-        × (boot ≤ known_boot (before ++ next ∷ []) s)
+    later : (version ≤ journal_current_mark before) × (boot ≤ journal_known_boot before s)
+        → (version ≤ journal_current_mark (before ++ next ∷ []))
+        × (boot ≤ journal_known_boot (before ++ next ∷ []) s)
     later here =
         let below = here.0 in
         let past = here.1 in
@@ -167,12 +167,12 @@ opened_on setting before next s boot version cause are opened =
         let knows = known_rises before next s in (omega arith, omega arith)
 
     by_opened : (o : Option ℕ) → opened_in before s boot ≡ o
-        → option_or o (first_open_number (open_sent s boot next)) ≡ Some version
-        → (version ≤ current_mark (before ++ next ∷ []))
-        × (boot ≤ known_boot (before ++ next ∷ []) s)
+        → option_or o (machine_first_open (machine_open_sent s boot next)) ≡ Some version
+        → (version ≤ journal_current_mark (before ++ next ∷ []))
+        × (boot ≤ journal_known_boot (before ++ next ∷ []) s)
     by_opened (Some w) e opens = later (are.opened s boot version (e ∙ opens))
     by_opened None e opens =
-        let right : IsRightOpening before s boot version = subst (HasItemCause setting before)
+        let right : IsRightOpening before s boot version = subst (HasControlItemCause setting before)
         (opens_by next s boot version opens).1 cause in
         later (right_current before s boot version are right, omega arith)
 
@@ -190,9 +190,9 @@ sent_current setting before Place.Controller (Stamped s boot version) are right 
 sent_current setting before Place.Controller _ are right = tt
 
 current_on : (setting : Setting) (before : List Item) (next : Item) (to : Place) (body : Body)
-    → HasItemCause setting before next → IsOfCurrent before to body
+    → HasControlItemCause setting before next → IsOfCurrent before to body
     → IsOfCurrent (before ++ next ∷ []) to body
-current_on setting before next (Place.Switch s) body cause is = IfSome_then (stamp_in body) is
+current_on setting before next (Place.Switch s) body cause is = IfSome_then (journal_stamp_in_body body) is
     (λ version below. omega (arith, below, current_rises setting before next cause))
 current_on setting before next Place.Controller (Stamped s boot version) cause is =
     omega (arith, is, current_rises setting before next cause)
@@ -201,23 +201,23 @@ current_on setting before next Place.Controller _ cause is = tt
 -- ---- stamps
 
 delivered_current : (before : List Item) (s number : ℕ) → StampsAreCurrent before
-    → raised (stamp_of before s) (option_and_then stamp_in (body_to_switch before s number))
-    ≤ current_mark before
-delivered_current before s number are = by_said (body_to_switch before s number) refl where
-  by_stamp : (stamp : Option ℕ) → IfSome stamp (λ version. version ≤ current_mark before)
-      → raised (stamp_of before s) stamp ≤ current_mark before
+    → raised (journal_stamp_of before s) (option_and_then journal_stamp_in_body (journal_body_to_switch before s number))
+    ≤ journal_current_mark before
+delivered_current before s number are = by_said (journal_body_to_switch before s number) refl where
+  by_stamp : (stamp : Option ℕ) → IfSome stamp (λ version. version ≤ journal_current_mark before)
+      → raised (journal_stamp_of before s) stamp ≤ journal_current_mark before
   by_stamp None current = are.stamps s
   by_stamp (Some version) current = omega (arith, are.stamps s, current)
 
-  by_said : (said : Option Body) → body_to_switch before s number ≡ said
-      → raised (stamp_of before s) (option_and_then stamp_in said) ≤ current_mark before
+  by_said : (said : Option Body) → journal_body_to_switch before s number ≡ said
+      → raised (journal_stamp_of before s) (option_and_then journal_stamp_in_body said) ≤ journal_current_mark before
   by_said None e = are.stamps s
-  by_said (Some body) e = by_stamp (stamp_in body)
-      (are.sent number (to_switch s body) (said_parts before s number body e).sent)
+  by_said (Some body) e = by_stamp (journal_stamp_in_body body)
+      (are.sent number (machine_message_to_switch s body) (said_parts before s number body e).sent)
 
 stamps_on : (setting : Setting) (before : List Item) (next : Item) (s : ℕ)
-    → HasItemCause setting before next → StampsAreCurrent before
-    → stamp_of (before ++ next ∷ []) s ≤ current_mark (before ++ next ∷ [])
+    → HasControlItemCause setting before next → StampsAreCurrent before
+    → journal_stamp_of (before ++ next ∷ []) s ≤ journal_current_mark (before ++ next ∷ [])
 stamps_on setting before (Item.Delivered number) s cause are =
     omega (arith, stamp_told before number s, delivered_current before s number are, current_rises)
 stamps_on setting before next s cause are =
@@ -226,51 +226,51 @@ stamps_on setting before next s cause are =
 -- ---- what is told of stamps
 
 gives_current : (before : List Item) (next : Item) (s boot : ℕ) → StampsAreCurrent before
-    → AllByRecursion (λ version. version ≤ current_mark before)
-    (tells (stamped_version_in s boot) before next)
+    → AllByRecursion (λ version. version ≤ journal_current_mark before)
+    (tells (machine_stamped_version_in s boot) before next)
 gives_current before (Item.Delivered number) s boot are =
-    each_option (λ version. version ≤ current_mark before)
-    (option_and_then (stamped_version_in s boot) (body_to_controller before number))
+    each_option (λ version. version ≤ journal_current_mark before)
+    (option_and_then (machine_stamped_version_in s boot) (journal_body_to_controller before number))
     (λ version told. are.sent number (to_controller (Stamped s boot version))
-    (told_sent (stamped_version_in s boot) (Stamped s boot) (stamped_is s boot) before number version told))
+    (told_sent (machine_stamped_version_in s boot) (Stamped s boot) (stamped_is s boot) before number version told))
 gives_current before _ s boot are = tt
 
-told_on : (setting : Setting) (before : List Item) (next : Item) (s boot : ℕ) → HasItemCause setting
+told_on : (setting : Setting) (before : List Item) (next : Item) (s boot : ℕ) → HasControlItemCause setting
     before next → StampsAreCurrent before → AllByRecursion (λ version. version
-    ≤ current_mark (before ++ next ∷ [])) (told_by (stamped_version_in s boot) (before ++ next ∷ []))
+    ≤ journal_current_mark (before ++ next ∷ [])) (told_by (machine_stamped_version_in s boot) (before ++ next ∷ []))
 told_on setting before next s boot cause are =
-    subst (AllByRecursion (λ version. version ≤ current_mark (before ++ next ∷ [])))
-    (sym (told_by_more (stamped_version_in s boot) before next))
-    (each_weaker (λ version. version ≤ current_mark before) (λ version. version
-    ≤ current_mark (before ++ next ∷ [])) (λ version below. omega (arith, current_rises))
-    (told_by (stamped_version_in s boot) before ++ tells (stamped_version_in s boot) before next)
-    (each_append (λ version. version ≤ current_mark before) (told_by (stamped_version_in s boot) before)
-    (tells (stamped_version_in s boot) before next) (are.told s boot)
+    subst (AllByRecursion (λ version. version ≤ journal_current_mark (before ++ next ∷ [])))
+    (sym (told_by_more (machine_stamped_version_in s boot) before next))
+    (each_weaker (λ version. version ≤ journal_current_mark before) (λ version. version
+    ≤ journal_current_mark (before ++ next ∷ [])) (λ version below. omega (arith, current_rises))
+    (told_by (machine_stamped_version_in s boot) before ++ tells (machine_stamped_version_in s boot) before next)
+    (each_append (λ version. version ≤ journal_current_mark before) (told_by (machine_stamped_version_in s boot) before)
+    (tells (machine_stamped_version_in s boot) before next) (are.told s boot)
     (gives_current before next s boot are)))
 
 -- ---- retired versions
 
 -- so is what a switch is known to stamp with
 pub acked_current : (journal : List Item) (s : ℕ) → StampsAreCurrent journal
-    → acked_stamp journal s ≤ current_mark journal
-acked_current journal s are = acked_stamp_within journal s (current_mark journal)
-    (open_within journal s (current_mark journal) (λ version opened.
-    (are.opened s (known_boot journal s) version (sym (opened_is journal s) ∙ opened)).0))
-    (are.told s (known_boot journal s))
+    → acked_stamp journal s ≤ journal_current_mark journal
+acked_current journal s are = acked_stamp_within journal s (journal_current_mark journal)
+    (open_within journal s (journal_current_mark journal) (λ version opened.
+    (are.opened s (journal_known_boot journal s) version (sym (opened_is journal s) ∙ opened)).0))
+    (are.told s (journal_known_boot journal s))
 
 pub next_below : (setting : Setting) (journal : List Item) → StampsAreCurrent journal
-    → next_retired setting journal < current_mark journal
-unfolding next_retired
+    → journal_next_retired setting journal < journal_current_mark journal
+unfolding journal_next_retired
 next_below setting journal are =
     let within = least_within (map (acked_stamp journal) (members setting journal))
-    (current_mark journal) (each_map (λ x. x ≤ current_mark journal) (acked_stamp journal)
-    (members setting journal) (each_always (λ s. acked_stamp journal s ≤ current_mark journal)
+    (journal_current_mark journal) (each_map (λ x. x ≤ journal_current_mark journal) (acked_stamp journal)
+    (members setting journal) (each_always (λ s. acked_stamp journal s ≤ journal_current_mark journal)
     (λ s. acked_current journal s are) (members setting journal))) in
     omega (arith, within, are.marks.first)
 
 retired_on : (setting : Setting) (before : List Item) (next : Item)
-    → HasItemCause setting before next → StampsAreCurrent before
-    → retired_mark (before ++ next ∷ []) < current_mark (before ++ next ∷ [])
+    → HasControlItemCause setting before next → StampsAreCurrent before
+    → journal_retired_mark (before ++ next ∷ []) < journal_current_mark (before ++ next ∷ [])
 retired_on setting before (Item.Retired version) cause are = rw (retired_more, current_more)
     (omega (arith, next_below))
 retired_on setting before (Item.Current version) cause are = rw (retired_more, current_more)
@@ -280,11 +280,11 @@ retired_on setting before next cause are =
 
 -- ---- together
 
-pub current_kept : (setting : Setting) → AreKept (HasItemCause setting) StampsAreCurrent
+pub current_kept : (setting : Setting) → AreKept (HasControlItemCause setting) StampsAreCurrent
 current_kept setting before next cause are = record {
   marks = there_kept setting before next cause are.marks;
   sent = λ n message is. current_on setting before next message.to message.body cause
-      (new_or_old (HasItemCause setting) (IsOfCurrent before) before next cause
+      (new_or_old (HasControlItemCause setting) (IsOfCurrent before) before next cause
       (λ k sent. sent_current setting before sent.to sent.body are) are.sent n message is);
   opened = λ s boot version is. opened_on setting before next s boot version cause are is;
   stamps = λ s. stamps_on setting before next s cause are;
@@ -297,7 +297,7 @@ pub first_opened : (s boot version : ℕ) → opened_in [] s boot ≡ Some versi
 unfolding opened_in
 first_opened s boot version opened = grind (arith, nat_tests)
 
-none_told : (s boot : ℕ) → told_by (stamped_version_in s boot) [] ≡ []
+none_told : (s boot : ℕ) → told_by (machine_stamped_version_in s boot) [] ≡ []
 unfolding controller_heard
 none_told s boot = refl
 
@@ -318,7 +318,7 @@ current_at_first = record {
 -- what it heard before goes on to hold, and what it hears now was sent to it
 pub heard_on : (P Q : Body → Type 0) (before : List Item) (next : Item) (s : ℕ)
     → ((body : Body) → P body → Q body)
-    → ((number : ℕ) (body : Body) → message_of before number ≡ Some (to_switch s body) → P body)
+    → ((number : ℕ) (body : Body) → message_of before number ≡ Some (machine_message_to_switch s body) → P body)
     → AllByRecursion P (heard before s) → AllByRecursion Q (heard (before ++ next ∷ []) s)
 heard_on P Q before (Item.Down t) s on sent all =
     subst (AllByRecursion Q) (sym (heard_more before (Item.Down t) s)) (by_test (t == s))
@@ -333,9 +333,9 @@ heard_on P Q before (Item.Booted t boot) s on sent all =
     by_test true = tt
     by_test false = each_weaker P Q on (heard before s) all
 heard_on P Q before (Item.Delivered number) s on sent all =
-    rw (heard_more before (Item.Delivered number) s) (by_said (body_to_switch before s number) refl)
+    rw (heard_more before (Item.Delivered number) s) (by_said (journal_body_to_switch before s number) refl)
   where
-    by_said : (said : Option Body) → body_to_switch before s number ≡ said → AllByRecursion Q
+    by_said : (said : Option Body) → journal_body_to_switch before s number ≡ said → AllByRecursion Q
         (option_map_or (λ body. heard before s ++ body ∷ []) said (heard before s))
     by_said None e = each_weaker P Q on (heard before s) all
     by_said (Some body) e =
@@ -353,22 +353,22 @@ record AreTouched (setting : Setting) (journal : List Item) : Type 0 where
 
 touched_on : (setting : Setting) (before : List Item) (next : Item) (version : ℕ)
     (touched : List WordValue) → VersionsAreNumbered before
-    → IsStampTouched setting before version touched
-    → IsStampTouched setting (before ++ next ∷ []) version touched
+    → IsStampMessageTouched setting before version touched
+    → IsStampMessageTouched setting (before ++ next ∷ []) version touched
 touched_on setting before next version touched are is = record {
   first = is.first;
   last = omega (arith, is.last, count_rises before next);
   says = is.says ∙ sym (touched_stays setting before (next ∷ []) version are is.last);
 }
 
-touched_kept : (setting : Setting) → AreKept (HasItemCause setting) (AreTouched setting)
+touched_kept : (setting : Setting) → AreKept (HasControlItemCause setting) (AreTouched setting)
 touched_kept setting before next cause are = record {
   marks = there_kept setting before next cause are.marks;
   versions = numbered_kept setting before next cause are.versions;
   stamps = record {
     sent = λ n s boot version touched is. elim
         (by_number before next n (stamp_message_to s boot version touched) is) [
-          | inl new ↦ let right = subst (HasItemCause setting before) new cause in
+          | inl new ↦ let right = subst (HasControlItemCause setting before) new cause in
               touched_on setting before next version touched are.versions (record {
                 first = omega (arith, right.current, are.marks.first);
                 last = omega (arith, right.current, are.marks.there);

@@ -1,18 +1,18 @@
 -- What one more item makes of each fact of switches, messages and the controller.
 use Rattle.std.proofs.Common.{[], ◌++◌, ◌+◌, ◌<◌, ◌==◌, ◌||◌, ◌∙◌, ◌∷◌, ◌≡◌, ◌≤◌, ◌⊎◌, Bool, IsTrue, List, None, Option, Some, ap, append-nil, append_assoc, arith, eq-eqb, eqb-true, false, filter_map, fold, if◌then◌else◌, inl, inr, max, nat_lt, option_and_then, option_to_list, refl, subst, sym, true, unwrap_or, zero-add, ℕ}
 use Rattle.base.proofs.Exports.{IfSome_then, filter_map-append, fold-append, nat_tests, option_map_or, option_or}
-use Rattle.update_machine.specs.Exports.{Advertise, Body, CacheRule, HaveCauses, Hello, Installed, Item, Message, OpenAt, Place, Setting, Stamped, Step, all_given, body_to_controller, body_to_switch, boot_of, changes_controller_heard, changes_heard, changes_over, controller_heard, count_of, current_mark, first_open_number, first_stamp, gives_boot, gives_current, gives_message, gives_retired, gives_serving, gives_up, greatest_stamp_number, heard, hello_boot, is_over, is_submission, is_up, known_boot, last_given, message_of, open_sent, opened_at, piece, raises_known, retired_mark, serves, speaking_in_body, stamp_in, stamp_of, step_items, to_switch, version_count}
+use Rattle.update_machine.specs.Exports.{Advertise, Body, CacheRule, JournalItemsHaveCauses, Hello, Installed, Item, Message, OpenAt, Place, Setting, Stamped, Step, journal_all_given, journal_body_to_controller, journal_body_to_switch, journal_boot_of, changes_controller_heard, changes_heard, item_changes_over, controller_heard, count_of, journal_current_mark, machine_first_open, journal_first_stamp, item_gives_boot, gives_current, item_gives_message, item_gives_retired, item_gives_serving, item_gives_switch_up, machine_greatest_stamp_number, heard, journal_hello_boot, is_over, is_submission, is_up, journal_known_boot, journal_last_given, message_of, machine_open_sent, opened_at, piece, journal_raises_known_boot, journal_retired_mark, serves, machine_speaking_in_body, journal_stamp_in_body, journal_stamp_of, step_items, machine_message_to_switch, journal_version_count}
 use Rattle.update_machine.proofs.Exports.{all_given_append, count_of_append, folded_append, have_first, last_given_append, start_laws}
-pub use Rattle.update_machine.proofs.CallerLemmas.{steps_have}
-use Rattle.control_laws.specs.Exports.{BootsAreKnown, HasItemCause, HasPastBoot, IsRightMessage}
+pub use Rattle.update_machine.proofs.UpdateMachineCallerLemmas.{steps_have}
+use Rattle.control_laws.specs.Exports.{BootsAreKnown, HasControlItemCause, HasPastBoot, IsRightMessage}
 use Rattle.ctrl_msg.specs.Exports.{body_boot, to_controller}
 
 -- the last item tells, or else those before it
 pub last_more : {X : Type 0} (tells : Item → Option X) (before : List Item) (item : Item)
-    (other : X) → unwrap_or (last_given tells (before ++ item ∷ [])) other
-    ≡ unwrap_or (tells item) (unwrap_or (last_given tells before) other)
+    (other : X) → unwrap_or (journal_last_given tells (before ++ item ∷ [])) other
+    ≡ unwrap_or (tells item) (unwrap_or (journal_last_given tells before) other)
 last_more {X = X} tells before item other = ap (λ o. unwrap_or o other)
-    (last_given_append tells before (item ∷ [])) ∙ by_told (tells item) (last_given tells before)
+    (last_given_append tells before (item ∷ [])) ∙ by_told (tells item) (journal_last_given tells before)
   where
     by_told : (now earlier : Option X) → unwrap_or (option_or now earlier) other
         ≡ unwrap_or now (unwrap_or earlier other)
@@ -20,29 +20,29 @@ last_more {X = X} tells before item other = ap (λ o. unwrap_or o other)
     by_told (Some x) earlier = refl
 
 pub boot_more : (before : List Item) (item : Item) (s : ℕ)
-    → boot_of (before ++ item ∷ []) s ≡ unwrap_or (gives_boot s item) (boot_of before s)
-unfolding boot_of
-boot_more before item s = last_more (gives_boot s) before item 1
+    → journal_boot_of (before ++ item ∷ []) s ≡ unwrap_or (item_gives_boot s item) (journal_boot_of before s)
+unfolding journal_boot_of
+boot_more before item s = last_more (item_gives_boot s) before item 1
 
 pub up_more : (before : List Item) (item : Item) (s : ℕ)
-    → is_up (before ++ item ∷ []) s ≡ unwrap_or (gives_up s item) (is_up before s)
+    → is_up (before ++ item ∷ []) s ≡ unwrap_or (item_gives_switch_up s item) (is_up before s)
 unfolding is_up
-up_more before item s = last_more (gives_up s) before item true
+up_more before item s = last_more (item_gives_switch_up s) before item true
 
 pub serving_more : (before : List Item) (item : Item) (s : ℕ)
-    → serves (before ++ item ∷ []) s ≡ unwrap_or (gives_serving s item) (serves before s)
+    → serves (before ++ item ∷ []) s ≡ unwrap_or (item_gives_serving s item) (serves before s)
 unfolding serves
-serving_more before item s = last_more (gives_serving s) before item true
+serving_more before item s = last_more (item_gives_serving s) before item true
 
 pub current_more : (before : List Item) (item : Item)
-    → current_mark (before ++ item ∷ []) ≡ unwrap_or (gives_current item) (current_mark before)
-unfolding current_mark
+    → journal_current_mark (before ++ item ∷ []) ≡ unwrap_or (gives_current item) (journal_current_mark before)
+unfolding journal_current_mark
 current_more before item = last_more gives_current before item 1
 
 pub retired_more : (before : List Item) (item : Item)
-    → retired_mark (before ++ item ∷ []) ≡ unwrap_or (gives_retired item) (retired_mark before)
-unfolding retired_mark
-retired_more before item = last_more gives_retired before item 0
+    → journal_retired_mark (before ++ item ∷ []) ≡ unwrap_or (item_gives_retired item) (journal_retired_mark before)
+unfolding journal_retired_mark
+retired_more before item = last_more item_gives_retired before item 0
 
 -- a count from one, with one more item
 pub counted_more : (test : Item → Bool) (before : List Item) (item : Item)
@@ -64,15 +64,15 @@ some_more test before item = by_test (test item) refl where
       ≡ (b || nat_lt 0 (count_of test before))
   by_test b is = grind (arith, nat_tests, count_of_append test before (item ∷ []))
 
-pub count_more : (before : List Item) (item : Item) → version_count (before ++ item ∷ [])
-    ≡ (if is_submission item then version_count before + 1 else version_count before)
-unfolding version_count
+pub count_more : (before : List Item) (item : Item) → journal_version_count (before ++ item ∷ [])
+    ≡ (if is_submission item then journal_version_count before + 1 else journal_version_count before)
+unfolding journal_version_count
 count_more before item = counted_more is_submission before item
 
 pub message_more : (before : List Item) (item : Item) (n : ℕ)
-    → message_of (before ++ item ∷ []) n ≡ option_or (gives_message n item) (message_of before n)
+    → message_of (before ++ item ∷ []) n ≡ option_or (item_gives_message n item) (message_of before n)
 unfolding message_of
-message_more before item n = last_given_append (gives_message n) before (item ∷ [])
+message_more before item n = last_given_append (item_gives_message n) before (item ∷ [])
 
 pub heard_more : (before : List Item) (item : Item) (s : ℕ)
     → heard (before ++ item ∷ []) s ≡ changes_heard s before (heard before s) item
@@ -85,21 +85,21 @@ unfolding controller_heard
 told_more before item = folded_append changes_controller_heard [] before (item ∷ [])
 
 pub over_more : (before : List Item) (item : Item) (s : ℕ)
-    → is_over (before ++ item ∷ []) s ≡ changes_over s before (is_over before s) item
+    → is_over (before ++ item ∷ []) s ≡ item_changes_over s before (is_over before s) item
 unfolding is_over
-over_more before item s = folded_append (changes_over s) false before (item ∷ [])
+over_more before item s = folded_append (item_changes_over s) false before (item ∷ [])
 
-pub sent_more : (before : List Item) (item : Item) (s boot : ℕ) → all_given (open_sent s boot)
-    (before ++ item ∷ []) ≡ all_given (open_sent s boot) before ++ open_sent s boot item
-sent_more before item s boot = all_given_append (open_sent s boot) before (item ∷ [])
-    ∙ ap (λ xs. all_given (open_sent s boot) before ++ xs) (append-nil (open_sent s boot item))
+pub sent_more : (before : List Item) (item : Item) (s boot : ℕ) → journal_all_given (machine_open_sent s boot)
+    (before ++ item ∷ []) ≡ journal_all_given (machine_open_sent s boot) before ++ machine_open_sent s boot item
+sent_more before item s boot = all_given_append (machine_open_sent s boot) before (item ∷ [])
+    ∙ ap (λ xs. journal_all_given (machine_open_sent s boot) before ++ xs) (append-nil (machine_open_sent s boot item))
 
 -- ---- the known boot
 
 -- the boot of a hello of the switch that an item delivers
 abbrev pub hello_told : ℕ → List Item → Item → Option ℕ
 hello_told s before (Item.Delivered number) =
-    option_and_then (hello_boot s) (body_to_controller before number)
+    option_and_then (journal_hello_boot s) (journal_body_to_controller before number)
 hello_told s before _ = None
 
 abbrev pub raised : ℕ → Option ℕ → ℕ
@@ -107,25 +107,25 @@ raised boot None = boot
 raised boot (Some hello) = max boot hello
 
 pub known_more : (before : List Item) (item : Item) (s : ℕ)
-    → known_boot (before ++ item ∷ []) s ≡ raised (known_boot before s) (hello_told s before item)
-unfolding known_boot
+    → journal_known_boot (before ++ item ∷ []) s ≡ raised (journal_known_boot before s) (hello_told s before item)
+unfolding journal_known_boot
 known_more before (Item.Delivered number) s =
-    cc (told_more before (Item.Delivered number), by_said (body_to_controller before number))
+    cc (told_more before (Item.Delivered number), by_said (journal_body_to_controller before number))
   where
     by_said : (said : Option Body)
-        → fold max 1 (filter_map (hello_boot s) (controller_heard before ++ option_to_list said))
-        ≡ raised (fold max 1 (filter_map (hello_boot s) (controller_heard before)))
-        (option_and_then (hello_boot s) said)
+        → fold max 1 (filter_map (journal_hello_boot s) (controller_heard before ++ option_to_list said))
+        ≡ raised (fold max 1 (filter_map (journal_hello_boot s) (controller_heard before)))
+        (option_and_then (journal_hello_boot s) said)
     by_said None = cc (append-nil (controller_heard before))
     by_said (Some body) =
-        ap (fold max 1) (filter_map-append (hello_boot s) (controller_heard before) (body ∷ []))
-        ∙ fold-append max 1 (filter_map (hello_boot s) (controller_heard before))
-        (filter_map (hello_boot s) (body ∷ [])) ∙ by_hello (hello_boot s body) refl
+        ap (fold max 1) (filter_map-append (journal_hello_boot s) (controller_heard before) (body ∷ []))
+        ∙ fold-append max 1 (filter_map (journal_hello_boot s) (controller_heard before))
+        (filter_map (journal_hello_boot s) (body ∷ [])) ∙ by_hello (journal_hello_boot s body) refl
       where
-        by_hello : (hello : Option ℕ) → hello_boot s body ≡ hello →
-            fold max (fold max 1 (filter_map (hello_boot s) (controller_heard before)))
-            (filter_map (hello_boot s) (body ∷ []))
-            ≡ raised (fold max 1 (filter_map (hello_boot s) (controller_heard before))) hello
+        by_hello : (hello : Option ℕ) → journal_hello_boot s body ≡ hello →
+            fold max (fold max 1 (filter_map (journal_hello_boot s) (controller_heard before)))
+            (filter_map (journal_hello_boot s) (body ∷ []))
+            ≡ raised (fold max 1 (filter_map (journal_hello_boot s) (controller_heard before))) hello
         by_hello None e = rw e refl
         by_hello (Some boot) e = rw e refl
 known_more before item s = cc (told_more before item)
@@ -133,32 +133,32 @@ known_more before item s = cc (told_more before item)
 -- ---- the stamp
 
 -- a body that is heard raises the stamp to its version, if it has one
-pub stamp_told : (before : List Item) (n s : ℕ) → stamp_of (before ++ Item.Delivered n ∷ []) s
-    ≡ raised (stamp_of before s) (option_and_then stamp_in (body_to_switch before s n))
-unfolding stamp_of
+pub stamp_told : (before : List Item) (n s : ℕ) → journal_stamp_of (before ++ Item.Delivered n ∷ []) s
+    ≡ raised (journal_stamp_of before s) (option_and_then journal_stamp_in_body (journal_body_to_switch before s n))
+unfolding journal_stamp_of
 stamp_told before n s =
     let bodies : heard (before ++ Item.Delivered n ∷ []) s
-    ≡ option_map_or (λ body. heard before s ++ body ∷ []) (body_to_switch before s n)
+    ≡ option_map_or (λ body. heard before s ++ body ∷ []) (journal_body_to_switch before s n)
     (heard before s) = heard_more before (Item.Delivered n) s in
     rw ((boot_more before (Item.Delivered n) s), up_more before (Item.Delivered n) s, bodies)
-    (by_said (body_to_switch before s n))
+    (by_said (journal_body_to_switch before s n))
   where
-    by_said : (said : Option Body) → greatest_stamp_number (first_stamp before s ++ filter_map stamp_in
+    by_said : (said : Option Body) → machine_greatest_stamp_number (journal_first_stamp before s ++ filter_map journal_stamp_in_body
         (option_map_or (λ body. heard before s ++ body ∷ []) said (heard before s)))
-        ≡ raised (greatest_stamp_number (first_stamp before s ++ filter_map stamp_in (heard before s)))
-        (option_and_then stamp_in said)
+        ≡ raised (machine_greatest_stamp_number (journal_first_stamp before s ++ filter_map journal_stamp_in_body (heard before s)))
+        (option_and_then journal_stamp_in_body said)
     by_said None = refl
     by_said (Some body) =
-        ap (λ xs. greatest_stamp_number (first_stamp before s ++ xs)) (filter_map-append stamp_in
-        (heard before s) (body ∷ [])) ∙ ap greatest_stamp_number (sym (append_assoc (first_stamp before s)
-        (filter_map stamp_in (heard before s)) (filter_map stamp_in (body ∷ [])))) ∙ fold-append max
-        0 (first_stamp before s ++ filter_map stamp_in (heard before s))
-        (filter_map stamp_in (body ∷ [])) ∙ by_stamp (stamp_in body) refl
+        ap (λ xs. machine_greatest_stamp_number (journal_first_stamp before s ++ xs)) (filter_map-append journal_stamp_in_body
+        (heard before s) (body ∷ [])) ∙ ap machine_greatest_stamp_number (sym (append_assoc (journal_first_stamp before s)
+        (filter_map journal_stamp_in_body (heard before s)) (filter_map journal_stamp_in_body (body ∷ [])))) ∙ fold-append max
+        0 (journal_first_stamp before s ++ filter_map journal_stamp_in_body (heard before s))
+        (filter_map journal_stamp_in_body (body ∷ [])) ∙ by_stamp (journal_stamp_in_body body) refl
       where
-        by_stamp : (stamp : Option ℕ) → stamp_in body ≡ stamp → fold max
-            (greatest_stamp_number (first_stamp before s ++ filter_map stamp_in (heard before s)))
-            (filter_map stamp_in (body ∷ [])) ≡ raised
-            (greatest_stamp_number (first_stamp before s ++ filter_map stamp_in (heard before s))) stamp
+        by_stamp : (stamp : Option ℕ) → journal_stamp_in_body body ≡ stamp → fold max
+            (machine_greatest_stamp_number (journal_first_stamp before s ++ filter_map journal_stamp_in_body (heard before s)))
+            (filter_map journal_stamp_in_body (body ∷ [])) ≡ raised
+            (machine_greatest_stamp_number (journal_first_stamp before s ++ filter_map journal_stamp_in_body (heard before s))) stamp
         by_stamp None e = rw e refl
         by_stamp (Some version) e = rw e refl
 
@@ -167,42 +167,42 @@ stamp_told before n s =
 -- the version at which the switch is opened in a boot, if it is
 unfoldable pub opened_in : List Item → ℕ → ℕ → Option ℕ
 opened_in journal s boot = if boot == 1 then Some 1
-    else first_open_number (all_given (open_sent s boot) journal)
+    else machine_first_open (journal_all_given (machine_open_sent s boot) journal)
 
 pub opened_is : (journal : List Item) (s : ℕ) → opened_at journal s ≡ opened_in journal s
-    (known_boot journal s)
+    (journal_known_boot journal s)
 unfolding opened_at opened_in
 opened_is journal s = refl
 
 pub opened_more : (before : List Item) (item : Item) (s boot : ℕ)
     → opened_in (before ++ item ∷ []) s boot
-    ≡ option_or (opened_in before s boot) (first_open_number (open_sent s boot item))
+    ≡ option_or (opened_in before s boot) (machine_first_open (machine_open_sent s boot item))
 unfolding opened_in
 opened_more before item s boot = by_test (boot == 1) where
-  first_append : (xs ys : List ℕ) → first_open_number (xs ++ ys) ≡ option_or (first_open_number xs) (first_open_number ys)
+  first_append : (xs ys : List ℕ) → machine_first_open (xs ++ ys) ≡ option_or (machine_first_open xs) (machine_first_open ys)
   first_append [] ys = refl
   first_append (x ∷ xs) ys = refl
 
   by_test : (b : Bool)
-      → (if b then Some 1 else first_open_number (all_given (open_sent s boot) (before ++ item ∷ [])))
-      ≡ option_or (if b then Some 1 else first_open_number (all_given (open_sent s boot) before))
-      (first_open_number (open_sent s boot item))
+      → (if b then Some 1 else machine_first_open (journal_all_given (machine_open_sent s boot) (before ++ item ∷ [])))
+      ≡ option_or (if b then Some 1 else machine_first_open (journal_all_given (machine_open_sent s boot) before))
+      (machine_first_open (machine_open_sent s boot item))
   by_test true = refl
-  by_test false = ap first_open_number (sent_more before item s boot)
-      ∙ first_append (all_given (open_sent s boot) before) (open_sent s boot item)
+  by_test false = ap machine_first_open (sent_more before item s boot)
+      ∙ first_append (journal_all_given (machine_open_sent s boot) before) (machine_open_sent s boot item)
 
 -- in the known boot, where that stays
-pub opened_at_more : (before : List Item) (next : Item) (s : ℕ) → known_boot (before ++ next ∷ []) s
-    ≡ known_boot before s → opened_at (before ++ next ∷ []) s
-    ≡ option_or (opened_at before s) (first_open_number (open_sent s (known_boot before s) next))
+pub opened_at_more : (before : List Item) (next : Item) (s : ℕ) → journal_known_boot (before ++ next ∷ []) s
+    ≡ journal_known_boot before s → opened_at (before ++ next ∷ []) s
+    ≡ option_or (opened_at before s) (machine_first_open (machine_open_sent s (journal_known_boot before s) next))
 opened_at_more before next s known = opened_is (before ++ next ∷ []) s
-    ∙ ap (opened_in (before ++ next ∷ []) s) known ∙ opened_more before next s (known_boot before s)
-    ∙ ap (λ o. option_or o (first_open_number (open_sent s (known_boot before s) next)))
+    ∙ ap (opened_in (before ++ next ∷ []) s) known ∙ opened_more before next s (journal_known_boot before s)
+    ∙ ap (λ o. option_or o (machine_first_open (machine_open_sent s (journal_known_boot before s) next)))
     (sym (opened_is before s))
 
 -- an item opens a switch in a boot only by its message
-pub opens_by : (next : Item) (s boot version : ℕ) → first_open_number (open_sent s boot next) ≡ Some version
-    → (n : ℕ) × (next ≡ Item.Sent n (to_switch s (OpenAt boot version)))
+pub opens_by : (next : Item) (s boot version : ℕ) → machine_first_open (machine_open_sent s boot next) ≡ Some version
+    → (n : ℕ) × (next ≡ Item.Sent n (machine_message_to_switch s (OpenAt boot version)))
 opens_by (Item.Sent n message) s boot version opens = (n, grind (arith, nat_tests))
 opens_by next s boot version opens = let none : None ≡ Some version = opens in absurd cc
 
@@ -213,14 +213,14 @@ own i = eq-eqb i i refl
 
 -- the items have their causes after the journal
 abbrev pub Has : Setting → List Item → List Item → Type 0
-Has setting journal items = HaveCauses (HasItemCause setting) journal items
+Has setting journal items = JournalItemsHaveCauses (HasControlItemCause setting) journal items
 
 -- a piece has causes that its row and what follows it have
 pub piece_has : (cause : List Item → Item → Type 0) (setting : Setting) (journal : List Item)
     (row : ℕ) (step : Step) → cause journal (Item.Row row step)
     → (let here = journal ++ Item.Row row step ∷ [] in
-    HaveCauses cause here (step_items setting journal step here))
-    → HaveCauses cause journal (piece setting journal row step)
+    JournalItemsHaveCauses cause here (step_items setting journal step here))
+    → JournalItemsHaveCauses cause journal (piece setting journal row step)
 unfolding piece
 piece_has cause setting journal row step =
     have_first cause (Item.Row row step) (step_items setting journal step) journal
@@ -228,7 +228,7 @@ piece_has cause setting journal row step =
 -- causes that others follow from
 pub have_weaker : (one other : List Item → Item → Type 0) →
     ((before : List Item) (item : Item) → one before item → other before item) →
-    (before items : List Item) → HaveCauses one before items → HaveCauses other before items
+    (before items : List Item) → JournalItemsHaveCauses one before items → JournalItemsHaveCauses other before items
 have_weaker one other weaker before [] have = tt
 have_weaker one other weaker before (item ∷ items) have =
     (weaker before item have.0, have_weaker one other weaker (before ++ item ∷ []) items have.1)
@@ -240,8 +240,8 @@ pub record Both (one other : List Item → Item → Type 0) (before : List Item)
   pub second : other before item
 
 pub have_both : (one other : List Item → Item → Type 0) (before items : List Item)
-    → HaveCauses one before items → HaveCauses other before items
-    → HaveCauses (Both one other) before items
+    → JournalItemsHaveCauses one before items → JournalItemsHaveCauses other before items
+    → JournalItemsHaveCauses (Both one other) before items
 have_both one other before [] firsts seconds = tt
 have_both one other before (item ∷ items) firsts seconds = (
   record { first = firsts.0; second = seconds.0 },
@@ -250,14 +250,14 @@ have_both one other before (item ∷ items) firsts seconds = (
 
 -- the first of them have theirs
 pub have_front : (cause : List Item → Item → Type 0) (before xs ys : List Item)
-    → HaveCauses cause before (xs ++ ys) → HaveCauses cause before xs
+    → JournalItemsHaveCauses cause before (xs ++ ys) → JournalItemsHaveCauses cause before xs
 have_front cause before [] ys have = tt
 have_front cause before (x ∷ xs) ys have =
     (have.0, have_front cause (before ++ x ∷ []) xs ys have.1)
 
 -- and the others theirs
 pub have_rest : (cause : List Item → Item → Type 0) (before xs ys : List Item)
-    → HaveCauses cause before (xs ++ ys) → HaveCauses cause (before ++ xs) ys
+    → JournalItemsHaveCauses cause before (xs ++ ys) → JournalItemsHaveCauses cause (before ++ xs) ys
 have_rest cause before [] ys have = rw (append-nil before) have
 have_rest cause before (x ∷ xs) ys have = rw (append_assoc before (x ∷ []) xs) at
     (have_rest cause (before ++ x ∷ []) xs ys have.1)
@@ -269,7 +269,7 @@ AreKept cause fact = (before : List Item) (item : Item) → cause before item �
 
 -- so the fact is true after them, and before each of them
 pub fact_on : (cause : List Item → Item → Type 0) (fact : List Item → Type 0) → AreKept cause fact
-    → (before items : List Item) → HaveCauses cause before items → fact before
+    → (before items : List Item) → JournalItemsHaveCauses cause before items → fact before
     → fact (before ++ items)
 fact_on cause fact kept before [] have known = subst fact (sym (append-nil before)) known
 fact_on cause fact kept before (item ∷ items) have known =
@@ -279,19 +279,19 @@ fact_on cause fact kept before (item ∷ items) have known =
 -- facts that hold where all items have their causes
 abbrev pub FromCauses : (Setting → List Item → Type 0) → Type 0
 FromCauses Holds = (setting : Setting) (journal : List Item)
-    → HaveCauses (HasItemCause setting) [] journal → Holds setting journal
+    → JournalItemsHaveCauses (HasControlItemCause setting) [] journal → Holds setting journal
 
 -- so does what holds at first, where each item with its cause keeps it
 pub from_causes : (Holds : Setting → List Item → Type 0)
-    → ((setting : Setting) → AreKept (HasItemCause setting) (Holds setting))
+    → ((setting : Setting) → AreKept (HasControlItemCause setting) (Holds setting))
     → ((setting : Setting) → Holds setting []) → FromCauses Holds
 from_causes Holds kept first setting journal have =
-    fact_on (HasItemCause setting) (Holds setting) (kept setting) [] journal have (first setting)
+    fact_on (HasControlItemCause setting) (Holds setting) (kept setting) [] journal have (first setting)
 
 -- numbers that no item with its cause makes fall
 abbrev pub NeverFalls : (List Item → ℕ) → Type 0
 NeverFalls number = (setting : Setting) (before : List Item) (next : Item)
-    → HasItemCause setting before next → number before ≤ number (before ++ next ∷ [])
+    → HasControlItemCause setting before next → number before ≤ number (before ++ next ∷ [])
 
 -- a cause, and a fact of the journal before the item
 pub record Behind (cause : List Item → Item → Type 0) (fact : List Item → Type 0)
@@ -300,8 +300,8 @@ pub record Behind (cause : List Item → Item → Type 0) (fact : List Item → 
   pub known : fact before
 
 pub with_fact : (cause : List Item → Item → Type 0) (fact : List Item → Type 0)
-    → AreKept cause fact → (before items : List Item) → HaveCauses cause before items
-    → fact before → HaveCauses (Behind cause fact) before items
+    → AreKept cause fact → (before items : List Item) → JournalItemsHaveCauses cause before items
+    → fact before → JournalItemsHaveCauses (Behind cause fact) before items
 with_fact cause fact kept before [] have known = tt
 with_fact cause fact kept before (item ∷ items) have known = (
   record { caused = have.0; known = known },
@@ -313,13 +313,13 @@ with_fact cause fact kept before (item ∷ items) have known = (
 -- ---- what is told was sent
 
 -- what is said to the controller was sent to it
-pub said_sent : (before : List Item) (number : ℕ) (body : Body) → body_to_controller before number
+pub said_sent : (before : List Item) (number : ℕ) (body : Body) → journal_body_to_controller before number
     ≡ Some body → message_of before number ≡ Some (to_controller body)
 said_sent before number body said = grind arith
 
 -- a hello that was told was sent
 pub hello_sent : (before : List Item) (s number boot : ℕ)
-    → option_and_then (hello_boot s) (body_to_controller before number) ≡ Some boot
+    → option_and_then (journal_hello_boot s) (journal_body_to_controller before number) ≡ Some boot
     → message_of before number ≡ Some (to_controller (Hello s boot))
 hello_sent before s number boot told = grind (arith, nat_tests)
 
@@ -330,35 +330,35 @@ raised_up boot None = omega arith
 raised_up boot (Some hello) = omega arith
 
 pub known_rises : (before : List Item) (item : Item) (s : ℕ)
-    → known_boot before s ≤ known_boot (before ++ item ∷ []) s
+    → journal_known_boot before s ≤ journal_known_boot (before ++ item ∷ []) s
 known_rises before item s = rw (known_more before item s)
-    (raised_up (known_boot before s) (hello_told s before item))
+    (raised_up (journal_known_boot before s) (hello_told s before item))
 
 -- a greater hello raises it
-pub hello_above : (before : List Item) (s number : ℕ) → IsTrue (raises_known before s number)
-    → known_boot before s < known_boot (before ++ Item.Delivered number ∷ []) s
+pub hello_above : (before : List Item) (s number : ℕ) → IsTrue (journal_raises_known_boot before s number)
+    → journal_known_boot before s < journal_known_boot (before ++ Item.Delivered number ∷ []) s
 hello_above before s number raises = rw (known_more before (Item.Delivered number) s)
-    (by_hello (option_and_then (hello_boot s) (body_to_controller before number)) raises)
+    (by_hello (option_and_then (journal_hello_boot s) (journal_body_to_controller before number)) raises)
   where
     by_hello : (hello : Option ℕ)
-        → IsTrue (option_map_or (λ boot. nat_lt (known_boot before s) boot) hello false)
-        → known_boot before s < raised (known_boot before s) hello
+        → IsTrue (option_map_or (λ boot. nat_lt (journal_known_boot before s) boot) hello false)
+        → journal_known_boot before s < raised (journal_known_boot before s) hello
     by_hello None above = absurd cc
     by_hello (Some boot) above = grind (arith, nat_tests)
 
 pub boot_rises : (setting : Setting) (before : List Item) (item : Item) (s : ℕ)
-    → HasItemCause setting before item → boot_of before s ≤ boot_of (before ++ item ∷ []) s
+    → HasControlItemCause setting before item → journal_boot_of before s ≤ journal_boot_of (before ++ item ∷ []) s
 boot_rises setting before (Item.Booted t boot) s cause = rw boot_more (grind (arith, nat_tests))
 boot_rises setting before item s cause = rw (boot_more before item s) (omega arith)
 
 -- ---- what items keep
 
 past_on : (setting : Setting) (before : List Item) (item : Item) (to : Place) (body : Body)
-    → HasItemCause setting before item → HasPastBoot before to body
+    → HasControlItemCause setting before item → HasPastBoot before to body
     → HasPastBoot (before ++ item ∷ []) to body
 past_on setting before item (Place.Switch s) body cause past = IfSome_then (body_boot body) past
     (λ boot below. omega (arith, below, known_rises before item s))
-past_on setting before item Place.Controller body cause past = IfSome_then (speaking_in_body body) past
+past_on setting before item Place.Controller body cause past = IfSome_then (machine_speaking_in_body body) past
     (λ of below. omega (arith, below, boot_rises setting before item of.0 cause))
 
 sent_past : (setting : Setting) (before : List Item) (to : Place) (body : Body)
@@ -405,31 +405,31 @@ new_or_old cause Says before next has new old n message is =
 
 -- a hello that is told is of a past boot
 pub told_past : (before : List Item) (s number boot : ℕ) → BootsAreKnown before
-    → option_and_then (hello_boot s) (body_to_controller before number) ≡ Some boot
-    → boot ≤ boot_of before s
+    → option_and_then (journal_hello_boot s) (journal_body_to_controller before number) ≡ Some boot
+    → boot ≤ journal_boot_of before s
 told_past before s number boot boots told = boots.sent number (to_controller (Hello s boot))
     (hello_sent before s number boot told)
 
 known_on : (setting : Setting) (before : List Item) (item : Item) (s : ℕ)
-    → HasItemCause setting before item → BootsAreKnown before
-    → known_boot (before ++ item ∷ []) s ≤ boot_of (before ++ item ∷ []) s
+    → HasControlItemCause setting before item → BootsAreKnown before
+    → journal_known_boot (before ++ item ∷ []) s ≤ journal_boot_of (before ++ item ∷ []) s
 known_on setting before (Item.Delivered number) s cause boots =
     rw (known_more before (Item.Delivered number) s, boot_more before (Item.Delivered number) s)
-    (by_told (option_and_then (hello_boot s) (body_to_controller before number)) refl)
+    (by_told (option_and_then (journal_hello_boot s) (journal_body_to_controller before number)) refl)
   where
-    by_told : (o : Option ℕ) → option_and_then (hello_boot s) (body_to_controller before number) ≡ o
-        → raised (known_boot before s) o ≤ boot_of before s
+    by_told : (o : Option ℕ) → option_and_then (journal_hello_boot s) (journal_body_to_controller before number) ≡ o
+        → raised (journal_known_boot before s) o ≤ journal_boot_of before s
     by_told None e = boots.known s
     by_told (Some boot) e = omega (arith, boots.known s, told_past before s number boot boots e)
 known_on setting before item s cause boots =
     omega (arith, known_more before item s, boots.known s, boot_rises setting before item s cause)
 
-pub boots_on : (setting : Setting) (before : List Item) (item : Item) → HasItemCause setting before
+pub boots_on : (setting : Setting) (before : List Item) (item : Item) → HasControlItemCause setting before
     item → BootsAreKnown before → BootsAreKnown (before ++ item ∷ [])
 boots_on setting before item cause boots = record {
   known = λ s. known_on setting before item s cause boots;
   sent = λ n message is. past_on setting before item message.to message.body cause
-      (new_or_old (HasItemCause setting) (HasPastBoot before) before item cause
+      (new_or_old (HasControlItemCause setting) (HasPastBoot before) before item cause
       (λ k sent. sent_past setting before sent.to sent.body) boots.sent n message is);
 }
 

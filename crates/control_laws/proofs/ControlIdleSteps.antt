@@ -1,7 +1,7 @@
 -- The steps that leave all that the controller knows as it was.
 use Rattle.std.proofs.Common.{[], ◌++◌, ◌+◌, ◌==◌, ◌∙◌, ◌∷◌, ◌≡◌, Bool, IsFalse, IsTrue, List, None, Option, Some, ap, arith, eqb-true, false, filter, if◌then◌else◌, is_some, map, not, refl, sym, true, ℕ}
 use Rattle.base.proofs.Exports.{⊤, AllByRecursion, each_always, each_flat_map, each_map, option_or}
-use Rattle.update_machine.specs.Exports.{Advert, Body, Confirm, ControllerKeeps, Crash, Deliver, HaveCauses, Item, Message, OpenAt, Packet, Place, Resend, Restart, Setting, Step, Update, acked_stamp, advert_to, controller_heard, deliver_items, first_open_number, has_acked, held_adverts, install_for, is_member, is_message_to_controller, is_over, known_boot, link_changes, near, next_message, next_packet, open_sent, opened_at, advert_passed_on, piece, resend_items, restart_items, send_items, sent_from, step_items, switch_items, switches_in, to_switch, journal_unacked_installs, versions_from_current}
+use Rattle.update_machine.specs.Exports.{Advert, Body, Confirm, JournalControllerKeeps, Crash, Deliver, JournalItemsHaveCauses, Item, Message, OpenAt, Packet, Place, Resend, Restart, Setting, Step, Update, acked_stamp, advert_to, controller_heard, deliver_items, machine_first_open, has_acked, journal_held_adverts, journal_install_for, is_member, is_journal_controller_message, is_over, journal_known_boot, journal_link_changes, near, journal_next_message, journal_next_packet, machine_open_sent, opened_at, machine_advert_passed_on, piece, resend_items, restart_items, send_items, machine_sent_items_from, step_items, journal_switch_items, setting_switches_in, machine_message_to_switch, journal_unacked_installs, journal_versions_from_current}
 use Rattle.update_machine.proofs.Exports.{controller_keeps}
 use Rattle.control_laws.proofs.ControlFactsGrown.{count_more, current_more, fact_on, have_weaker, known_more, message_more, opened_at_more, over_more, piece_has, retired_more, told_more}
 use Rattle.control_laws.proofs.ControlMessageSends.{acked_same}
@@ -23,7 +23,7 @@ OpensNone before to body = ⊤
 
 abbrev pub LeavesController : List Item → Item → Type 0
 LeavesController before (Item.Sent number message) = OpensNone before message.to message.body
-LeavesController before (Item.Delivered number) = IsFalse (is_message_to_controller before number)
+LeavesController before (Item.Delivered number) = IsFalse (is_journal_controller_message before number)
 LeavesController before (Item.OverNow s) = ⊥
 LeavesController before (Item.Submitted file version) = ⊥
 LeavesController before (Item.Current version) = ⊥
@@ -38,38 +38,38 @@ unfolding is_member
 member_same before after s over opened = rw (over, opened) refl
 
 pub stamp_same : (before after : List Item) (s : ℕ) → controller_heard after
-    ≡ controller_heard before → known_boot after s ≡ known_boot before s
+    ≡ controller_heard before → journal_known_boot after s ≡ journal_known_boot before s
     → opened_at after s ≡ opened_at before s → acked_stamp after s ≡ acked_stamp before s
 unfolding acked_stamp
 stamp_same before after s heard known opened = rw (heard, known, opened) refl
 
 -- the first opening of a switch in a boot counts
 reopened : (before : List Item) (n s boot version : ℕ) → IsTrue (is_some (opened_at before s))
-    → (t : ℕ) → opened_at (before ++ Item.Sent n (to_switch s (OpenAt boot version)) ∷ []) t
+    → (t : ℕ) → opened_at (before ++ Item.Sent n (machine_message_to_switch s (OpenAt boot version)) ∷ []) t
     ≡ opened_at before t
 reopened before n s boot version opened t =
     opened_at_more before next t (known_more before next t) ∙ by_opened (opened_at before t) refl
   where
     next : Item
-    next = Item.Sent n (to_switch s (OpenAt boot version))
+    next = Item.Sent n (machine_message_to_switch s (OpenAt boot version))
 
-    by_switch : (b : Bool) → (s == t) ≡ b → opened_at before t ≡ None → first_open_number (if b
-        then (if boot == known_boot before t then version ∷ [] else []) else []) ≡ None
+    by_switch : (b : Bool) → (s == t) ≡ b → opened_at before t ≡ None → machine_first_open (if b
+        then (if boot == journal_known_boot before t then version ∷ [] else []) else []) ≡ None
     by_switch true e closed =
         let same : opened_at before s ≡ None = ap (opened_at before) (eqb-true s t e) ∙ closed in
         absurd (cc (sym (ap (λ o. is_some o) same) ∙ opened))
     by_switch false e closed = refl
 
     by_opened : (o : Option ℕ) → opened_at before t ≡ o → option_or (opened_at before t)
-        (first_open_number (open_sent t (known_boot before t) next)) ≡ opened_at before t
+        (machine_first_open (machine_open_sent t (journal_known_boot before t) next)) ≡ opened_at before t
     by_opened (Some w) e = rw e refl
     by_opened None e = rw e (by_switch (s == t) refl e)
 
 reopening_keeps : (before : List Item) (n s boot version : ℕ)
-    → IsTrue (is_some (opened_at before s)) → ControllerKeeps before
-    (before ++ Item.Sent n (to_switch s (OpenAt boot version)) ∷ [])
+    → IsTrue (is_some (opened_at before s)) → JournalControllerKeeps before
+    (before ++ Item.Sent n (machine_message_to_switch s (OpenAt boot version)) ∷ [])
 reopening_keeps before n s boot version opened =
-    let next : Item = Item.Sent n (to_switch s (OpenAt boot version)) in
+    let next : Item = Item.Sent n (machine_message_to_switch s (OpenAt boot version)) in
     let same = reopened before n s boot version opened in record {
       heard = told_more before next;
       known = λ t. known_more before next t;
@@ -87,7 +87,7 @@ reopening_keeps before n s boot version opened =
 -- ---- any items
 
 sent_keeps : (before : List Item) (n : ℕ) (to : Place) (body : Body) → OpensNone before to body
-    → ControllerKeeps before (before ++ Item.Sent n (record { to = to; body = body }) ∷ [])
+    → JournalControllerKeeps before (before ++ Item.Sent n (record { to = to; body = body }) ∷ [])
 sent_keeps before n (Place.Switch s) (OpenAt boot version) none =
     reopening_keeps before n s boot version none
 sent_keeps before n Place.Controller (OpenAt boot version) none = absurd none
@@ -95,7 +95,7 @@ sent_keeps before n to body none =
     controller_keeps before (Item.Sent n (record { to = to; body = body }) ∷ []) (refl, tt)
 
 keeps_one : (before : List Item) (next : Item) → LeavesController before next
-    → ControllerKeeps before (before ++ next ∷ [])
+    → JournalControllerKeeps before (before ++ next ∷ [])
 keeps_one before (Item.Sent n message) leaves = sent_keeps before n message.to message.body leaves
 keeps_one before (Item.Delivered number) leaves =
     controller_keeps before (Item.Delivered number ∷ []) (leaves, tt)
@@ -105,7 +105,7 @@ keeps_one before (Item.Current version) leaves = absurd leaves
 keeps_one before (Item.Retired version) leaves = absurd leaves
 keeps_one before next leaves = controller_keeps before (next ∷ []) (refl, tt)
 
-keeps_itself : (journal : List Item) → ControllerKeeps journal journal
+keeps_itself : (journal : List Item) → JournalControllerKeeps journal journal
 keeps_itself journal = record {
   heard = refl;
   known = λ s. refl;
@@ -119,8 +119,8 @@ keeps_itself journal = record {
   count = refl;
 }
 
-keeps_on : (one two three : List Item) → ControllerKeeps one two → ControllerKeeps two three
-    → ControllerKeeps one three
+keeps_on : (one two three : List Item) → JournalControllerKeeps one two → JournalControllerKeeps two three
+    → JournalControllerKeeps one three
 keeps_on one two three first later = record {
   heard = later.heard ∙ first.heard;
   known = λ s. later.known s ∙ first.known s;
@@ -135,16 +135,16 @@ keeps_on one two three first later = record {
 }
 
 -- so many items leave it too
-pub leaves_keep : (before items : List Item) → HaveCauses LeavesController before items
-    → ControllerKeeps before (before ++ items)
-leaves_keep before items have = fact_on LeavesController (ControllerKeeps before) (λ now next leaves
+pub leaves_keep : (before items : List Item) → JournalItemsHaveCauses LeavesController before items
+    → JournalControllerKeeps before (before ++ items)
+leaves_keep before items have = fact_on LeavesController (JournalControllerKeeps before) (λ now next leaves
     keeps. keeps_on before now (now ++ next ∷ []) keeps (keeps_one now next leaves)) before items
     have (keeps_itself before)
 
 -- ---- other steps
 
 abbrev pub Leave : List Item → List Item → Type 0
-Leave journal items = HaveCauses LeavesController journal items
+Leave journal items = JournalItemsHaveCauses LeavesController journal items
 
 -- ---- traffic
 
@@ -166,12 +166,12 @@ traffic_leave setting journal items traffic =
     have_weaker (IsTraffic setting) LeavesController (traffic_leaves setting) journal items traffic
 
 links_leave : (setting : Setting) (before journal : List Item)
-    → Leave journal (link_changes setting before journal)
+    → Leave journal (journal_link_changes setting before journal)
 links_leave setting before journal =
     traffic_leave setting journal _ (links_traffic setting before journal)
 
 passed_leave : (setting : Setting) (journal : List Item) (s : ℕ) (advert : Advert)
-    → Leave journal (send_items journal (advert_passed_on setting journal s advert))
+    → Leave journal (send_items journal (machine_advert_passed_on setting journal s advert))
 passed_leave setting journal s advert =
     traffic_leave setting journal _ (passed_traffic setting journal s advert)
 
@@ -197,8 +197,8 @@ rest_reopen before n message (next ∷ messages) all = (
 )
 
 sent_leave : (messages : List Message) (journal : List Item) (n : ℕ)
-    → AllByRecursion (ReopensAlone journal) messages → Leave journal (sent_from n messages)
-unfolding sent_from
+    → AllByRecursion (ReopensAlone journal) messages → Leave journal (machine_sent_items_from n messages)
+unfolding machine_sent_items_from
 sent_leave [] journal n all = tt
 sent_leave (message ∷ messages) journal n all = (
   all.0,
@@ -208,19 +208,19 @@ sent_leave (message ∷ messages) journal n all = (
 
 pub sends_leave : (journal : List Item) (messages : List Message)
     → AllByRecursion (ReopensAlone journal) messages → Leave journal (send_items journal messages)
-sends_leave journal messages all = sent_leave messages journal (next_message journal) all
+sends_leave journal messages all = sent_leave messages journal (journal_next_message journal) all
 
 -- ---- at a switch
 
 switch_leaves : (setting : Setting) (before : List Item) (s : ℕ) (body : Body) (now : List Item)
-    → Leave now (switch_items setting before s body now)
+    → Leave now (journal_switch_items setting before s body now)
 switch_leaves setting before s body now = switch_cases (Leave now) setting before s body now
     (λ boot version. sends_leave now _ (tt, tt)) (λ boot version. sends_leave now _ (tt, tt))
     (λ boot version is. grind (arith, links_leave))
     (λ advert is news. passed_leave setting now s advert) tt
 
 deliver_leaves : (setting : Setting) (before : List Item) (row number : ℕ) (step : Step)
-    → IsFalse (is_message_to_controller before number)
+    → IsFalse (is_journal_controller_message before number)
     → let here = before ++ Item.Row row step ∷ [] in
     Leave here (deliver_items setting before number here)
 deliver_leaves setting before row number step none = deliver_has LeavesController setting before
@@ -231,17 +231,17 @@ deliver_leaves setting before row number step none = deliver_has LeavesControlle
 -- ---- a switch that begins a boot
 
 restart_leaves : (s : ℕ) (journal : List Item) → Leave journal (restart_items s journal)
-unfolding restart_items sent_from
+unfolding restart_items machine_sent_items_from
 restart_leaves s journal = grind arith
 
 -- ---- what is sent again
 
 pub installs_reopen : (setting : Setting) (journal : List Item) (s : ℕ) (versions : List ℕ)
     → AllByRecursion (ReopensAlone journal)
-    (map (λ version. install_for setting journal version s) versions)
+    (map (λ version. journal_install_for setting journal version s) versions)
 installs_reopen setting journal s versions =
-    each_map (ReopensAlone journal) (λ version. install_for setting journal version s) versions
-    (each_always (λ version. ReopensAlone journal (install_for setting journal version s)) (λ version. tt)
+    each_map (ReopensAlone journal) (λ version. journal_install_for setting journal version s) versions
+    (each_always (λ version. ReopensAlone journal (journal_install_for setting journal version s)) (λ version. tt)
     versions)
 
 unacked_reopen : (setting : Setting) (journal : List Item) (s : ℕ) (versions : List ℕ)
@@ -254,14 +254,14 @@ resend_leaves : (setting : Setting) (s : ℕ) (journal : List Item)
 resend_leaves setting s journal = resent_has LeavesController (ReopensAlone journal) setting s
     journal tt (sends_leave journal) (each_by_switch (ReopensAlone journal) setting journal s
     (λ up. tt) (each_flat_map (ReopensAlone journal)
-    (λ neighbour. map (advert_to neighbour) (held_adverts setting journal s)) (λ neighbour. each_map
-    (ReopensAlone journal) (advert_to neighbour) (held_adverts setting journal s)
+    (λ neighbour. map (advert_to neighbour) (journal_held_adverts setting journal s)) (λ neighbour. each_map
+    (ReopensAlone journal) (advert_to neighbour) (journal_held_adverts setting journal s)
     (each_always (λ advert. ReopensAlone journal (advert_to neighbour advert)) (λ advert. tt)
-    (held_adverts setting journal s))) (switches_in setting (near setting journal s))))
+    (journal_held_adverts setting journal s))) (setting_switches_in setting (near setting journal s))))
     (each_by_controller (ReopensAlone journal) setting journal s (λ none member. each_to_member
     (ReopensAlone journal) setting journal s (member_parts journal s member).1
     (unacked_reopen setting journal s (later_versions journal)) tt (λ some. tt))
-    (λ none. unacked_reopen setting journal s (versions_from_current journal)))
+    (λ none. unacked_reopen setting journal s (journal_versions_from_current journal)))
 
 -- ---- steps
 
@@ -269,7 +269,7 @@ step_leaves : (setting : Setting) (before : List Item) (row : ℕ) (step : Step)
     → IsFalse (asks_controller before step) → let here = before ++ Item.Row row step ∷ [] in
     Leave here (step_items setting before step here)
 step_leaves setting before row (Packet s header) none =
-    packet_has setting LeavesController (traffic_leaves setting) (next_packet before) s header _ tt
+    packet_has setting LeavesController (traffic_leaves setting) (journal_next_packet before) s header _ tt
 step_leaves setting before row (Deliver message) none =
     deliver_leaves setting before row message (Deliver message) none
 step_leaves setting before row (Update file) none = absurd cc
@@ -283,6 +283,6 @@ step_leaves setting before row step none =
 
 pub others_keep : (setting : Setting) (journal : List Item) (row : ℕ) (step : Step)
     → IsFalse (asks_controller journal step)
-    → ControllerKeeps journal (journal ++ piece setting journal row step)
+    → JournalControllerKeeps journal (journal ++ piece setting journal row step)
 others_keep setting journal row step none = leaves_keep journal _ (piece_has LeavesController
     setting journal row step tt (step_leaves setting journal row step none))

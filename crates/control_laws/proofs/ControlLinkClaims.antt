@@ -2,42 +2,42 @@
 -- one, and its newest claim, change together item by item.
 use Rattle.std.proofs.Common.{[], if◌then◌else◌, ◌&&◌, ◌++◌, ◌<◌, ◌==◌, ◌||◌, ◌∙◌, ◌∷◌, ◌≡◌, ◌≢◌, ◌≤◌, Bool, IsTrue, List, None, Option, Some, ap, arith, eq-eqb, false, filter_map, length, lt-ltb, map, nat_lt, ne_eqb, option_and_then, refl, subst, sym, true, ℕ, rules}
 use Rattle.base.proofs.Exports.{and_right, bit_at, cases_eq, filter_map-append, fold-append, get_or-map-range_with_len, has_mask, nat_tests, option_map_or, ⊤}
-use Rattle.update_machine.specs.Exports.{Advert, Advertise, Body, Claim, HaveCauses, Item, Message, Net, Place, Setting, adverts_begun, adverts_of_others, boot_of, changes_claim, changes_heard, claim_by, claim_in, claim_of, heard, is_end, is_for_boot, is_in_first_boot, is_to_switch, is_up, message_of, near, newer_claim_of, other_advert, serves, switches_of}
-use Rattle.failover.specs.Exports.{AreByOrigin, adverts_after_hearing, after_hearing_all, first_adverts, held_advert, is_newer, is_news, names_neighbour, neighbours_named, no_adverts}
+use Rattle.update_machine.specs.Exports.{Advert, Advertise, Body, JournalClaim, JournalItemsHaveCauses, Item, Message, Net, Place, Setting, journal_adverts_begun, journal_adverts_of_others, journal_boot_of, changes_journal_claim, changes_heard, journal_claim_by, journal_claim_in_message, journal_claim_of, heard, is_end, journal_body_for_boot, is_first_boot_in_journal, is_journal_receiver_switch, is_up, message_of, near, newer_journal_claim_of, journal_other_advert, serves, switches_of}
+use Rattle.failover.specs.Exports.{AreAdvertsByOrigin, adverts_after_hearing, after_hearing_all, first_adverts, held_advert, is_newer, is_news, names_neighbour, neighbours_named, no_adverts}
 use Rattle.failover.proofs.FailoverHeldAdverts.{after_no_news, held-first, held_heard, held_others}
 use Rattle.base.specs.Exports.{has}
 use Rattle.net_file.specs.Exports.{IsNet, links_of}
 use Rattle.net_file.proofs.NetFileRowPlaces.{links}
 use Rattle.steps.specs.Exports.{HasLink, HasSwitch}
 use Rattle.update_machine.proofs.Exports.{folded_append, heard_by_origin, near_usable, start_laws, usable_linked}
-use Rattle.control_laws.specs.Exports.{HasItemCause, AdvertNamesLinks}
+use Rattle.control_laws.specs.Exports.{HasControlItemCause, AdvertNamesLinks}
 use Rattle.control_laws.proofs.ControlFactsGrown.{AreKept, boot_more, boot_rises, fact_on, have_weaker, heard_more, up_more}
 use Rattle.control_laws.proofs.ControlSwitchOpenings.{caused_known}
 use Rattle.control_laws.proofs.ControlAllAdverts.{AreSuch, HasBothCauses, IfAdvert, none_held, such_at_first, such_kept}
 use Rattle.control_laws.proofs.ControlNetLinks.{names_fact}
 
 -- the claim says of links to switches what the advert says
-pub record IsClaimOf (advert : Advert) (claim : Claim) : Type 0 where
+pub record IsClaimOf (advert : Advert) (claim : JournalClaim) : Type 0 where
   pub boot : claim.boot ≡ advert.boot
   pub seq : claim.seq ≡ advert.seq
   pub links : (k : ℕ) → k < 64 → has advert.up k ≡ claim.links k
 
 -- there is neither, or there are both and they say the same
-abbrev pub AreSame : Option Advert → Option Claim → Type 0
+abbrev pub AreSame : Option Advert → Option JournalClaim → Type 0
 AreSame None None = ⊤
 AreSame (Some advert) (Some claim) = IsClaimOf advert claim
 AreSame _ _ = ⊥
 
 pub claim_more : (setting : Setting) (before : List Item) (next : Item) (s one : ℕ)
-    → claim_of setting (before ++ next ∷ []) s one
-    ≡ changes_claim s one before (claim_of setting before s one) next
-unfolding claim_of
+    → journal_claim_of setting (before ++ next ∷ []) s one
+    ≡ changes_journal_claim s one before (journal_claim_of setting before s one) next
+unfolding journal_claim_of
 claim_more setting before next s one = search (rules, folded_append)
 
 -- ---- one advert that is heard
 
 -- what an advert claims of its origin
-abbrev claim_from : Advert → Claim
+abbrev claim_from : Advert → JournalClaim
 claim_from advert = record {
   boot = advert.boot;
   seq = advert.seq;
@@ -48,11 +48,11 @@ from_advert : (advert : Advert) → IsClaimOf advert (claim_from advert)
 unfolding has
 from_advert advert = record { boot = refl; seq = refl; links = λ k small. refl }
 
-newer_none : (claim : Option Claim) → newer_claim_of claim None ≡ claim
+newer_none : (claim : Option JournalClaim) → newer_journal_claim_of claim None ≡ claim
 newer_none claim = search rules
 
 -- the advert is news where it is the newer claim
-newer_same : (advert old : Advert) (claim : Claim) → IsClaimOf old claim → is_newer advert old
+newer_same : (advert old : Advert) (claim : JournalClaim) → IsClaimOf old claim → is_newer advert old
     ≡ (nat_lt claim.boot advert.boot || (claim.boot == advert.boot && nat_lt claim.seq advert.seq))
 newer_same advert old claim same = search (rules, nat_tests)
 
@@ -62,10 +62,10 @@ news_if : (adverts : List (Option Advert)) (advert : Advert) (found : Option Adv
 unfolding is_news
 news_if adverts advert found b small e f = cc (e, f, lt-ltb advert.origin 64 small)
 
-own_heard : (adverts : List (Option Advert)) (advert : Advert) (claim : Option Claim)
-    → AreByOrigin adverts → advert.origin < 64 → AreSame (held_advert adverts advert.origin) claim
+own_heard : (adverts : List (Option Advert)) (advert : Advert) (claim : Option JournalClaim)
+    → AreAdvertsByOrigin adverts → advert.origin < 64 → AreSame (held_advert adverts advert.origin) claim
     → AreSame (held_advert (adverts_after_hearing adverts advert) advert.origin)
-    (newer_claim_of claim (Some (claim_from advert)))
+    (newer_journal_claim_of claim (Some (claim_from advert)))
 own_heard adverts advert claim by small same =
     by_held (held_advert adverts advert.origin) claim refl same
   where
@@ -73,10 +73,10 @@ own_heard adverts advert claim by small same =
         advert.origin) (Some (claim_from advert))
     is_heard news = rw (held_heard adverts advert by news) (from_advert advert)
 
-    by_held : (found : Option Advert) (old : Option Claim)
+    by_held : (found : Option Advert) (old : Option JournalClaim)
         → held_advert adverts advert.origin ≡ found → AreSame found old
         → AreSame (held_advert (adverts_after_hearing adverts advert) advert.origin)
-        (newer_claim_of old (Some (claim_from advert)))
+        (newer_journal_claim_of old (Some (claim_from advert)))
     by_held None None e so = is_heard (news_if adverts advert None true small e refl)
     by_held None (Some old) e so = absurd so
     by_held (Some found) None e so = absurd so
@@ -93,38 +93,38 @@ own_heard adverts advert claim by small same =
           (sym (ap (λ (all : List (Option Advert)). held_advert all advert.origin) (after_no_news
           adverts advert (news_if adverts advert (Some found) false small e f)) ∙ e)) so)
 
-advert_heard : (adverts : List (Option Advert)) (advert : Advert) (one : ℕ) (claim : Option Claim)
-    → AreByOrigin adverts → one < 64 → AreSame (held_advert adverts one) claim
+advert_heard : (adverts : List (Option Advert)) (advert : Advert) (one : ℕ) (claim : Option JournalClaim)
+    → AreAdvertsByOrigin adverts → one < 64 → AreSame (held_advert adverts one) claim
     → AreSame (held_advert (adverts_after_hearing adverts advert) one)
-    (newer_claim_of claim (if advert.origin == one then Some (claim_from advert) else None))
+    (newer_journal_claim_of claim (if advert.origin == one then Some (claim_from advert) else None))
 advert_heard adverts advert one claim by small same =
     search (rules, cases_eq, eq-eqb, own_heard, ne_eqb, newer_none, held_others)
 
 -- ---- one item
 
 others_more : (adverts : List (Option Advert)) (s : ℕ) (bodies : List Body) (body : Body)
-    → after_hearing_all adverts (filter_map (other_advert s) (bodies ++ body ∷ []))
-    ≡ after_hearing_all (after_hearing_all adverts (filter_map (other_advert s) bodies))
-    (filter_map (other_advert s) (body ∷ []))
+    → after_hearing_all adverts (filter_map (journal_other_advert s) (bodies ++ body ∷ []))
+    ≡ after_hearing_all (after_hearing_all adverts (filter_map (journal_other_advert s) bodies))
+    (filter_map (journal_other_advert s) (body ∷ []))
 others_more adverts s bodies body = search (rules, filter_map-append, fold-append)
 
 -- a body that a switch heard, or that wasn't for it
 body_heard : (adverts : List (Option Advert)) (bodies : List Body)
-    (s one t boot : ℕ) (up : Bool) (body : Body) (claim : Option Claim) → IsTrue up
-    → AreByOrigin (after_hearing_all adverts (filter_map (other_advert s) bodies))
+    (s one t boot : ℕ) (up : Bool) (body : Body) (claim : Option JournalClaim) → IsTrue up
+    → AreAdvertsByOrigin (after_hearing_all adverts (filter_map (journal_other_advert s) bodies))
     → one ≢ s → one < 64 → AreSame
-    (held_advert (after_hearing_all adverts (filter_map (other_advert s) bodies)) one) claim
+    (held_advert (after_hearing_all adverts (filter_map (journal_other_advert s) bodies)) one) claim
     → AreSame
-    (held_advert (after_hearing_all adverts (filter_map (other_advert s) (option_map_or (λ b. bodies
-    ++ b ∷ []) (if (t == s) && up && is_for_boot boot body then Some body else None) bodies))) one)
-    (newer_claim_of claim (claim_by s one (Place.Switch t) body))
+    (held_advert (after_hearing_all adverts (filter_map (journal_other_advert s) (option_map_or (λ b. bodies
+    ++ b ∷ []) (if (t == s) && up && journal_body_for_boot boot body then Some body else None) bodies))) one)
+    (newer_journal_claim_of claim (journal_claim_by s one (Place.Switch t) body))
 body_heard adverts bodies s one t boot up (Advertise advert) claim is by apart small same =
     by_tests (t == s) (advert.origin == s) refl refl
   where
     by_tests : (b c : Bool) → (t == s) ≡ b → (advert.origin == s) ≡ c → AreSame (held_advert
-        (after_hearing_all adverts (filter_map (other_advert s) (option_map_or (λ b. bodies
+        (after_hearing_all adverts (filter_map (journal_other_advert s) (option_map_or (λ b. bodies
         ++ b ∷ []) (if (t == s) && up && true then Some (Advertise advert) else None) bodies))) one)
-        (newer_claim_of claim (claim_by s one (Place.Switch t) (Advertise advert)))
+        (newer_journal_claim_of claim (journal_claim_by s one (Place.Switch t) (Advertise advert)))
     by_tests false c e f = rw (e, newer_none claim) same
     by_tests true true e f =
         let other : (advert.origin == one) ≡ false = grind (arith, nat_tests) in
@@ -132,48 +132,48 @@ body_heard adverts bodies s one t boot up (Advertise advert) claim is by apart s
     by_tests true false e f = rw (e, is, others_more adverts s bodies (Advertise advert), f)
         (advert_heard _ advert one claim by small same)
 body_heard adverts bodies s one t boot up body claim is by apart small same =
-    rw (newer_none claim) (by_test ((t == s) && up && is_for_boot boot body))
+    rw (newer_none claim) (by_test ((t == s) && up && journal_body_for_boot boot body))
   where
     by_test : (b : Bool)
-        → AreSame (held_advert (after_hearing_all adverts (filter_map (other_advert s)
+        → AreSame (held_advert (after_hearing_all adverts (filter_map (journal_other_advert s)
         (option_map_or (λ b. bodies ++ b ∷ []) (if b then Some body else None) bodies))) one) claim
     by_test true = rw (others_more adverts s bodies body) same
     by_test false = same
 
 -- of switch one each switch that is up holds what it heard claimed; boots are counted from 1
 pub record AreHeld (setting : Setting) (one : ℕ) (journal : List Item) : Type 0 where
-  pub boots : (s : ℕ) → 1 ≤ boot_of journal s
+  pub boots : (s : ℕ) → 1 ≤ journal_boot_of journal s
   pub same : (s : ℕ) → one ≢ s → IsTrue (is_up journal s) →
-      AreSame (held_advert (adverts_of_others setting journal s) one)
-      (claim_of setting journal s one)
+      AreSame (held_advert (journal_adverts_of_others setting journal s) one)
+      (journal_claim_of setting journal s one)
 
 -- what is held, by the boot and the bodies
 abbrev held_by : Setting → ℕ → ℕ → Bool → List Body → Option Advert
 held_by setting s one first bodies = held_advert (after_hearing_all (if first
     then first_adverts (map (links_of setting.net.links) (switches_of setting))
-    (length setting.net.switches) else no_adverts) (filter_map (other_advert s) bodies)) one
+    (length setting.net.switches) else no_adverts) (filter_map (journal_other_advert s) bodies)) one
 
 -- what a message says to a switch, if it is for it
 abbrev said_by : List Item → ℕ → Option Message → Option Body
 said_by before s message = elim message [
   | None ↦ None
-  | Some told ↦ if is_to_switch s told.to && is_up before s
-      && is_for_boot (boot_of before s) told.body then Some told.body else None
+  | Some told ↦ if is_journal_receiver_switch s told.to && is_up before s
+      && journal_body_for_boot (journal_boot_of before s) told.body then Some told.body else None
 ]
 
 -- facts that an item leaves as they are
 unchanged : (setting : Setting) (before now : List Item) (s one : ℕ)
-    → is_in_first_boot now s ≡ is_in_first_boot before s → heard now s ≡ heard before s
-    → claim_of setting now s one ≡ claim_of setting before s one
-    → AreSame (held_advert (adverts_of_others setting before s) one) (claim_of setting before s one)
-    → AreSame (held_advert (adverts_of_others setting now s) one) (claim_of setting now s one)
+    → is_first_boot_in_journal now s ≡ is_first_boot_in_journal before s → heard now s ≡ heard before s
+    → journal_claim_of setting now s one ≡ journal_claim_of setting before s one
+    → AreSame (held_advert (journal_adverts_of_others setting before s) one) (journal_claim_of setting before s one)
+    → AreSame (held_advert (journal_adverts_of_others setting now s) one) (journal_claim_of setting now s one)
 unchanged setting before now s one first bodies claim same = search rules
 
 same_on : (setting : Setting) (one : ℕ) (before : List Item) (next : Item) → one < 64
-    → HasItemCause setting before next → AreHeld setting one before
+    → HasControlItemCause setting before next → AreHeld setting one before
     → (s : ℕ) → one ≢ s → IsTrue (is_up (before ++ next ∷ []) s)
-    → AreSame (held_advert (adverts_of_others setting (before ++ next ∷ []) s) one)
-    (claim_of setting (before ++ next ∷ []) s one)
+    → AreSame (held_advert (journal_adverts_of_others setting (before ++ next ∷ []) s) one)
+    (journal_claim_of setting (before ++ next ∷ []) s one)
 same_on setting one before (Item.Down t) small cause kept s apart up =
     search (rules, up_more, boot_more, heard_more, claim_more)
 same_on setting one before (Item.Booted t boot) small cause kept s apart up = by_test (t == s) refl
@@ -182,19 +182,19 @@ same_on setting one before (Item.Booted t boot) small cause kept s apart up = by
     now = before ++ Item.Booted t boot ∷ []
 
     by_test : (b : Bool) → (t == s) ≡ b
-        → AreSame (held_advert (adverts_of_others setting now s) one) (claim_of setting now s one)
+        → AreSame (held_advert (journal_adverts_of_others setting now s) one) (journal_claim_of setting now s one)
     by_test true e =
         let here : t ≡ s = grind (arith, nat_tests) in
         let counted = kept.boots t in
         let next = cause.next in
-        let later : (boot_of now s == 1) ≡ false = rw (boot_more, e) (grind (arith, nat_tests)) in
+        let later : (journal_boot_of now s == 1) ≡ false = rw (boot_more, e) (grind (arith, nat_tests)) in
         let none : heard now s ≡ [] = rw (heard_more before (Item.Booted t boot) s, e) refl in
-        let claim : claim_of setting now s one ≡ None = rw (claim_more _ before _ s one, e) refl in
-        let empty : held_advert (adverts_of_others setting now s) one ≡ None =
+        let claim : journal_claim_of setting now s one ≡ None = rw (claim_more _ before _ s one, e) refl in
+        let empty : held_advert (journal_adverts_of_others setting now s) one ≡ None =
         ap (λ b. held_by setting s one b (heard now s))
         (ap (λ b. is_up now s && b) later ∙ and_right (is_up now s) false refl)
         ∙ ap (held_by setting s one false) none ∙ none_held one small in
-        subst (AreSame (held_advert (adverts_of_others setting now s) one)) (sym claim)
+        subst (AreSame (held_advert (journal_adverts_of_others setting now s) one)) (sym claim)
         (subst (λ o. AreSame o None) (sym empty) tt)
     by_test false e =
         let was : IsTrue (is_up before s) = rw (up_more before (Item.Booted t boot) s, e) at up in
@@ -205,40 +205,40 @@ same_on setting one before (Item.Booted t boot) small cause kept s apart up = by
         (kept.same s apart was)
 same_on setting one before (Item.Delivered number) small cause kept s apart up =
     let now : List Item = before ++ Item.Delivered number ∷ [] in
-    let first : is_in_first_boot now s ≡ is_in_first_boot before s = rw (up_more, boot_more) refl in
+    let first : is_first_boot_in_journal now s ≡ is_first_boot_in_journal before s = rw (up_more, boot_more) refl in
     rw (claim_more setting before (Item.Delivered number) s one)
     (rw (ap (λ b. held_by setting s one b (changes_heard s before (heard before s)
-    (Item.Delivered number))) (sym first) ∙ ap (held_by setting s one (is_in_first_boot now s))
+    (Item.Delivered number))) (sym first) ∙ ap (held_by setting s one (is_first_boot_in_journal now s))
     (sym (heard_more before (Item.Delivered number) s))) at (by_message (message_of before number)))
   where
     was : IsTrue (is_up before s)
     was = sym (up_more before (Item.Delivered number) s) ∙ up
 
-    same : AreSame (held_advert (adverts_of_others setting before s) one)
-        (claim_of setting before s one)
+    same : AreSame (held_advert (journal_adverts_of_others setting before s) one)
+        (journal_claim_of setting before s one)
     same = kept.same s apart was
 
     by_receiver : (to : Place) (body : Body)
-        → AreSame (held_by setting s one (is_in_first_boot before s) (option_map_or
-        (λ heard_body. heard before s ++ heard_body ∷ []) (if is_to_switch s to && is_up before s
-        && is_for_boot (boot_of before s) body then Some body else None) (heard before s)))
-        (newer_claim_of (claim_of setting before s one) (claim_by s one to body))
-    by_receiver (Place.Switch t) body = body_heard (adverts_begun setting before s)
-        (heard before s) s one t (boot_of before s) (is_up before s) body
-        (claim_of setting before s one) was (heard_by_origin setting before s) apart small same
-    by_receiver Place.Controller body = rw (newer_none (claim_of setting before s one)) same
+        → AreSame (held_by setting s one (is_first_boot_in_journal before s) (option_map_or
+        (λ heard_body. heard before s ++ heard_body ∷ []) (if is_journal_receiver_switch s to && is_up before s
+        && journal_body_for_boot (journal_boot_of before s) body then Some body else None) (heard before s)))
+        (newer_journal_claim_of (journal_claim_of setting before s one) (journal_claim_by s one to body))
+    by_receiver (Place.Switch t) body = body_heard (journal_adverts_begun setting before s)
+        (heard before s) s one t (journal_boot_of before s) (is_up before s) body
+        (journal_claim_of setting before s one) was (heard_by_origin setting before s) apart small same
+    by_receiver Place.Controller body = rw (newer_none (journal_claim_of setting before s one)) same
 
     by_message : (message : Option Message)
-        → AreSame (held_by setting s one (is_in_first_boot before s) (option_map_or
+        → AreSame (held_by setting s one (is_first_boot_in_journal before s) (option_map_or
         (λ body. heard before s ++ body ∷ []) (said_by before s message) (heard before s)))
-        (newer_claim_of (claim_of setting before s one) (option_and_then (claim_in s one) message))
-    by_message None = rw (newer_none (claim_of setting before s one)) same
+        (newer_journal_claim_of (journal_claim_of setting before s one) (option_and_then (journal_claim_in_message s one) message))
+    by_message None = rw (newer_none (journal_claim_of setting before s one)) same
     by_message (Some message) = by_receiver message.to message.body
 same_on setting one before next small cause kept s apart up =
     search (rules, up_more, boot_more, heard_more, claim_more)
 
 held_kept : (setting : Setting) (one : ℕ) → one < 64
-    → AreKept (HasItemCause setting) (AreHeld setting one)
+    → AreKept (HasControlItemCause setting) (AreHeld setting one)
 held_kept setting one small before next cause kept = record {
   boots = λ s. omega (arith, kept.boots s, boot_rises setting before next s cause);
   same = same_on setting one before next small cause kept;
@@ -248,50 +248,50 @@ held_kept setting one small before next cause kept = record {
 
 held_at_first : (setting : Setting) (one : ℕ) → one < 64 → HasSwitch setting.net one
     → AreHeld setting one []
-unfolding claim_of
+unfolding journal_claim_of
 held_at_first setting one small there =
     search (rules, start_laws, held-first, lt-ltb, has_mask, get_or-map-range_with_len)
 
 -- of another switch of the network, what a switch that is up holds is what it heard claimed
 pub claims_held : (setting : Setting) (journal : List Item)
-    → HaveCauses (HasItemCause setting) [] journal → (s one : ℕ) → one ≢ s → one < 64
+    → JournalItemsHaveCauses (HasControlItemCause setting) [] journal → (s one : ℕ) → one ≢ s → one < 64
     → HasSwitch setting.net one → IsTrue (is_up journal s)
-    → AreSame (held_advert (adverts_of_others setting journal s) one)
-    (claim_of setting journal s one)
+    → AreSame (held_advert (journal_adverts_of_others setting journal s) one)
+    (journal_claim_of setting journal s one)
 claims_held setting journal have s one apart small there up = (fact_on _ (AreHeld setting one)
     (held_kept setting one small) [] _ have (held_at_first setting one small there)).same s apart up
 
 -- ---- claims name links of the network
 
 -- the claim of this switch names only switches to which the network has a link of it
-abbrev pub ClaimsLinks : Net → ℕ → Option Claim → Type 0
+abbrev pub ClaimsLinks : Net → ℕ → Option JournalClaim → Type 0
 ClaimsLinks net one None = ⊤
 ClaimsLinks net one (Some claim) = (k : ℕ) → IsTrue (claim.links k) → HasLink net one k
 
-newer_links : (net : Net) (one : ℕ) (old new : Option Claim) → ClaimsLinks net one old
-    → ClaimsLinks net one new → ClaimsLinks net one (newer_claim_of old new)
+newer_links : (net : Net) (one : ℕ) (old new : Option JournalClaim) → ClaimsLinks net one old
+    → ClaimsLinks net one new → ClaimsLinks net one (newer_journal_claim_of old new)
 newer_links net one old new olds news = search rules
 
 claimed_links : (net : Net) (s one : ℕ) (to : Place) (body : Body)
-    → IfAdvert (AdvertNamesLinks net) body → ClaimsLinks net one (claim_by s one to body)
+    → IfAdvert (AdvertNamesLinks net) body → ClaimsLinks net one (journal_claim_by s one to body)
 unfolding has
 claimed_links net s one to body such = search (rules, nat_tests)
 
 -- what is kept of it, item by item
 record ClaimLinks (setting : Setting) (journal : List Item) : Type 0 where
   such : AreSuch setting (λ js. AdvertNamesLinks setting.net) journal
-  claims : (s one : ℕ) → ClaimsLinks setting.net one (claim_of setting journal s one)
+  claims : (s one : ℕ) → ClaimsLinks setting.net one (journal_claim_of setting journal s one)
 
 claims_on : (setting : Setting) (before : List Item) (next : Item) (s one : ℕ) → ClaimLinks setting
     before
-    → ClaimsLinks setting.net one (changes_claim s one before (claim_of setting before s one) next)
+    → ClaimsLinks setting.net one (changes_journal_claim s one before (journal_claim_of setting before s one) next)
 claims_on setting before (Item.Down t) s one kept = search rules
 claims_on setting before (Item.Booted t boot) s one kept = search rules
 claims_on setting before (Item.Delivered number) s one kept = newer_links setting.net one _ _
     (kept.claims s one) (by_message (message_of before number) refl)
   where
     by_message : (message : Option Message) → message_of before number ≡ message
-        → ClaimsLinks setting.net one (option_and_then (claim_in s one) message)
+        → ClaimsLinks setting.net one (option_and_then (journal_claim_in_message s one) message)
     by_message None e = tt
     by_message (Some message) e = claimed_links setting.net s one message.to message.body
         (kept.such.sent number message e)
@@ -305,13 +305,13 @@ links_kept setting before next both kept = record {
 }
 
 links_at_first : (setting : Setting) → ClaimLinks setting []
-unfolding claim_of
+unfolding journal_claim_of
 links_at_first setting = search (rules, such_at_first, names_fact)
 
 -- whatever is claimed to whomever are links of the network
 pub claims_linked : (setting : Setting) (journal : List Item)
-    → HaveCauses (HasBothCauses setting) [] journal → (s one : ℕ)
-    → ClaimsLinks setting.net one (claim_of setting journal s one)
+    → JournalItemsHaveCauses (HasBothCauses setting) [] journal → (s one : ℕ)
+    → ClaimsLinks setting.net one (journal_claim_of setting journal s one)
 claims_linked setting journal have s one = (fact_on (HasBothCauses setting) (ClaimLinks setting)
     (links_kept setting) [] journal have (links_at_first setting)).claims s one
 
@@ -332,30 +332,30 @@ linked_small net one two sound linked = (
 
 -- where another switch has an end to a switch that serves, what that switch holds names it
 pub names_end : (setting : Setting) (journal : List Item)
-    → HaveCauses (HasBothCauses setting) [] journal → IsNet setting.net
+    → JournalItemsHaveCauses (HasBothCauses setting) [] journal → IsNet setting.net
     → (s one two : ℕ) → one ≢ s → IsTrue (serves journal s)
     → IsTrue (is_end setting journal s one two)
-    → IsNamed one two (IsTrue (names_neighbour (adverts_of_others setting journal s) one two))
+    → IsNamed one two (IsTrue (names_neighbour (journal_adverts_of_others setting journal s) one two))
 unfolding names_neighbour
 names_end setting journal have net s one two apart serving is =
-    by_claim (claim_of setting journal s one) refl (rw (ne_eqb one s apart) at is)
+    by_claim (journal_claim_of setting journal s one) refl (rw (ne_eqb one s apart) at is)
   where
-    caused : HaveCauses (HasItemCause setting) [] journal
-    caused = have_weaker _ (HasItemCause setting) (λ before next both. both.first) [] journal have
+    caused : JournalItemsHaveCauses (HasControlItemCause setting) [] journal
+    caused = have_weaker _ (HasControlItemCause setting) (λ before next both. both.first) [] journal have
 
     up : IsTrue (is_up journal s)
     up = ((caused_known setting journal caused).serving s).up serving
 
-    by_held : (claim : Claim) (found : Option Advert)
-        → held_advert (adverts_of_others setting journal s) one ≡ found
+    by_held : (claim : JournalClaim) (found : Option Advert)
+        → held_advert (journal_adverts_of_others setting journal s) one ≡ found
         → two < 64 → IsTrue (claim.links two) → AreSame found (Some claim)
-        → IsTrue (names_neighbour (adverts_of_others setting journal s) one two)
+        → IsTrue (names_neighbour (journal_adverts_of_others setting journal s) one two)
     by_held claim None e small linked same = absurd same
     by_held claim (Some advert) e small linked same = cc (e, same.links two small, linked)
 
-    by_claim : (claim : Option Claim) → claim_of setting journal s one ≡ claim
+    by_claim : (claim : Option JournalClaim) → journal_claim_of setting journal s one ≡ claim
         → IsTrue (option_map_or (λ c. c.links two) claim false)
-        → IsNamed one two (IsTrue (names_neighbour (adverts_of_others setting journal s) one two))
+        → IsNamed one two (IsTrue (names_neighbour (journal_adverts_of_others setting journal s) one two))
     by_claim None e linked = absurd cc
     by_claim (Some claim) e linked =
         let there = linked_small setting.net one two net (subst (ClaimsLinks setting.net one) e
@@ -365,7 +365,7 @@ names_end setting journal have net s one two apart serving is =
         let two_small : two < 64 = omega (arith, there.1, few) in record {
           one_small = one_small;
           two_small = two_small;
-          named = by_held claim (held_advert (adverts_of_others setting journal s) one) refl
+          named = by_held claim (held_advert (journal_adverts_of_others setting journal s) one) refl
               two_small linked (rw e at (claims_held _ _ caused s one apart one_small there.0 up));
         }
 

@@ -1,7 +1,7 @@
 -- What items do to links, and pieces in which links of one switch change.
 use Rattle.std.proofs.Common.{[], if◌then◌else◌, ◌&&◌, ◌++◌, ◌+◌, ◌==◌, ◌∙◌, ◌∷◌, ◌≡◌, ◌≢◌, Bool, IsFalse, List, None, Some, ap, append_assoc, inl, inr, max, min, ne_eqb, sym, true, ℕ, rules}
 use Rattle.base.proofs.Exports.{nat_tests, none_where_other}
-use Rattle.update_machine.specs.Exports.{Item, LinkRow, LinksKeep, NoneConcern, Setting, boot_of, concerns_links, gives_link, gives_serving, is_link_up, is_up, is_usable, link_changes, near, own_advert, serves}
+use Rattle.update_machine.specs.Exports.{Item, LinkRow, MachineLinksKeep, NoneConcern, Setting, journal_boot_of, concerns_links, gives_journal_link, item_gives_serving, is_link_up_in_journal, is_up, is_usable_in_journal, journal_link_changes, near, own_advert, serves}
 use Rattle.update_machine.proofs.Exports.{last_given_append, links_keep, stays}
 use Rattle.control_laws.proofs.ControlFactsGrown.{boot_more, serving_more, up_more}
 use Rattle.control_laws.proofs.ControlSaidToController.{ChangedNoLinks, HasLinkCause}
@@ -11,31 +11,31 @@ use Rattle.control_laws.proofs.ControlLinkSends.{ChangesAt}
 
 -- ---- what items do to links
 
-link_same : (before : List Item) (next : Item) (a b : ℕ) → gives_link (min a b) (max a b) next
-    ≡ None → is_link_up (before ++ next ∷ []) a b ≡ is_link_up before a b
-unfolding is_link_up
+link_same : (before : List Item) (next : Item) (a b : ℕ) → gives_journal_link (min a b) (max a b) next
+    ≡ None → is_link_up_in_journal (before ++ next ∷ []) a b ≡ is_link_up_in_journal before a b
+unfolding is_link_up_in_journal
 link_same before next a b none = search (rules, last_given_append)
 
-serving_same : (before : List Item) (next : Item) (s : ℕ) → gives_serving s next ≡ None
+serving_same : (before : List Item) (next : Item) (s : ℕ) → item_gives_serving s next ≡ None
     → serves (before ++ next ∷ []) s ≡ serves before s
 serving_same before next s none = cc (serving_more before next s, none)
 
 usable_same : (before : List Item) (next : Item) (link : LinkRow)
-    → gives_link (min link.one link.two) (max link.one link.two) next ≡ None
-    → gives_serving link.one next ≡ None → gives_serving link.two next ≡ None
-    → is_usable (before ++ next ∷ []) link ≡ is_usable before link
+    → gives_journal_link (min link.one link.two) (max link.one link.two) next ≡ None
+    → item_gives_serving link.one next ≡ None → item_gives_serving link.two next ≡ None
+    → is_usable_in_journal (before ++ next ∷ []) link ≡ is_usable_in_journal before link
 usable_same before next link up one two = search (rules, link_same, serving_same)
 
 silent_link : (next : Item) (a b : ℕ) (before : List Item) → IsFalse (concerns_links before next)
-    → gives_link a b next ≡ None
+    → gives_journal_link a b next ≡ None
 silent_link next a b before apart = search rules
 
 silent_serving : (next : Item) (s : ℕ) (before : List Item)
-    → IsFalse (concerns_links before next) → gives_serving s next ≡ None
+    → IsFalse (concerns_links before next) → item_gives_serving s next ≡ None
 silent_serving next s before apart = search rules
 
 usable_stays : (before items : List Item) (link : LinkRow) → NoneConcern concerns_links before items
-    → is_usable (before ++ items) link ≡ is_usable before link
+    → is_usable_in_journal (before ++ items) link ≡ is_usable_in_journal before link
 usable_stays before items link none = stays _ concerns_links (λ journal next apart. usable_same
     journal next link (silent_link next _ (max link.one link.two) journal apart)
     (silent_serving next link.one journal apart) (silent_serving next link.two journal apart))
@@ -53,11 +53,11 @@ other_link : (low high t a b : ℕ) (up : Bool) → low ≡ t → a ≢ t → b 
 other_link low high t a b up is one two = search (rules, ne_eqb)
 
 usable_on : (before : List Item) (next : Item) (t : ℕ) → ChangesLinksOf t next → (link : LinkRow)
-    → link.one ≢ t → link.two ≢ t → is_usable (before ++ next ∷ []) link ≡ is_usable before link
+    → link.one ≢ t → link.two ≢ t → is_usable_in_journal (before ++ next ∷ []) link ≡ is_usable_in_journal before link
 usable_on before next t is link one two = search (rules, usable_same, none_where_other, other_link)
 
 boot_on : (before : List Item) (next : Item) (t s : ℕ) → ChangesLinksOf t next
-    → boot_of (before ++ next ∷ []) s ≡ boot_of before s
+    → journal_boot_of (before ++ next ∷ []) s ≡ journal_boot_of before s
 boot_on before next t s is = search (rules, boot_more)
 
 up_on : (before : List Item) (next : Item) (t s : ℕ) → ChangesLinksOf t next
@@ -78,7 +78,7 @@ own_change setting before next t s is first up = advert_on setting before next s
 
 -- what becomes of a switch's own advert until the links have changed
 pub record OwnAfter (setting : Setting) (before now : List Item) (s : ℕ) : Type 0 where
-  pub boot : boot_of now s ≡ boot_of before s
+  pub boot : journal_boot_of now s ≡ journal_boot_of before s
   pub own : is_up now s ≡ true → AdvertGoesOn setting before now s
 
 -- links of one switch change, and then all is sent that reports it
@@ -90,7 +90,7 @@ pub record IsLinkPiece (setting : Setting) (before items : List Item) : Type 0 w
   pub at : ChangesAt before now switch
   pub silent : sent changes ≡ 0
   pub own : (s : ℕ) → OwnAfter setting before now s
-  pub written : items ≡ changes ++ link_changes setting before now
+  pub written : items ≡ changes ++ journal_link_changes setting before now
 
 up_silent : (before : List Item) (next : Item) (s : ℕ) → IsFalse (concerns_links before next)
     → is_up (before ++ next ∷ []) s ≡ is_up before s
@@ -114,7 +114,7 @@ pub link_piece : (setting : Setting) (before quiet : List Item) (next : Item) (r
     → ChangedNoLinks (before ++ quiet) → NoneConcern concerns_links before quiet
     → NoneConcern concerns_links ((before ++ quiet) ++ next ∷ []) rest
     → sent (quiet ++ next ∷ rest) ≡ 0 → (items : List Item)
-    → items ≡ (quiet ++ next ∷ rest) ++ link_changes setting before
+    → items ≡ (quiet ++ next ∷ rest) ++ journal_link_changes setting before
     (((before ++ quiet) ++ next ∷ []) ++ rest) → IsLinkPiece setting before items
 link_piece setting before quiet next rest t is first none later silent items written = record {
   changes = quiet ++ next ∷ rest;
@@ -140,10 +140,10 @@ link_piece setting before quiet next rest t is first none later silent items wri
   there : List Item
   there = here ++ next ∷ []
 
-  early : LinksKeep setting before here
+  early : MachineLinksKeep setting before here
   early = links_keep setting before quiet none
 
-  after : LinksKeep setting there (there ++ rest)
+  after : MachineLinksKeep setting there (there ++ rest)
   after = links_keep setting there rest later
 
   up_stays : (s : ℕ) → is_up (there ++ rest) s ≡ is_up there s

@@ -2,7 +2,7 @@
 use Rattle.std.proofs.Common.{[], ◌&&◌, ◌*◌, ◌+◌, ◌<◌, ◌==◌, ◌||◌, ◌∙◌, ◌∷◌, ◌≡◌, ◌≢◌, ◌≤◌, ◌⊎◌, Bool, IsTrue, List, ap, arith, cond, eq-eqb, eqb-true, false, filter, flat_map, inl, inr, length, map, mul-add, mul-le-mul_right, ne_eqb, not, refl, suc, sum_by, sym, true, zero, ℕ, rules}
 use Rattle.base.proofs.Exports.{cases_eq, length-filter_map, length-flat_map, length-map, length-range_with_len, length_filter_less, list_any, mask_of_lt, range_with_len, sum_by-cons, sum_by-le-sum_by, sum_each, sum_filter, sum_some}
 use Rattle.net_file.specs.Exports.{IsNet, are_linked, joins, links_of}
-use Rattle.update_machine.specs.Exports.{Item, LinkRow, Message, Setting, advert_to, usable_links_changed, held_adverts, is_usable, messages_of, messages_over_link, near, own_advert, switches_of, usable_links}
+use Rattle.update_machine.specs.Exports.{Item, LinkRow, Message, Setting, advert_to, journal_usable_links_changed, journal_held_adverts, is_usable_in_journal, machine_messages_of, machine_messages_over_link, near, own_advert, switches_of, usable_links}
 use Rattle.base.specs.Exports.{has, switches}
 use Rattle.net_file.proofs.NetFilePortMasks.{in_mask_of, in_mask_past}
 use Rattle.control_laws.proofs.ControlNetLinks.{linked_by_mask}
@@ -119,7 +119,7 @@ pairs_few (link ∷ links) n m =
 -- only links of one switch became usable, or ceased to be
 pub record ChangesAt (before now : List Item) (t : ℕ) : Type 0 where
   pub others : (link : LinkRow) → link.one ≢ t → link.two ≢ t →
-      is_usable now link ≡ is_usable before link
+      is_usable_in_journal now link ≡ is_usable_in_journal before link
 
 -- each end of a link that joins two switches is one of them
 joined_ends : (x y : ℕ) (link : LinkRow) → joins x y link ≡ true
@@ -131,8 +131,8 @@ away x y z end one two h6 = search rules
 
 -- links of other switches join as before
 linked_same : (before now : List Item) (t s k : ℕ) → ChangesAt before now t
-    → s ≢ t → k ≢ t → (links : List LinkRow) → are_linked (filter (is_usable now) links) s k
-    ≡ are_linked (filter (is_usable before) links) s k
+    → s ≢ t → k ≢ t → (links : List LinkRow) → are_linked (filter (is_usable_in_journal now) links) s k
+    ≡ are_linked (filter (is_usable_in_journal before) links) s k
 linked_same before now t s k changes other far [] = refl
 linked_same before now t s k changes other far (link ∷ links) =
     by_joins (joins s k link) refl (linked_same before now t s k changes other far links)
@@ -143,18 +143,18 @@ linked_same before now t s k changes other far (link ∷ links) =
     skipped false rest e = refl
 
     by_joins : (joined : Bool) → joins s k link ≡ joined → list_any (joins s k)
-        (filter (is_usable now) links) ≡ list_any (joins s k) (filter (is_usable before) links)
-        → list_any (joins s k) (cond (is_usable now link) (link ∷ filter (is_usable now) links)
-        (filter (is_usable now) links)) ≡ list_any (joins s k) (cond (is_usable before link)
-        (link ∷ filter (is_usable before) links) (filter (is_usable before) links))
-    by_joins false e rest = skipped (is_usable now link) _ e ∙ rest ∙ sym (skipped _ _ e)
+        (filter (is_usable_in_journal now) links) ≡ list_any (joins s k) (filter (is_usable_in_journal before) links)
+        → list_any (joins s k) (cond (is_usable_in_journal now link) (link ∷ filter (is_usable_in_journal now) links)
+        (filter (is_usable_in_journal now) links)) ≡ list_any (joins s k) (cond (is_usable_in_journal before link)
+        (link ∷ filter (is_usable_in_journal before) links) (filter (is_usable_in_journal before) links))
+    by_joins false e rest = skipped (is_usable_in_journal now link) _ e ∙ rest ∙ sym (skipped _ _ e)
     by_joins true e rest = let ends = joined_ends s k link e in
         rw (changes.others link (away s k t link.one other far ends.0)
-        (away s k t link.two other far ends.1)) (by_usable (is_usable before link))
+        (away s k t link.two other far ends.1)) (by_usable (is_usable_in_journal before link))
       where
-        by_usable : (b : Bool) → list_any (joins s k) (cond b (link ∷ filter (is_usable now) links)
-            (filter (is_usable now) links)) ≡ list_any (joins s k)
-            (cond b (link ∷ filter (is_usable before) links) (filter (is_usable before) links))
+        by_usable : (b : Bool) → list_any (joins s k) (cond b (link ∷ filter (is_usable_in_journal now) links)
+            (filter (is_usable_in_journal now) links)) ≡ list_any (joins s k)
+            (cond b (link ∷ filter (is_usable_in_journal before) links) (filter (is_usable_in_journal before) links))
         by_usable true = ap (λ c. joins s k link || c) rest
         by_usable false = rest
 
@@ -181,23 +181,23 @@ new_at setting before now t s k changes = search (rules, cases_eq, eq-eqb, same_
 -- ---- what a switch tells a neighbour
 
 pub held_few : (setting : Setting) (journal : List Item) (s : ℕ)
-    → length (held_adverts setting journal s) ≤ 64
-unfolding held_adverts switches
+    → length (journal_held_adverts setting journal s) ≤ 64
+unfolding journal_held_adverts switches
 held_few setting journal s = omega (arith, length-filter_map, length-range_with_len)
 
 over_few : (setting : Setting) (before now : List Item) (s k : ℕ)
-    → cond (has (near setting now s) k) (length (messages_over_link setting before now s k)) 0
+    → cond (has (near setting now s) k) (length (machine_messages_over_link setting before now s k)) 0
     ≤ once (has (near setting now s) k) + 63 * once (is_new setting before now s k)
 over_few setting before now s k = by_links (has (near setting now s) k) _ where
   by_links : (b c : Bool) → cond b (length {A = Message} (elim c [
     | true ↦ advert_to k (own_advert setting now s) ∷ []
-    | false ↦ map (advert_to k) (held_adverts setting now s)
+    | false ↦ map (advert_to k) (journal_held_adverts setting now s)
   ])) 0 ≤ once b + 63 * once (b && not c)
   by_links true true = omega arith
   by_links true false = omega (
     arith,
     held_few setting now s,
-    length-map (held_adverts setting now s) (advert_to k),
+    length-map (journal_held_adverts setting now s) (advert_to k),
   )
   by_links false c = omega arith
 
@@ -214,7 +214,7 @@ constant_few setting net b =
 
 -- what a switch sends: one advert over each usable link, and 63 more over each new one
 by_few : (setting : Setting) (before now : List Item) (t s : ℕ) → IsNet setting.net
-    → ChangesAt before now t → length (messages_of setting before now s)
+    → ChangesAt before now t → length (machine_messages_of setting before now s)
     ≤ sum_by (λ k. once (has (near setting now s) k)) (switches_of setting)
     + 63 * (64 * once (t == s) + 1)
 by_few setting before now t s net changes =
@@ -222,10 +222,10 @@ by_few setting before now t s net changes =
     let fresh : ℕ → ℕ = λ k. once (is_new setting before now s k) in
     omega (
       arith,
-      length-flat_map (messages_over_link setting before now s) (filter (has (near setting now s)) all),
-      sum_filter (λ k. length (messages_over_link setting before now s k)) (has (near setting now s)) all,
+      length-flat_map (machine_messages_over_link setting before now s) (filter (has (near setting now s)) all),
+      sum_filter (λ k. length (machine_messages_over_link setting before now s k)) (has (near setting now s)) all,
       sum_by-le-sum_by (λ k. cond (has (near setting now s) k)
-          (length (messages_over_link setting before now s k)) 0)
+          (length (machine_messages_over_link setting before now s k)) 0)
           (λ k. once (has (near setting now s) k) + 63 * fresh k) all (λ k. over_few _ _ now s k),
       sum_plus (λ k. once (has (near setting now s) k)) (λ k. 63 * fresh k) all,
       sum_times 63 fresh all,
@@ -240,8 +240,8 @@ by_few setting before now t s net changes =
 
 -- what the switches tell whose links changed
 abbrev pub all_adverts_sent : Setting → List Item → List Item → List Message
-all_adverts_sent setting before now = flat_map (messages_of setting before now)
-    (filter (usable_links_changed setting before now) (switches_of setting))
+all_adverts_sent setting before now = flat_map (machine_messages_of setting before now)
+    (filter (journal_usable_links_changed setting before now) (switches_of setting))
 
 pairs_near : (setting : Setting) (now : List Item) → IsNet setting.net
     → sum_by (λ s. sum_by (λ k. once (has (near setting now s) k)) (switches_of setting))
@@ -257,7 +257,7 @@ pairs_near setting now net =
           (λ k. once (has (links_of links s) k)) (λ k. once (are_linked links s k)) all (λ k.
           implied (has (links_of links s) k) (are_linked links s k) (linked_by_mask links s k))),
       pairs_few links (length setting.net.switches) (length setting.net.switches),
-      length_filter_less (is_usable now) setting.net.links,
+      length_filter_less (is_usable_in_journal now) setting.net.links,
       net.few_links,
     )
   where
@@ -273,10 +273,10 @@ changes_few setting before now t net changes =
     let more : ℕ → ℕ = λ s. 64 * once (t == s) + 1 in
     omega (
       arith,
-      length-flat_map (messages_of setting before now)
-          (filter (usable_links_changed setting before now) all),
-      sum_some (λ s. length (messages_of setting before now s)) (usable_links_changed setting before now) all,
-      sum_by-le-sum_by (λ s. length (messages_of setting before now s))
+      length-flat_map (machine_messages_of setting before now)
+          (filter (journal_usable_links_changed setting before now) all),
+      sum_some (λ s. length (machine_messages_of setting before now s)) (journal_usable_links_changed setting before now) all,
+      sum_by-le-sum_by (λ s. length (machine_messages_of setting before now s))
           (λ s. row s + 63 * more s) all (λ s. by_few setting before now t s net changes),
       sum_plus row (λ s. 63 * more s) all,
       sum_times 63 more all,

@@ -1,9 +1,9 @@
 -- At the end of each step the marks are settled.
 use Rattle.std.proofs.Common.{[], ◌++◌, ◌+◌, ◌<◌, ◌∙◌, ◌∷◌, ◌≡◌, ◌≤◌, All, Bool, IsTrue, List, None, Option, Some, append-nil, append_assoc, arith, drop, false, fold, get_or, inl, length, min, refl, subst, suc, sym, take, take-append-drop, true, unwrap_or, ℕ, rules}
-use Rattle.update_machine.specs.Exports.{AnswersSoFar, AreSettled, BeginsAnswer, Body, Deliver, Event, Forget, HaveCauses, Hello, Hop, Install, Installed, IsReached, IsSetting, Item, Lose, Message, Place, Setting, Step, StepOfRow, Update, acked_stamp, after_hello, journal_after_steps, all_acked, confirm_items, controller_heard, controller_items, current_mark, deliver_items, delivery_items, has_acked, installs_to, installs_to_all, is_member, is_message_to_controller, is_over, known_boot, least_number, members, message_of, next_retired, nothing, opened_at, piece, retired_mark, settling, step_items, switches_of, to_switch, update_items, version_count}
+use Rattle.update_machine.specs.Exports.{JournalAnswersSoFar, AreMachineMarksSettled, JournalBeginsAnswer, Body, Deliver, Event, Forget, JournalItemsHaveCauses, Hello, Hop, Install, Installed, IsJournalReached, IsSetting, Item, Lose, Message, Place, Setting, Step, StepOfRow, Update, acked_stamp, after_hello, journal_after_steps, all_acked, confirm_items, controller_heard, controller_items, journal_current_mark, deliver_items, machine_delivery_items, has_acked, machine_installs_to, machine_installs_to_all, is_member, is_journal_controller_message, is_over, journal_known_boot, machine_least_number, members, message_of, journal_next_retired, nothing, opened_at, piece, journal_retired_mark, settling, step_items, switches_of, machine_message_to_switch, update_items, journal_version_count}
 use Rattle.ctrl_msg.specs.Exports.{to_controller}
 use Rattle.update_machine.proofs.Exports.{AreOf, HasNexts, IsEventOf, answers_so_far, begins_itself, first_steps_are, have_append, have_take, open_net, start_laws}
-use Rattle.control_laws.specs.Exports.{HasItemCause, HoldsAtEnds, HoldsReached, CurrentRiseHasCause, asks_controller}
+use Rattle.control_laws.specs.Exports.{HasControlItemCause, HoldsAtEnds, HoldsReached, CurrentMarkRiseHasCause, asks_controller}
 use Rattle.control_laws.proofs.ControlVersionTrials.{second}
 use Rattle.base.proofs.Exports.{⊤, All-from_recursion, AllByRecursion, each_always, each_map, take-append_seam}
 use Rattle.steps.specs.Exports.{IsEvent, IsStep}
@@ -20,7 +20,7 @@ use Rattle.control_laws.proofs.ControlMarksSettle.{NoneJoins, in_two, settled_on
 -- ---- steps for the controller, and rises of the current mark, computed on two switches
 
 abbrev answered : List Item
-answered = Item.Submitted 2 2 ∷ Item.Sent 1 (to_switch 0 (Install 1 second)) ∷ Item.Delivered 1
+answered = Item.Submitted 2 2 ∷ Item.Sent 1 (machine_message_to_switch 0 (Install 1 second)) ∷ Item.Delivered 1
     ∷ Item.Sent 2 (to_controller (Installed 0 1 2)) ∷ []
 
 -- the acknowledgement is for the controller, the tables are not, nor is a message that wasn't sent
@@ -51,9 +51,9 @@ abbrev both_answered : List Item
 both_answered = answered ++ Item.Sent 3 (to_controller (Installed 1 1 2)) ∷ Item.Delivered 2
     ∷ Item.Delivered 3 ∷ []
 
-rises : CurrentRiseHasCause open_net both_answered (Item.Current 2)
-unfolding controller_heard current_mark has_acked is_member is_over known_boot message_of opened_at
-    version_count
+rises : CurrentMarkRiseHasCause open_net both_answered (Item.Current 2)
+unfolding controller_heard journal_current_mark has_acked is_member is_over journal_known_boot message_of opened_at
+    journal_version_count
 rises = record {
   rises = omega arith;
   there = omega arith;
@@ -62,15 +62,15 @@ rises = record {
 }
 
 -- not before both switches are heard
-not_before : CurrentRiseHasCause open_net answered (Item.Current 2) → ⊥
-unfolding controller_heard current_mark has_acked is_member is_over known_boot message_of opened_at
-    version_count
+not_before : CurrentMarkRiseHasCause open_net answered (Item.Current 2) → ⊥
+unfolding controller_heard journal_current_mark has_acked is_member is_over journal_known_boot message_of opened_at
+    journal_version_count
 not_before rises =
     let no : false ≡ true = rises.acknowledged 2 (omega arith) (omega arith) in absurd cc
 
 -- nor to a version that isn't there
-not_to_third : CurrentRiseHasCause open_net both_answered (Item.Current 3) → ⊥
-unfolding version_count
+not_to_third : CurrentMarkRiseHasCause open_net both_answered (Item.Current 3) → ⊥
+unfolding journal_version_count
 not_to_third rises = absurd (omega (arith, rises.there))
 
 -- ---- journals of steps of the network: whatever causes each of their pieces has, such a journal
@@ -99,7 +99,7 @@ has_nexts setting = record { delivery = λ number. tt; hop = λ packet. tt }
 -- each piece of such a step has these causes
 abbrev pub OwnPiecesHave : (List Item → Item → Type 0) → Setting → Type 0
 OwnPiecesHave cause setting = (journal : List Item) (row : ℕ) (step : Step)
-    → NamesOwn setting step → HaveCauses cause journal (piece setting journal row step)
+    → NamesOwn setting step → JournalItemsHaveCauses cause journal (piece setting journal row step)
 
 pub own_steps : (setting : Setting) (steps : List StepOfRow)
     → All (λ (next : StepOfRow). IsStep setting.net (length setting.files) next.step) steps
@@ -139,14 +139,14 @@ carried_on setting Fact carried before (next ∷ steps) own is =
     own.1 (carried.piece before next.row next.step own.0 is)
 
 pub reached_carries : (setting : Setting) (Fact : List Item → Type 0) → IsCarried setting Fact
-    → (journal : List Item) → IsReached setting journal → Fact journal
+    → (journal : List Item) → IsJournalReached setting journal → Fact journal
 reached_carries setting Fact carried journal reached = rw reached.written (carried_on setting Fact
     carried [] reached.steps (own_steps setting reached.steps reached.own) carried.first)
 
 pub so_far_carries : (setting : Setting) (Fact : List Item → Type 0) → IsCarried setting Fact
     → (events : List Event) (journal : List Item)
     → All (IsEvent setting.net (length setting.files)) events
-    → AnswersSoFar setting events journal → Fact journal
+    → JournalAnswersSoFar setting events journal → Fact journal
 so_far_carries setting Fact carried events journal own answers = subst Fact (sym answers.written)
     (carried_on setting Fact carried [] answers.steps
     (first_steps_are (NamesOwn setting) (has_nexts setting) setting 1 events [] answers.steps (λ k d
@@ -168,7 +168,7 @@ carried_reached Fact Holds carried firsts = record {
 } where
   begun : (setting : Setting) (events : List Event) (journal : List Item)
       → All (IsEvent setting.net (length setting.files)) events
-      → BeginsAnswer setting events journal → Holds setting journal
+      → JournalBeginsAnswer setting events journal → Holds setting journal
   begun setting events journal own begins = subst (Holds setting) (sym begins.written)
       (firsts setting (take begins.length begins.whole) (drop begins.length begins.whole)
       (subst (Fact setting) (sym (take-append-drop begins.length begins.whole)) (so_far_carries
@@ -176,13 +176,13 @@ carried_reached Fact Holds carried firsts = record {
 
 -- the first items have their causes
 pub begin_has : (cause : List Item → Item → Type 0) (journal rest : List Item)
-    → HaveCauses cause [] (journal ++ rest) → HaveCauses cause [] journal
-begin_has cause journal rest whole = subst (HaveCauses cause []) (take-append_seam journal rest)
+    → JournalItemsHaveCauses cause [] (journal ++ rest) → JournalItemsHaveCauses cause [] journal
+begin_has cause journal rest whole = subst (JournalItemsHaveCauses cause []) (take-append_seam journal rest)
     (have_take cause [] (journal ++ rest) (length journal) whole)
 
 -- as one that holds where items have these causes
 pub reached : (Holds : Setting → List Item → Type 0) (cause : Setting → List Item → Item → Type 0)
-    → ((setting : Setting) (journal : List Item) → HaveCauses (cause setting) [] journal
+    → ((setting : Setting) (journal : List Item) → JournalItemsHaveCauses (cause setting) [] journal
     → Holds setting journal) → ((setting : Setting) → OwnPiecesHave (cause setting) setting)
     → HoldsReached Holds
 reached Holds cause caused pieces = carried_reached _ Holds (λ setting. record {
@@ -210,8 +210,8 @@ pub reached_by : (Fact Holds : Setting → List Item → Type 0)
     (cause : Setting → List Item → Item → Type 0)
     → ((setting : Setting) → IsCarried setting (OfSettings Fact setting))
     → ((setting : Setting) (journal : List Item) → Fact setting journal
-    → HaveCauses (cause setting) [] journal) → ((setting : Setting) (journal : List Item)
-    → IsSetting setting → HaveCauses (cause setting) [] journal → Holds setting journal)
+    → JournalItemsHaveCauses (cause setting) [] journal) → ((setting : Setting) (journal : List Item)
+    → IsSetting setting → JournalItemsHaveCauses (cause setting) [] journal → Holds setting journal)
     → HoldsReached (OfSettings Holds)
 reached_by Fact Holds cause carried causes caused = carried_reached (OfSettings Fact)
     (OfSettings Holds) carried (λ setting journal rest fact is. caused setting journal is
@@ -228,17 +228,17 @@ fold_above bound first (x ∷ xs) above all =
 
 -- what is at most each of some numbers is at most the least of them
 least_above : (bound other : ℕ) (xs : List ℕ) → bound ≤ other
-    → AllByRecursion (λ x. bound ≤ x) xs → bound ≤ unwrap_or (least_number xs) other
+    → AllByRecursion (λ x. bound ≤ x) xs → bound ≤ unwrap_or (machine_least_number xs) other
 least_above bound other [] above all = above
 least_above bound other (x ∷ xs) above all = fold_above bound x xs all.0 all.1
 
 -- so the retired mark is at most the next one
-pub behind : FromCauses (λ setting journal. retired_mark journal ≤ next_retired setting journal)
-unfolding next_retired
+pub behind : FromCauses (λ setting journal. journal_retired_mark journal ≤ journal_next_retired setting journal)
+unfolding journal_next_retired
 behind setting journal have =
     let are = bounded setting journal have in
-    let above = least_above (retired_mark journal + 1) (current_mark journal) _
-    (omega (arith, are.retired)) (each_map (λ x. retired_mark journal + 1 ≤ x) (acked_stamp journal)
+    let above = least_above (journal_retired_mark journal + 1) (journal_current_mark journal) _
+    (omega (arith, are.retired)) (each_map (λ x. journal_retired_mark journal + 1 ≤ x) (acked_stamp journal)
     (members setting journal) (each_of_network _ setting (is_member journal)
     (λ s there member. omega (arith, are.stamped s there member)))) in
     omega (arith, above)
@@ -246,36 +246,36 @@ behind setting journal have =
 -- ---- rises of current
 
 rises_one : (setting : Setting) (before : List Item) (next : Item)
-    → HasItemCause setting before next → CurrentRiseHasCause setting before next
+    → HasControlItemCause setting before next → CurrentMarkRiseHasCause setting before next
 rises_one setting before (Item.Current version) cause = cause
 rises_one setting before _ cause = tt
 
-pub rises_rightly : FromCauses (λ setting. HaveCauses (CurrentRiseHasCause setting) [])
+pub rises_rightly : FromCauses (λ setting. JournalItemsHaveCauses (CurrentMarkRiseHasCause setting) [])
 rises_rightly setting journal have = search (rules, have_weaker)
 
 -- ---- marks at ends
 
 -- each item has its cause
 abbrev AreCaused : Setting → List Item → Type 0
-AreCaused setting journal = HaveCauses (HasItemCause setting) [] journal
+AreCaused setting journal = JournalItemsHaveCauses (HasControlItemCause setting) [] journal
 
 settled_in : (setting : Setting) (now : List Item) → AreCaused setting (now ++ settling setting now)
-    → AreSettled setting (now ++ settling setting now)
+    → AreMachineMarksSettled setting (now ++ settling setting now)
 settled_in setting now have =
-    let caused = have_front (HasItemCause setting) [] now (settling setting now) have in
+    let caused = have_front (HasControlItemCause setting) [] now (settling setting now) have in
     settles setting now (bounded setting now caused).there
     (behind setting (now ++ settling setting now) have)
 
 -- items that leave the controller leave it settled
 left_settled : (setting : Setting) (journal items : List Item) → Leave journal items
-    → AreSettled setting journal → AreSettled setting (journal ++ items)
+    → AreMachineMarksSettled setting journal → AreMachineMarksSettled setting (journal ++ items)
 left_settled setting journal items leave settled = search (rules, settled_on, leaves_keep)
 
 -- ---- what is delivered to the controller
 
 installs_leave : (setting : Setting) (s : ℕ) (journal : List Item)
-    → Leave journal (installs_to setting s journal)
-unfolding installs_to
+    → Leave journal (machine_installs_to setting s journal)
+unfolding machine_installs_to
 installs_leave setting s journal = sends_leave journal _ (installs_reopen setting journal s _)
 
 hello_leaves : (setting : Setting) (before : List Item) (body : Body) (journal : List Item)
@@ -285,46 +285,46 @@ hello_leaves setting before _ journal = tt
 
 heard_settled : (setting : Setting) (before : List Item) (body : Body) (now : List Item)
     → AreCaused setting (now ++ controller_items setting before body now)
-    → AreSettled setting (now ++ controller_items setting before body now)
+    → AreMachineMarksSettled setting (now ++ controller_items setting before body now)
 unfolding controller_items
 heard_settled setting before body now =
     let one : List Item = now ++ settling setting now in
     let hello : List Item = after_hello setting before body one in
-    subst (λ js. AreCaused setting js → AreSettled setting js)
+    subst (λ js. AreCaused setting js → AreMachineMarksSettled setting js)
     (sym (in_two (settling setting) (after_hello setting before body) now))
     (λ have. left_settled setting one hello (hello_leaves setting before body one)
-    (settled_in setting now (have_front (HasItemCause setting) [] one hello have)))
+    (settled_in setting now (have_front (HasControlItemCause setting) [] one hello have)))
 
 -- a message to the controller is there
-pub told_is : (before : List Item) (number : ℕ) → IsTrue (is_message_to_controller before number)
+pub told_is : (before : List Item) (number : ℕ) → IsTrue (is_journal_controller_message before number)
     → (body : Body) × (message_of before number ≡ Some (to_controller body))
 told_is before number is = by_message (message_of before number) refl is where
   by_receiver : (to : Place) (body : Body)
       → message_of before number ≡ Some (record { to = to; body = body })
-      → IsTrue (is_message_to_controller before number)
+      → IsTrue (is_journal_controller_message before number)
       → (body : Body) × (message_of before number ≡ Some (to_controller body))
   by_receiver Place.Controller body e is = (body, e)
   by_receiver (Place.Switch s) body e is = let no : false ≡ true = rw e at is in absurd cc
 
   by_message : (o : Option Message) → message_of before number ≡ o
-      → IsTrue (is_message_to_controller before number)
+      → IsTrue (is_journal_controller_message before number)
       → (body : Body) × (message_of before number ≡ Some (to_controller body))
   by_message None e is = let no : false ≡ true = rw e at is in absurd cc
   by_message (Some message) e is = by_receiver message.to message.body e is
 
 delivered_settled : (setting : Setting) (before : List Item) (number : ℕ) (now : List Item)
-    → IsTrue (is_message_to_controller before number)
-    → AreCaused setting (now ++ delivery_items setting before number now)
-    → AreSettled setting (now ++ delivery_items setting before number now)
-unfolding delivery_items
+    → IsTrue (is_journal_controller_message before number)
+    → AreCaused setting (now ++ machine_delivery_items setting before number now)
+    → AreMachineMarksSettled setting (now ++ machine_delivery_items setting before number now)
+unfolding machine_delivery_items
 delivered_settled setting before number now is = search (rules, told_is, heard_settled)
 
 -- where the items have their causes the marks are settled
 abbrev Settles : Setting → List Item → Type 0
-Settles setting journal = AreCaused setting journal → AreSettled setting journal
+Settles setting journal = AreCaused setting journal → AreMachineMarksSettled setting journal
 
 deliver_settled : (setting : Setting) (before : List Item) (number : ℕ) (here : List Item)
-    → IsTrue (is_message_to_controller before number) → AreSettled setting here
+    → IsTrue (is_journal_controller_message before number) → AreMachineMarksSettled setting here
     → Settles setting (here ++ deliver_items setting before number here)
 deliver_settled setting before number here is settled = deliver_cases (Settles setting) setting
     before number here (λ have. left_settled setting here nothing (tt, tt) settled)
@@ -332,15 +332,15 @@ deliver_settled setting before number here is settled = deliver_cases (Settles s
 
 -- ---- an update, and a confirmation
 
-update_settled : (setting : Setting) (file : ℕ) (here : List Item) → AreSettled setting here
+update_settled : (setting : Setting) (file : ℕ) (here : List Item) → AreMachineMarksSettled setting here
     → Settles setting (here ++ update_items setting file here)
 update_settled setting file here settled =
-    let now : List Item = here ++ Item.Submitted file (version_count here + 1) ∷ [] in
+    let now : List Item = here ++ Item.Submitted file (journal_version_count here + 1) ∷ [] in
     update_cases (Settles setting) setting file here
     (λ code have. left_settled setting here (Item.Refused file code ∷ []) (tt, tt) settled)
-    (settled_in setting (now ++ installs_to_all setting now))
+    (settled_in setting (now ++ machine_installs_to_all setting now))
 
-confirm_settled : (setting : Setting) (s : ℕ) (here : List Item) → AreSettled setting here
+confirm_settled : (setting : Setting) (s : ℕ) (here : List Item) → AreMachineMarksSettled setting here
     → Settles setting (here ++ confirm_items setting s here)
 confirm_settled setting s here settled = confirm_cases (Settles setting) setting s here
     (λ have. left_settled setting here nothing (tt, tt) settled) (settled_in setting _)
@@ -348,13 +348,13 @@ confirm_settled setting s here settled = confirm_cases (Settles setting) setting
 -- ---- steps
 
 told_settled : (setting : Setting) (before here : List Item) (step : Step)
-    → IsTrue (asks_controller before step) → AreSettled setting here
+    → IsTrue (asks_controller before step) → AreMachineMarksSettled setting here
     → Settles setting (here ++ step_items setting before step here)
 told_settled setting before here step is settled =
     search (rules, deliver_settled, update_settled, confirm_settled)
 
 step_settled : (setting : Setting) (before : List Item) (row : ℕ) (step : Step)
-    → AreSettled setting before → Settles setting (before ++ piece setting before row step)
+    → AreMachineMarksSettled setting before → Settles setting (before ++ piece setting before row step)
 step_settled setting before row step settled = by_kind (asks_controller before step) refl where
   by_kind : (b : Bool) → asks_controller before step ≡ b
       → Settles setting (before ++ piece setting before row step)
@@ -363,12 +363,12 @@ step_settled setting before row step settled = by_kind (asks_controller before s
       before _ step e (left_settled setting before (Item.Row row step ∷ []) (tt, tt) settled))
 
 steps_settled : (setting : Setting) (before : List Item) (steps : List StepOfRow)
-    → AreCaused setting before → AreSettled setting before
-    → AreSettled setting (journal_after_steps setting before steps)
+    → AreCaused setting before → AreMachineMarksSettled setting before
+    → AreMachineMarksSettled setting (journal_after_steps setting before steps)
 steps_settled setting before [] have settled = settled
 steps_settled setting before (next ∷ steps) have settled =
     let after : List Item = before ++ piece setting before next.row next.step in
-    let caused : AreCaused setting after = have_append (HasItemCause setting) [] before _ have
+    let caused : AreCaused setting after = have_append (HasControlItemCause setting) [] before _ have
     (pieces_have setting before next.row next.step) in
     steps_settled setting after steps caused
     (step_settled setting before next.row next.step settled caused)
@@ -378,7 +378,7 @@ steps_settled setting before (next ∷ steps) have settled =
 none_joins_first : (s : ℕ) → NoneJoins [] s
 none_joins_first s joins = search (rules, start_laws)
 
-first_settled : (setting : Setting) → AreSettled setting []
+first_settled : (setting : Setting) → AreMachineMarksSettled setting []
 first_settled setting = record {
   current = inl (start_laws.current ∙ sym start_laws.count);
   joining = All-from_recursion (NoneJoins []) (switches_of setting)
@@ -387,5 +387,5 @@ first_settled setting = record {
       omega (arith, start_laws.retired, current, next_below setting [] current_at_first);
 }
 
-pub settled_at_ends : HoldsAtEnds (λ setting journal. AreSettled setting journal)
+pub settled_at_ends : HoldsAtEnds (λ setting journal. AreMachineMarksSettled setting journal)
 settled_at_ends = search (rules, at_ends, steps_settled, first_settled)

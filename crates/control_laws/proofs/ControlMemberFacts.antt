@@ -1,8 +1,8 @@
 -- A fact of members: kept if nothing changes for the member, and true of those that become members.
 use Rattle.std.proofs.Common.{[], ◌++◌, ◌<◌, ◌==◌, ◌||◌, ◌∙◌, ◌∷◌, ◌≡◌, ◌≤◌, Bool, IsTrue, List, None, Option, Some, ap, append_assoc, arith, false, if◌then◌else◌, inl, inr, is_some, length, nat_eq, nat_lt, option_and_then, refl, subst, sym, true, unwrap_or, ℕ}
 use Rattle.base.proofs.Exports.{cases_lt, each_of_all, list_any, list_any-append, nat_tests, option_map_or, option_or}
-use Rattle.update_machine.specs.Exports.{Item, CurrentMayRise, Message, Setting, body_to_controller, controller_heard, current_mark, first_open_number, has_acked, hello_boot, installed_version_in, is_member, is_over, known_boot, members, open_sent, open_version, opened_at, raises_known, retired_mark}
-use Rattle.control_laws.specs.Exports.{HasItemCause, IsFirstOpening, RetirementHasCause}
+use Rattle.update_machine.specs.Exports.{Item, MachineCurrentMayRise, Message, Setting, journal_body_to_controller, controller_heard, journal_current_mark, machine_first_open, has_acked, journal_hello_boot, journal_installed_in_body, is_member, is_over, journal_known_boot, members, machine_open_sent, open_version, opened_at, journal_raises_known_boot, journal_retired_mark}
+use Rattle.control_laws.specs.Exports.{HasControlItemCause, IsFirstOpeningMessage, ControlRetirementHasCause}
 use Rattle.control_laws.proofs.ControlFactsGrown.{current_more, known_more, opened_at_more, opened_in, opened_is, opened_more, opens_by, over_more, raised, retired_more}
 use Rattle.control_laws.proofs.ControlSwitchOpenings.{member_of, member_parts}
 use Rattle.control_laws.proofs.ControlCurrentVersions.{StampsAreCurrent}
@@ -12,8 +12,8 @@ use Rattle.control_laws.proofs.ControlSaidToController.{each_in_range, tells, to
 -- ---- what a member keeps
 
 -- an item that opens no switch leaves the opening of the known boot
-pub opened_same : (before : List Item) (next : Item) (s : ℕ) → known_boot (before ++ next ∷ []) s
-    ≡ known_boot before s → open_sent s (known_boot before s) next ≡ []
+pub opened_same : (before : List Item) (next : Item) (s : ℕ) → journal_known_boot (before ++ next ∷ []) s
+    ≡ journal_known_boot before s → machine_open_sent s (journal_known_boot before s) next ≡ []
     → opened_at (before ++ next ∷ []) s ≡ opened_at before s
 opened_same before next s known none =
     cc (opened_at_more before next s known, none, or_none (opened_at before s))
@@ -23,46 +23,46 @@ opened_same before next s known none =
     or_none (Some x) = refl
 
 -- a delivery that raises the known boot makes it a greater one
-pub raised_above : (before : List Item) (number s : ℕ) → raises_known before s number ≡ true
-    → known_boot before s < known_boot (before ++ Item.Delivered number ∷ []) s
+pub raised_above : (before : List Item) (number s : ℕ) → journal_raises_known_boot before s number ≡ true
+    → journal_known_boot before s < journal_known_boot (before ++ Item.Delivered number ∷ []) s
 raised_above before number s raises = rw (known_more before (Item.Delivered number) s)
-    (rises (option_and_then (hello_boot s) (body_to_controller before number)) raises)
+    (rises (option_and_then (journal_hello_boot s) (journal_body_to_controller before number)) raises)
   where
     rises : (hello : Option ℕ)
-        → option_map_or (λ boot. nat_lt (known_boot before s) boot) hello false ≡ true
-        → known_boot before s < raised (known_boot before s) hello
+        → option_map_or (λ boot. nat_lt (journal_known_boot before s) boot) hello false ≡ true
+        → journal_known_boot before s < raised (journal_known_boot before s) hello
     rises None e = absurd cc
     rises (Some boot) e = grind (arith, nat_tests)
 
 -- and leaves no member: no message opened it in that boot
 pub raised_none : (before : List Item) (number s : ℕ) → StampsAreCurrent before
-    → raises_known before s number ≡ true
+    → journal_raises_known_boot before s number ≡ true
     → opened_at (before ++ Item.Delivered number ∷ []) s ≡ None
 raised_none before number s are raises = opened_is after s
-    ∙ opened_more before (Item.Delivered number) s (known_boot after s)
-    ∙ ap (λ o. option_or o None) (by_opened (opened_in before s (known_boot after s)) refl)
+    ∙ opened_more before (Item.Delivered number) s (journal_known_boot after s)
+    ∙ ap (λ o. option_or o None) (by_opened (opened_in before s (journal_known_boot after s)) refl)
   where
     after : List Item
     after = before ++ Item.Delivered number ∷ []
 
-    more : known_boot before s < known_boot after s
+    more : journal_known_boot before s < journal_known_boot after s
     more = raised_above before number s raises
 
-    by_opened : (o : Option ℕ) → opened_in before s (known_boot after s) ≡ o
-        → opened_in before s (known_boot after s) ≡ None
+    by_opened : (o : Option ℕ) → opened_in before s (journal_known_boot after s) ≡ o
+        → opened_in before s (journal_known_boot after s) ≡ None
     by_opened None e = e
-    by_opened (Some version) e = let past = (are.opened s (known_boot after s) version e).1 in
+    by_opened (Some version) e = let past = (are.opened s (journal_known_boot after s) version e).1 in
         absurd (omega (arith, past, more))
 
 -- one that doesn't leaves it
-pub unraised_same : (before : List Item) (number s : ℕ) → raises_known before s number ≡ false
-    → known_boot (before ++ Item.Delivered number ∷ []) s ≡ known_boot before s
+pub unraised_same : (before : List Item) (number s : ℕ) → journal_raises_known_boot before s number ≡ false
+    → journal_known_boot (before ++ Item.Delivered number ∷ []) s ≡ journal_known_boot before s
 unraised_same before number s none = known_more before (Item.Delivered number) s
-    ∙ same (option_and_then (hello_boot s) (body_to_controller before number)) none
+    ∙ same (option_and_then (journal_hello_boot s) (journal_body_to_controller before number)) none
   where
     same : (hello : Option ℕ)
-        → option_map_or (λ boot. nat_lt (known_boot before s) boot) hello false ≡ false
-        → raised (known_boot before s) hello ≡ known_boot before s
+        → option_map_or (λ boot. nat_lt (journal_known_boot before s) boot) hello false ≡ false
+        → raised (journal_known_boot before s) hello ≡ journal_known_boot before s
     same None e = refl
     same (Some boot) e = grind (arith, nat_tests)
 
@@ -70,7 +70,7 @@ unraised_same before number s none = known_more before (Item.Delivered number) s
 
 -- one more item leaves all as it was of which membership speaks
 pub record LeavesMember (before : List Item) (next : Item) (s : ℕ) : Type 0 where
-  pub known : known_boot (before ++ next ∷ []) s ≡ known_boot before s
+  pub known : journal_known_boot (before ++ next ∷ []) s ≡ journal_known_boot before s
   pub over : is_over (before ++ next ∷ []) s ≡ is_over before s
   pub opened : opened_at (before ++ next ∷ []) s ≡ opened_at before s
 
@@ -90,22 +90,22 @@ open_was before next s leaves = ap (λ o. unwrap_or o 0) leaves.opened
 pub record MemberFact (setting : Setting) (Holds : List Item → ℕ → Type 0) : Type 0 where
   -- it is kept where the switch and the marks stay as they were
   pub same : (before : List Item) (next : Item) (s : ℕ) → LeavesMember before next s
-      → current_mark (before ++ next ∷ []) ≡ current_mark before
-      → retired_mark (before ++ next ∷ []) ≡ retired_mark before
+      → journal_current_mark (before ++ next ∷ []) ≡ journal_current_mark before
+      → journal_retired_mark (before ++ next ∷ []) ≡ journal_retired_mark before
       → Holds before s → Holds (before ++ next ∷ []) s
   -- it asks nothing of others
   pub none : (journal : List Item) (s : ℕ) → (IsTrue (is_member journal s) → ⊥) → Holds journal s
   -- a switch that is opened now has it
   pub new : (before : List Item) (n s version : ℕ) (message : Message)
-      → StampsAreCurrent before → IsFirstOpening before s version
+      → StampsAreCurrent before → IsFirstOpeningMessage before s version
       → opened_at (before ++ Item.Sent n message ∷ []) s ≡ Some version
       → Holds (before ++ Item.Sent n message ∷ []) s
   -- it is kept as the marks rise
   pub raised : (before : List Item) (version s : ℕ) → StampsAreCurrent before
-      → CurrentMayRise setting before version → LeavesMember before (Item.Current version) s
+      → MachineCurrentMayRise setting before version → LeavesMember before (Item.Current version) s
       → Holds before s → Holds (before ++ Item.Current version ∷ []) s
   pub retires : (before : List Item) (version s : ℕ) → StampsAreCurrent before
-      → RetirementHasCause setting before version → LeavesMember before (Item.Retired version) s
+      → ControlRetirementHasCause setting before version → LeavesMember before (Item.Retired version) s
       → Holds before s → Holds (before ++ Item.Retired version ∷ []) s
 
 -- one that wasn't opened is no member
@@ -117,9 +117,9 @@ closed_no_member journal s closed member = let parts = member_parts journal s me
 -- ---- items
 
 -- an item that is no delivery, no message and no end of one that is over
-pub quiet_leaves : (before : List Item) (next : Item) (s : ℕ) → known_boot (before ++ next ∷ []) s
-    ≡ known_boot before s → is_over (before ++ next ∷ []) s ≡ is_over before s
-    → open_sent s (known_boot before s) next ≡ [] → LeavesMember before next s
+pub quiet_leaves : (before : List Item) (next : Item) (s : ℕ) → journal_known_boot (before ++ next ∷ []) s
+    ≡ journal_known_boot before s → is_over (before ++ next ∷ []) s ≡ is_over before s
+    → machine_open_sent s (journal_known_boot before s) next ≡ [] → LeavesMember before next s
 quiet_leaves before next s known over none = record {
   known = known;
   over = over;
@@ -128,10 +128,10 @@ quiet_leaves before next s known over none = record {
 
 -- a message that is sent leaves the member as it was, or there is none, or it is opened now
 pub sent_cases : (setting : Setting) (before : List Item) (n s : ℕ) (message : Message)
-    → HasItemCause setting before (Item.Sent n message) → (Goal : Type 0)
+    → HasControlItemCause setting before (Item.Sent n message) → (Goal : Type 0)
     → (LeavesMember before (Item.Sent n message) s → Goal)
     → ((IsTrue (is_member (before ++ Item.Sent n message ∷ []) s) → ⊥) → Goal)
-    → ((version : ℕ) → IsFirstOpening before s version
+    → ((version : ℕ) → IsFirstOpeningMessage before s version
     → opened_at (before ++ Item.Sent n message ∷ []) s ≡ Some version → Goal) → Goal
 sent_cases setting before n s message cause Goal leaves none new =
     by_opened (opened_at before s) refl
@@ -140,20 +140,20 @@ sent_cases setting before n s message cause Goal leaves none new =
     next = Item.Sent n message
 
     boot : ℕ
-    boot = known_boot before s
+    boot = journal_known_boot before s
 
-    known : known_boot (before ++ next ∷ []) s ≡ boot
+    known : journal_known_boot (before ++ next ∷ []) s ≡ boot
     known = known_more before next s
 
     after : opened_at (before ++ next ∷ []) s
-        ≡ option_or (opened_at before s) (first_open_number (open_sent s boot next))
+        ≡ option_or (opened_at before s) (machine_first_open (machine_open_sent s boot next))
     after = opened_at_more before next s known
 
     by_new : (o : Option ℕ) → opened_at before s ≡ None
-        → first_open_number (open_sent s boot next) ≡ o → opened_at (before ++ next ∷ []) s ≡ o → Goal
+        → machine_first_open (machine_open_sent s boot next) ≡ o → opened_at (before ++ next ∷ []) s ≡ o → Goal
     by_new None closed opens now = none (closed_no_member (before ++ next ∷ []) s now)
     by_new (Some w) closed opens now =
-        elim (subst (HasItemCause setting before) (opens_by next s boot w opens).1 cause).opens [
+        elim (subst (HasControlItemCause setting before) (opens_by next s boot w opens).1 cause).opens [
           | inl first ↦ new w first now
           | inr same ↦ let clash : None ≡ Some w = sym closed ∙ same in absurd cc
         ]
@@ -162,21 +162,21 @@ sent_cases setting before n s message cause Goal leaves none new =
     by_opened (Some w) e = leaves (record {
       known = known;
       over = over_more before next s;
-      opened = after ∙ ap (λ o. option_or o (first_open_number (open_sent s boot next))) e ∙ sym e;
+      opened = after ∙ ap (λ o. option_or o (machine_first_open (machine_open_sent s boot next))) e ∙ sym e;
     })
-    by_opened None e = by_new (first_open_number (open_sent s boot next)) e refl
-        (after ∙ ap (λ o. option_or o (first_open_number (open_sent s boot next))) e)
+    by_opened None e = by_new (machine_first_open (machine_open_sent s boot next)) e refl
+        (after ∙ ap (λ o. option_or o (machine_first_open (machine_open_sent s boot next))) e)
 
 -- a delivery leaves it as it was, or raises the known boot
 pub delivered_cases : (before : List Item) (number s : ℕ) → StampsAreCurrent before
     → (Goal : Type 0) → (LeavesMember before (Item.Delivered number) s → Goal)
     → ((IsTrue (is_member (before ++ Item.Delivered number ∷ []) s) → ⊥) → Goal) → Goal
-delivered_cases before number s are Goal leaves none = by_raise (raises_known before s number) refl
+delivered_cases before number s are Goal leaves none = by_raise (journal_raises_known_boot before s number) refl
   where
     next : Item
     next = Item.Delivered number
 
-    by_raise : (b : Bool) → raises_known before s number ≡ b → Goal
+    by_raise : (b : Bool) → journal_raises_known_boot before s number ≡ b → Goal
     by_raise true e = none
         (closed_no_member (before ++ next ∷ []) s (raised_none before number s are e))
     by_raise false e = leaves (quiet_leaves before next s (unraised_same before number s e)
@@ -199,7 +199,7 @@ over_cases before t s Goal leaves none = by_test (t == s) refl where
       (over_more before next s ∙ ap (λ b. if b then true else is_over before s) e) refl)
 
 pub member_on : (setting : Setting) (Holds : List Item → ℕ → Type 0) → MemberFact setting Holds
-    → (before : List Item) (next : Item) (s : ℕ) → HasItemCause setting before next
+    → (before : List Item) (next : Item) (s : ℕ) → HasControlItemCause setting before next
     → StampsAreCurrent before → Holds before s → Holds (before ++ next ∷ []) s
 member_on setting Holds fact before (Item.Sent n message) s cause are is =
     let next : Item = Item.Sent n message in
@@ -235,26 +235,26 @@ member_on setting Holds fact before next s cause are is = fact.same before next 
 -- ---- a member acknowledged each version from the one at which it was opened to the current one
 
 -- what is acknowledged in a known boot that stays: what was, and what the item tells
-pub acked_more : (before : List Item) (next : Item) (s v : ℕ) → known_boot (before ++ next ∷ []) s
-    ≡ known_boot before s → has_acked (before ++ next ∷ []) s v ≡ (has_acked before s v
-    || list_any (nat_eq v) (tells (installed_version_in s (known_boot before s)) before next))
+pub acked_more : (before : List Item) (next : Item) (s v : ℕ) → journal_known_boot (before ++ next ∷ []) s
+    ≡ journal_known_boot before s → has_acked (before ++ next ∷ []) s v ≡ (has_acked before s v
+    || list_any (nat_eq v) (tells (journal_installed_in_body s (journal_known_boot before s)) before next))
 unfolding has_acked
 acked_more before next s v known =
-    rw (known, told_by_more (installed_version_in s (known_boot before s)) before next)
+    rw (known, told_by_more (journal_installed_in_body s (journal_known_boot before s)) before next)
     (ap (list_any (nat_eq v)) (sym (append_assoc first told new))
     ∙ list_any-append (nat_eq v) (first ++ told) new)
   where
     first : List ℕ
-    first = if known_boot before s == 1 then 1 ∷ [] else []
+    first = if journal_known_boot before s == 1 then 1 ∷ [] else []
 
     told : List ℕ
-    told = told_by (installed_version_in s (known_boot before s)) before
+    told = told_by (journal_installed_in_body s (journal_known_boot before s)) before
 
     new : List ℕ
-    new = tells (installed_version_in s (known_boot before s)) before next
+    new = tells (journal_installed_in_body s (journal_known_boot before s)) before next
 
 acked_grows : (before : List Item) (next : Item) (s v : ℕ)
-    → known_boot (before ++ next ∷ []) s ≡ known_boot before s
+    → journal_known_boot (before ++ next ∷ []) s ≡ journal_known_boot before s
     → IsTrue (has_acked before s v) → IsTrue (has_acked (before ++ next ∷ []) s v)
 acked_grows before next s v known acked =
     let was : has_acked before s v ≡ true = acked in rw (acked_more before next s v known, was) refl
@@ -262,11 +262,11 @@ acked_grows before next s v known acked =
 -- a member of the network acknowledged what is current
 pub record IsAcked (setting : Setting) (journal : List Item) (s : ℕ) : Type 0 where
   pub acked : s < length setting.net.switches → IsTrue (is_member journal s) → (version : ℕ)
-      → open_version journal s ≤ version → version ≤ current_mark journal
+      → open_version journal s ≤ version → version ≤ journal_current_mark journal
       → IsTrue (has_acked journal s version)
 
 same_acked : (setting : Setting) (before : List Item) (next : Item) (s : ℕ)
-    → LeavesMember before next s → current_mark (before ++ next ∷ []) ≡ current_mark before
+    → LeavesMember before next s → journal_current_mark (before ++ next ∷ []) ≡ journal_current_mark before
     → IsAcked setting before s → IsAcked setting (before ++ next ∷ []) s
 same_acked setting before next s leaves current is = record {
   acked = λ there member version above below. acked_grows before next s version leaves.known
@@ -276,12 +276,12 @@ same_acked setting before next s leaves current is = record {
 
 -- one that is opened now acknowledged the version at which it is
 new_acked : (setting : Setting) (before : List Item) (n s version : ℕ) (message : Message)
-    → IsFirstOpening before s version
+    → IsFirstOpeningMessage before s version
     → opened_at (before ++ Item.Sent n message ∷ []) s ≡ Some version
     → IsAcked setting (before ++ Item.Sent n message ∷ []) s
 new_acked setting before n s version message first now =
     let next : Item = Item.Sent n message in
-    let current : version ≡ current_mark before = first.current in record {
+    let current : version ≡ journal_current_mark before = first.current in record {
       acked = λ there member v above below. let own : version ≡ v = omega
           (arith, ap (λ o. unwrap_or o 0) now, current_more before next, current, above, below) in
           acked_grows before next s v (known_more before next s)
@@ -289,13 +289,13 @@ new_acked setting before n s version message first now =
     }
 
 raised_acked : (setting : Setting) (before : List Item) (mark s : ℕ)
-    → CurrentMayRise setting before mark → LeavesMember before (Item.Current mark) s
+    → MachineCurrentMayRise setting before mark → LeavesMember before (Item.Current mark) s
     → IsAcked setting before s → IsAcked setting (before ++ Item.Current mark ∷ []) s
 raised_acked setting before mark s may leaves is = let next : Item = Item.Current mark in record {
   acked = λ there member version above below.
       let was : IsTrue (is_member before s) = member_was before next s leaves member in
       acked_grows before next s version leaves.known
-      (elim (cases_lt (current_mark before) version) [
+      (elim (cases_lt (journal_current_mark before) version) [
         | inl new ↦ each_in_range (λ t. IsTrue (has_acked before t version)) (is_member before) 0
             (length setting.net.switches) s (each_of_all (λ t. has_acked before t version)
             (members setting before) (may.acknowledged version new (omega (arith, current_more))))
@@ -319,7 +319,7 @@ acked_fact setting = record {
 }
 
 pub first_open : (s : ℕ) → open_version [] s ≡ 1
-unfolding opened_at known_boot controller_heard
+unfolding opened_at journal_known_boot controller_heard
 first_open s = refl
 
 pub acked_at_first : (setting : Setting) (s : ℕ) → IsAcked setting [] s

@@ -1,7 +1,7 @@
 -- How many messages each block of a piece sends.
 use Rattle.std.proofs.Common.{[], if◌then◌else◌, ◌++◌, ◌+◌, ◌∷◌, ◌≡◌, ◌≤◌, Bool, IsFalse, List, Option, arith, cond, false, filter, flat_map, length, length-append, map, not, refl, true, ℕ, rules}
 use Rattle.base.proofs.Exports.{length-flat_map, length-map, length-range_with_len, length_filter_less, range_with_len, sum_by-cons, sum_each}
-use Rattle.update_machine.specs.Exports.{Action, Advert, AuthorityRule, Body, Found, Header, Item, Leg, Message, NoneConcern, Setting, Step, advert_to, after_hello, arrive_items, authority_items, cache_items, concerns_policies, confirm_items, controller_items, count_of, current_items, end_items, expire_items, forget_items, found_items, has_acked, held_adverts, hello_of, hop_items, in_turn, install_for, installs_to, installs_to_all, is_member, is_sending, is_up, journal_items_then, leg_items, lookup_items, lose_items, members, move_items, near, next_message, nothing, open_items, packet_items, advert_passed_on, reroute_items, resend_items, resent_by_controller, resent_by_switch, resent_to_member, retired_items, send_items, sends_or_nothing, sent_from, settling, step_items, submitted_items, switches_in, switches_of, journal_unacked_installs, update_items, version_count}
+use Rattle.update_machine.specs.Exports.{Action, Advert, AuthorityRule, Body, Found, Header, Item, Leg, Message, NoneConcern, Setting, Step, advert_to, after_hello, machine_arrive_items, machine_authority_items, journal_cache_items, item_concerns_policies, confirm_items, controller_items, count_of, current_items, end_items, machine_expire_items, forget_items, found_items, has_acked, journal_held_adverts, machine_hello_of, machine_hop_items, in_turn, journal_install_for, machine_installs_to, machine_installs_to_all, is_member, is_sending, is_up, journal_items_then, machine_leg_items, lookup_items, lose_items, members, move_items, near, journal_next_message, nothing, machine_open_items, packet_items, machine_advert_passed_on, reroute_items, resend_items, journal_resent_by_controller, journal_resent_by_switch, journal_resent_to_member, retired_items, send_items, machine_sends_or_nothing, machine_sent_items_from, settling, step_items, submitted_items, setting_switches_in, switches_of, journal_unacked_installs, update_items, journal_version_count}
 use Rattle.base.specs.Exports.{has}
 use Rattle.net_file.specs.Exports.{IsNet}
 use Rattle.update_machine.proofs.Exports.{count_of_append, policies_keep}
@@ -19,14 +19,14 @@ pub sent_more : (next : Item) (items : List Item)
     → sent (next ∷ items) ≡ cond (is_sending next) 1 0 + sent items
 sent_more next items = sum_by-cons (λ x. cond (is_sending x) 1 0) next items
 
-sent_all : (messages : List Message) (n : ℕ) → sent (sent_from n messages) ≡ length messages
-unfolding sent_from
+sent_all : (messages : List Message) (n : ℕ) → sent (machine_sent_items_from n messages) ≡ length messages
+unfolding machine_sent_items_from
 sent_all [] n = refl
 sent_all (message ∷ messages) n = omega (arith, sent_more, sent_all messages (n + 1))
 
 pub sends_count : (journal : List Item) (messages : List Message)
     → sent (send_items journal messages) ≡ length messages
-sends_count journal messages = sent_all messages (next_message journal)
+sends_count journal messages = sent_all messages (journal_next_message journal)
 
 pub put_few : (first : List Item) (rest : List Item → List Item) (journal : List Item)
     → sent (journal_items_then first rest journal) ≡ sent first + sent (rest (journal ++ first))
@@ -35,8 +35,8 @@ put_few first rest journal = count_of_append is_sending first (rest (journal ++ 
 -- ---- packets: a lookup at an authority switch may send one cache rule
 
 leg_few : (setting : Setting) (journal : List Item) (i s : ℕ) (leg : Leg)
-    → sent (leg_items setting journal i s leg) ≡ 0
-unfolding leg_items
+    → sent (machine_leg_items setting journal i s leg) ≡ 0
+unfolding machine_leg_items
 leg_few setting journal i s leg = grind arith
 
 end_few : (setting : Setting) (i s : ℕ) (act : Action) (journal : List Item)
@@ -45,13 +45,13 @@ unfolding end_items
 end_few setting i s act journal = search (rules, leg_few)
 
 cache_few : (setting : Setting) (i s : ℕ) (rule : AuthorityRule) (journal : List Item)
-    → sent (cache_items setting i s rule journal) ≤ 1
-unfolding cache_items
+    → sent (journal_cache_items setting i s rule journal) ≤ 1
+unfolding journal_cache_items
 cache_few setting i s rule journal = grind (arith, sends_count)
 
 authority_few : (setting : Setting) (i s : ℕ) (rule : Option AuthorityRule) (journal : List Item)
-    → sent (authority_items setting i s rule journal) ≤ 1
-unfolding authority_items
+    → sent (machine_authority_items setting i s rule journal) ≤ 1
+unfolding machine_authority_items
 authority_few setting i s rule journal =
     search (rules, sent_more, put_few, count_of_append, cache_few, end_few)
 
@@ -65,8 +65,8 @@ unfolding lookup_items
 lookup_few setting i s journal = search (rules, found_few)
 
 arrive_few : (setting : Setting) (i s : ℕ) (journal : List Item)
-    → sent (arrive_items setting i s journal) ≤ 1
-unfolding arrive_items
+    → sent (machine_arrive_items setting i s journal) ≤ 1
+unfolding machine_arrive_items
 arrive_few setting i s journal = grind (arith, lookup_few, authority_few)
 
 reroute_few : (setting : Setting) (i s : ℕ) (journal : List Item)
@@ -87,7 +87,7 @@ packet_few setting i s header journal = grind (arith, sent_more, lookup_few)
 -- so what is work alone sends at most one message
 pub step_few : (setting : Setting) (before : List Item) (step : Step) (here : List Item)
     → IsWorkStep step → sent (step_items setting before step here) ≤ 1
-unfolding hop_items lose_items forget_items expire_items
+unfolding machine_hop_items lose_items forget_items machine_expire_items
 step_few setting before step here = search (rules, move_few)
 
 -- ---- settling
@@ -123,8 +123,8 @@ unfolding current_items
 current_few setting net journal = mark_few setting net journal (Item.Current _) refl _ _
 
 open_few : (setting : Setting) → IsNet setting.net → (journal : List Item)
-    → sent (open_items setting journal) ≤ 64
-unfolding open_items
+    → sent (machine_open_items setting journal) ≤ 64
+unfolding machine_open_items
 open_few setting net journal = each_few setting net journal _ _
 
 retired_few : (setting : Setting) → IsNet setting.net → (journal : List Item)
@@ -137,12 +137,12 @@ pub settling_few : (setting : Setting) → IsNet setting.net → (journal : List
 unfolding settling
 settling_few setting net journal =
     let raised : List Item = journal ++ current_items setting journal in
-    let opened : List Item = raised ++ open_items setting raised in
+    let opened : List Item = raised ++ machine_open_items setting raised in
     omega (
       arith,
       put_few (current_items setting journal)
-          (in_turn (open_items setting ∷ retired_items setting ∷ [])) journal,
-      put_few (open_items setting raised) (in_turn (retired_items setting ∷ [])) raised,
+          (in_turn (machine_open_items setting ∷ retired_items setting ∷ [])) journal,
+      put_few (machine_open_items setting raised) (in_turn (retired_items setting ∷ [])) raised,
       put_few (retired_items setting opened) (in_turn []) opened,
       current_few setting net journal,
       open_few setting net raised,
@@ -162,13 +162,13 @@ range_few journal to low n = omega (
 )
 
 pub installs_few : (setting : Setting) (s : ℕ) (journal : List Item)
-    → sent (installs_to setting s journal) ≤ version_count journal + 1
-unfolding installs_to
+    → sent (machine_installs_to setting s journal) ≤ journal_version_count journal + 1
+unfolding machine_installs_to
 installs_few setting s journal = omega (arith, range_few)
 
 all_installs_few : (setting : Setting) → IsNet setting.net → (journal : List Item)
-    → sent (installs_to_all setting journal) ≤ 64
-unfolding installs_to_all
+    → sent (machine_installs_to_all setting journal) ≤ 64
+unfolding machine_installs_to_all
 all_installs_few setting net journal = each_few setting net journal _ _
 
 pub submitted_few : (setting : Setting) → IsNet setting.net → (journal : List Item)
@@ -184,7 +184,7 @@ unacked_few setting journal s low n =
     omega (
       arith,
       length-map (filter test (range_with_len low n))
-          (λ version. install_for setting journal version s),
+          (λ version. journal_install_for setting journal version s),
       length_filter_less test (range_with_len low n),
       length-range_with_len low n,
     )
@@ -196,50 +196,50 @@ none_if : (b : Bool) (message : Message) → length (if b then [] else message �
 none_if b message = search rules
 
 member_few : (setting : Setting) (journal : List Item) (s : ℕ)
-    → length (resent_to_member setting journal s) ≤ version_count journal + 3
+    → length (journal_resent_to_member setting journal s) ≤ journal_version_count journal + 3
 member_few setting journal s = search (rules, length-append, unacked_few, none_if)
 
 controller_resent_few : (setting : Setting) (journal : List Item) (s : ℕ)
-    → length (resent_by_controller setting journal s) ≤ version_count journal + 3
-unfolding resent_by_controller
+    → length (journal_resent_by_controller setting journal s) ≤ journal_version_count journal + 3
+unfolding journal_resent_by_controller
 controller_resent_few setting journal s = search (rules, member_few, unacked_few)
 
 -- all adverts that are held, to each neighbour
 switch_resent_few : (setting : Setting) → IsNet setting.net → (journal : List Item) (s : ℕ)
-    → length (resent_by_switch setting journal s) ≤ 4097
+    → length (journal_resent_by_switch setting journal s) ≤ 4097
 switch_resent_few setting net journal s = by_up (is_up journal s) where
   by_up : (up : Bool) → length {A = Message} (elim up [
     | false ↦ []
-    | true ↦ hello_of journal s
-        ∷ flat_map (λ neighbour. map (advert_to neighbour) (held_adverts setting journal s))
-        (switches_in setting (near setting journal s))
+    | true ↦ machine_hello_of journal s
+        ∷ flat_map (λ neighbour. map (advert_to neighbour) (journal_held_adverts setting journal s))
+        (setting_switches_in setting (near setting journal s))
   ]) ≤ 4097
   by_up false = omega arith
   by_up true = omega (
     arith,
-    length-flat_map (λ neighbour. map (advert_to neighbour) (held_adverts setting journal s))
-        (switches_in setting (near setting journal s)),
-    sum_each (λ neighbour. length (map (advert_to neighbour) (held_adverts setting journal s))) 64
-        (switches_in setting (near setting journal s)) (λ neighbour. omega (
+    length-flat_map (λ neighbour. map (advert_to neighbour) (journal_held_adverts setting journal s))
+        (setting_switches_in setting (near setting journal s)),
+    sum_each (λ neighbour. length (map (advert_to neighbour) (journal_held_adverts setting journal s))) 64
+        (setting_switches_in setting (near setting journal s)) (λ neighbour. omega (
           arith,
           held_few setting journal s,
-          length-map (held_adverts setting journal s) (advert_to neighbour),
+          length-map (journal_held_adverts setting journal s) (advert_to neighbour),
         )),
     switches_few setting net (has (near setting journal s)),
   )
 
 pub resend_few : (setting : Setting) → IsNet setting.net → (s : ℕ) (journal : List Item)
-    → sent (resend_items setting s journal) ≤ 4100 + version_count journal
+    → sent (resend_items setting s journal) ≤ 4100 + journal_version_count journal
 unfolding resend_items
 resend_few setting net s journal = by_messages _ (omega (
   arith,
-  length-append (resent_by_switch setting journal s) (resent_by_controller setting journal s),
+  length-append (journal_resent_by_switch setting journal s) (journal_resent_by_controller setting journal s),
   switch_resent_few setting net journal s,
   controller_resent_few setting journal s,
 ))
   where
-    by_messages : (messages : List Message) → length messages ≤ 4100 + version_count journal
-        → sent (sends_or_nothing journal messages) ≤ 4100 + version_count journal
+    by_messages : (messages : List Message) → length messages ≤ 4100 + journal_version_count journal
+        → sent (machine_sends_or_nothing journal messages) ≤ 4100 + journal_version_count journal
     by_messages [] few = omega arith
     by_messages (message ∷ messages) few = omega (arith, sends_count)
 
@@ -256,10 +256,10 @@ unfolding confirm_items
 confirm_few setting net s journal = search (rules, sent_more, settling_few)
 
 pub passed_few : (setting : Setting) → IsNet setting.net → (journal : List Item) (s : ℕ)
-    (advert : Advert) → length (advert_passed_on setting journal s advert) ≤ 64
+    (advert : Advert) → length (machine_advert_passed_on setting journal s advert) ≤ 64
 passed_few setting net journal s advert = omega (
   arith,
-  length-map (switches_in setting (near setting journal s))
+  length-map (setting_switches_in setting (near setting journal s))
       (λ neighbour. advert_to neighbour advert),
   switches_few setting net (has (near setting journal s)),
 )
@@ -267,25 +267,25 @@ passed_few setting net journal s advert = omega (
 -- ---- what the controller does: settling submits nothing
 
 settling_submits_none : (before : List Item) (next : Item) → IsOfSettling before next
-    → IsFalse (concerns_policies before next)
+    → IsFalse (item_concerns_policies before next)
 settling_submits_none before next of = search rules
 
 settling_submitless : (setting : Setting) (journal : List Item)
-    → NoneConcern concerns_policies journal (settling setting journal)
+    → NoneConcern item_concerns_policies journal (settling setting journal)
 settling_submitless setting journal = have_weaker IsOfSettling _ settling_submits_none journal _
     (settling_settles setting journal)
 
 hello_few : (setting : Setting) (before : List Item) (body : Body) (journal : List Item)
-    → sent (after_hello setting before body journal) ≤ version_count journal + 1
+    → sent (after_hello setting before body journal) ≤ journal_version_count journal + 1
 hello_few setting before body journal = search (rules, installs_few)
 
 pub controller_few : (setting : Setting) → IsNet setting.net → (before : List Item) (body : Body)
     (journal : List Item)
-    → sent (controller_items setting before body journal) ≤ 193 + version_count journal
+    → sent (controller_items setting before body journal) ≤ 193 + journal_version_count journal
 unfolding controller_items
 controller_few setting net before body journal =
     let settled : List Item = journal ++ settling setting journal in
-    let same : version_count settled ≡ version_count journal = (policies_keep journal
+    let same : journal_version_count settled ≡ journal_version_count journal = (policies_keep journal
     (settling setting journal) (settling_submitless setting journal)).count in
     omega (
       arith,

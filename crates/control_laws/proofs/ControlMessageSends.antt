@@ -1,11 +1,11 @@
 -- Messages that are sent one after another: each has its cause behind those before it.
 use Rattle.std.proofs.Common.{[], ◌&&◌, ◌++◌, ◌+◌, ◌-◌, ◌<◌, ◌∙◌, ◌∷◌, ◌≡◌, ◌≤◌, ◌⊎◌, Bool, IsFalse, IsTrue, List, None, Option, Some, ap, arith, false, filter, flat_map, inl, inr, is_some, length, map, nat_lt, not, refl, subst, suc, sym, true, zero, ℕ, rules}
 use Rattle.base.proofs.Exports.{AllByRecursion, each_always, each_flat_map, each_kept, each_map, each_passing, option_or, range_with_len}
-pub use Rattle.policy_rules.proofs.CallerLemmas.{each_weaker}
-use Rattle.update_machine.specs.Exports.{Advert, Advertise, Body, CacheRule, Collect, HaveCauses, Hello, Install, Installed, Item, Message, OpenAt, Place, Setting, Stamp, Stamped, SwitchKeeps, advert_to, collect_for, controller_heard, current_items, current_mark, first_open_number, has_acked, held_adverts, hello_of, install_for, is_joining, is_member, is_over, is_up, journal_items_then, known_boot, members, near, next_current, next_retired, open_for, open_items, open_sent, open_version, opened_at, opening_switches, resend_items, resent_by_controller, resent_by_switch, resent_to_member, retired_items, retired_mark, send_items, sent_from, settling, stamp_for, switches_in, switches_of, tables_at, touched_by, journal_unacked_installs, version_count, versions_from_current}
+pub use Rattle.policy_rules.proofs.PolicyRulesCallerLemmas.{each_weaker}
+use Rattle.update_machine.specs.Exports.{Advert, Advertise, Body, CacheRule, Collect, JournalItemsHaveCauses, Hello, Install, Installed, Item, Message, OpenAt, Place, Setting, Stamp, Stamped, JournalSwitchKeeps, advert_to, machine_collect_for, controller_heard, current_items, journal_current_mark, machine_first_open, has_acked, journal_held_adverts, machine_hello_of, journal_install_for, is_joining, is_member, is_over, is_up, journal_items_then, journal_known_boot, members, near, journal_next_current, journal_next_retired, journal_open_for, machine_open_items, machine_open_sent, open_version, opened_at, opening_switches, resend_items, journal_resent_by_controller, journal_resent_by_switch, journal_resent_to_member, retired_items, journal_retired_mark, send_items, machine_sent_items_from, settling, journal_stamp_for, setting_switches_in, switches_of, journal_tables_at, touched_by, journal_unacked_installs, journal_version_count, journal_versions_from_current}
 use Rattle.switch_table.specs.Exports.{tables_of}
 use Rattle.update_machine.proofs.Exports.{have_first, have_in_turn, policies_keep, switch_keeps}
-use Rattle.control_laws.specs.Exports.{HasItemCause, IsFirstOpening, IsForKnown, IsPresentIn, IsRightFrom, IsRightMessage, IsRightOpening, IsRightTo}
+use Rattle.control_laws.specs.Exports.{HasControlItemCause, IsFirstOpeningMessage, IsControlForKnown, IsControlSenderPresent, IsRightMessageFrom, IsRightMessage, IsRightOpening, IsRightMessageTo}
 use Rattle.control_laws.proofs.ControlFactsGrown.{Has, count_more, current_more, known_more, opened_at_more, opens_by, over_more, retired_more, told_more}
 use Rattle.control_laws.proofs.ControlSwitchOpenings.{each_by_controller, each_to_member, later_versions, member_on, member_parts, resent_has}
 
@@ -38,8 +38,8 @@ pub sent_kept : (cause : List Item → Item → Type 0) (Tells : List Item → M
     → ((before : List Item) (n : ℕ) (message other : Message) → Tells before message
     → Tells before other → Tells (before ++ Item.Sent n message ∷ []) other)
     → (messages : List Message) (journal : List Item) (n : ℕ)
-    → AllByRecursion (Tells journal) messages → HaveCauses cause journal (sent_from n messages)
-unfolding sent_from
+    → AllByRecursion (Tells journal) messages → JournalItemsHaveCauses cause journal (machine_sent_items_from n messages)
+unfolding machine_sent_items_from
 sent_kept cause Tells causes stays [] journal n all = tt
 sent_kept cause Tells causes stays (message ∷ messages) journal n all = (
   causes journal n message all.0,
@@ -53,7 +53,7 @@ pub sends_kept : (cause : List Item → Item → Type 0) (Tells : List Item → 
     → ((before : List Item) (n : ℕ) (message other : Message) → Tells before message
     → Tells before other → Tells (before ++ Item.Sent n message ∷ []) other)
     → (journal : List Item) (messages : List Message) → AllByRecursion (Tells journal) messages
-    → HaveCauses cause journal (send_items journal messages)
+    → JournalItemsHaveCauses cause journal (send_items journal messages)
 sends_kept cause Tells causes stays journal messages all = search (rules, sent_kept)
 
 -- ---- what a message that is sent leaves as it was
@@ -61,29 +61,29 @@ sends_kept cause Tells causes stays journal messages all = search (rules, sent_k
 -- what was acknowledged is as what was told
 pub acked_same : (after before : List Item) (s v : ℕ) → controller_heard after
     ≡ controller_heard before → has_acked after s v ≡ has_acked before s v
-unfolding has_acked known_boot
+unfolding has_acked journal_known_boot
 acked_same after before s v same = rw same refl
 
 keeps : (setting : Setting) (before : List Item) (n s : ℕ) (message : Message)
-    → SwitchKeeps setting s before (before ++ Item.Sent n message ∷ [])
+    → JournalSwitchKeeps setting s before (before ++ Item.Sent n message ∷ [])
 keeps setting before n s message = search (rules, switch_keeps)
 
 member_sent : (before : List Item) (s n : ℕ) (message : Message) → IsTrue (is_member before s)
     → IsTrue (is_member (before ++ Item.Sent n message ∷ []) s)
 member_sent before s n message member = search (rules, member_on, known_more, over_more)
 
-known_sent : (before : List Item) (s boot n : ℕ) (message : Message) → IsForKnown before s boot
-    → IsForKnown (before ++ Item.Sent n message ∷ []) s boot
+known_sent : (before : List Item) (s boot n : ℕ) (message : Message) → IsControlForKnown before s boot
+    → IsControlForKnown (before ++ Item.Sent n message ∷ []) s boot
 known_sent before s boot n message to = search (rules, known_more, over_more)
 
 present_sent : (setting : Setting) (before : List Item) (s boot n : ℕ) (message : Message)
-    → IsPresentIn before s boot → IsPresentIn (before ++ Item.Sent n message ∷ []) s boot
+    → IsControlSenderPresent before s boot → IsControlSenderPresent (before ++ Item.Sent n message ∷ []) s boot
 present_sent setting before s boot n message present =
     let same = keeps setting before n s message in
     record { up = rw same.up present.up; own = rw same.boot present.own }
 
 from_sent : (setting : Setting) (before : List Item) (n : ℕ) (message : Message) (body : Body)
-    → IsRightFrom before body → IsRightFrom (before ++ Item.Sent n message ∷ []) body
+    → IsRightMessageFrom before body → IsRightMessageFrom (before ++ Item.Sent n message ∷ []) body
 from_sent setting before n message (Hello s boot) right = search (rules, present_sent)
 from_sent setting before n message (Installed s boot version) right = record {
   present = present_sent setting before s boot n message right.present;
@@ -103,29 +103,29 @@ opening_sent : (setting : Setting) (before : List Item) (s boot version n : ℕ)
 opening_sent setting before s boot version n message new right = record {
   to = known_sent before s boot n message right.to;
   opens = elim right.opens [
-    | inl first ↦ by_opens first (first_open_number (open_sent s (known_boot before s) next)) refl
+    | inl first ↦ by_opens first (machine_first_open (machine_open_sent s (journal_known_boot before s) next)) refl
     | inr same ↦ inr (after
-        ∙ ap (λ o. option_or o (first_open_number (open_sent s (known_boot before s) next))) same)
+        ∙ ap (λ o. option_or o (machine_first_open (machine_open_sent s (journal_known_boot before s) next))) same)
   ];
 } where
   next : Item
   next = Item.Sent n message
 
   after : opened_at (before ++ next ∷ []) s
-      ≡ option_or (opened_at before s) (first_open_number (open_sent s (known_boot before s) next))
+      ≡ option_or (opened_at before s) (machine_first_open (machine_open_sent s (journal_known_boot before s) next))
   after = opened_at_more before next s (known_more before next s)
 
   -- another one opens it at the current version too
-  at_current : (w : ℕ) → IsFirstOpening before s version
-      → IsRightOpening before s (known_boot before s) w → w ≡ version
+  at_current : (w : ℕ) → IsFirstOpeningMessage before s version
+      → IsRightOpening before s (journal_known_boot before s) w → w ≡ version
   at_current w first other = elim other.opens [
     | inl also ↦ also.current ∙ sym first.current
     | inr same ↦ let clash : None ≡ Some w = sym first.closed ∙ same in absurd cc
   ]
 
-  by_opens : IsFirstOpening before s version → (o : Option ℕ)
-      → first_open_number (open_sent s (known_boot before s) next) ≡ o
-      → IsFirstOpening (before ++ next ∷ []) s version
+  by_opens : IsFirstOpeningMessage before s version → (o : Option ℕ)
+      → machine_first_open (machine_open_sent s (journal_known_boot before s) next) ≡ o
+      → IsFirstOpeningMessage (before ++ next ∷ []) s version
       ⊎ (opened_at (before ++ next ∷ []) s ≡ Some version)
   by_opens first None e = inl (record {
     closed = cc (after, first.closed, e);
@@ -134,14 +134,14 @@ opening_sent setting before s boot version n message new right = record {
   })
   by_opens first (Some w) e = inr (
       after
-      ∙ ap (λ o. option_or o (first_open_number (open_sent s (known_boot before s) next))) first.closed
-      ∙ e ∙ ap Some (at_current w first (subst (HasItemCause setting before) (opens_by next s
-      (known_boot before s) w e).1 new)))
+      ∙ ap (λ o. option_or o (machine_first_open (machine_open_sent s (journal_known_boot before s) next))) first.closed
+      ∙ e ∙ ap Some (at_current w first (subst (HasControlItemCause setting before) (opens_by next s
+      (journal_known_boot before s) w e).1 new)))
 
 -- ---- each message stays right after others
 
 tables_sent : (setting : Setting) (before : List Item) (n v s : ℕ) (message : Message)
-    → tables_at setting (before ++ Item.Sent n message ∷ []) v s ≡ tables_at setting before v s
+    → journal_tables_at setting (before ++ Item.Sent n message ∷ []) v s ≡ journal_tables_at setting before v s
 tables_sent setting before n v s message = ap (λ plan. tables_of plan v s)
     ((policies_keep before (Item.Sent n message ∷ []) (refl, tt)).plan setting v)
 
@@ -150,8 +150,8 @@ touched_sent : (setting : Setting) (before : List Item) (n v : ℕ) (message : M
 touched_sent setting before n v message = (policies_keep before _ (refl, tt)).touched setting v
 
 to_sent : (setting : Setting) (before : List Item) (s n : ℕ) (message : Message) (body : Body)
-    → IsRightMessage setting before message.to message.body → IsRightTo setting before s body
-    → IsRightTo setting (before ++ Item.Sent n message ∷ []) s body
+    → IsRightMessage setting before message.to message.body → IsRightMessageTo setting before s body
+    → IsRightMessageTo setting (before ++ Item.Sent n message ∷ []) s body
 to_sent setting before s n message (Install boot tables) new right = record {
   to = known_sent before s boot n message right.to;
   version = right.version;
@@ -183,7 +183,7 @@ right_sent setting before n message Place.Controller body new right = search (ru
 -- messages that are right as the first of them is sent
 pub sends_have : (setting : Setting) (journal : List Item) (messages : List Message)
     → AllByRecursion (IsRight setting journal) messages
-    → HaveCauses (HasItemCause setting) journal (send_items journal messages)
+    → JournalItemsHaveCauses (HasControlItemCause setting) journal (send_items journal messages)
 sends_have setting = search (rules, sends_kept, right_sent)
 
 -- ---- what settling writes: whatever causes its marks and the messages behind them have, it has
@@ -193,7 +193,7 @@ pub record Rises (cause : List Item → Item → Type 0) (Tells : List Item → 
     (setting : Setting) (journal : List Item) (next : Item) (message : ℕ → Message) : Type 0 where
   pub may : cause journal next
   pub told : (s : ℕ) → s < length setting.net.switches
-      → IsForKnown (journal ++ next ∷ []) s (known_boot journal s)
+      → IsControlForKnown (journal ++ next ∷ []) s (journal_known_boot journal s)
       → IsTrue (is_member (journal ++ next ∷ []) s) → Tells (journal ++ next ∷ []) (message s)
 
 -- both marks may rise so, and what each joining switch is told that acknowledged the current
@@ -202,46 +202,46 @@ pub record SettlingHas (cause : List Item → Item → Type 0) (Tells : List Ite
     (setting : Setting) : Type 0 where
   pub sends : (journal : List Item) (messages : List Message)
       → AllByRecursion (Tells journal) messages
-      → HaveCauses cause journal (send_items journal messages)
-  pub rises : (journal : List Item) → let version = next_current setting journal in
-      IsTrue (nat_lt (current_mark journal) version)
-      → Rises cause Tells setting journal (Item.Current version) (stamp_for setting journal version)
+      → JournalItemsHaveCauses cause journal (send_items journal messages)
+  pub rises : (journal : List Item) → let version = journal_next_current setting journal in
+      IsTrue (nat_lt (journal_current_mark journal) version)
+      → Rises cause Tells setting journal (Item.Current version) (journal_stamp_for setting journal version)
   pub opens : (journal : List Item) (s : ℕ) → s < length setting.net.switches
-      → IsTrue (is_joining journal s && has_acked journal s (current_mark journal))
-      → Tells journal (open_for journal (current_mark journal) s)
-  pub retires : (journal : List Item) → let version = next_retired setting journal in
-      IsTrue (nat_lt (retired_mark journal) version)
-      → Rises cause Tells setting journal (Item.Retired version) (collect_for journal version)
+      → IsTrue (is_joining journal s && has_acked journal s (journal_current_mark journal))
+      → Tells journal (journal_open_for journal (journal_current_mark journal) s)
+  pub retires : (journal : List Item) → let version = journal_next_retired setting journal in
+      IsTrue (nat_lt (journal_retired_mark journal) version)
+      → Rises cause Tells setting journal (Item.Retired version) (machine_collect_for journal version)
 
 -- so its three parts have them
 pub record PartsHave (cause : List Item → Item → Type 0) (setting : Setting) : Type 0 where
-  pub rises : (journal : List Item) → HaveCauses cause journal (current_items setting journal)
-  pub opens : (journal : List Item) → HaveCauses cause journal (open_items setting journal)
-  pub retires : (journal : List Item) → HaveCauses cause journal (retired_items setting journal)
+  pub rises : (journal : List Item) → JournalItemsHaveCauses cause journal (current_items setting journal)
+  pub opens : (journal : List Item) → JournalItemsHaveCauses cause journal (machine_open_items setting journal)
+  pub retires : (journal : List Item) → JournalItemsHaveCauses cause journal (retired_items setting journal)
 
 pub parts_have : (cause : List Item → Item → Type 0) (Tells : List Item → Message → Type 0)
     (setting : Setting) → SettlingHas cause Tells setting → PartsHave cause setting
-unfolding current_items open_items retired_items
+unfolding current_items machine_open_items retired_items
 parts_have cause Tells setting has = record {
-  rises = λ journal. let version = next_current setting journal in
-      rise_has journal (nat_lt (current_mark journal) version) (Item.Current version)
-      (stamp_for setting journal version) (known_more journal (Item.Current version))
+  rises = λ journal. let version = journal_next_current setting journal in
+      rise_has journal (nat_lt (journal_current_mark journal) version) (Item.Current version)
+      (journal_stamp_for setting journal version) (known_more journal (Item.Current version))
       (over_more journal (Item.Current version)) (has.rises journal);
   opens = λ journal. has.sends journal _ (each_map (Tells journal)
-      (open_for journal (current_mark journal)) (opening_switches setting journal)
-      (each_of_network (λ s. Tells journal (open_for journal (current_mark journal) s)) setting _
+      (journal_open_for journal (journal_current_mark journal)) (opening_switches setting journal)
+      (each_of_network (λ s. Tells journal (journal_open_for journal (journal_current_mark journal) s)) setting _
       (has.opens journal)));
-  retires = λ journal. let version = next_retired setting journal in
-      rise_has journal (nat_lt (retired_mark journal) version) (Item.Retired version)
-      (collect_for journal version) (known_more journal (Item.Retired version))
+  retires = λ journal. let version = journal_next_retired setting journal in
+      rise_has journal (nat_lt (journal_retired_mark journal) version) (Item.Retired version)
+      (machine_collect_for journal version) (known_more journal (Item.Retired version))
       (over_more journal (Item.Retired version)) (has.retires journal);
 } where
   -- a member stays one while a mark rises, in the boot that was known
   rise_has : (journal : List Item) (rises : Bool) (next : Item) (message : ℕ → Message)
-      → ((s : ℕ) → known_boot (journal ++ next ∷ []) s ≡ known_boot journal s)
+      → ((s : ℕ) → journal_known_boot (journal ++ next ∷ []) s ≡ journal_known_boot journal s)
       → ((s : ℕ) → is_over (journal ++ next ∷ []) s ≡ is_over journal s)
       → (IsTrue rises → Rises cause Tells setting journal next message)
-      → HaveCauses cause journal (elim rises [
+      → JournalItemsHaveCauses cause journal (elim rises [
         | false ↦ []
         | true ↦ journal_items_then (next ∷ []) (λ raised. send_items raised
             (map message (members setting journal)))
@@ -258,7 +258,7 @@ parts_have cause Tells setting has = record {
       (record { known = sym (known s); not_over = (member_parts raised s stays).0 }) stays))))
 
 pub settling_has : (cause : List Item → Item → Type 0) (setting : Setting) → PartsHave cause setting
-    → (journal : List Item) → HaveCauses cause journal (settling setting journal)
+    → (journal : List Item) → JournalItemsHaveCauses cause journal (settling setting journal)
 unfolding settling
 settling_has cause setting have = search (rules, have_in_turn)
 
@@ -270,34 +270,34 @@ adverts_right : (setting : Setting) (journal : List Item) (s : ℕ) (adverts : L
 adverts_right setting journal s adverts = each_map _ _ _ (each_always _ (λ advert. tt) adverts)
 
 resend_by_switch : (setting : Setting) (journal : List Item) (s : ℕ)
-    → AllByRecursion (IsRight setting journal) (resent_by_switch setting journal s)
+    → AllByRecursion (IsRight setting journal) (journal_resent_by_switch setting journal s)
 resend_by_switch setting journal s = by_up (is_up journal s) refl where
   by_up : (up : Bool) → is_up journal s ≡ up → AllByRecursion (IsRight setting journal) (elim up [
     | false ↦ []
-    | true ↦ hello_of journal s
-        ∷ flat_map (λ neighbour. map (advert_to neighbour) (held_adverts setting journal s))
-        (switches_in setting (near setting journal s))
+    | true ↦ machine_hello_of journal s
+        ∷ flat_map (λ neighbour. map (advert_to neighbour) (journal_held_adverts setting journal s))
+        (setting_switches_in setting (near setting journal s))
   ])
   by_up false e = tt
   by_up true e = (
     record { up = e; own = refl },
     each_flat_map (IsRight setting journal) _
-        (λ neighbour. adverts_right setting journal neighbour (held_adverts setting journal s))
-        (switches_in setting (near setting journal s)),
+        (λ neighbour. adverts_right setting journal neighbour (journal_held_adverts setting journal s))
+        (setting_switches_in setting (near setting journal s)),
   )
 
 unacked_right : (setting : Setting) (journal : List Item) (s : ℕ) (versions : List ℕ)
-    → AllByRecursion (λ version. IsRight setting journal (install_for setting journal version s))
+    → AllByRecursion (λ version. IsRight setting journal (journal_install_for setting journal version s))
     versions
     → AllByRecursion (IsRight setting journal) (journal_unacked_installs setting journal s versions)
 unacked_right setting journal s versions all = each_map (IsRight setting journal)
-    (λ version. install_for setting journal version s)
+    (λ version. journal_install_for setting journal version s)
     (filter (λ version. not (has_acked journal s version)) versions)
     (each_kept _ (λ version. not (has_acked journal s version)) versions all)
 
 tables_right : (setting : Setting) (journal : List Item) (s version : ℕ)
-    → IsFalse (is_over journal s) → current_mark journal ≤ version → version ≤ version_count journal
-    → IsRight setting journal (install_for setting journal version s)
+    → IsFalse (is_over journal s) → journal_current_mark journal ≤ version → version ≤ journal_version_count journal
+    → IsRight setting journal (journal_install_for setting journal version s)
 tables_right setting journal s version none above there = search rules
 
 opening_is : (journal : List Item) (s : ℕ) → IsTrue (is_some (opened_at journal s))
@@ -305,25 +305,25 @@ opening_is : (journal : List Item) (s : ℕ) → IsTrue (is_some (opened_at jour
 opening_is journal s opened = search rules
 
 member_resent : (setting : Setting) (journal : List Item) (s : ℕ) → IsTrue (is_member journal s)
-    → AllByRecursion (IsRight setting journal) (resent_to_member setting journal s)
+    → AllByRecursion (IsRight setting journal) (journal_resent_to_member setting journal s)
 member_resent setting journal s member =
     let parts = member_parts journal s member in
-    let known : IsForKnown journal s (known_boot journal s) =
+    let known : IsControlForKnown journal s (journal_known_boot journal s) =
     record { known = refl; not_over = parts.0 } in
     each_to_member (IsRight setting journal) setting journal s
     (record { to = known; opens = inr (opening_is journal s parts.1) })
     (unacked_right setting journal s (later_versions journal) (each_range _
-    (current_mark journal + 1) (version_count journal - current_mark journal) (λ version above
+    (journal_current_mark journal + 1) (journal_version_count journal - journal_current_mark journal) (λ version above
     below. tables_right setting journal s version parts.0 (omega arith) (omega arith))))
     (record { to = known; member = member; current = refl; says = refl })
     (λ some. record { to = known; member = member; retired = refl })
 
 resend_by_controller : (setting : Setting) (journal : List Item) (s : ℕ)
-    → AllByRecursion (IsRight setting journal) (resent_by_controller setting journal s)
+    → AllByRecursion (IsRight setting journal) (journal_resent_by_controller setting journal s)
 resend_by_controller setting journal s = each_by_controller (IsRight setting journal) setting
     journal s (λ none member. member_resent setting journal s member)
-    (λ none. unacked_right setting journal s (versions_from_current journal) (each_range _
-    (current_mark journal) (version_count journal + 1 - current_mark journal) (λ version above
+    (λ none. unacked_right setting journal s (journal_versions_from_current journal) (each_range _
+    (journal_current_mark journal) (journal_version_count journal + 1 - journal_current_mark journal) (λ version above
     below. tables_right setting journal s version none above (omega (arith, above, below)))))
 
 pub resend_have : (setting : Setting) (s : ℕ) (journal : List Item)

@@ -1,7 +1,7 @@
 -- Each piece of a step of the network names what is there, as far as its items alone tell.
 use Rattle.std.proofs.Common.{[], ◌++◌, ◌<◌, ◌∙◌, ◌∷◌, ◌≡◌, ◌≤◌, ◌⊎◌, Bool, IsTrue, List, Some, arith, false, filter, flat_map, inl, inr, length, map, not, refl, true, ℕ}
 use Rattle.base.proofs.Exports.{AllByRecursion, each_map, nat_tests, ⊤}
-use Rattle.update_machine.specs.Exports.{Advertise, Body, CacheRule, Collect, Confirm, Crash, Deliver, HaveCauses, Hello, Install, Installed, Item, Message, OpenAt, Packet, Place, Resend, Restart, Setting, Stamp, Stamped, Step, Tables, Update, advert_to, confirm_items, deliver_items, has_acked, held_adverts, hello_of, install_for, installs_to, installs_to_all, is_over, is_up, is_version, known_boot, message_of, near, next_packet, raises_known, resend_items, resent_by_controller, resent_by_switch, resent_to_member, restart_items, send_items, sent_from, settling, step_items, submitted_items, switch_items, switches_in, switches_of, to_switch, update_items, version_count, versions_from_current}
+use Rattle.update_machine.specs.Exports.{Advertise, Body, CacheRule, Collect, Confirm, Crash, Deliver, JournalItemsHaveCauses, Hello, Install, Installed, Item, Message, OpenAt, Packet, Place, Resend, Restart, Setting, Stamp, Stamped, Step, Tables, Update, advert_to, confirm_items, deliver_items, has_acked, journal_held_adverts, machine_hello_of, journal_install_for, machine_installs_to, machine_installs_to_all, is_over, is_up, is_version, journal_known_boot, message_of, near, journal_next_packet, journal_raises_known_boot, resend_items, journal_resent_by_controller, journal_resent_by_switch, journal_resent_to_member, restart_items, send_items, machine_sent_items_from, settling, step_items, submitted_items, journal_switch_items, setting_switches_in, switches_of, machine_message_to_switch, update_items, journal_version_count, journal_versions_from_current}
 use Rattle.update_machine.proofs.Exports.{have_in_turn}
 use Rattle.control_laws.proofs.ControlFactsGrown.{have_weaker, hello_above, known_more, message_more, piece_has}
 use Rattle.control_laws.proofs.ControlCommands.{IsCommand, grows, settling_settles}
@@ -18,7 +18,7 @@ use Rattle.ternary.specs.Exports.{WordValue}
 
 -- the switch is of the network, or the controller heard of another boot than its first
 abbrev pub IsKnownSwitch : Setting → List Item → ℕ → Type 0
-IsKnownSwitch setting before s = (s < length setting.net.switches) ⊎ (1 < known_boot before s)
+IsKnownSwitch setting before s = (s < length setting.net.switches) ⊎ (1 < journal_known_boot before s)
 
 -- what the controller says to switches, what these say of themselves, and adverts
 abbrev pub SaysOwn : Setting → List Item → Place → Body → Type 0
@@ -32,7 +32,7 @@ SaysOwn setting before to body = ⊥
 -- the switch answers a message that was sent to it
 pub record AnswersTo (before : List Item) (s : ℕ) (body : Body) : Type 0 where
   pub number : ℕ
-  pub sent : message_of before number ≡ Some (to_switch s body)
+  pub sent : message_of before number ≡ Some (machine_message_to_switch s body)
 
 pub record AnswersTables (before : List Item) (s boot version : ℕ) : Type 0 where
   pub tables : Tables
@@ -59,7 +59,7 @@ NamesRightly setting before (Item.Entered packet s header) = s < length setting.
 NamesRightly setting before _ = ⊤
 
 abbrev Name : Setting → List Item → List Item → Type 0
-Name setting journal items = HaveCauses (NamesRightly setting) journal items
+Name setting journal items = JournalItemsHaveCauses (NamesRightly setting) journal items
 
 -- ---- traffic
 
@@ -115,7 +115,7 @@ sends_name setting = sends_kept (NamesRightly setting) (IsOwn setting)
 
 installs_own : (setting : Setting) (journal : List Item) (s : ℕ) (versions : List ℕ)
     → IsKnownSwitch setting journal s → AllByRecursion (IsOwn setting journal)
-    (map (λ version. install_for setting journal version s) versions)
+    (map (λ version. journal_install_for setting journal version s) versions)
 installs_own setting journal s [] known = tt
 installs_own setting journal s (version ∷ versions) known =
     ((tt, known), installs_own setting journal s versions known)
@@ -139,30 +139,30 @@ settling_name setting = settling_has (NamesRightly setting) setting
 -- ---- tables
 
 installs_name : (setting : Setting) (s : ℕ) (journal : List Item)
-    → IsKnownSwitch setting journal s → Name setting journal (installs_to setting s journal)
-unfolding installs_to
+    → IsKnownSwitch setting journal s → Name setting journal (machine_installs_to setting s journal)
+unfolding machine_installs_to
 installs_name setting s journal known = sends_name setting journal _
-    (installs_own setting journal s (versions_from_current journal) known)
+    (installs_own setting journal s (journal_versions_from_current journal) known)
 
 all_installs_name : (setting : Setting) (journal : List Item)
-    → Name setting journal (installs_to_all setting journal)
-unfolding installs_to_all
+    → Name setting journal (machine_installs_to_all setting journal)
+unfolding machine_installs_to_all
 all_installs_name setting journal = sends_name setting journal _
-    (each_map (IsOwn setting journal) (install_for setting journal (version_count journal))
+    (each_map (IsOwn setting journal) (journal_install_for setting journal (journal_version_count journal))
     (filter (λ s. not (is_over journal s)) (switches_of setting))
     (each_of_network (λ s. ⊤ × IsKnownSwitch setting journal s) setting
     (λ s. not (is_over journal s)) (λ s there is. (tt, inl there))))
 
 submitted_name : (setting : Setting) (journal : List Item)
     → Name setting journal (submitted_items setting journal)
-submitted_name setting journal = have_in_turn (NamesRightly setting) (installs_to_all setting
+submitted_name setting journal = have_in_turn (NamesRightly setting) (machine_installs_to_all setting
     ∷ settling setting ∷ []) (all_installs_name setting, (settling_name setting, tt)) journal
 
 -- ---- at a switch
 
 switch_name : (setting : Setting) (before now : List Item) (s : ℕ) (body : Body)
-    → AnswersTo now s body → Name setting now (switch_items setting before s body now)
-unfolding switch_items sent_from
+    → AnswersTo now s body → Name setting now (journal_switch_items setting before s body now)
+unfolding journal_switch_items machine_sent_items_from
 switch_name setting before now s (Install boot tables) answers =
     (record { tables = tables; own = refl; answers = answers }, tt)
 switch_name setting before now s (Stamp boot version touched) answers =
@@ -175,8 +175,8 @@ switch_name setting before now s _ answers = tt
 
 -- a known boot that is raised is another one than the first, and stays so
 raised_known : (setting : Setting) (here : List Item) (s number : ℕ)
-    → IsTrue (raises_known here s number)
-    → let now = here ++ Item.Delivered number ∷ [] in 1 < known_boot (now ++ settling setting now) s
+    → IsTrue (journal_raises_known_boot here s number)
+    → let now = here ++ Item.Delivered number ∷ [] in 1 < journal_known_boot (now ++ settling setting now) s
 raised_known setting here s number raises =
     let now : List Item = here ++ Item.Delivered number ∷ [] in
     omega (
@@ -210,7 +210,7 @@ update_name setting file journal = grind (arith, submitted_name)
 
 restart_name : (setting : Setting) (s : ℕ) (journal : List Item)
     → s < length setting.net.switches → Name setting journal (restart_items s journal)
-unfolding restart_items sent_from
+unfolding restart_items machine_sent_items_from
 restart_name setting s journal there = grind arith
 
 confirm_name : (setting : Setting) (s : ℕ) (journal : List Item)
@@ -226,39 +226,39 @@ advert_own setting before (Place.Switch s) (Advertise advert) is = is
 advert_own setting before to body is = absurd is
 
 switch_own : (setting : Setting) (journal : List Item) (s : ℕ) → s < length setting.net.switches
-    → AllByRecursion (IsOwn setting journal) (resent_by_switch setting journal s)
+    → AllByRecursion (IsOwn setting journal) (journal_resent_by_switch setting journal s)
 switch_own setting journal s there = by_up (is_up journal s) where
   adverts : List Message
-  adverts = flat_map (λ neighbour. map (advert_to neighbour) (held_adverts setting journal s))
-      (switches_in setting (near setting journal s))
+  adverts = flat_map (λ neighbour. map (advert_to neighbour) (journal_held_adverts setting journal s))
+      (setting_switches_in setting (near setting journal s))
 
   by_up : (up : Bool) → AllByRecursion (IsOwn setting journal) (elim up [
     | false ↦ []
-    | true ↦ hello_of journal s ∷ adverts
+    | true ↦ machine_hello_of journal s ∷ adverts
   ])
   by_up false = tt
   by_up true = (
     there,
     each_weaker (IsAdvert setting) (IsOwn setting journal)
         (λ message is. advert_own setting journal message.to message.body is) adverts
-        (each_told setting (λ neighbour. map (advert_to neighbour) (held_adverts setting journal s))
-        (λ neighbour within. adverts_to setting neighbour within (held_adverts setting journal s))
-        (switches_in setting (near setting journal s))
+        (each_told setting (λ neighbour. map (advert_to neighbour) (journal_held_adverts setting journal s))
+        (λ neighbour within. adverts_to setting neighbour within (journal_held_adverts setting journal s))
+        (setting_switches_in setting (near setting journal s))
         (masked_there setting (near setting journal s))),
   )
 
 member_own : (setting : Setting) (journal : List Item) (s : ℕ) → IsKnownSwitch setting journal s
-    → AllByRecursion (IsOwn setting journal) (resent_to_member setting journal s)
+    → AllByRecursion (IsOwn setting journal) (journal_resent_to_member setting journal s)
 member_own setting journal s known = each_to_member (IsOwn setting journal) setting journal s
     (tt, known) (installs_own setting journal s
     (filter (λ version. not (has_acked journal s version)) (later_versions journal)) known)
     (tt, known) (λ some. (grind (arith, nat_tests), known))
 
 controller_own : (setting : Setting) (journal : List Item) (s : ℕ) → IsKnownSwitch setting journal s
-    → AllByRecursion (IsOwn setting journal) (resent_by_controller setting journal s)
+    → AllByRecursion (IsOwn setting journal) (journal_resent_by_controller setting journal s)
 controller_own setting journal s known = each_by_controller (IsOwn setting journal) setting journal
     s (λ none member. member_own setting journal s known) (λ none. installs_own setting journal s
-    (filter (λ version. not (has_acked journal s version)) (versions_from_current journal)) known)
+    (filter (λ version. not (has_acked journal s version)) (journal_versions_from_current journal)) known)
 
 resend_name : (setting : Setting) (s : ℕ) (journal : List Item)
     → s < length setting.net.switches → Name setting journal (resend_items setting s journal)
@@ -272,7 +272,7 @@ step_name : (setting : Setting) (before : List Item) (row : ℕ) (step : Step) �
     → let here = before ++ Item.Row row step ∷ [] in
     Name setting here (step_items setting before step here)
 step_name setting before row (Packet s header) own = packet_has setting (NamesRightly setting)
-    (traffic_names setting) (next_packet before) s header _ own.0
+    (traffic_names setting) (journal_next_packet before) s header _ own.0
 step_name setting before row (Deliver message) own =
     deliver_name setting before row message (Deliver message)
 step_name setting before row (Update file) own = update_name setting file _

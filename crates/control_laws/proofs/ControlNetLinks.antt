@@ -1,14 +1,14 @@
 -- Adverts, known links and routes name links of the network alone.
 use Rattle.std.proofs.Common.{[], ◌&&◌, ◌<◌, ◌==◌, ◌∙◌, ◌∷◌, ◌≡◌, ◌≤◌, ◌⊎◌, Bool, IsTrue, List, None, Option, Some, ap, arith, eq-eqb, false, filter, get_or, get_or-set_other, get_or-set_same, inl, inr, length, length-set, map, refl, set, subst, sym, true, ℕ}
 use Rattle.base.proofs.Exports.{All-from_recursion, any_filter, cases_eq, cases_lt, get_or-map, get_or_past, has-zero, length-map, list_any, mask_of_lt, nat_tests}
-use Rattle.failover.specs.Exports.{AreJoinedByLinks, IsPath, IsRoute, LinksLeadTo, adverts_after_hearing, first_adverts, held_advert, is_link, is_news, named_links, neighbours_named}
-use Rattle.base.specs.Exports.{has, mask_of, mask_where, switches}
-use Rattle.update_machine.specs.Exports.{Advert, HaveCauses, Hello, Item, LinkRow, Net, Setting, Step, StepOfRow, advert_known, advert_to, adverts_known, journal_after_steps, boot_of, crash_items, heard, held_adverts, is_link_up, is_up, is_usable, link_changes, link_items, links_known, message_of, near, next_message, own_advert, own_if_sent, own_seq, piece, restart_items, sent_from, serves, steps_in}
-use Rattle.net_file.specs.Exports.{IsNet, IsSwitchRow, are_linked, joins, links_of, solo_net}
+use Rattle.failover.specs.Exports.{AreJoinedByLinks, IsPath, IsRoute, LinksLeadTo, adverts_after_hearing, first_adverts, held_advert, is_link, is_news, neighbours_by_adverts, neighbours_named}
+use Rattle.base.specs.Exports.{has, small_number_mask, number_set_where, switches}
+use Rattle.update_machine.specs.Exports.{Advert, JournalItemsHaveCauses, Hello, Item, LinkRow, Net, Setting, Step, StepOfRow, journal_advert_known, advert_to, journal_adverts_known, journal_after_steps, journal_boot_of, journal_crash_items, heard, journal_held_adverts, is_link_up_in_journal, is_up, is_usable_in_journal, journal_link_changes, machine_link_items, journal_links_known, message_of, near, journal_next_message, own_advert, journal_own_advert_sent, journal_own_seq, piece, restart_items, machine_sent_items_from, serves, journal_steps_in}
+use Rattle.net_file.specs.Exports.{IsNet, IsNetSwitchRow, are_linked, joins, links_of, solo_net}
 use Rattle.net_file.proofs.NetFilePortMasks.{in_mask, in_mask_of, in_mask_past}
 use Rattle.steps.specs.Exports.{HasLink, HasSwitch}
 use Rattle.update_machine.proofs.Exports.{advert, at, has_known_link, known_link_laws, open_net, to, to_controller, two_switches}
-use Rattle.control_laws.specs.Exports.{AdvertsAreOfSwitches, AllAdverts, GoesOverLinks, IsNoNewer, IsOverLinks, LinksAreThere, AdvertNamesLinks, OwnAreNewest}
+use Rattle.control_laws.specs.Exports.{AdvertsAreOfSwitches, AllControlAdverts, GoesOverLinks, IsNoNewerControlAdvert, IsOverLinks, AdvertisedLinksAreThere, AdvertNamesLinks, OwnAdvertsAreNewest}
 use Rattle.control_laws.proofs.ControlAllAdverts.{AreSuch, HasBothCauses, IsAdvertFact, all_such, behind_both, is_newest, known_such, own_told, such_on}
 use Rattle.net_file.proofs.NetFileRowPlaces.{links}
 use Rattle.control_laws.proofs.ControlOwnAdverts.{own_newest}
@@ -28,34 +28,34 @@ linked_by_mask links s k is = elim (cases_lt k 64) [
 pub near_linked : (setting : Setting) (journal : List Item) (s k : ℕ)
     → IsTrue (has (near setting journal s) k) → HasLink setting.net s k
 unfolding near
-near_linked setting journal s k is = any_filter (joins s k) (is_usable journal) setting.net.links
-    (linked_by_mask (filter (is_usable journal) setting.net.links) s k is)
+near_linked setting journal s k is = any_filter (joins s k) (is_usable_in_journal journal) setting.net.links
+    (linked_by_mask (filter (is_usable_in_journal journal) setting.net.links) s k is)
 
 -- ---- both ends of such a link serve
 
 usable_serves : (journal : List Item) (s k : ℕ) (link : LinkRow) → joins s k link ≡ true
-    → is_usable journal link ≡ true → (serves journal s ≡ true) × (serves journal k ≡ true)
+    → is_usable_in_journal journal link ≡ true → (serves journal s ≡ true) × (serves journal k ≡ true)
 usable_serves journal s k link joined usable = grind (arith, nat_tests)
 
 any_serves : (journal : List Item) (s k : ℕ) (links : List LinkRow)
-    → list_any (joins s k) (filter (is_usable journal) links) ≡ true
+    → list_any (joins s k) (filter (is_usable_in_journal journal) links) ≡ true
     → (serves journal s ≡ true) × (serves journal k ≡ true)
 any_serves journal s k [] is = absurd cc
 any_serves journal s k (link ∷ links) is =
-    by_tests (is_usable journal link) refl (any_serves journal s k links) is
+    by_tests (is_usable_in_journal journal link) refl (any_serves journal s k links) is
   where
-    by_joins : (b : Bool) → joins s k link ≡ b → is_usable journal link ≡ true
-        → (list_any (joins s k) (filter (is_usable journal) links) ≡ true
+    by_joins : (b : Bool) → joins s k link ≡ b → is_usable_in_journal journal link ≡ true
+        → (list_any (joins s k) (filter (is_usable_in_journal journal) links) ≡ true
         → (serves journal s ≡ true) × (serves journal k ≡ true))
-        → list_any (joins s k) (link ∷ filter (is_usable journal) links) ≡ true
+        → list_any (joins s k) (link ∷ filter (is_usable_in_journal journal) links) ≡ true
         → (serves journal s ≡ true) × (serves journal k ≡ true)
     by_joins true e usable rest is = usable_serves journal s k link e usable
     by_joins false e usable rest is = rest (rw e at is)
 
-    by_tests : (b : Bool) → is_usable journal link ≡ b
-        → (list_any (joins s k) (filter (is_usable journal) links) ≡ true
+    by_tests : (b : Bool) → is_usable_in_journal journal link ≡ b
+        → (list_any (joins s k) (filter (is_usable_in_journal journal) links) ≡ true
         → (serves journal s ≡ true) × (serves journal k ≡ true))
-        → list_any (joins s k) (filter (is_usable journal) (link ∷ links)) ≡ true
+        → list_any (joins s k) (filter (is_usable_in_journal journal) (link ∷ links)) ≡ true
         → (serves journal s ≡ true) × (serves journal k ≡ true)
     by_tests true e rest is = by_joins (joins s k link) refl e rest (rw e at is)
     by_tests false e rest is = rest (rw e at is)
@@ -65,7 +65,7 @@ pub ends_serve : (setting : Setting) (journal : List Item) (s k : ℕ)
     → (serves journal s ≡ true) × (serves journal k ≡ true)
 unfolding near
 ends_serve setting journal s k is = any_serves journal s k setting.net.links
-    (linked_by_mask (filter (is_usable journal) setting.net.links) s k is)
+    (linked_by_mask (filter (is_usable_in_journal journal) setting.net.links) s k is)
 
 -- ---- adverts
 
@@ -88,11 +88,11 @@ unfolding own_advert
 own_origin setting journal s = refl
 
 pub known_origin : (setting : Setting) (journal : List Item) (s origin : ℕ) (advert : Advert)
-    → origin < 64 → advert_known setting journal s origin ≡ Some advert → advert.origin ≡ origin
+    → origin < 64 → journal_advert_known setting journal s origin ≡ Some advert → advert.origin ≡ origin
 known_origin setting journal s origin advert small known = elim (cases_eq origin s) [
   | inl same ↦
       let own = sym (known_link_laws.own setting journal s (subst (λ x. x < 64) same small))
-      ∙ ap (advert_known setting journal s) (sym same) ∙ known in
+      ∙ ap (journal_advert_known setting journal s) (sym same) ∙ known in
       ap (λ a. a.origin) (sym (own_told (own_advert setting journal s) advert own))
       ∙ own_origin setting journal s ∙ sym same
   | inr apart ↦ (is_newest setting journal s origin advert apart small known).3
@@ -153,12 +153,12 @@ linked_row net adverts at own one other sees names is = elim (cases_eq one at) [
       absurd (no_link_in_none other (subst (λ mask. IsTrue (has mask other)) none is))
 
 known_linked : (setting : Setting) (journal : List Item)
-    → AllAdverts setting journal (AdvertNamesLinks setting.net)
+    → AllControlAdverts setting journal (AdvertNamesLinks setting.net)
     → (s one other : ℕ) (down : List ℕ) → one < 64 → other < 64
-    → AreJoinedByLinks (links_known setting journal s down) one other → HasLink setting.net one other
-unfolding is_link named_links
+    → AreJoinedByLinks (journal_links_known setting journal s down) one other → HasLink setting.net one other
+unfolding is_link neighbours_by_adverts
 known_linked setting journal adverts s one other down one_small other_small joined =
-    linked_row setting.net (adverts_known setting journal s) s (near setting journal s) one other
+    linked_row setting.net (journal_adverts_known setting journal s) s (near setting journal s) one other
     (near_linked setting journal s other) (λ advert known. (
       adverts.held s one advert one_small known,
       known_origin setting journal s one advert one_small known,
@@ -200,7 +200,7 @@ route_over net links linked from (target ∷ targets) route (inr is) =
 -- ---- all of it
 
 pub links_there : (setting : Setting) (journal : List Item)
-    → HaveCauses (HasBothCauses setting) [] journal → LinksAreThere setting journal
+    → JournalItemsHaveCauses (HasBothCauses setting) [] journal → AdvertisedLinksAreThere setting journal
 links_there setting journal have =
     let adverts = all_such setting (λ js. AdvertNamesLinks setting.net) (names_fact setting) journal have
     (own_names setting journal) in record {
@@ -208,7 +208,7 @@ links_there setting journal have =
       usable = near_linked setting journal;
       known = known_linked setting journal adverts;
       routes = λ s targets down route is. route_over setting.net
-          (links_known setting journal s down) (λ one other one_small other_small joined.
+          (journal_links_known setting journal s down) (λ one other one_small other_small joined.
           known_linked setting journal adverts s one other down one_small other_small joined) s
           targets route (rw is at (known_link_laws.route setting journal s targets down));
     }
@@ -237,7 +237,7 @@ of_fact setting net = record {
 }
 
 pub of_switches : (setting : Setting) (journal : List Item)
-    → HaveCauses (HasBothCauses setting) [] journal → IsNet setting.net
+    → JournalItemsHaveCauses (HasBothCauses setting) [] journal → IsNet setting.net
     → AdvertsAreOfSwitches setting journal
 of_switches setting journal have net =
     let such = such_on setting (IsOfSwitch setting) (of_fact setting net) journal have in record {
@@ -259,7 +259,7 @@ abbrev told : ℕ → ℕ → ℕ → Advert
 told boot seq up = record { origin = 0; boot = boot; seq = seq; up = up }
 
 names_b : AdvertNamesLinks two_switches (told 1 1 2)
-unfolding mask_of mask_where switches
+unfolding small_number_mask number_set_where switches
 names_b k is = linked_by_mask two_switches.links 0 k is
 
 -- there is no switch 2
@@ -279,15 +279,15 @@ abbrev failed : List Item
 failed = Item.Row 1 (Step.LinkDown 0 1) ∷ Item.LinkIs 0 1 false ∷ []
 
 own_is : own_advert open_net failed 0 ≡ told 1 2 0
-unfolding own_advert own_seq near is_link_up serves is_up boot_of steps_in mask_of mask_where switches
+unfolding own_advert journal_own_seq near is_link_up_in_journal serves is_up journal_boot_of journal_steps_in small_number_mask number_set_where switches
 own_is = refl
 
-first_is_older : IsNoNewer open_net failed (told 1 1 2)
-unfolding own_advert own_seq near is_link_up serves is_up boot_of steps_in mask_of mask_where switches
+first_is_older : IsNoNewerControlAdvert open_net failed (told 1 1 2)
+unfolding own_advert journal_own_seq near is_link_up_in_journal serves is_up journal_boot_of journal_steps_in small_number_mask number_set_where switches
 first_is_older = record { boot = omega arith; own = λ up. inr refl }
 
-own_is_own : IsNoNewer open_net failed (told 1 2 0)
-unfolding own_advert own_seq near is_link_up serves is_up boot_of steps_in mask_of mask_where switches
+own_is_own : IsNoNewerControlAdvert open_net failed (told 1 2 0)
+unfolding own_advert journal_own_seq near is_link_up_in_journal serves is_up journal_boot_of journal_steps_in small_number_mask number_set_where switches
 own_is_own = record { boot = omega arith; own = λ up. inl refl }
 
 -- one of the own number that says something else; one of a greater number; one of a boot to come
@@ -300,22 +300,22 @@ other_links same = apart 2 0 refl (ap (λ (advert : Advert). advert.up) same)
 other_seq : told 1 3 0 ≡ told 1 2 0 → ⊥
 other_seq same = apart 3 2 refl (ap (λ (advert : Advert). advert.seq) same)
 
-other_of_number : IsNoNewer open_net failed (told 1 2 2) → ⊥
-unfolding own_advert own_seq near is_link_up serves is_up boot_of steps_in mask_of mask_where switches
+other_of_number : IsNoNewerControlAdvert open_net failed (told 1 2 2) → ⊥
+unfolding own_advert journal_own_seq near is_link_up_in_journal serves is_up journal_boot_of journal_steps_in small_number_mask number_set_where switches
 other_of_number is = elim (is.own refl) [
   | inl same ↦ other_links same
   | inr newer ↦ let no : false ≡ true = newer in absurd cc
 ]
 
-greater_number : IsNoNewer open_net failed (told 1 3 0) → ⊥
-unfolding own_advert own_seq near is_link_up serves is_up boot_of steps_in mask_of mask_where switches
+greater_number : IsNoNewerControlAdvert open_net failed (told 1 3 0) → ⊥
+unfolding own_advert journal_own_seq near is_link_up_in_journal serves is_up journal_boot_of journal_steps_in small_number_mask number_set_where switches
 greater_number is = elim (is.own refl) [
   | inl same ↦ other_seq same
   | inr newer ↦ let no : false ≡ true = newer in absurd cc
 ]
 
-boot_to_come : IsNoNewer open_net failed (told 2 1 0) → ⊥
-unfolding boot_of
+boot_to_come : IsNoNewerControlAdvert open_net failed (told 2 1 0) → ⊥
+unfolding journal_boot_of
 boot_to_come is = let limit : 2 ≤ 1 = is.boot in omega arith
 
 -- ---- an advert of an old boot is none that counts, however great its number
@@ -323,8 +323,8 @@ boot_to_come is = let limit : 2 ≤ 1 = is.boot in omega arith
 abbrev again : List Item
 again = Item.Row 1 (Step.Crash 0) ∷ Item.Down 0 ∷ Item.Row 2 (Step.Restart 0) ∷ Item.Booted 0 2 ∷ []
 
-old_is_older : IsNoNewer open_net again (told 1 7 2)
-unfolding own_advert own_seq near is_link_up serves is_up boot_of steps_in mask_of mask_where switches
+old_is_older : IsNoNewerControlAdvert open_net again (told 1 7 2)
+unfolding own_advert journal_own_seq near is_link_up_in_journal serves is_up journal_boot_of journal_steps_in small_number_mask number_set_where switches
 old_is_older = record { boot = omega arith; own = λ up. inr refl }
 
 -- ---- behind a link that failed and came back nothing is wrong
@@ -339,40 +339,40 @@ abbrev its_steps : List StepOfRow
 its_steps = at 1 (Step.LinkDown 0 1) ∷ at 2 (Step.LinkUp 0 1) ∷ []
 
 written : journal_after_steps open_net [] its_steps ≡ back
-unfolding piece link_items link_changes held_adverts adverts_known own_advert own_seq near
-    is_link_up serves is_up boot_of heard steps_in next_message sent_from first_adverts
-    adverts_after_hearing is_news has mask_where switches mask_of
+unfolding piece machine_link_items journal_link_changes journal_held_adverts journal_adverts_known own_advert journal_own_seq near
+    is_link_up_in_journal serves is_up journal_boot_of heard journal_steps_in journal_next_message machine_sent_items_from first_adverts
+    adverts_after_hearing is_news has number_set_where switches small_number_mask
 written = refl
 
-linked_once_back : LinksAreThere open_net back
-linked_once_back = subst (LinksAreThere open_net) written
-    ((behind_both LinksAreThere links_there).ends.stepped open_net its_steps)
+linked_once_back : AdvertisedLinksAreThere open_net back
+linked_once_back = subst (AdvertisedLinksAreThere open_net) written
+    ((behind_both AdvertisedLinksAreThere links_there).ends.stepped open_net its_steps)
 
-newest_once_back : OwnAreNewest open_net back
-newest_once_back = subst (OwnAreNewest open_net) written
-    ((behind_both OwnAreNewest own_newest).ends.stepped open_net its_steps)
+newest_once_back : OwnAdvertsAreNewest open_net back
+newest_once_back = subst (OwnAdvertsAreNewest open_net) written
+    ((behind_both OwnAdvertsAreNewest own_newest).ends.stepped open_net its_steps)
 
 -- ---- journals in which wrong adverts were sent
 
-unlinked : LinksAreThere open_net (Item.Sent 1 (to 1 (advert 0 1 1 4)) ∷ []) → ⊥
+unlinked : AdvertisedLinksAreThere open_net (Item.Sent 1 (to 1 (advert 0 1 1 4)) ∷ []) → ⊥
 unfolding message_of
 unlinked there = names_none (there.adverts.sent 1 1 (told 1 1 4) refl)
 
-newer_sent : OwnAreNewest open_net (Item.Sent 1 (to 1 (advert 0 2 1 2)) ∷ []) → ⊥
-unfolding message_of boot_of
+newer_sent : OwnAdvertsAreNewest open_net (Item.Sent 1 (to 1 (advert 0 2 1 2)) ∷ []) → ⊥
+unfolding message_of journal_boot_of
 newer_sent newest = let limit : 2 ≤ 1 = (newest.sent 1 1 (told 2 1 2) refl).boot in omega arith
 
 -- ---- adverts of the network's switches, of which there is no third one
 
-first_of_b : advert_known open_net failed 0 1
+first_of_b : journal_advert_known open_net failed 0 1
     ≡ Some (record { origin = 1; boot = 1; seq = 1; up = 1 })
-unfolding adverts_known own_advert own_seq near is_link_up serves is_up boot_of heard steps_in
-    first_adverts adverts_after_hearing is_news mask_of mask_where switches
+unfolding journal_adverts_known own_advert journal_own_seq near is_link_up_in_journal serves is_up journal_boot_of heard journal_steps_in
+    first_adverts adverts_after_hearing is_news small_number_mask number_set_where switches
 first_of_b = refl
 
-none_of_third : advert_known open_net failed 0 2 ≡ None
-unfolding adverts_known own_advert own_seq near is_link_up serves is_up boot_of heard steps_in
-    first_adverts adverts_after_hearing is_news mask_of mask_where switches
+none_of_third : journal_advert_known open_net failed 0 2 ≡ None
+unfolding journal_adverts_known own_advert journal_own_seq near is_link_up_in_journal serves is_up journal_boot_of heard journal_steps_in
+    first_adverts adverts_after_hearing is_news small_number_mask number_set_where switches
 none_of_third = refl
 
 of_third : AdvertsAreOfSwitches open_net (Item.Sent 1 (to 1 (advert 2 1 1 0)) ∷ []) → ⊥
@@ -390,7 +390,7 @@ pub is_net : IsNet solo_net
 is_net = record {
   some_switch = omega arith;
   few_switches = omega arith;
-  switches = All-from_recursion IsSwitchRow solo_net.switches
+  switches = All-from_recursion IsNetSwitchRow solo_net.switches
       (record { name = refl; ports = omega arith; room = omega arith }, tt);
   apart = λ i j row before inside. absurd (omega (arith, before, inside));
   few_links = omega arith;
@@ -410,8 +410,8 @@ restarted = Item.Row 1 (Step.Crash 0) ∷ Item.Down 0 ∷ Item.Row 2 (Step.Resta
     ∷ Item.Sent 1 (to_controller (Hello 0 2)) ∷ []
 
 of_the_switch : AdvertsAreOfSwitches solo restarted
-unfolding piece crash_items restart_items link_changes near is_link_up serves is_up boot_of
-    next_message sent_from mask_of mask_where switches
+unfolding piece journal_crash_items restart_items journal_link_changes near is_link_up_in_journal serves is_up journal_boot_of
+    journal_next_message machine_sent_items_from small_number_mask number_set_where switches
 of_the_switch =
     (behind_both (λ setting journal. IsNet setting.net → AdvertsAreOfSwitches setting journal)
     of_switches).ends.stepped solo restart is_net

@@ -1,9 +1,9 @@
 -- Each piece has its causes, whatever its step, and so has the journal of any steps.
 use Rattle.std.proofs.Common.{[], ◌&&◌, ◌++◌, ◌+◌, ◌-◌, ◌<◌, ◌==◌, ◌||◌, ◌∙◌, ◌∷◌, ◌≡◌, ◌≤◌, Bool, IsFalse, IsTrue, List, None, Option, Some, ap, arith, cond, eq-eqb, eqb-true, false, if◌then◌else◌, inl, inr, length, not, option_and_then, refl, subst, suc, sym, take_while, true, zero, ℕ}
 use Rattle.base.proofs.Exports.{cases_eq, each_filter, each_map, list_any, list_any-append, nat_tests, option_map_or, or_right, range_with_len, take_while-cons}
-use Rattle.update_machine.specs.Exports.{Advertise, Body, Confirm, Crash, Deliver, HaveCauses, Hello, Install, Installed, Item, CurrentMayRise, Message, OpenAt, Packet, Place, Resend, Restart, Setting, Stamp, Stamped, Step, Update, after_hello, all_acked, body_to_controller, body_to_switch, boot_of, confirm_items, controller_items, current_mark, deliver_items, delivery_items, has_acked, heard, hello_of, in_turn, install_for, installs_to, installs_to_all, installs_version, is_for_boot, is_joining, is_member, is_new_boot, is_over, is_up, marks_code, message_of, next_current, next_packet, next_retired, opened_at, raises_known, received_items, restart_items, send_items, settling, stamp_in, stamp_of, step_items, submitted_items, switch_items, switches_of, to_switch, update_code, update_items, version_count, versions_from_current}
+use Rattle.update_machine.specs.Exports.{Advertise, Body, Confirm, Crash, Deliver, JournalItemsHaveCauses, Hello, Install, Installed, Item, MachineCurrentMayRise, Message, OpenAt, Packet, Place, Resend, Restart, Setting, Stamp, Stamped, Step, Update, after_hello, all_acked, journal_body_to_controller, journal_body_to_switch, journal_boot_of, confirm_items, controller_items, journal_current_mark, deliver_items, machine_delivery_items, has_acked, heard, machine_hello_of, in_turn, journal_install_for, machine_installs_to, machine_installs_to_all, installs_version, journal_body_for_boot, is_joining, is_member, is_new_boot_in_journal, is_over, is_up, machine_marks_code, message_of, journal_next_current, journal_next_packet, journal_next_retired, opened_at, journal_raises_known_boot, machine_received_items, restart_items, send_items, settling, journal_stamp_in_body, journal_stamp_of, step_items, submitted_items, journal_switch_items, switches_of, machine_message_to_switch, machine_update_code, update_items, journal_version_count, journal_versions_from_current}
 use Rattle.update_machine.proofs.Exports.{PiecesHave, allowed_next, have_first, have_in_turn, have_put, policies_keep}
-use Rattle.control_laws.specs.Exports.{HasItemCause, HoldsAlways, OpenedHasCause, SubmissionHasCause}
+use Rattle.control_laws.specs.Exports.{HasControlItemCause, HoldsAlways, ControlOpeningHasCause, ControlSubmissionHasCause}
 use Rattle.control_laws.proofs.ControlFactsGrown.{FromCauses, Has, boot_more, current_more, heard_more, known_more, message_more, over_more, piece_has, raised, retired_more, stamp_told, up_more}
 use Rattle.control_laws.proofs.ControlMessageSends.{IsRight, SettlingHas, each_range, parts_have, resend_have, sends_have, settling_has}
 use Rattle.ctrl_msg.specs.Exports.{to_controller}
@@ -43,16 +43,16 @@ passing test low (suc n) v above below = by_test (test low) refl (passing test (
     by_test false e rest within = absurd (omega (arith, above, within))
 
 may_rise : (setting : Setting) (journal : List Item)
-    → current_mark journal < next_current setting journal
-    → CurrentMayRise setting journal (next_current setting journal)
-unfolding next_current
+    → journal_current_mark journal < journal_next_current setting journal
+    → MachineCurrentMayRise setting journal (journal_next_current setting journal)
+unfolding journal_next_current
 may_rise setting journal rises =
-    let few = passing_few (all_acked setting journal) (current_mark journal + 1)
-    (version_count journal - current_mark journal) in record {
+    let few = passing_few (all_acked setting journal) (journal_current_mark journal + 1)
+    (journal_version_count journal - journal_current_mark journal) in record {
       rises = rises;
       there = omega (arith, few, rises);
       acknowledged = λ v above below. passing (all_acked setting journal)
-          (current_mark journal + 1) (version_count journal - current_mark journal) v
+          (journal_current_mark journal + 1) (journal_version_count journal - journal_current_mark journal) v
           (omega (arith, above)) (omega (arith, below));
     }
 
@@ -64,26 +64,26 @@ joining_parts : (journal : List Item) (s : ℕ) (more : Bool) → IsTrue (is_joi
 unfolding is_member
 joining_parts journal s more joining = grind arith
 
-settling_right : (setting : Setting) → SettlingHas (HasItemCause setting) (IsRight setting) setting
+settling_right : (setting : Setting) → SettlingHas (HasControlItemCause setting) (IsRight setting) setting
 settling_right setting = record {
   sends = sends_have setting;
-  rises = λ journal rises. let next : Item = Item.Current (next_current setting journal) in record {
+  rises = λ journal rises. let next : Item = Item.Current (journal_next_current setting journal) in record {
     may = may_rise setting journal (grind (arith, nat_tests));
     told = λ s there to member. record {
       to = to;
       member = member;
       current = sym (current_more journal next);
       says = sym ((policies_keep journal (next ∷ []) (refl, tt)).touched setting
-          (next_current setting journal));
+          (journal_next_current setting journal));
     };
   };
   opens = λ journal s there joins.
-      let parts = joining_parts journal s (has_acked journal s (current_mark journal)) joins in
+      let parts = joining_parts journal s (has_acked journal s (journal_current_mark journal)) joins in
       record {
         to = record { known = refl; not_over = parts.0 };
         opens = inl (record { closed = parts.1; current = refl; acked = parts.2 });
       };
-  retires = λ journal rises. let next : Item = Item.Retired (next_retired setting journal) in
+  retires = λ journal rises. let next : Item = Item.Retired (journal_next_retired setting journal) in
       record {
         may = record { rises = grind (arith, nat_tests); least = refl };
         told = λ s there to member.
@@ -93,19 +93,19 @@ settling_right setting = record {
 
 pub settling_have : (setting : Setting) (journal : List Item)
     → Has setting journal (settling setting journal)
-settling_have setting = settling_has (HasItemCause setting) setting
-    (parts_have (HasItemCause setting) (IsRight setting) setting (settling_right setting))
+settling_have setting = settling_has (HasControlItemCause setting) setting
+    (parts_have (HasControlItemCause setting) (IsRight setting) setting (settling_right setting))
 
 -- ---- tables
 
 pub installs_have : (setting : Setting) (s : ℕ) (journal : List Item)
-    → IsFalse (is_over journal s) → Has setting journal (installs_to setting s journal)
-unfolding installs_to
+    → IsFalse (is_over journal s) → Has setting journal (machine_installs_to setting s journal)
+unfolding machine_installs_to
 installs_have setting s journal not_over = sends_have setting journal _
-    (each_map (IsRight setting journal) (λ version. install_for setting journal version s)
-    (versions_from_current journal) (each_range (λ version. IsRight setting journal
-    (install_for setting journal version s)) (current_mark journal)
-    (version_count journal + 1 - current_mark journal) (λ version above below. record {
+    (each_map (IsRight setting journal) (λ version. journal_install_for setting journal version s)
+    (journal_versions_from_current journal) (each_range (λ version. IsRight setting journal
+    (journal_install_for setting journal version s)) (journal_current_mark journal)
+    (journal_version_count journal + 1 - journal_current_mark journal) (λ version above below. record {
       to = record { known = refl; not_over = not_over };
       version = version;
       which = inr above;
@@ -114,14 +114,14 @@ installs_have setting s journal not_over = sends_have setting journal _
     })))
 
 all_installs_have : (setting : Setting) (journal : List Item)
-    → Has setting journal (installs_to_all setting journal)
-unfolding installs_to_all
+    → Has setting journal (machine_installs_to_all setting journal)
+unfolding machine_installs_to_all
 all_installs_have setting journal = sends_have setting journal _
-    (each_map (IsRight setting journal) (install_for setting journal (version_count journal)) _
-    (each_filter (λ s. IsRight setting journal (install_for setting journal (version_count journal)
+    (each_map (IsRight setting journal) (journal_install_for setting journal (journal_version_count journal)) _
+    (each_filter (λ s. IsRight setting journal (journal_install_for setting journal (journal_version_count journal)
     s)) (λ s. not (is_over journal s)) (λ s is. record {
       to = record { known = refl; not_over = not_true (is_over journal s) is };
-      version = version_count journal;
+      version = journal_version_count journal;
       which = inl refl;
       there = omega arith;
       planned = refl;
@@ -133,7 +133,7 @@ all_installs_have setting journal = sends_have setting journal _
 
 pub submitted_have : (setting : Setting) (journal : List Item)
     → Has setting journal (submitted_items setting journal)
-submitted_have setting journal = have_in_turn (HasItemCause setting) (installs_to_all setting
+submitted_have setting journal = have_in_turn (HasControlItemCause setting) (machine_installs_to_all setting
     ∷ settling setting ∷ []) (all_installs_have setting, (settling_have setting, tt)) journal
 
 -- ---- what a delivery causes, by its receiver: what the items of each receiver have, its items
@@ -143,29 +143,29 @@ pub delivery_has : (Have : List Item → Type 0) (setting : Setting) (before : L
     (number : ℕ) (now : List Item) → Have []
     → ((body : Body) → message_of before number ≡ Some (to_controller body)
     → Have (controller_items setting before body now))
-    → ((s : ℕ) (body : Body) → body_to_switch before s number ≡ Some body
-    → Have (switch_items setting before s body now))
-    → Have (delivery_items setting before number now)
-unfolding delivery_items
+    → ((s : ℕ) (body : Body) → journal_body_to_switch before s number ≡ Some body
+    → Have (journal_switch_items setting before s body now))
+    → Have (machine_delivery_items setting before number now)
+unfolding machine_delivery_items
 delivery_has Have setting before number now none at_controller at_switch =
     by_message (message_of before number) refl
   where
-    by_said : (s : ℕ) (o : Option Body) → body_to_switch before s number ≡ o → Have (elim o [
+    by_said : (s : ℕ) (o : Option Body) → journal_body_to_switch before s number ≡ o → Have (elim o [
       | None ↦ []
-      | Some body ↦ switch_items setting before s body now
+      | Some body ↦ journal_switch_items setting before s body now
     ])
     by_said s None e = none
     by_said s (Some body) e = at_switch s body e
 
     by_receiver : (to : Place) (body : Body)
         → message_of before number ≡ Some (record { to = to; body = body })
-        → Have (received_items setting before number (record { to = to; body = body }) now)
+        → Have (machine_received_items setting before number (record { to = to; body = body }) now)
     by_receiver Place.Controller body e = at_controller body e
-    by_receiver (Place.Switch s) body e = by_said s (body_to_switch before s number) refl
+    by_receiver (Place.Switch s) body e = by_said s (journal_body_to_switch before s number) refl
 
     by_message : (o : Option Message) → message_of before number ≡ o → Have (elim o [
       | None ↦ []
-      | Some message ↦ received_items setting before number message now
+      | Some message ↦ machine_received_items setting before number message now
     ])
     by_message None e = none
     by_message (Some message) e = by_receiver message.to message.body e
@@ -175,32 +175,32 @@ pub deliver_has : (cause : List Item → Item → Type 0) (setting : Setting) (b
     (number : ℕ) (here : List Item) → cause here Item.Nothing → cause here (Item.Delivered number)
     → let now = here ++ Item.Delivered number ∷ [] in
     ((body : Body) → message_of before number ≡ Some (to_controller body)
-    → HaveCauses cause now (controller_items setting before body now))
-    → ((s : ℕ) (body : Body) → body_to_switch before s number ≡ Some body
-    → HaveCauses cause now (switch_items setting before s body now))
-    → HaveCauses cause here (deliver_items setting before number here)
+    → JournalItemsHaveCauses cause now (controller_items setting before body now))
+    → ((s : ℕ) (body : Body) → journal_body_to_switch before s number ≡ Some body
+    → JournalItemsHaveCauses cause now (journal_switch_items setting before s body now))
+    → JournalItemsHaveCauses cause here (deliver_items setting before number here)
 unfolding deliver_items
 deliver_has cause setting before number here nothing delivered at_controller at_switch =
     let now : List Item = here ++ Item.Delivered number ∷ [] in
-    let first = have_first cause (Item.Delivered number) (delivery_items setting before number)
+    let first = have_first cause (Item.Delivered number) (machine_delivery_items setting before number)
     here delivered
-    (delivery_has (HaveCauses cause now) setting before number now tt at_controller at_switch) in
+    (delivery_has (JournalItemsHaveCauses cause now) setting before number now tt at_controller at_switch) in
     grind arith
 
 hello_has : (cause : List Item → Item → Type 0) (setting : Setting) (before settled : List Item)
-    (body : Body) → ((s boot : ℕ) → body ≡ Hello s boot → IsTrue (is_new_boot before s boot)
-    → HaveCauses cause settled (installs_to setting s settled))
-    → HaveCauses cause settled (after_hello setting before body settled)
+    (body : Body) → ((s boot : ℕ) → body ≡ Hello s boot → IsTrue (is_new_boot_in_journal before s boot)
+    → JournalItemsHaveCauses cause settled (machine_installs_to setting s settled))
+    → JournalItemsHaveCauses cause settled (after_hello setting before body settled)
 hello_has cause setting before settled (Hello s boot) begun = grind (arith, begun s boot refl)
 hello_has cause setting before settled _ begun = tt
 
 -- the controller settles first, and then sends tables to a switch that says hello of a new boot
 controller_has : (cause : List Item → Item → Type 0) (setting : Setting) (before now : List Item)
-    (body : Body) → HaveCauses cause now (settling setting now)
+    (body : Body) → JournalItemsHaveCauses cause now (settling setting now)
     → (let settled = now ++ settling setting now in
-    (s boot : ℕ) → body ≡ Hello s boot → IsTrue (is_new_boot before s boot)
-    → HaveCauses cause settled (installs_to setting s settled))
-    → HaveCauses cause now (controller_items setting before body now)
+    (s boot : ℕ) → body ≡ Hello s boot → IsTrue (is_new_boot_in_journal before s boot)
+    → JournalItemsHaveCauses cause settled (machine_installs_to setting s settled))
+    → JournalItemsHaveCauses cause now (controller_items setting before body now)
 unfolding controller_items
 controller_has cause setting before now body settles begun =
     let settled : List Item = now ++ settling setting now in
@@ -212,13 +212,13 @@ controller_has cause setting before now body settles begun =
 -- a hello of a new boot raises the known one, behind the row of its delivery
 hello_raises : (before : List Item) (row number s boot : ℕ) (step : Step) (body : Body)
     → message_of before number ≡ Some (to_controller body) → body ≡ Hello s boot
-    → IsTrue (is_new_boot before s boot)
-    → IsTrue (raises_known (before ++ Item.Row row step ∷ []) s number)
+    → IsTrue (is_new_boot_in_journal before s boot)
+    → IsTrue (journal_raises_known_boot (before ++ Item.Row row step ∷ []) s number)
 hello_raises before row number s boot step body sent hello new =
     let still : message_of (before ++ Item.Row row step ∷ []) number
     ≡ Some (to_controller (Hello s boot)) = message_more before (Item.Row row step) number
     ∙ sent ∙ ap (λ of. Some (to_controller of)) hello in
-    rw ((known_more before (Item.Row row step) s), still, body_to_controller, eq-eqb s s refl) new
+    rw ((known_more before (Item.Row row step) s), still, journal_body_to_controller, eq-eqb s s refl) new
 
 -- so behind its row a delivery has what settling has, tables to a switch whose known boot is
 -- raised, and what a switch writes to which something is said
@@ -226,12 +226,12 @@ pub row_delivers : (cause : List Item → Item → Type 0) (setting : Setting) (
     (row number : ℕ) (step : Step) → let here = before ++ Item.Row row step ∷ [] in
     let now = here ++ Item.Delivered number ∷ [] in let settled = now ++ settling setting now in
     cause here Item.Nothing → cause here (Item.Delivered number)
-    → HaveCauses cause now (settling setting now)
-    → ((s : ℕ) → IsTrue (raises_known here s number)
-    → HaveCauses cause settled (installs_to setting s settled))
-    → ((s : ℕ) (body : Body) → body_to_switch before s number ≡ Some body
-    → HaveCauses cause now (switch_items setting before s body now))
-    → HaveCauses cause here (deliver_items setting before number here)
+    → JournalItemsHaveCauses cause now (settling setting now)
+    → ((s : ℕ) → IsTrue (journal_raises_known_boot here s number)
+    → JournalItemsHaveCauses cause settled (machine_installs_to setting s settled))
+    → ((s : ℕ) (body : Body) → journal_body_to_switch before s number ≡ Some body
+    → JournalItemsHaveCauses cause now (journal_switch_items setting before s body now))
+    → JournalItemsHaveCauses cause here (deliver_items setting before number here)
 row_delivers cause setting before row number step nothing delivered settles raised at_switch =
     deliver_has cause setting before number _ nothing delivered
     (λ body sent. controller_has cause setting before _ body settles
@@ -244,12 +244,12 @@ row_delivers cause setting before row number step nothing delivered settles rais
 
 -- a message of this number was sent to the switch, which is up in the boot that it is for
 pub record IsSaid (before : List Item) (s number : ℕ) (body : Body) : Type 0 where
-  pub sent : message_of before number ≡ Some (to_switch s body)
+  pub sent : message_of before number ≡ Some (machine_message_to_switch s body)
   pub up : IsTrue (is_up before s)
-  pub own : IsTrue (is_for_boot (boot_of before s) body)
+  pub own : IsTrue (journal_body_for_boot (journal_boot_of before s) body)
 
 pub said_parts : (before : List Item) (s number : ℕ) (body : Body)
-    → body_to_switch before s number ≡ Some body → IsSaid before s number body
+    → journal_body_to_switch before s number ≡ Some body → IsSaid before s number body
 said_parts before s number body said = grind (arith, nat_tests)
 
 -- the body was heard with the last item of the journal
@@ -257,17 +257,17 @@ record IsHeard (now : List Item) (s number : ℕ) (body : Body) : Type 0 where
   said : IsSaid now s number body
   earlier : List Body
   heard : heard now s ≡ earlier ++ body ∷ []
-  stamps : (version : ℕ) → stamp_in body ≡ Some version → version ≤ stamp_of now s
+  stamps : (version : ℕ) → journal_stamp_in_body body ≡ Some version → version ≤ journal_stamp_of now s
 
 -- a row changes nothing of what is said
 pub said_row : (before : List Item) (row s number : ℕ) (step : Step)
-    → body_to_switch (before ++ Item.Row row step ∷ []) s number ≡ body_to_switch before s number
+    → journal_body_to_switch (before ++ Item.Row row step ∷ []) s number ≡ journal_body_to_switch before s number
 said_row before row s number step =
     let sent = message_more before (Item.Row row step) number in
     let up = up_more before (Item.Row row step) s in
     let boot = boot_more before (Item.Row row step) s in grind arith
 
-delivered_heard : (before : List Item) (s number : ℕ) (body : Body) → body_to_switch before s number
+delivered_heard : (before : List Item) (s number : ℕ) (body : Body) → journal_body_to_switch before s number
     ≡ Some body → IsHeard (before ++ Item.Delivered number ∷ []) s number body
 delivered_heard before s number body said =
     let parts = said_parts before s number body said in record {
@@ -278,19 +278,19 @@ delivered_heard before s number body said =
       };
       earlier = heard before s;
       heard = cc (heard_more before (Item.Delivered number) s, said);
-      stamps = λ version is. let after : stamp_of (before ++ Item.Delivered number ∷ []) s
-          ≡ raised (stamp_of before s) (Some version) = stamp_told before number s
-          ∙ ap (raised (stamp_of before s)) (ap (option_and_then stamp_in) said ∙ is) in
+      stamps = λ version is. let after : journal_stamp_of (before ++ Item.Delivered number ∷ []) s
+          ≡ raised (journal_stamp_of before s) (Some version) = stamp_told before number s
+          ∙ ap (raised (journal_stamp_of before s)) (ap (option_and_then journal_stamp_in_body) said ∙ is) in
           omega (arith, after);
     }
 
 -- ---- what a switch does
 
-own_boot : (now : List Item) (s boot : ℕ) → IsTrue (boot == boot_of now s) → boot ≡ boot_of now s
-own_boot now s boot own = eqb-true boot (boot_of now s) own
+own_boot : (now : List Item) (s boot : ℕ) → IsTrue (boot == journal_boot_of now s) → boot ≡ journal_boot_of now s
+own_boot now s boot own = eqb-true boot (journal_boot_of now s) own
 
 opens_rightly : (now : List Item) (s number boot version : ℕ)
-    → IsHeard now s number (OpenAt boot version) → OpenedHasCause now s (stamp_of now s)
+    → IsHeard now s number (OpenAt boot version) → ControlOpeningHasCause now s (journal_stamp_of now s)
 opens_rightly now s number boot version is = record {
   up = is.said.up;
   number = number;
@@ -301,8 +301,8 @@ opens_rightly now s number boot version is = record {
 }
 
 switch_have : (setting : Setting) (before now : List Item) (s number : ℕ) (body : Body)
-    → IsHeard now s number body → Has setting now (switch_items setting before s body now)
-unfolding switch_items
+    → IsHeard now s number body → Has setting now (journal_switch_items setting before s body now)
+unfolding journal_switch_items
 switch_have setting before now s number (Install boot tables) is =
     sends_have setting now (to_controller (Installed s boot tables.version) ∷ []) (
       record {
@@ -334,8 +334,8 @@ switch_have setting before now s number _ is = tt
 
 -- what is said to a switch is heard with its delivery
 pub said_have : (setting : Setting) (before here : List Item) (s number : ℕ) (body : Body)
-    → body_to_switch here s number ≡ Some body → let now = here ++ Item.Delivered number ∷ [] in
-    Has setting now (switch_items setting before s body now)
+    → journal_body_to_switch here s number ≡ Some body → let now = here ++ Item.Delivered number ∷ [] in
+    Has setting now (journal_switch_items setting before s body now)
 said_have setting before here s number body said =
     switch_have setting before _ s number body (delivered_heard here s number body said)
 
@@ -343,7 +343,7 @@ said_have setting before here s number body said =
 
 -- a switch whose known boot is raised isn't over, nor is it behind settling
 raised_ends : (setting : Setting) (here : List Item) (s number : ℕ)
-    → IsTrue (raises_known here s number) → let now = here ++ Item.Delivered number ∷ [] in
+    → IsTrue (journal_raises_known_boot here s number) → let now = here ++ Item.Delivered number ∷ [] in
     IsFalse (is_over (now ++ settling setting now) s)
 raised_ends setting here s number raises =
     let now : List Item = here ++ Item.Delivered number ∷ [] in
@@ -354,7 +354,7 @@ raised_ends setting here s number raises =
 pub deliver_have : (setting : Setting) (before : List Item) (row number : ℕ) (step : Step)
     → let here = before ++ Item.Row row step ∷ [] in
     Has setting here (deliver_items setting before number here)
-deliver_have setting before row number step = row_delivers (HasItemCause setting) setting before row
+deliver_have setting before row number step = row_delivers (HasControlItemCause setting) setting before row
     number step tt tt (settling_have setting _)
     (λ s raises. installs_have setting s _ (raised_ends setting _ s number raises)) (λ s body said.
     said_have setting before _ s number body (said_row before row s number step ∙ said))
@@ -362,8 +362,8 @@ deliver_have setting before row number step = row_delivers (HasItemCause setting
 -- ---- piece causes
 
 -- a policy that isn't refused is there and has a plan, and neither limit is met
-may_submit : (setting : Setting) (file : ℕ) (journal : List Item) → update_code setting journal file
-    ≡ None → SubmissionHasCause setting journal file (version_count journal + 1)
+may_submit : (setting : Setting) (file : ℕ) (journal : List Item) → machine_update_code setting journal file
+    ≡ None → ControlSubmissionHasCause setting journal file (journal_version_count journal + 1)
 may_submit setting file journal allowed =
     let next = allowed_next setting journal file allowed in record {
       next = refl;
@@ -382,12 +382,12 @@ update_have setting file journal = grind (arith, submitted_have, may_submit)
 -- a switch that began a boot is up, and says hello of it
 says_hello : (setting : Setting) (s boot : ℕ) (journal : List Item)
     → let booted = journal ++ Item.Booted s boot ∷ [] in
-    Has setting booted (send_items booted (hello_of booted s ∷ []))
+    Has setting booted (send_items booted (machine_hello_of booted s ∷ []))
 says_hello setting s boot journal =
     let own : (s == s) ≡ true = eq-eqb s s refl in
     let booted : List Item = journal ++ Item.Booted s boot ∷ [] in
     let up : is_up booted s ≡ true = rw (up_more journal (Item.Booted s boot) s, own) refl in
-    sends_have setting booted (hello_of booted s ∷ []) (record { up = up; own = refl }, tt)
+    sends_have setting booted (machine_hello_of booted s ∷ []) (record { up = up; own = refl }, tt)
 
 restart_have : (setting : Setting) (s : ℕ) (journal : List Item)
     → Has setting journal (restart_items s journal)
@@ -402,25 +402,25 @@ confirm_have setting s journal = grind (arith, settling_have)
 step_have : (setting : Setting) (before : List Item) (row : ℕ) (step : Step)
     → let here = before ++ Item.Row row step ∷ [] in
     Has setting here (step_items setting before step here)
-step_have setting before row (Packet s header) = packet_has setting (HasItemCause setting)
-    (traffic_right setting) (next_packet before) s header _ tt
+step_have setting before row (Packet s header) = packet_has setting (HasControlItemCause setting)
+    (traffic_right setting) (journal_next_packet before) s header _ tt
 step_have setting before row (Deliver message) =
     deliver_have setting before row message (Deliver message)
 step_have setting before row (Update file) = update_have setting file _
-step_have setting before row (Crash s) = crash_has setting (HasItemCause setting)
+step_have setting before row (Crash s) = crash_has setting (HasControlItemCause setting)
     (traffic_right setting) before s _ (λ up. up_more before (Item.Row row (Crash s)) s ∙ up)
 step_have setting before row (Restart s) = restart_have setting s _
 step_have setting before row (Confirm s) = confirm_have setting s _
 step_have setting before row (Resend s) = resend_have setting s _
 step_have setting before row step = traffic_has setting _ _ (step_traffic setting before step _ tt)
 
-pub pieces_have : (setting : Setting) → PiecesHave (HasItemCause setting) setting
+pub pieces_have : (setting : Setting) → PiecesHave (HasControlItemCause setting) setting
 pieces_have setting journal row step =
-    piece_has (HasItemCause setting) setting journal row step tt (step_have setting journal _ _)
+    piece_has (HasControlItemCause setting) setting journal row step tt (step_have setting journal _ _)
 
 -- so a fact that holds where items have their causes always holds
 pub always : (Holds : Setting → List Item → Type 0) → FromCauses Holds → HoldsAlways Holds
 always Holds caused = record {
   caused = caused;
-  behind = behind_items Holds HasItemCause pieces_have caused;
+  behind = behind_items Holds HasControlItemCause pieces_have caused;
 }

@@ -2,7 +2,7 @@
 -- one switch change and are told of, or a switch begins a boot.
 use Rattle.std.proofs.Common.{[], ◌++◌, ◌+◌, ◌∙◌, ◌∷◌, ◌≡◌, ◌≤◌, ◌⊎◌, Bool, IsFalse, List, None, Option, Some, ap, append-nil, append_assoc, arith, false, inl, inr, length, map, max, min, refl, subst, sym, true, ℕ}
 use Rattle.base.proofs.Exports.{beq}
-use Rattle.update_machine.specs.Exports.{Body, Confirm, Crash, Deliver, Item, LinkDown, LinkUp, Message, NoneConcern, Packet, Place, Resend, Restart, Setting, Step, Update, body_to_switch, boot_of, concerns_links, controller_items, crash_items, deliver_items, delivery_items, hello_of, is_deliverable, is_link_up, is_up, journal_items_then, link_changes, link_items, message_of, next_packet, nothing, packets_at, advert_passed_on, piece, received_items, resend_items, restart_items, send_items, stamp_of, step_items, switch_items, version_count}
+use Rattle.update_machine.specs.Exports.{Body, Confirm, Crash, Deliver, Item, LinkDown, LinkUp, Message, NoneConcern, Packet, Place, Resend, Restart, Setting, Step, Update, journal_body_to_switch, journal_boot_of, concerns_links, controller_items, journal_crash_items, deliver_items, machine_delivery_items, machine_hello_of, is_deliverable, is_link_up_in_journal, is_up, journal_items_then, journal_link_changes, machine_link_items, message_of, journal_next_packet, nothing, journal_packets_at, machine_advert_passed_on, piece, machine_received_items, resend_items, restart_items, send_items, journal_stamp_of, step_items, journal_switch_items, journal_version_count}
 use Rattle.net_file.specs.Exports.{IsNet}
 use Rattle.control_laws.proofs.ControlCommands.{confirm_control, controller_control, resends_any, update_has}
 use Rattle.control_laws.proofs.ControlStampingSwitches.{IsPlain, control_is_plain, control_plain, losts_have, packet_plain, plain_keeps_links, sends_silent, step_plain}
@@ -22,7 +22,7 @@ pub record IsBootPiece (before items : List Item) : Type 0 where
   pub switch : ℕ
   pub boot : ℕ
   pub hello : List Item
-  pub next : boot ≡ boot_of (before ++ Item.Row row step ∷ []) switch + 1
+  pub next : boot ≡ journal_boot_of (before ++ Item.Row row step ∷ []) switch + 1
   pub told : sent hello ≡ 1
   pub silent : NoneConcern concerns_links
       ((before ++ Item.Row row step ∷ []) ++ Item.Booted switch boot ∷ []) hello
@@ -33,7 +33,7 @@ pub record IsBootPiece (before items : List Item) : Type 0 where
 -- links stay as they are, and few messages are sent
 pub record IsQuietPiece (setting : Setting) (before items : List Item) : Type 0 where
   pub none : NoneConcern concerns_links before items
-  pub few : IsNet setting.net → version_count before ≤ 64 → sent items ≤ 5000
+  pub few : IsNet setting.net → journal_version_count before ≤ 64 → sent items ≤ 5000
 
 -- links stay, or change at one switch, or a switch begins a boot
 abbrev pub PieceKind : Setting → List Item → List Item → Type 0
@@ -42,7 +42,7 @@ PieceKind setting before items = IsQuietPiece setting before items
 
 behind_row : (setting : Setting) (before : List Item) (row : ℕ) (step : Step) (items : List Item)
     → NoneConcern concerns_links (before ++ Item.Row row step ∷ []) items → (IsNet setting.net
-    → version_count (before ++ Item.Row row step ∷ []) ≤ 64 → sent items ≤ 5000) → PieceKind setting
+    → journal_version_count (before ++ Item.Row row step ∷ []) ≤ 64 → sent items ≤ 5000) → PieceKind setting
     before (Item.Row row step ∷ items)
 behind_row setting before row step items none few = inl (record {
   none = (refl, none);
@@ -53,7 +53,7 @@ behind_delivered : (setting : Setting) (before : List Item) (row number : ℕ) (
     (items : List Item)
     → let now = (before ++ Item.Row row step ∷ []) ++ Item.Delivered number ∷ [] in
     NoneConcern concerns_links now items
-    → (IsNet setting.net → version_count now ≤ 64 → sent items ≤ 5000)
+    → (IsNet setting.net → journal_version_count now ≤ 64 → sent items ≤ 5000)
     → PieceKind setting before (Item.Row row step ∷ Item.Delivered number ∷ items)
 behind_delivered setting before row number step items none few =
     let here : List Item = before ++ Item.Row row step ∷ [] in
@@ -80,23 +80,23 @@ sends_few journal messages most few = omega (arith, few, sends_count journal mes
 
 link_kind : (setting : Setting) (before : List Item) (row : ℕ) (step : Step) (one two : ℕ)
     (up : Bool) → let here = before ++ Item.Row row step ∷ [] in
-    PieceKind setting before (Item.Row row step ∷ link_items setting before one two up here)
-unfolding link_items
-link_kind setting before row step one two up = by_test (beq (is_link_up before one two) up) where
+    PieceKind setting before (Item.Row row step ∷ machine_link_items setting before one two up here)
+unfolding machine_link_items
+link_kind setting before row step one two up = by_test (beq (is_link_up_in_journal before one two) up) where
   here : List Item
   here = before ++ Item.Row row step ∷ []
 
   by_test : (same : Bool) → PieceKind setting before (Item.Row row step ∷ elim same [
     | true ↦ nothing
     | false ↦ journal_items_then (Item.LinkIs (min one two) (max one two) up ∷ [])
-        (link_changes setting before) (before ++ Item.Row row step ∷ [])
+        (journal_link_changes setting before) (before ++ Item.Row row step ∷ [])
   ])
   by_test true = nothing_happens setting before row step
   by_test false =
       inr (inl (link_piece setting before (Item.Row row step ∷ []) (Item.LinkIs (min one two)
       (max one two) up) [] (min one two) refl (row_first before row step) (refl, tt) tt refl _
       (ap (λ now. Item.Row row step ∷ Item.LinkIs (min one two) (max one two) up
-      ∷ link_changes setting before now) (sym (append-nil
+      ∷ journal_link_changes setting before now) (sym (append-nil
       ((before ++ Item.Row row step ∷ []) ++ Item.LinkIs (min one two) (max one two) up ∷ []))))))
 
 lost_unsent : (packets : List ℕ) → sent (map Item.Lost packets) ≡ 0
@@ -106,27 +106,27 @@ lost_unsent (i ∷ packets) =
 
 crash_kind : (setting : Setting) (before : List Item) (row : ℕ) (step : Step) (s : ℕ)
     → let here = before ++ Item.Row row step ∷ [] in
-    PieceKind setting before (Item.Row row step ∷ crash_items setting before s here)
-unfolding crash_items
+    PieceKind setting before (Item.Row row step ∷ journal_crash_items setting before s here)
+unfolding journal_crash_items
 crash_kind setting before row step s = by_up (is_up before s) where
   by_up : (up : Bool) → PieceKind setting before (Item.Row row step ∷ elim up [
     | false ↦ nothing
-    | true ↦ journal_items_then (Item.Down s ∷ map Item.Lost (packets_at before s))
-        (link_changes setting before) (before ++ Item.Row row step ∷ [])
+    | true ↦ journal_items_then (Item.Down s ∷ map Item.Lost (journal_packets_at before s))
+        (journal_link_changes setting before) (before ++ Item.Row row step ∷ [])
   ])
   by_up false = nothing_happens setting before row step
   by_up true = inr (inl (link_piece setting before (Item.Row row step ∷ []) (Item.Down s)
-      (map Item.Lost (packets_at before s)) s refl (row_first before row step) (refl, tt)
+      (map Item.Lost (journal_packets_at before s)) s refl (row_first before row step) (refl, tt)
       (losts_have (λ now next. IsFalse (concerns_links now next)) (λ now i. refl)
-      (packets_at before s) ((before ++ Item.Row row step ∷ []) ++ Item.Down s ∷ []))
-      (sent_more (Item.Row row step) (Item.Down s ∷ map Item.Lost (packets_at before s)) ∙ omega (
+      (journal_packets_at before s) ((before ++ Item.Row row step ∷ []) ++ Item.Down s ∷ []))
+      (sent_more (Item.Row row step) (Item.Down s ∷ map Item.Lost (journal_packets_at before s)) ∙ omega (
         arith,
-        sent_more (Item.Down s) (map Item.Lost (packets_at before s)),
-        lost_unsent (packets_at before s),
+        sent_more (Item.Down s) (map Item.Lost (journal_packets_at before s)),
+        lost_unsent (journal_packets_at before s),
       )) _
-      (ap (λ now. Item.Row row step ∷ Item.Down s ∷ map Item.Lost (packets_at before s) ++
-      link_changes setting before now) (sym (append_assoc (before ++ Item.Row row step ∷ [])
-      (Item.Down s ∷ []) (map Item.Lost (packets_at before s)))))))
+      (ap (λ now. Item.Row row step ∷ Item.Down s ∷ map Item.Lost (journal_packets_at before s) ++
+      journal_link_changes setting before now) (sym (append_assoc (before ++ Item.Row row step ∷ [])
+      (Item.Down s ∷ []) (map Item.Lost (journal_packets_at before s)))))))
 
 restart_kind : (setting : Setting) (before : List Item) (row : ℕ) (step : Step) (s : ℕ)
     → let here = before ++ Item.Row row step ∷ [] in
@@ -135,25 +135,25 @@ unfolding restart_items
 restart_kind setting before row step s = by_up (is_up (before ++ Item.Row row step ∷ []) s) where
   by_up : (up : Bool) → PieceKind setting before (Item.Row row step ∷ elim up [
     | true ↦ nothing
-    | false ↦ journal_items_then (Item.Booted s (boot_of (before ++ Item.Row row step ∷ []) s + 1) ∷ [])
-        (λ booted. send_items booted (hello_of booted s ∷ [])) (before ++ Item.Row row step ∷ [])
+    | false ↦ journal_items_then (Item.Booted s (journal_boot_of (before ++ Item.Row row step ∷ []) s + 1) ∷ [])
+        (λ booted. send_items booted (machine_hello_of booted s ∷ [])) (before ++ Item.Row row step ∷ [])
   ])
   by_up true = nothing_happens setting before row step
   by_up false = inr (inr (record {
     row = row;
     step = step;
     switch = s;
-    boot = boot_of (before ++ Item.Row row step ∷ []) s + 1;
-    hello = send_items booted (hello_of booted s ∷ []);
+    boot = journal_boot_of (before ++ Item.Row row step ∷ []) s + 1;
+    hello = send_items booted (machine_hello_of booted s ∷ []);
     next = refl;
-    told = sends_count booted (hello_of booted s ∷ []);
-    silent = sends_silent booted (hello_of booted s ∷ []);
+    told = sends_count booted (machine_hello_of booted s ∷ []);
+    silent = sends_silent booted (machine_hello_of booted s ∷ []);
     written = refl;
   }))
     where
       booted : List Item
       booted = (before ++ Item.Row row step ∷ [])
-          ++ Item.Booted s (boot_of (before ++ Item.Row row step ∷ []) s + 1) ∷ []
+          ++ Item.Booted s (journal_boot_of (before ++ Item.Row row step ∷ []) s + 1) ∷ []
 
 -- ---- deliveries
 
@@ -161,11 +161,11 @@ switch_kind : (setting : Setting) (before : List Item) (row number : ℕ) (step 
     (body : Body)
     → let now = (before ++ Item.Row row step ∷ []) ++ Item.Delivered number ∷ [] in
     PieceKind setting before (Item.Row row step ∷ Item.Delivered number
-    ∷ switch_items setting before s body now)
+    ∷ journal_switch_items setting before s body now)
 switch_kind setting before row number step s body = switch_cases (λ items. PieceKind setting before
     (Item.Row row step ∷ Item.Delivered number ∷ items)) setting before s body now
     (λ boot version. answered _) (λ boot version. answered _) (λ boot version is. opened)
-    (λ advert is news. sent_behind (advert_passed_on setting now s advert)
+    (λ advert is news. sent_behind (machine_advert_passed_on setting now s advert)
     (λ net. omega (arith, passed_few setting net now s advert)))
     (nothing_caused setting before row number step)
   where
@@ -191,18 +191,18 @@ switch_kind setting before row number step s body = switch_cases (λ items. Piec
         let whole : before ++ (Item.Row row step ∷ Item.Delivered number ∷ []) ≡ now =
         sym (append_assoc before (Item.Row row step ∷ []) (Item.Delivered number ∷ [])) in
         inr (inl (link_piece setting before
-        (Item.Row row step ∷ Item.Delivered number ∷ []) (Item.Opened s (stamp_of now s)) [] s refl
+        (Item.Row row step ∷ Item.Delivered number ∷ []) (Item.Opened s (journal_stamp_of now s)) [] s refl
         (subst ChangedNoLinks (sym whole) (delivered_first here number (row_first before row step)))
         (refl, (refl, tt)) tt refl _ (ap (λ later. Item.Row row step ∷ Item.Delivered number
-        ∷ Item.Opened s (stamp_of now s) ∷ link_changes setting before later) (sym (append-nil
-        ((before ++ (Item.Row row step ∷ Item.Delivered number ∷ [])) ++ Item.Opened s (stamp_of now
-        s) ∷ []) ∙ ap (λ journal. journal ++ Item.Opened s (stamp_of now s) ∷ []) whole)))))
+        ∷ Item.Opened s (journal_stamp_of now s) ∷ journal_link_changes setting before later) (sym (append-nil
+        ((before ++ (Item.Row row step ∷ Item.Delivered number ∷ [])) ++ Item.Opened s (journal_stamp_of now
+        s) ∷ []) ∙ ap (λ journal. journal ++ Item.Opened s (journal_stamp_of now s) ∷ []) whole)))))
 
 received_kind : (setting : Setting) (before : List Item) (row number : ℕ) (step : Step)
     (message : Message)
     → let now = (before ++ Item.Row row step ∷ []) ++ Item.Delivered number ∷ [] in
     PieceKind setting before (Item.Row row step ∷ Item.Delivered number
-    ∷ received_items setting before number message now)
+    ∷ machine_received_items setting before number message now)
 received_kind setting before row number step message = by_receiver message.to where
   now : List Item
   now = (before ++ Item.Row row step ∷ []) ++ Item.Delivered number ∷ []
@@ -210,7 +210,7 @@ received_kind setting before row number step message = by_receiver message.to wh
   by_said : (s : ℕ) (said : Option Body)
       → PieceKind setting before (Item.Row row step ∷ Item.Delivered number ∷ elim said [
         | None ↦ []
-        | Some body ↦ switch_items setting before s body now
+        | Some body ↦ journal_switch_items setting before s body now
       ])
   by_said s None = nothing_caused setting before row number step
   by_said s (Some body) = switch_kind setting before row number step s body
@@ -218,21 +218,21 @@ received_kind setting before row number step message = by_receiver message.to wh
   by_receiver : (to : Place)
       → PieceKind setting before (Item.Row row step ∷ Item.Delivered number ∷ elim to [
         | Place.Controller ↦ controller_items setting before message.body now
-        | Place.Switch s ↦ elim (body_to_switch before s number) [
+        | Place.Switch s ↦ elim (journal_body_to_switch before s number) [
           | None ↦ []
-          | Some body ↦ switch_items setting before s body now
+          | Some body ↦ journal_switch_items setting before s body now
         ]
       ])
   by_receiver Place.Controller = behind_delivered setting before row number step
       (controller_items setting before message.body now) (plain_keeps_links now _
       (control_plain now _ (controller_control setting before message.body now)))
       (λ net versions. omega (arith, versions, controller_few setting net before message.body now))
-  by_receiver (Place.Switch s) = by_said s (body_to_switch before s number)
+  by_receiver (Place.Switch s) = by_said s (journal_body_to_switch before s number)
 
 deliver_kind : (setting : Setting) (before : List Item) (row number : ℕ) (step : Step)
     → let here = before ++ Item.Row row step ∷ [] in
     PieceKind setting before (Item.Row row step ∷ deliver_items setting before number here)
-unfolding deliver_items delivery_items
+unfolding deliver_items machine_delivery_items
 deliver_kind setting before row number step =
     by_test (is_deliverable before number) (message_of before number)
   where
@@ -247,7 +247,7 @@ deliver_kind setting before row number step =
           | false ↦ nothing
           | true ↦ Item.Delivered number ∷ [] ++ elim message [
             | None ↦ []
-            | Some sent ↦ received_items setting before number sent now
+            | Some sent ↦ machine_received_items setting before number sent now
           ]
         ])
     by_test false message = nothing_happens setting before row step
@@ -265,10 +265,10 @@ step_kind : (setting : Setting) (before : List Item) (row : ℕ) (step : Step)
     → let here = before ++ Item.Row row step ∷ [] in
     PieceKind setting before (Item.Row row step ∷ step_items setting before step here)
 step_kind setting before row (Packet s header) = behind_row setting before row _ _
-    (plain_keeps_links _ _ (packet_plain setting (next_packet before) s header _))
+    (plain_keeps_links _ _ (packet_plain setting (journal_next_packet before) s header _))
     (λ net versions. omega (
       arith,
-      packet_few setting (next_packet before) s header
+      packet_few setting (journal_next_packet before) s header
           (before ++ Item.Row row (Packet s header) ∷ []),
     ))
 step_kind setting before row (Deliver number) =
@@ -308,13 +308,13 @@ piece_kind setting before row step = step_kind setting before row step
 -- ---- messages
 
 pub link_changes_few : (setting : Setting) (before now : List Item)
-    → sent (link_changes setting before now) ≡ length (all_adverts_sent setting before now)
-unfolding link_changes
+    → sent (journal_link_changes setting before now) ≡ length (all_adverts_sent setting before now)
+unfolding journal_link_changes
 link_changes_few setting before now = sends_count now _
 
 -- a step sends few messages
 pub piece_few : (setting : Setting) → IsNet setting.net → (before : List Item)
-    → version_count before ≤ 64 → (row : ℕ) (step : Step)
+    → journal_version_count before ≤ 64 → (row : ℕ) (step : Step)
     → sent (piece setting before row step) ≤ 10_000
 piece_few setting net before versions row step = by_kind (piece_kind setting before row step) where
   by_kind : PieceKind setting before (piece setting before row step)
@@ -323,7 +323,7 @@ piece_few setting net before versions row step = by_kind (piece_kind setting bef
   by_kind (inr (inl links)) = omega (
     arith,
     ap sent links.written,
-    put_few links.changes (λ journal. link_changes setting before links.now) before,
+    put_few links.changes (λ journal. journal_link_changes setting before links.now) before,
     links.silent,
     link_changes_few setting before links.now,
     changes_few setting before links.now links.switch net links.at,

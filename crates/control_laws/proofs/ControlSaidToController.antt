@@ -1,6 +1,6 @@
 -- What was told to the controller, item by item.
 use Rattle.std.proofs.Common.{[], ◌++◌, ◌+◌, ◌<◌, ◌||◌, ◌∙◌, ◌∷◌, ◌≡◌, ◌≤◌, ◌⊎◌, Bool, IsTrue, List, None, Option, Some, ap, append-nil, append_assoc, arith, eqb-true, false, filter, filter_map, fold, if◌then◌else◌, inl, inr, map, max, min, nat_eq, option_and_then, option_to_list, refl, subst, suc, sym, true, unwrap_or, zero, ℕ}
-use Rattle.update_machine.specs.Exports.{Advert, Advertise, Body, HaveCauses, Install, Installed, Item, Message, NoneConcern, OpenAt, Setting, Stamp, Stamped, StepItems, acked_stamp, advert_known, adverts_heard, body_to_controller, boot_of, concerns_links, confirm_items, controller_heard, deliver_items, delivery_items, hello_boot, hello_of, in_turn, installs_to_all, is_deliverable, is_news_to, is_up, journal_items_then, known_boot, least_number, link_changes, members, message_of, near, nothing, open_version, opened_at, own_advert, advert_passed_on, restart_items, send_items, serves, settling, stamp_of, stamped_version_in, steps_in, submitted_items, switch_items, update_code, update_items, version_count}
+use Rattle.update_machine.specs.Exports.{Advert, Advertise, Body, JournalItemsHaveCauses, Install, Installed, Item, Message, NoneConcern, OpenAt, Setting, Stamp, Stamped, StepItems, acked_stamp, journal_advert_known, journal_adverts_heard, journal_body_to_controller, journal_boot_of, concerns_links, confirm_items, controller_heard, deliver_items, machine_delivery_items, journal_hello_boot, machine_hello_of, in_turn, machine_installs_to_all, is_deliverable, is_journal_news_to, is_up, journal_items_then, journal_known_boot, machine_least_number, journal_link_changes, members, message_of, near, nothing, open_version, opened_at, own_advert, machine_advert_passed_on, restart_items, send_items, serves, settling, journal_stamp_of, machine_stamped_version_in, journal_steps_in, submitted_items, journal_switch_items, machine_update_code, update_items, journal_version_count}
 use Rattle.base.proofs.Exports.{⊤, AllByRecursion, cases_eq, filter_map-append, fold-append, list_any, range_with_len}
 use Rattle.base.specs.Exports.{has}
 use Rattle.ctrl_msg.specs.Exports.{to_controller}
@@ -34,7 +34,7 @@ rise_cases F setting journal next message true none risen = subst F (append_asso
 pub deliver_cases : (F : List Item → Type 0) (setting : Setting) (before : List Item) (number : ℕ)
     (here : List Item) → F (here ++ nothing) →
     (let now = here ++ Item.Delivered number ∷ [] in
-    F (now ++ delivery_items setting before number now)) →
+    F (now ++ machine_delivery_items setting before number now)) →
     F (here ++ deliver_items setting before number here)
 unfolding deliver_items
 deliver_cases F setting before number here none delivered = by_test (is_deliverable before number)
@@ -44,22 +44,22 @@ deliver_cases F setting before number here none delivered = by_test (is_delivera
 
     by_test : (b : Bool) → F (here ++ elim b [
       | false ↦ nothing
-      | true ↦ journal_items_then (next ∷ []) (delivery_items setting before number) here
+      | true ↦ journal_items_then (next ∷ []) (machine_delivery_items setting before number) here
     ])
     by_test false = none
     by_test true = subst F (append_assoc here
-        (next ∷ []) (delivery_items setting before number (here ++ next ∷ []))) delivered
+        (next ∷ []) (machine_delivery_items setting before number (here ++ next ∷ []))) delivered
 
 -- the policy is refused, or its tables are sent and the marks settle
 pub update_cases : (F : List Item → Type 0) (setting : Setting) (file : ℕ) (here : List Item)
     → ((code : ℕ) → F (here ++ Item.Refused file code ∷ [])) →
-    (let now = here ++ Item.Submitted file (version_count here + 1) ∷ [] in
-    let sent = now ++ installs_to_all setting now in F (sent ++ settling setting sent)) →
+    (let now = here ++ Item.Submitted file (journal_version_count here + 1) ∷ [] in
+    let sent = now ++ machine_installs_to_all setting now in F (sent ++ settling setting sent)) →
     F (here ++ update_items setting file here)
 unfolding update_items
-update_cases F setting file here refused submitted = by_code (update_code setting here file) where
+update_cases F setting file here refused submitted = by_code (machine_update_code setting here file) where
   next : Item
-  next = Item.Submitted file (version_count here + 1)
+  next = Item.Submitted file (journal_version_count here + 1)
 
   now : List Item
   now = here ++ next ∷ []
@@ -70,7 +70,7 @@ update_cases F setting file here refused submitted = by_code (update_code settin
   ])
   by_code (Some code) = refused code
   by_code None = subst F (append_assoc here (next ∷ []) (submitted_items setting now))
-      (subst F (sym (in_two (installs_to_all setting) (settling setting) now)) submitted)
+      (subst F (sym (in_two (machine_installs_to_all setting) (settling setting) now)) submitted)
 
 -- nothing happens, or the marks settle
 pub confirm_cases : (F : List Item → Type 0) (setting : Setting) (s : ℕ) (here : List Item)
@@ -92,16 +92,16 @@ confirm_cases F setting s here none confirmed = by_up (is_up here s) where
 
 -- nothing happens, or the switch begins its next boot and says hello
 pub restart_cases : (F : List Item → Type 0) (s : ℕ) (here : List Item) → F (here ++ nothing)
-    → (is_up here s ≡ false → let now = here ++ Item.Booted s (boot_of here s + 1) ∷ [] in
-    F (now ++ send_items now (hello_of now s ∷ []))) →
+    → (is_up here s ≡ false → let now = here ++ Item.Booted s (journal_boot_of here s + 1) ∷ [] in
+    F (now ++ send_items now (machine_hello_of now s ∷ []))) →
     F (here ++ restart_items s here)
 unfolding restart_items
 restart_cases F s here none booted = by_up (is_up here s) refl where
   next : Item
-  next = Item.Booted s (boot_of here s + 1)
+  next = Item.Booted s (journal_boot_of here s + 1)
 
   hello : List Item → List Item
-  hello now = send_items now (hello_of now s ∷ [])
+  hello now = send_items now (machine_hello_of now s ∷ [])
 
   by_up : (b : Bool) → is_up here s ≡ b → F (here ++ elim b [
     | true ↦ nothing
@@ -118,12 +118,12 @@ restart_cases F s here none booted = by_up (is_up here s) refl where
 pub record IsHeld (setting : Setting) (before : List Item) (s : ℕ) (advert : Advert) : Type 0 where
   pub origin : ℕ
   pub small : origin < 64
-  pub held : advert_known setting before s origin ≡ Some advert
+  pub held : journal_advert_known setting before s origin ≡ Some advert
 
 -- the switch heard the advert last
 pub record IsHeard (before : List Item) (s : ℕ) (advert : Advert) : Type 0 where
   pub earlier : List Advert
-  pub heard : adverts_heard before s ≡ earlier ++ advert ∷ []
+  pub heard : journal_adverts_heard before s ≡ earlier ++ advert ∷ []
 
 -- a switch tells a neighbour its own advert, one that it holds, or the one that it heard last
 pub record IsTold (setting : Setting) (before : List Item) (advert : Advert) : Type 0 where
@@ -143,7 +143,7 @@ IsToldIn setting before _ = ⊤
 pub record ChangedNoLinks (before : List Item) : Type 0 where
   pub newest : StepItems
   pub earlier : List StepItems
-  pub steps : steps_in before ≡ newest ∷ earlier
+  pub steps : journal_steps_in before ≡ newest ∷ earlier
   pub ends : newest.before ++ newest.items ≡ before
   pub none : NoneConcern concerns_links newest.before newest.items
 
@@ -159,7 +159,7 @@ HasLinkCause setting before (Item.LinkIs one two up) = ChangedNoLinks before
 HasLinkCause setting before _ = ⊤
 
 abbrev pub HaveLinkCauses : Setting → List Item → List Item → Type 0
-HaveLinkCauses setting before items = HaveCauses (HasLinkCause setting) before items
+HaveLinkCauses setting before items = JournalItemsHaveCauses (HasLinkCause setting) before items
 
 -- ---- what a switch writes for a body that is said to it: it answers the controller, or opens and
 -- tells its neighbours of its links, or passes news on, or writes nothing.
@@ -167,7 +167,7 @@ HaveLinkCauses setting before items = HaveCauses (HasLinkCause setting) before i
 -- the items of a switch that opens
 abbrev pub opening_items : Setting → List Item → ℕ → List Item → List Item
 opening_items setting before s now =
-    journal_items_then (Item.Opened s (stamp_of now s) ∷ []) (link_changes setting before) now
+    journal_items_then (Item.Opened s (journal_stamp_of now s) ∷ []) (journal_link_changes setting before) now
 
 -- what is true of each of these is true of what the switch writes
 pub switch_cases : (P : List Item → Type 0) (setting : Setting) (before : List Item) (s : ℕ)
@@ -175,10 +175,10 @@ pub switch_cases : (P : List Item → Type 0) (setting : Setting) (before : List
     → ((boot version : ℕ) → P (send_items now (to_controller (Installed s boot version) ∷ [])))
     → ((boot version : ℕ) → P (send_items now (to_controller (Stamped s boot version) ∷ [])))
     → ((boot version : ℕ) → body ≡ OpenAt boot version → P (opening_items setting before s now))
-    → ((advert : Advert) → body ≡ Advertise advert → IsTrue (is_news_to setting before s advert)
-    → P (send_items now (advert_passed_on setting now s advert)))
-    → P [] → P (switch_items setting before s body now)
-unfolding switch_items
+    → ((advert : Advert) → body ≡ Advertise advert → IsTrue (is_journal_news_to setting before s advert)
+    → P (send_items now (machine_advert_passed_on setting now s advert)))
+    → P [] → P (journal_switch_items setting before s body now)
+unfolding journal_switch_items
 switch_cases P setting before s (Install boot tables) now installed stamped opens passes none =
     installed boot tables.version
 switch_cases P setting before s (Stamp boot version touched) now installed stamped opens passes
@@ -188,15 +188,15 @@ switch_cases P setting before s (OpenAt boot version) now installed stamped open
   where
     by_serving : (serving : Bool) → P (elim serving [
       | true ↦ []
-      | false ↦ journal_items_then (Item.Opened s (stamp_of now s) ∷ []) (link_changes setting before) now
+      | false ↦ journal_items_then (Item.Opened s (journal_stamp_of now s) ∷ []) (journal_link_changes setting before) now
     ])
     by_serving true = none
     by_serving false = opens boot version refl
 switch_cases P setting before s (Advertise advert) now installed stamped opens passes none =
-    by_news (is_news_to setting before s advert) refl
+    by_news (is_journal_news_to setting before s advert) refl
   where
-    by_news : (news : Bool) → is_news_to setting before s advert ≡ news → P (elim news [
-      | true ↦ send_items now (advert_passed_on setting now s advert)
+    by_news : (news : Bool) → is_journal_news_to setting before s advert ≡ news → P (elim news [
+      | true ↦ send_items now (machine_advert_passed_on setting now s advert)
       | false ↦ []
     ])
     by_news true is = passes advert refl is
@@ -212,15 +212,15 @@ told_by reads journal = filter_map reads (controller_heard journal)
 -- what an item tells it
 abbrev pub tells : {X : Type 0} → (Body → Option X) → List Item → Item → List X
 tells reads before (Item.Delivered number) =
-    option_to_list (option_and_then reads (body_to_controller before number))
+    option_to_list (option_and_then reads (journal_body_to_controller before number))
 tells reads before _ = []
 
 pub told_by_more : {X : Type 0} (reads : Body → Option X) (before : List Item) (next : Item)
     → told_by reads (before ++ next ∷ []) ≡ told_by reads before ++ tells reads before next
 told_by_more {X = X} reads before (Item.Delivered number) =
     ap (filter_map reads) (told_more before (Item.Delivered number)) ∙ filter_map-append reads
-    (controller_heard before) (option_to_list (body_to_controller before number))
-    ∙ ap (λ xs. told_by reads before ++ xs) (by_said (body_to_controller before number))
+    (controller_heard before) (option_to_list (journal_body_to_controller before number))
+    ∙ ap (λ xs. told_by reads before ++ xs) (by_said (journal_body_to_controller before number))
   where
     by_said : (said : Option Body) → filter_map reads (option_to_list said)
         ≡ option_to_list (option_and_then reads said)
@@ -236,11 +236,11 @@ told_by_more reads before next = cc (told_more before next, append-nil (told_by 
 pub told_sent : {X : Type 0} (reads : Body → Option X) (writes : X → Body) →
     ((body : Body) (x : X) → reads body ≡ Some x → body ≡ writes x) →
     (before : List Item) (number : ℕ) (x : X)
-    → option_and_then reads (body_to_controller before number) ≡ Some x
+    → option_and_then reads (journal_body_to_controller before number) ≡ Some x
     → message_of before number ≡ Some (to_controller (writes x))
-told_sent reads writes is before number x told = by_said (body_to_controller before number) refl
+told_sent reads writes is before number x told = by_said (journal_body_to_controller before number) refl
   where
-    by_said : (said : Option Body) → body_to_controller before number ≡ said
+    by_said : (said : Option Body) → journal_body_to_controller before number ≡ said
         → message_of before number ≡ Some (to_controller (writes x))
     by_said None e = let none : None ≡ Some x = rw e at told in absurd cc
     by_said (Some body) e = cc (said_sent before number body e, is body x (rw e at told))
@@ -290,11 +290,11 @@ fold_within bound first (x ∷ xs) within all =
 
 -- so is the acknowledged stamp, where the opening and what was told are
 pub acked_stamp_within : (journal : List Item) (s bound : ℕ) → open_version journal s ≤ bound
-    → AllByRecursion (λ x. x ≤ bound) (told_by (stamped_version_in s (known_boot journal s)) journal)
+    → AllByRecursion (λ x. x ≤ bound) (told_by (machine_stamped_version_in s (journal_known_boot journal s)) journal)
     → acked_stamp journal s ≤ bound
 unfolding acked_stamp
 acked_stamp_within journal s bound opening told = fold_within bound (open_version journal s)
-    (told_by (stamped_version_in s (known_boot journal s)) journal) opening told
+    (told_by (machine_stamped_version_in s (journal_known_boot journal s)) journal) opening told
 
 -- an opening within a bound
 pub open_within : (journal : List Item) (s bound : ℕ)
@@ -310,26 +310,26 @@ fold_up first [] = omega arith
 fold_up first (x ∷ xs) = omega (arith, fold_up (max first x) xs)
 
 -- no known boot is below the first one
-pub known_first : (journal : List Item) (s : ℕ) → 1 ≤ known_boot journal s
-unfolding known_boot
-known_first journal s = fold_up 1 (told_by (hello_boot s) journal)
+pub known_first : (journal : List Item) (s : ℕ) → 1 ≤ journal_known_boot journal s
+unfolding journal_known_boot
+known_first journal s = fold_up 1 (told_by (journal_hello_boot s) journal)
 
 -- it is at least the version of the opening
 pub acked_stamp_opened : (journal : List Item) (s : ℕ)
     → open_version journal s ≤ acked_stamp journal s
 unfolding acked_stamp
 acked_stamp_opened journal s = fold_up (open_version journal s)
-    (told_by (stamped_version_in s (known_boot journal s)) journal)
+    (told_by (machine_stamped_version_in s (journal_known_boot journal s)) journal)
 
 -- and rises within a boot
 pub acked_stamp_rises : (before : List Item) (next : Item) (s : ℕ)
-    → known_boot (before ++ next ∷ []) s ≡ known_boot before s
+    → journal_known_boot (before ++ next ∷ []) s ≡ journal_known_boot before s
     → open_version (before ++ next ∷ []) s ≡ open_version before s
     → acked_stamp before s ≤ acked_stamp (before ++ next ∷ []) s
 unfolding acked_stamp
 acked_stamp_rises before next s known opening =
-    let told : List ℕ = told_by (stamped_version_in s (known_boot before s)) before in
-    let new : List ℕ = tells (stamped_version_in s (known_boot before s)) before next in
+    let told : List ℕ = told_by (machine_stamped_version_in s (journal_known_boot before s)) before in
+    let new : List ℕ = tells (machine_stamped_version_in s (journal_known_boot before s)) before next in
     rw (known, opening, told_by_more, fold-append)
     (fold_up (fold max (open_version before s) told) new)
 
@@ -343,13 +343,13 @@ fold_min first (x ∷ xs) =
 
 -- the least of numbers is at most each of them
 pub least_below : (xs : List ℕ) (other : ℕ)
-    → AllByRecursion (λ x. unwrap_or (least_number xs) other ≤ x) xs
+    → AllByRecursion (λ x. unwrap_or (machine_least_number xs) other ≤ x) xs
 least_below [] other = tt
 least_below (x ∷ xs) other = fold_min x xs
 
 -- and it is within a bound on each of them
 pub least_within : (xs : List ℕ) (bound : ℕ) → AllByRecursion (λ x. x ≤ bound) xs
-    → unwrap_or (least_number xs) bound ≤ bound
+    → unwrap_or (machine_least_number xs) bound ≤ bound
 least_within [] bound all = omega arith
 least_within (x ∷ xs) bound all =
     let below = (fold_min x xs).0 in

@@ -2,12 +2,12 @@
 -- it is known to stamp with.
 use Rattle.base.proofs.Exports.{⊤, AllByRecursion, list_any, nat_tests, same_Some}
 use Rattle.std.proofs.Common.{[], ◌++◌, ◌==◌, ◌||◌, ◌∙◌, ◌∷◌, ◌≡◌, ◌≤◌, Bool, IsFalse, IsTrue, List, None, Option, Some, ap, append-nil, append_assoc, arith, eqb-true, false, if◌then◌else◌, inl, inr, is_some, map, nat_eq, refl, subst, sym, take, true, ℕ}
-use Rattle.update_machine.specs.Exports.{Advertise, Body, HaveCauses, Header, Item, Message, NoneConcern, Setting, Step, StepOfRow, acked_stamp, journal_after_steps, boot_of, concerns_links, controller_heard, crash_items, has_acked, heard, installed_version_in, installs_version, is_advert, is_up, journal_items_then, known_boot, link_changes, nothing, opened_at, packet_items, packets_at, send_items, serves, stamp_of, stamped_version_in, step_items}
+use Rattle.update_machine.specs.Exports.{Advertise, Body, JournalItemsHaveCauses, Header, Item, Message, NoneConcern, Setting, Step, StepOfRow, acked_stamp, journal_after_steps, journal_boot_of, concerns_links, controller_heard, journal_crash_items, has_acked, heard, journal_installed_in_body, installs_version, is_advert, is_up, journal_items_then, journal_known_boot, journal_link_changes, nothing, opened_at, packet_items, journal_packets_at, send_items, serves, journal_stamp_of, machine_stamped_version_in, step_items}
 use Rattle.control_laws.proofs.ControlCommands.{Control, IsCommand, IsControl, sends_any}
 use Rattle.control_laws.proofs.ControlFactsGrown.{AreKept, FromCauses, from_causes, have_weaker, known_more, opened_in, opened_is, serving_more, steps_have}
 use Rattle.control_laws.proofs.ControlTrafficItems.{IsChange, IsTraffic, IsWork, IsWorkStep, Work, change_traffic, links_change, packet_works, rule_cases, step_work}
 use Rattle.update_machine.proofs.Exports.{PiecesHave, have_put, have_take, start_laws}
-use Rattle.control_laws.specs.Exports.{AcksHold, HasItemCause, HasHeardTables, HoldsAtEnds, HoldsBehindItems}
+use Rattle.control_laws.specs.Exports.{AcksHold, HasControlItemCause, HasHeardTables, HoldsAtEnds, HoldsBehindItems}
 use Rattle.control_laws.proofs.ControlSwitchOpenings.{IsKnown, IsServing, delivery_known, known_at_first, known_kept, opened_on, opening_known}
 use Rattle.control_laws.proofs.ControlAckKinds.{AreTrue, of_stamps, of_tables, stamp_kept, true_at_first, true_on, turns}
 use Rattle.control_laws.proofs.ControlSaidToController.{acked_stamp_within, each_at, open_within, told_by}
@@ -24,7 +24,7 @@ IsPlain before (Item.LinkIs one two up) = ⊥
 IsPlain before _ = ⊤
 
 abbrev pub ArePlain : List Item → List Item → Type 0
-ArePlain journal items = HaveCauses IsPlain journal items
+ArePlain journal items = JournalItemsHaveCauses IsPlain journal items
 
 no_link_change : (before : List Item) (next : Item) → IsPlain before next
     → IsFalse (concerns_links before next)
@@ -108,7 +108,7 @@ at_ends Holds stepped = record {
 pub behind_items : (Holds : Setting → List Item → Type 0)
     (cause : Setting → List Item → Item → Type 0)
     → ((setting : Setting) → PiecesHave (cause setting) setting)
-    → ((setting : Setting) (journal : List Item) → HaveCauses (cause setting) [] journal
+    → ((setting : Setting) (journal : List Item) → JournalItemsHaveCauses (cause setting) [] journal
     → Holds setting journal) → HoldsBehindItems Holds
 behind_items Holds cause pieces caused = record {
   items = some_items;
@@ -119,7 +119,7 @@ behind_items Holds cause pieces caused = record {
       (some_items setting begins.answers.steps begins.length);
 } where
   all_have : (setting : Setting) (steps : List StepOfRow)
-      → HaveCauses (cause setting) [] (journal_after_steps setting [] steps)
+      → JournalItemsHaveCauses (cause setting) [] (journal_after_steps setting [] steps)
   all_have setting steps = steps_have (cause setting) setting (pieces setting) [] steps tt
 
   some_items : (setting : Setting) (steps : List StepOfRow) (n : ℕ)
@@ -133,7 +133,7 @@ behind_items Holds cause pieces caused = record {
 
 pub losts_have : (cause : List Item → Item → Type 0) →
     ((before : List Item) (i : ℕ) → cause before (Item.Lost i)) →
-    (packets : List ℕ) (journal : List Item) → HaveCauses cause journal (map Item.Lost packets)
+    (packets : List ℕ) (journal : List Item) → JournalItemsHaveCauses cause journal (map Item.Lost packets)
 losts_have cause has [] journal = tt
 losts_have cause has (i ∷ packets) journal =
     (has journal i, losts_have cause has packets (journal ++ Item.Lost i ∷ []))
@@ -155,20 +155,20 @@ pub crash_changes : (setting : Setting) (cause : List Item → Item → Type 0) 
     ((before : List Item) (next : Item) → IsChange setting before next → cause before next) →
     (before : List Item) (s : ℕ) (journal : List Item)
     → (is_up before s ≡ true → cause journal (Item.Down s))
-    → HaveCauses cause journal (crash_items setting before s journal)
-unfolding crash_items
+    → JournalItemsHaveCauses cause journal (journal_crash_items setting before s journal)
+unfolding journal_crash_items
 crash_changes setting cause weaker before s journal downs = by_up (is_up before s) refl where
   lost : List Item
-  lost = map Item.Lost (packets_at before s)
+  lost = map Item.Lost (journal_packets_at before s)
 
-  by_up : (b : Bool) → is_up before s ≡ b → HaveCauses cause journal (elim b [
+  by_up : (b : Bool) → is_up before s ≡ b → JournalItemsHaveCauses cause journal (elim b [
     | false ↦ nothing
-    | true ↦ journal_items_then (Item.Down s ∷ lost) (link_changes setting before) journal
+    | true ↦ journal_items_then (Item.Down s ∷ lost) (journal_link_changes setting before) journal
   ])
   by_up false e = (weaker journal Item.Nothing tt, tt)
-  by_up true e = have_put cause (Item.Down s ∷ lost) (link_changes setting before) journal (
+  by_up true e = have_put cause (Item.Down s ∷ lost) (journal_link_changes setting before) journal (
     downs e,
-    losts_have cause (λ now i. weaker now (Item.Lost i) tt) (packets_at before s)
+    losts_have cause (λ now i. weaker now (Item.Lost i) tt) (journal_packets_at before s)
         (journal ++ Item.Down s ∷ []),
   )
       (have_weaker (IsChange setting) cause weaker (journal ++ (Item.Down s ∷ lost)) _
@@ -178,7 +178,7 @@ pub crash_has : (setting : Setting) (cause : List Item → Item → Type 0) →
     ((before : List Item) (next : Item) → IsTraffic setting before next → cause before next) →
     (before : List Item) (s : ℕ) (journal : List Item)
     → (is_up before s ≡ true → cause journal (Item.Down s))
-    → HaveCauses cause journal (crash_items setting before s journal)
+    → JournalItemsHaveCauses cause journal (journal_crash_items setting before s journal)
 crash_has setting cause weaker = crash_changes setting cause
     (λ before next is. weaker before next (change_traffic setting before next is))
 
@@ -190,7 +190,7 @@ pub record IsTold (journal : List Item) : Type 0 where
   pub tables : AreTrue of_tables journal
   pub stamps : AreTrue of_stamps journal
 
-pub told_kept : (setting : Setting) → AreKept (HasItemCause setting) IsTold
+pub told_kept : (setting : Setting) → AreKept (HasControlItemCause setting) IsTold
 told_kept setting before next cause told = record {
   known = known_kept setting before next cause told.known;
   tables = true_on of_tables setting before next cause told.known.boots told.tables;
@@ -209,27 +209,27 @@ caused_told = from_causes (λ setting. IsTold) told_kept (λ setting. told_at_fi
 
 -- what it is known to have acknowledged, it has
 acked_is : (journal : List Item) (s version : ℕ) → AreTrue of_tables journal
-    → IsTrue (is_up journal s) → known_boot journal s ≡ boot_of journal s
+    → IsTrue (is_up journal s) → journal_known_boot journal s ≡ journal_boot_of journal s
     → IsTrue (has_acked journal s version) → HasHeardTables journal s version
 unfolding has_acked
-acked_is journal s version tables up known acked = by_first (known_boot journal s == 1) refl acked
+acked_is journal s version tables up known acked = by_first (journal_known_boot journal s == 1) refl acked
   where
     later : IsTrue (list_any (nat_eq version)
-        (told_by (installed_version_in s (known_boot journal s)) journal)) → HasHeardTables journal s version
+        (told_by (journal_installed_in_body s (journal_known_boot journal s)) journal)) → HasHeardTables journal s version
     later any = inr (each_at (λ v. IsTrue (list_any (installs_version v) (heard journal s))) version
-        (told_by (installed_version_in s (boot_of journal s)) journal) (tables.told s up) (rw known at any))
+        (told_by (journal_installed_in_body s (journal_boot_of journal s)) journal) (tables.told s up) (rw known at any))
 
-    by_version : (b : Bool) → nat_eq version 1 ≡ b → boot_of journal s ≡ 1 → IsTrue
-        (b || list_any (nat_eq version) (told_by (installed_version_in s (known_boot journal s)) journal))
+    by_version : (b : Bool) → nat_eq version 1 ≡ b → journal_boot_of journal s ≡ 1 → IsTrue
+        (b || list_any (nat_eq version) (told_by (journal_installed_in_body s (journal_known_boot journal s)) journal))
         → HasHeardTables journal s version
     by_version true e first any = inl (eqb-true version 1 e, first)
     by_version false e first any = later any
 
-    by_first : (b : Bool) → (known_boot journal s == 1) ≡ b → IsTrue (list_any (nat_eq version)
-        ((if b then 1 ∷ [] else []) ++ told_by (installed_version_in s (known_boot journal s)) journal))
+    by_first : (b : Bool) → (journal_known_boot journal s == 1) ≡ b → IsTrue (list_any (nat_eq version)
+        ((if b then 1 ∷ [] else []) ++ told_by (journal_installed_in_body s (journal_known_boot journal s)) journal))
         → HasHeardTables journal s version
     by_first true e any = by_version (nat_eq version 1) refl
-        (sym known ∙ eqb-true (known_boot journal s) 1 e) any
+        (sym known ∙ eqb-true (journal_known_boot journal s) 1 e) any
     by_first false e any = later any
 
 pub acks_hold : (journal : List Item) → IsTold journal → (s : ℕ) → AcksHold journal s
@@ -247,11 +247,11 @@ acks_held setting journal have = acks_hold journal (caused_told setting journal 
 -- it stamps at least with the version at which it was opened
 pub record StampsOpened (journal : List Item) (s : ℕ) : Type 0 where
   pub stamps : IsTrue (serves journal s) → (version : ℕ) → opened_at journal s ≡ Some version
-      → version ≤ stamp_of journal s
+      → version ≤ journal_stamp_of journal s
 
 -- if the known boot stays, so does the opening before
 opening_stays : (before : List Item) (next : Item) (s version : ℕ)
-    → known_boot (before ++ next ∷ []) s ≡ known_boot before s
+    → journal_known_boot (before ++ next ∷ []) s ≡ journal_known_boot before s
     → IsTrue (is_some (opened_at before s))
     → opened_at (before ++ next ∷ []) s ≡ Some version → opened_at before s ≡ Some version
 opening_stays before next s version known is opened = by_opened (opened_at before s) refl is where
@@ -260,13 +260,13 @@ opening_stays before next s version known is opened = by_opened (opened_at befor
   by_opened None e is = absurd cc
   by_opened (Some w) e is =
       e ∙ sym (opened_is (before ++ next ∷ []) s ∙ ap (opened_in (before ++ next ∷ []) s) known
-      ∙ opened_on before next s (known_boot before s) w (sym (opened_is before s) ∙ e)) ∙ opened
+      ∙ opened_on before next s (journal_known_boot before s) w (sym (opened_is before s) ∙ e)) ∙ opened
 
 -- a switch that served before, in a boot that goes on
 served_on : (before : List Item) (next : Item) (s version : ℕ) → IsServing before s
     → StampsOpened before s → IsTrue (serves before s)
-    → known_boot (before ++ next ∷ []) s ≡ known_boot before s → IsFalse (turns s next)
-    → opened_at (before ++ next ∷ []) s ≡ Some version → version ≤ stamp_of (before ++ next ∷ []) s
+    → journal_known_boot (before ++ next ∷ []) s ≡ journal_known_boot before s → IsFalse (turns s next)
+    → opened_at (before ++ next ∷ []) s ≡ Some version → version ≤ journal_stamp_of (before ++ next ∷ []) s
 served_on before next s version serving stamps served known same opened = omega (
   arith,
   stamp_kept before next s same,
@@ -275,29 +275,29 @@ served_on before next s version serving stamps served known same opened = omega 
 )
 
 stamps_on : (setting : Setting) (before : List Item) (next : Item) (s : ℕ)
-    → HasItemCause setting before next → IsKnown before → StampsOpened before s
+    → HasControlItemCause setting before next → IsKnown before → StampsOpened before s
     → IsTrue (serves (before ++ next ∷ []) s) → (version : ℕ)
     → opened_at (before ++ next ∷ []) s ≡ Some version
-    → version ≤ stamp_of (before ++ next ∷ []) s
+    → version ≤ journal_stamp_of (before ++ next ∷ []) s
 stamps_on setting before (Item.Opened t stamp) s cause known is serving version opened =
     by_test (t == s) refl
   where
     next : Item
     next = Item.Opened t stamp
 
-    by_test : (b : Bool) → (t == s) ≡ b → version ≤ stamp_of (before ++ next ∷ []) s
+    by_test : (b : Bool) → (t == s) ≡ b → version ≤ journal_stamp_of (before ++ next ∷ []) s
     by_test true e =
         let own : t ≡ s = eqb-true t s e in
         let same = opening_known before t cause.number cause.version known.boots cause.sent in
         let at = opened_is before t ∙ ap (opened_in before t) same
-        ∙ known.openings t (boot_of before t) cause.version cause.number cause.sent in
+        ∙ known.openings t (journal_boot_of before t) cause.version cause.number cause.sent in
         let here = subst (λ x. opened_at before x ≡ Some cause.version) own at in
         let still = opened_is (before ++ next ∷ []) s
         ∙ ap (opened_in (before ++ next ∷ []) s) (known_more before next s) ∙ opened_on before next
-        s (known_boot before s) cause.version (sym (opened_is before s) ∙ here) in
+        s (journal_known_boot before s) cause.version (sym (opened_is before s) ∙ here) in
         let of : Some version ≡ Some cause.version = sym opened ∙ still in
         let is_own : version ≡ cause.version = cc in
-        let stamped = subst (λ x. cause.version ≤ stamp_of before x) own cause.stamped in
+        let stamped = subst (λ x. cause.version ≤ journal_stamp_of before x) own cause.stamped in
         omega (arith, is_own, stamped, stamp_kept before next s refl)
     by_test false e =
         let served : IsTrue (serves before s) = rw (serving_more before next s, e) at serving in
@@ -325,7 +325,7 @@ stamps_on setting before next s cause known is serving version opened =
     (rw (serving_more before next s) at serving) (known_more before next s) refl opened
 
 pub opened_stamps_on : (setting : Setting) (before : List Item) (next : Item) (s : ℕ)
-    → HasItemCause setting before next → IsKnown before → StampsOpened before s
+    → HasControlItemCause setting before next → IsKnown before → StampsOpened before s
     → StampsOpened (before ++ next ∷ []) s
 opened_stamps_on setting before next s cause known is = record {
   stamps = λ serving version opened.
@@ -333,7 +333,7 @@ opened_stamps_on setting before next s cause known is = record {
 }
 
 pub opened_stamps_at_first : (s : ℕ) → StampsOpened [] s
-unfolding opened_at known_boot controller_heard
+unfolding opened_at journal_known_boot controller_heard
 opened_stamps_at_first s = record {
   stamps = λ serving version opened. omega (arith, same_Some 1 version opened, start_laws.stamp s);
 }
@@ -343,7 +343,7 @@ opened_stamps_at_first s = record {
 -- a switch that serves stamps at least with what it is known to stamp with
 pub serving_stamps : (journal : List Item) (s : ℕ) → IsKnown journal → AreTrue of_stamps journal
     → StampsOpened journal s → IsTrue (serves journal s)
-    → acked_stamp journal s ≤ stamp_of journal s
-serving_stamps journal s known stamps is serving = acked_stamp_within journal s (stamp_of journal s)
-    (open_within journal s (stamp_of journal s) (is.stamps serving))
+    → acked_stamp journal s ≤ journal_stamp_of journal s
+serving_stamps journal s known stamps is serving = acked_stamp_within journal s (journal_stamp_of journal s)
+    (open_within journal s (journal_stamp_of journal s) (is.stamps serving))
     (rw ((known.serving s).known serving) (stamps.told s ((known.serving s).up serving)))

@@ -1,9 +1,9 @@
 -- Items that have their causes keep what is known of openings and of switches that serve.
 use Rattle.std.proofs.Common.{[], ◌++◌, ◌+◌, ◌-◌, ◌==◌, ◌∙◌, ◌∷◌, ◌≡◌, ◌≤◌, Bool, IsFalse, IsTrue, List, None, Option, Some, arith, eq-eqb, false, if◌then◌else◌, inl, inr, is_some, nat_lt, refl, ℕ, rules}
 use Rattle.base.proofs.Exports.{AllByRecursion, each_append, nat_tests, option_map_or, range_with_len}
-use Rattle.update_machine.specs.Exports.{HaveCauses, Item, Message, OpenAt, Setting, boot_of, collect_for, controller_heard, current_mark, first_open_number, is_member, is_over, is_up, known_boot, message_of, open_for, open_sent, open_version, opened_at, resend_items, resent_by_controller, resent_by_switch, resent_to_member, retired_mark, send_items, serves, stamp_for, to_switch, journal_unacked_installs, version_count, versions_from_current}
+use Rattle.update_machine.specs.Exports.{JournalItemsHaveCauses, Item, Message, OpenAt, Setting, journal_boot_of, machine_collect_for, controller_heard, journal_current_mark, machine_first_open, is_member, is_over, is_up, journal_known_boot, message_of, journal_open_for, machine_open_sent, open_version, opened_at, resend_items, journal_resent_by_controller, journal_resent_by_switch, journal_resent_to_member, journal_retired_mark, send_items, serves, journal_stamp_for, machine_message_to_switch, journal_unacked_installs, journal_version_count, journal_versions_from_current}
 use Rattle.update_machine.proofs.Exports.{start_laws}
-use Rattle.control_laws.specs.Exports.{BootsAreKnown, HasItemCause, IsRightOpening, OpensAtOneVersion, ServingIsKnown}
+use Rattle.control_laws.specs.Exports.{BootsAreKnown, HasControlItemCause, IsRightOpening, OpeningMessagesNameOneVersion, ServingIsKnown}
 use Rattle.control_laws.proofs.ControlFactsGrown.{AreKept, FromCauses, boot_more, boots_on, by_number, from_causes, known_more, opened_at_more, opened_in, opened_is, opened_more, over_more, raised, serving_more, told_past, up_more}
 
 -- ---- what is sent again, by its parts: what the messages of each part have, its messages have
@@ -11,31 +11,31 @@ use Rattle.control_laws.proofs.ControlFactsGrown.{AreKept, FromCauses, boot_more
 -- the versions after the current one
 abbrev pub later_versions : List Item → List ℕ
 later_versions journal =
-    range_with_len (current_mark journal + 1) (version_count journal - current_mark journal)
+    range_with_len (journal_current_mark journal + 1) (journal_version_count journal - journal_current_mark journal)
 
 pub each_to_member : (P : Message → Type 0) (setting : Setting) (journal : List Item) (s : ℕ)
-    → P (open_for journal (open_version journal s) s)
+    → P (journal_open_for journal (open_version journal s) s)
     → AllByRecursion P (journal_unacked_installs setting journal s (later_versions journal))
-    → P (stamp_for setting journal (current_mark journal) s)
-    → ((retired_mark journal == 0) ≡ false → P (collect_for journal (retired_mark journal) s))
-    → AllByRecursion P (resent_to_member setting journal s)
+    → P (journal_stamp_for setting journal (journal_current_mark journal) s)
+    → ((journal_retired_mark journal == 0) ≡ false → P (machine_collect_for journal (journal_retired_mark journal) s))
+    → AllByRecursion P (journal_resent_to_member setting journal s)
 each_to_member P setting journal s opening tables stamp collect = search (rules, each_append)
 
 pub each_by_controller : (P : Message → Type 0) (setting : Setting) (journal : List Item) (s : ℕ)
     → (IsFalse (is_over journal s) → IsTrue (is_member journal s)
-    → AllByRecursion P (resent_to_member setting journal s)) → (IsFalse (is_over journal s)
-    → AllByRecursion P (journal_unacked_installs setting journal s (versions_from_current journal)))
-    → AllByRecursion P (resent_by_controller setting journal s)
-unfolding resent_by_controller
+    → AllByRecursion P (journal_resent_to_member setting journal s)) → (IsFalse (is_over journal s)
+    → AllByRecursion P (journal_unacked_installs setting journal s (journal_versions_from_current journal)))
+    → AllByRecursion P (journal_resent_by_controller setting journal s)
+unfolding journal_resent_by_controller
 each_by_controller P setting journal s to_member to_other = search rules
 
 pub resent_has : (cause : List Item → Item → Type 0) (P : Message → Type 0) (setting : Setting)
     (s : ℕ) (journal : List Item) → cause journal Item.Nothing
     → ((messages : List Message) → AllByRecursion P messages
-    → HaveCauses cause journal (send_items journal messages))
-    → AllByRecursion P (resent_by_switch setting journal s)
-    → AllByRecursion P (resent_by_controller setting journal s)
-    → HaveCauses cause journal (resend_items setting s journal)
+    → JournalItemsHaveCauses cause journal (send_items journal messages))
+    → AllByRecursion P (journal_resent_by_switch setting journal s)
+    → AllByRecursion P (journal_resent_by_controller setting journal s)
+    → JournalItemsHaveCauses cause journal (resend_items setting s journal)
 unfolding resend_items
 resent_has cause P setting s journal nothing sent by_switch by_controller =
     search (rules, each_append)
@@ -59,7 +59,7 @@ member_of journal s none opened = search rules
 -- each message that opens a switch is of the version at which it is opened in that boot
 abbrev pub OpeningsStand : List Item → Type 0
 OpeningsStand journal = (s boot version n : ℕ)
-    → message_of journal n ≡ Some (to_switch s (OpenAt boot version))
+    → message_of journal n ≡ Some (machine_message_to_switch s (OpenAt boot version))
     → opened_in journal s boot ≡ Some version
 
 -- a switch that is opened stays opened at that version
@@ -68,16 +68,16 @@ pub opened_on : (before : List Item) (next : Item) (s boot version : ℕ) → op
 opened_on before next s boot version opened = rw (opened_more before next s boot, opened) refl
 
 pub own_opening : (s boot version n : ℕ)
-    → first_open_number (open_sent s boot (Item.Sent n (to_switch s (OpenAt boot version)))) ≡ Some version
+    → machine_first_open (machine_open_sent s boot (Item.Sent n (machine_message_to_switch s (OpenAt boot version)))) ≡ Some version
 own_opening s boot version n = search (rules, eq-eqb)
 
 pub new_opening : (before : List Item) (s boot version n : ℕ) → IsRightOpening before s boot version
-    → opened_in (before ++ Item.Sent n (to_switch s (OpenAt boot version)) ∷ []) s boot
+    → opened_in (before ++ Item.Sent n (machine_message_to_switch s (OpenAt boot version)) ∷ []) s boot
     ≡ Some version
 new_opening before s boot version n right =
     search (rules, opened_more, opened_is, own_opening, opened_on)
 
-pub openings_on : (setting : Setting) (before : List Item) (next : Item) → HasItemCause setting
+pub openings_on : (setting : Setting) (before : List Item) (next : Item) → HasControlItemCause setting
     before next → OpeningsStand before → OpeningsStand (before ++ next ∷ [])
 openings_on setting before next cause stand s boot version n is = elim (by_number _ next n _ is) [
   | inl new ↦ rw new (new_opening before s boot version n (rw new at cause))
@@ -86,10 +86,10 @@ openings_on setting before next cause stand s boot version n is = elim (by_numbe
 
 pub openings_at_first : OpeningsStand []
 openings_at_first s boot version n is =
-    let none : None ≡ Some (to_switch s (OpenAt boot version)) =
+    let none : None ≡ Some (machine_message_to_switch s (OpenAt boot version)) =
     rw (start_laws.message n).message at is in absurd cc
 
-pub one_opening : (journal : List Item) → OpeningsStand journal → OpensAtOneVersion journal
+pub one_opening : (journal : List Item) → OpeningsStand journal → OpeningMessagesNameOneVersion journal
 one_opening journal stand s boot one other m n first second =
     let a : opened_in journal s boot ≡ Some one = stand s boot one m first in
     let b : opened_in journal s boot ≡ Some other = stand s boot other n second in cc
@@ -99,22 +99,22 @@ one_opening journal stand s boot one other m n first second =
 -- what is kept of them, item by item
 pub record IsServing (journal : List Item) (s : ℕ) : Type 0 where
   pub up : IsTrue (serves journal s) → IsTrue (is_up journal s)
-  pub known : IsTrue (serves journal s) → known_boot journal s ≡ boot_of journal s
+  pub known : IsTrue (serves journal s) → journal_known_boot journal s ≡ journal_boot_of journal s
   pub opened : IsTrue (serves journal s) → IsTrue (is_some (opened_at journal s))
-  pub not_over : IsTrue (is_up journal s) → known_boot journal s ≡ boot_of journal s
+  pub not_over : IsTrue (is_up journal s) → journal_known_boot journal s ≡ journal_boot_of journal s
       → IsFalse (is_over journal s)
 
 up_on : (setting : Setting) (before : List Item) (next : Item) (s : ℕ)
-    → HasItemCause setting before next → (IsTrue (serves before s) → IsTrue (is_up before s))
+    → HasControlItemCause setting before next → (IsTrue (serves before s) → IsTrue (is_up before s))
     → IsTrue (serves (before ++ next ∷ []) s) → IsTrue (is_up (before ++ next ∷ []) s)
 up_on setting before next s cause up serving = search (rules, nat_tests, serving_more, up_more)
 
 -- a switch opens in its known boot, by a message of that boot
 pub opening_known : (before : List Item) (s number version : ℕ) → BootsAreKnown before
-    → message_of before number ≡ Some (to_switch s (OpenAt (boot_of before s) version))
-    → known_boot before s ≡ boot_of before s
+    → message_of before number ≡ Some (machine_message_to_switch s (OpenAt (journal_boot_of before s) version))
+    → journal_known_boot before s ≡ journal_boot_of before s
 opening_known before s number version boots sent =
-    let past = boots.sent number (to_switch s (OpenAt (boot_of before s) version)) sent in
+    let past = boots.sent number (machine_message_to_switch s (OpenAt (journal_boot_of before s) version)) sent in
     omega (arith, boots.known s)
 
 -- no hello of a past boot raises the known one
@@ -124,38 +124,38 @@ not_raised boot hello own same past = search rules
 
 -- where the known boot of a switch is its own, a delivery leaves it so
 pub delivery_known : (before : List Item) (s number : ℕ) → BootsAreKnown before
-    → known_boot before s ≡ boot_of before s
-    → known_boot (before ++ Item.Delivered number ∷ []) s ≡ known_boot before s
+    → journal_known_boot before s ≡ journal_boot_of before s
+    → journal_known_boot (before ++ Item.Delivered number ∷ []) s ≡ journal_known_boot before s
 delivery_known before s number boots same = search (rules, known_more, not_raised, told_past)
 
 known_on : (setting : Setting) (before : List Item) (next : Item) (s : ℕ)
-    → HasItemCause setting before next → BootsAreKnown before → IsServing before s
+    → HasControlItemCause setting before next → BootsAreKnown before → IsServing before s
     → IsTrue (serves (before ++ next ∷ []) s)
-    → known_boot (before ++ next ∷ []) s ≡ boot_of (before ++ next ∷ []) s
+    → journal_known_boot (before ++ next ∷ []) s ≡ journal_boot_of (before ++ next ∷ []) s
 known_on setting before next s cause boots kept serving =
     search (rules, nat_tests, opening_known, serving_more, known_more, boot_more, delivery_known)
 
 -- a switch that was opened in its known boot stays so while that boot is the known one
 pub still_opened : (before : List Item) (next : Item) (s : ℕ)
-    → known_boot (before ++ next ∷ []) s ≡ known_boot before s
+    → journal_known_boot (before ++ next ∷ []) s ≡ journal_known_boot before s
     → IsTrue (is_some (opened_at before s)) → IsTrue (is_some (opened_at (before ++ next ∷ []) s))
 still_opened before next s same opened = search (rules, opened_at_more)
 
 -- and a member stays one, unless it is over
-pub member_on : (before : List Item) (next : Item) (s : ℕ) → known_boot (before ++ next ∷ []) s
-    ≡ known_boot before s → is_over (before ++ next ∷ []) s ≡ is_over before s
+pub member_on : (before : List Item) (next : Item) (s : ℕ) → journal_known_boot (before ++ next ∷ []) s
+    ≡ journal_known_boot before s → is_over (before ++ next ∷ []) s ≡ is_over before s
     → IsTrue (is_member before s) → IsTrue (is_member (before ++ next ∷ []) s)
 member_on before next s known over member = let parts = member_parts before s member in
     member_of (before ++ next ∷ []) s (over ∙ parts.0) (still_opened before next s known parts.1)
 
 opened_here : (before : List Item) (s number version : ℕ) → BootsAreKnown before
     → OpeningsStand before
-    → message_of before number ≡ Some (to_switch s (OpenAt (boot_of before s) version))
+    → message_of before number ≡ Some (machine_message_to_switch s (OpenAt (journal_boot_of before s) version))
     → IsTrue (is_some (opened_at before s))
 opened_here before s number version boots stand sent = search (rules, opened_is, opening_known)
 
 opened_serving : (setting : Setting) (before : List Item) (next : Item) (s : ℕ)
-    → HasItemCause setting before next → BootsAreKnown before → OpeningsStand before
+    → HasControlItemCause setting before next → BootsAreKnown before → OpeningsStand before
     → IsServing before s → IsTrue (serves (before ++ next ∷ []) s)
     → IsTrue (is_some (opened_at (before ++ next ∷ []) s))
 opened_serving setting before next s cause boots stand kept serving =
@@ -168,9 +168,9 @@ by_raise : (boot : ℕ) (hello : Option ℕ) (over : Bool) → (raised boot hell
 by_raise boot hello over none = search (rules, nat_tests)
 
 not_over_on : (setting : Setting) (before : List Item) (next : Item) (s : ℕ)
-    → HasItemCause setting before next → BootsAreKnown before → IsServing before s
+    → HasControlItemCause setting before next → BootsAreKnown before → IsServing before s
     → IsTrue (is_up (before ++ next ∷ []) s)
-    → known_boot (before ++ next ∷ []) s ≡ boot_of (before ++ next ∷ []) s
+    → journal_known_boot (before ++ next ∷ []) s ≡ journal_boot_of (before ++ next ∷ []) s
     → IsFalse (is_over (before ++ next ∷ []) s)
 not_over_on setting before next s cause boots kept up same =
     search (rules, nat_tests, up_more, known_more, boot_more, over_more)
@@ -183,7 +183,7 @@ pub record IsKnown (journal : List Item) : Type 0 where
   pub openings : OpeningsStand journal
   pub serving : (s : ℕ) → IsServing journal s
 
-pub known_kept : (setting : Setting) → AreKept (HasItemCause setting) IsKnown
+pub known_kept : (setting : Setting) → AreKept (HasControlItemCause setting) IsKnown
 known_kept setting before next cause known = record {
   boots = boots_on setting before next cause known.boots;
   openings = openings_on setting before next cause known.openings;
@@ -196,7 +196,7 @@ known_kept setting before next cause known = record {
 }
 
 first_opened : (s : ℕ) → IsTrue (is_some (opened_at [] s))
-unfolding opened_at known_boot controller_heard
+unfolding opened_at journal_known_boot controller_heard
 first_opened s = refl
 
 pub known_at_first : IsKnown []

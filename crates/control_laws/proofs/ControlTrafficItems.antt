@@ -2,12 +2,12 @@
 -- deliver nothing and move no mark, whatever journal they follow.
 use Rattle.std.proofs.Common.{[], ◌++◌, ◌<◌, ◌∷◌, ◌≡◌, Bool, IfSome, IsFalse, IsTrue, List, None, Option, Some, arith, false, filter, flat_map, length, map, option_map, refl, slice_get, true, unwrap_or, ℕ}
 use Rattle.base.proofs.Exports.{AllByRecursion, each_append, each_flat_map, each_map, ⊤}
-use Rattle.update_machine.specs.Exports.{Action, Advert, Advertise, AuthorityRule, Body, CacheRule, Exit, Expire, Forget, Found, HaveCauses, Header, Hop, How, Item, Leg, LinkDown, LinkUp, Lose, Message, Place, Rule, Seek, Setting, Step, advert_to, arrive_by_leg_items, arrive_items, authority_items, authority_rule, cache_items, cache_rule, end_items, expire_items, first_place, forget_items, found_down, found_items, go_on, usable_links_changed, packet_header_at, held_adverts, holds_version, hop_items, in_turn, ingress_of, is_at, is_deliverable, is_version, journal_items_then, leg_items, leg_of, link_changes, link_items, lookup_at, lookup_items, lose_items, messages_of, messages_over_link, move_items, near, nothing, own_advert, packet_items, advert_passed_on, plan_at, reroute_by, reroute_items, packet_route_for, route_from, send_items, sent_from, serves, stamp_of, step_items, stuck_on_leg_items, switches_in, switches_of, takes_route, targets_of}
+use Rattle.update_machine.specs.Exports.{Action, Advert, Advertise, AuthorityRule, Body, CacheRule, Exit, Expire, Forget, Found, JournalItemsHaveCauses, Header, Hop, How, Item, Leg, LinkDown, LinkUp, Lose, Message, Place, Rule, Seek, Setting, Step, advert_to, journal_leg_arrival_items, machine_arrive_items, machine_authority_items, journal_authority_rule, journal_cache_items, cache_rule, end_items, machine_expire_items, first_place, forget_items, journal_found_down, found_items, go_on, journal_usable_links_changed, journal_packet_header_at, journal_held_adverts, holds_version, machine_hop_items, in_turn, journal_ingress_of, is_at, is_deliverable, is_version, journal_items_then, machine_leg_items, journal_leg_of, journal_link_changes, machine_link_items, lookup_at, lookup_items, lose_items, machine_messages_of, machine_messages_over_link, move_items, near, nothing, own_advert, packet_items, machine_advert_passed_on, journal_plan_at, journal_reroute_by, reroute_items, journal_packet_route, journal_route_from, send_items, machine_sent_items_from, serves, journal_stamp_of, step_items, stuck_on_leg_items, setting_switches_in, switches_of, takes_route, targets_of}
 use Rattle.base.specs.Exports.{has}
 use Rattle.update_machine.proofs.Exports.{have_first, have_in_turn, have_put, part_there, version_kept}
 use Rattle.partition.specs.Plan.{Hosted}
 use Rattle.switch_table.specs.Exports.{part_of}
-use Rattle.control_laws.specs.Exports.{HasItemCause, IsRightMessage}
+use Rattle.control_laws.specs.Exports.{HasControlItemCause, IsRightMessage}
 use Rattle.control_laws.proofs.ControlFactsGrown.{Has, have_weaker}
 use Rattle.control_laws.proofs.ControlMessageSends.{each_of_network}
 use Rattle.control_laws.proofs.ControlCommands.{sends_each}
@@ -15,7 +15,7 @@ use Rattle.control_laws.proofs.ControlCommands.{sends_each}
 -- the switch where some packet entered
 pub record IsIngress (before : List Item) (s : ℕ) : Type 0 where
   pub packet : ℕ
-  pub ingress : s ≡ unwrap_or (ingress_of before packet) 0
+  pub ingress : s ≡ unwrap_or (journal_ingress_of before packet) 0
 
 -- a cache rule of a version that is there goes to an ingress
 abbrev pub IsRuleTo : List Item → Place → Body → Type 0
@@ -35,8 +35,8 @@ rule_cases before P rules to body is = absurd is
 -- the switch knows no route without the links that the packet found down
 pub record KnowsNoRoute (setting : Setting) (before : List Item) (i s : ℕ) (leg : Leg)
     (down : List ℕ) : Type 0 where
-  pub found : down ≡ found_down before i
-  pub none : route_from setting before s (targets_of setting before leg) down ≡ None
+  pub found : down ≡ journal_found_down before i
+  pub none : journal_route_from setting before s (targets_of setting before leg) down ≡ None
 
 -- what becomes of packets once they entered, and of messages and cache rules that end. Nothing is
 -- sent but cache rules, nothing is forgotten that can't be delivered, and no link changes. A packet
@@ -59,7 +59,7 @@ IsWork setting before (Item.Retired version) = ⊥
 IsWork setting before _ = ⊤
 
 abbrev pub Work : Setting → List Item → List Item → Type 0
-Work setting journal items = HaveCauses (IsWork setting) journal items
+Work setting journal items = JournalItemsHaveCauses (IsWork setting) journal items
 
 -- a message of a switch to another one: such a rule, or an advert to a switch of the network
 abbrev pub IsBetween : Setting → List Item → Place → Body → Type 0
@@ -73,7 +73,7 @@ IsTraffic setting before (Item.LinkIs one two up) = ⊤
 IsTraffic setting before next = IsWork setting before next
 
 abbrev pub Traffic : Setting → List Item → List Item → Type 0
-Traffic setting journal items = HaveCauses (IsTraffic setting) journal items
+Traffic setting journal items = JournalItemsHaveCauses (IsTraffic setting) journal items
 
 -- what rules have and adverts
 pub between_cases : (setting : Setting) (before : List Item) (P : Place → Body → Type 0)
@@ -88,7 +88,7 @@ between_cases setting before P rules adverts to body is = rule_cases before P ru
 
 -- of such items nothing is asked
 pub traffic_right : (setting : Setting) (before : List Item) (next : Item)
-    → IsTraffic setting before next → HasItemCause setting before next
+    → IsTraffic setting before next → HasControlItemCause setting before next
 traffic_right setting before (Item.Sent number message) is = between_cases setting before
     (IsRightMessage setting before) (λ s version word rule action there ingress. tt)
     (λ s advert there. tt) message.to message.body is
@@ -104,7 +104,7 @@ traffic_right setting before _ is = tt
 
 pub traffic_has : (setting : Setting) (journal items : List Item) → Traffic setting journal items
     → Has setting journal items
-traffic_has setting = have_weaker (IsTraffic setting) (HasItemCause setting) (traffic_right setting)
+traffic_has setting = have_weaker (IsTraffic setting) (HasControlItemCause setting) (traffic_right setting)
 
 -- work is traffic
 work_is_traffic : (setting : Setting) (before : List Item) (next : Item)
@@ -118,14 +118,14 @@ work_is_traffic setting before next is = is
 -- ---- packets
 
 leg_work : (setting : Setting) (journal : List Item) (i s : ℕ) (leg : Leg)
-    → Work setting journal (leg_items setting journal i s leg)
-unfolding leg_items
-leg_work setting journal i s leg = by_route (packet_route_for setting journal i s leg) refl where
+    → Work setting journal (machine_leg_items setting journal i s leg)
+unfolding machine_leg_items
+leg_work setting journal i s leg = by_route (journal_packet_route setting journal i s leg) refl where
   takes : (leg : Leg) (route : List ℕ) → Work setting journal (takes_route i leg route ∷ [])
   takes (Seek version partition) route = (tt, tt)
   takes (Exit port) route = (tt, tt)
 
-  by_route : (o : Option (List ℕ)) → packet_route_for setting journal i s leg ≡ o
+  by_route : (o : Option (List ℕ)) → journal_packet_route setting journal i s leg ≡ o
       → Work setting journal (elim o [
         | None ↦ stuck_on_leg_items setting journal i s leg ∷ []
         | Some route ↦ takes_route i leg route ∷ []
@@ -144,9 +144,9 @@ abbrev IsOfVersion : List Item → Option AuthorityRule → Type 0
 IsOfVersion journal rule = IfSome rule (λ found. IsTrue (is_version journal found.version))
 
 rule_there : (setting : Setting) (journal : List Item) (version partition place : ℕ)
-    → IsOfVersion journal (authority_rule setting journal version partition place)
+    → IsOfVersion journal (journal_authority_rule setting journal version partition place)
 rule_there setting journal version partition place =
-    by_part (slice_get (plan_at setting journal version) partition) refl
+    by_part (slice_get (journal_plan_at setting journal version) partition) refl
   where
     by_rule : (hosted : Hosted) (o : Option Rule) → IsTrue (is_version journal version)
         → IsOfVersion journal (option_map
@@ -154,7 +154,7 @@ rule_there setting journal version partition place =
     by_rule hosted None there = tt
     by_rule hosted (Some rule) there = there
 
-    by_part : (o : Option Hosted) → slice_get (plan_at setting journal version) partition ≡ o
+    by_part : (o : Option Hosted) → slice_get (journal_plan_at setting journal version) partition ≡ o
         → IsOfVersion journal (elim o [
           | None ↦ None
           | Some hosted ↦ option_map (λ rule. record {
@@ -170,33 +170,33 @@ rule_there setting journal version partition place =
 
 cache_work : (setting : Setting) (i s : ℕ) (rule : AuthorityRule) (journal : List Item)
     → IsTrue (is_version journal rule.version)
-    → Work setting journal (cache_items setting i s rule journal)
-unfolding cache_items sent_from
-cache_work setting i s rule journal there = by_test (is_at s (ingress_of journal i)) where
+    → Work setting journal (journal_cache_items setting i s rule journal)
+unfolding journal_cache_items machine_sent_items_from
+cache_work setting i s rule journal there = by_test (is_at s (journal_ingress_of journal i)) where
   by_test : (b : Bool) → Work setting journal (elim b [
     | true ↦ []
     | false ↦ send_items journal
-        (cache_rule rule (unwrap_or (ingress_of journal i) 0) (packet_header_at journal i) ∷ [])
+        (cache_rule rule (unwrap_or (journal_ingress_of journal i) 0) (journal_packet_header_at journal i) ∷ [])
   ])
   by_test true = tt
   by_test false = ((there, record { packet = i; ingress = refl }), tt)
 
 authority_work : (setting : Setting) (i s : ℕ) (rule : Option AuthorityRule) (journal : List Item)
-    → IsOfVersion journal rule → Work setting journal (authority_items setting i s rule journal)
-unfolding authority_items
+    → IsOfVersion journal rule → Work setting journal (machine_authority_items setting i s rule journal)
+unfolding machine_authority_items
 authority_work setting i s None journal there = tt
 authority_work setting i s (Some rule) journal there =
     let decided : Item = Item.Decided i rule.version rule.rule.rule rule.rule.action
     (How.Authority s rule.part.number) in
     let now : List Item = journal ++ decided ∷ [] in
     have_first (IsWork setting) decided
-    (in_turn (cache_items setting i s rule ∷ end_items setting i s rule.rule.action ∷ [])) journal
+    (in_turn (journal_cache_items setting i s rule ∷ end_items setting i s rule.rule.action ∷ [])) journal
     tt
-    (have_put (IsWork setting) (cache_items setting i s rule now)
+    (have_put (IsWork setting) (journal_cache_items setting i s rule now)
     (in_turn (end_items setting i s rule.rule.action ∷ [])) now
     (cache_work setting i s rule now (version_kept journal (decided ∷ []) rule.version there))
     (have_in_turn (IsWork setting) (end_items setting i s rule.rule.action ∷ [])
-    (end_work setting i s rule.rule.action, tt) (now ++ cache_items setting i s rule now)))
+    (end_work setting i s rule.rule.action, tt) (now ++ journal_cache_items setting i s rule now)))
 
 found_work : (setting : Setting) (i s : ℕ) (what : Found) (journal : List Item)
     → Work setting journal (found_items setting i s what journal)
@@ -205,48 +205,48 @@ found_work setting i s (Found.Cached entry) journal =
     have_first (IsWork setting) decided (end_items setting i s entry.action) journal tt
     (end_work setting i s entry.action (journal ++ decided ∷ []))
 found_work setting i s (Found.Authority partition place) journal = authority_work setting i s
-    (authority_rule setting journal (stamp_of journal s) partition place) journal
-    (rule_there setting journal (stamp_of journal s) partition place)
+    (journal_authority_rule setting journal (journal_stamp_of journal s) partition place) journal
+    (rule_there setting journal (journal_stamp_of journal s) partition place)
 found_work setting i s (Found.Redirect partition targets) journal =
-    leg_work setting journal i s (Seek (stamp_of journal s) partition)
+    leg_work setting journal i s (Seek (journal_stamp_of journal s) partition)
 
 lookup_work : (setting : Setting) (i s : ℕ) (journal : List Item)
     → Work setting journal (lookup_items setting i s journal)
 unfolding lookup_items
 lookup_work setting i s journal =
-    found_work setting i s (lookup_at setting journal s (packet_header_at journal i)) journal
+    found_work setting i s (lookup_at setting journal s (journal_packet_header_at journal i)) journal
 
 arrive_by_work : (setting : Setting) (i s : ℕ) (leg : Option Leg) (journal : List Item)
-    → Work setting journal (arrive_by_leg_items setting i s leg journal)
+    → Work setting journal (journal_leg_arrival_items setting i s leg journal)
 arrive_by_work setting i s None journal = tt
 arrive_by_work setting i s (Some (Exit port)) journal = (tt, tt)
 arrive_by_work setting i s (Some (Seek version partition)) journal =
     by_held (holds_version journal s version)
   where
     place : ℕ
-    place = first_place setting journal version partition (packet_header_at journal i)
+    place = first_place setting journal version partition (journal_packet_header_at journal i)
 
     by_held : (b : Bool) → Work setting journal (elim b [
       | false ↦ lookup_items setting i s journal
-      | true ↦ authority_items setting i s (authority_rule setting journal version partition place)
+      | true ↦ machine_authority_items setting i s (journal_authority_rule setting journal version partition place)
           journal
     ])
     by_held false = lookup_work setting i s journal
     by_held true = authority_work setting i s
-        (authority_rule setting journal version partition place) journal
+        (journal_authority_rule setting journal version partition place) journal
         (rule_there setting journal version partition place)
 
 arrive_work : (setting : Setting) (i s : ℕ) (journal : List Item)
-    → Work setting journal (arrive_items setting i s journal)
-unfolding arrive_items
-arrive_work setting i s journal = arrive_by_work setting i s (leg_of journal i) journal
+    → Work setting journal (machine_arrive_items setting i s journal)
+unfolding machine_arrive_items
+arrive_work setting i s journal = arrive_by_work setting i s (journal_leg_of journal i) journal
 
 reroute_by_work : (setting : Setting) (i s : ℕ) (leg : Option Leg) (journal : List Item)
-    → Work setting journal (reroute_by setting i s leg journal)
+    → Work setting journal (journal_reroute_by setting i s leg journal)
 reroute_by_work setting i s None journal = tt
-reroute_by_work setting i s (Some leg) journal = by_route (packet_route_for setting journal i s leg) refl
+reroute_by_work setting i s (Some leg) journal = by_route (journal_packet_route setting journal i s leg) refl
   where
-    by_route : (o : Option (List ℕ)) → packet_route_for setting journal i s leg ≡ o
+    by_route : (o : Option (List ℕ)) → journal_packet_route setting journal i s leg ≡ o
         → Work setting journal (elim o [
           | None ↦ stuck_on_leg_items setting journal i s leg ∷ []
           | Some route ↦ journal_items_then (Item.Rerouted i route ∷ []) (go_on setting i s) journal
@@ -258,7 +258,7 @@ reroute_by_work setting i s (Some leg) journal = by_route (packet_route_for sett
 reroute_work : (setting : Setting) (i s : ℕ) (journal : List Item)
     → Work setting journal (reroute_items setting i s journal)
 unfolding reroute_items
-reroute_work setting i s journal = reroute_by_work setting i s (leg_of journal i) journal
+reroute_work setting i s journal = reroute_by_work setting i s (journal_leg_of journal i) journal
 
 move_work : (setting : Setting) (i s : ℕ) (journal : List Item)
     → Work setting journal (move_items setting i s journal)
@@ -269,13 +269,13 @@ move_work setting i s journal = grind (arith, arrive_work, reroute_work)
 pub packet_works : (setting : Setting) (cause : List Item → Item → Type 0) →
     ((before : List Item) (next : Item) → IsWork setting before next → cause before next) →
     (i s : ℕ) (header : Header) (journal : List Item) → cause journal (Item.Entered i s header)
-    → HaveCauses cause journal (packet_items setting i s header journal)
+    → JournalItemsHaveCauses cause journal (packet_items setting i s header journal)
 unfolding packet_items
 packet_works setting cause weaker i s header journal enters = by_serving (serves journal s) where
   entered : Item
   entered = Item.Entered i s header
 
-  by_serving : (b : Bool) → HaveCauses cause journal (elim b [
+  by_serving : (b : Bool) → JournalItemsHaveCauses cause journal (elim b [
     | false ↦ Item.Closed i s ∷ []
     | true ↦ journal_items_then (entered ∷ []) (lookup_items setting i s) journal
   ])
@@ -287,13 +287,13 @@ packet_works setting cause weaker i s header journal enters = by_serving (serves
 pub packet_has : (setting : Setting) (cause : List Item → Item → Type 0) →
     ((before : List Item) (next : Item) → IsTraffic setting before next → cause before next) →
     (i s : ℕ) (header : Header) (journal : List Item) → cause journal (Item.Entered i s header)
-    → HaveCauses cause journal (packet_items setting i s header journal)
+    → JournalItemsHaveCauses cause journal (packet_items setting i s header journal)
 packet_has setting cause weaker = packet_works setting cause
     (λ before next is. weaker before next (work_is_traffic setting before next is))
 
 pub hop_work : (setting : Setting) (i : ℕ) (journal : List Item)
-    → Work setting journal (hop_items setting i journal)
-unfolding hop_items
+    → Work setting journal (machine_hop_items setting i journal)
+unfolding machine_hop_items
 hop_work setting i journal = grind (arith, move_work)
 
 lose_work : (setting : Setting) (i : ℕ) (journal : List Item)
@@ -315,8 +315,8 @@ forget_work setting number journal = by_test (is_deliverable journal number) ref
   by_test true e = (e, tt)
 
 expire_work : (setting : Setting) (s at : ℕ) (journal : List Item)
-    → Work setting journal (expire_items setting s at journal)
-unfolding expire_items
+    → Work setting journal (machine_expire_items setting s at journal)
+unfolding machine_expire_items
 expire_work setting s at journal = grind arith
 
 -- ---- adverts
@@ -343,7 +343,7 @@ IsChange setting before Item.Nothing = ⊤
 IsChange setting before _ = ⊥
 
 abbrev pub Change : Setting → List Item → List Item → Type 0
-Change setting journal items = HaveCauses (IsChange setting) journal items
+Change setting journal items = JournalItemsHaveCauses (IsChange setting) journal items
 
 pub change_traffic : (setting : Setting) (before : List Item) (next : Item)
     → IsChange setting before next → IsTraffic setting before next
@@ -361,7 +361,7 @@ adverts_to setting s there (advert ∷ adverts) = (there, adverts_to setting s t
 
 -- the switches of a mask are of the network
 pub masked_there : (setting : Setting) (mask : ℕ)
-    → AllByRecursion (λ s. s < length setting.net.switches) (switches_in setting mask)
+    → AllByRecursion (λ s. s < length setting.net.switches) (setting_switches_in setting mask)
 masked_there setting mask =
     each_of_network (λ s. s < length setting.net.switches) setting (has mask) (λ s there is. there)
 
@@ -376,30 +376,30 @@ each_told setting told adverts (s ∷ switches) there = each_append (IsAdvert se
 
 told_adverts : (setting : Setting) (before journal : List Item) (s neighbour : ℕ)
     → neighbour < length setting.net.switches
-    → AllByRecursion (IsAdvert setting) (messages_over_link setting before journal s neighbour)
+    → AllByRecursion (IsAdvert setting) (machine_messages_over_link setting before journal s neighbour)
 told_adverts setting before journal s neighbour there =
     by_link (has (near setting before s) neighbour)
   where
     by_link : (old : Bool) → AllByRecursion (IsAdvert setting) (elim old [
       | true ↦ advert_to neighbour (own_advert setting journal s) ∷ []
-      | false ↦ map (advert_to neighbour) (held_adverts setting journal s)
+      | false ↦ map (advert_to neighbour) (journal_held_adverts setting journal s)
     ])
     by_link true = (there, tt)
-    by_link false = adverts_to setting neighbour there (held_adverts setting journal s)
+    by_link false = adverts_to setting neighbour there (journal_held_adverts setting journal s)
 
 pub links_change : (setting : Setting) (before journal : List Item)
-    → Change setting journal (link_changes setting before journal)
-unfolding link_changes
+    → Change setting journal (journal_link_changes setting before journal)
+unfolding journal_link_changes
 links_change setting before journal = sends_each (IsChange setting) (IsAdvert setting)
     (λ before n message is. is) journal _
-    (each_flat_map (IsAdvert setting) (messages_of setting before journal) (λ s. each_told setting
-    (messages_over_link setting before journal s) (told_adverts setting before journal s)
-    (switches_in setting (near setting journal s)) (masked_there setting (near setting journal s)))
-    (filter (usable_links_changed setting before journal) (switches_of setting)))
+    (each_flat_map (IsAdvert setting) (machine_messages_of setting before journal) (λ s. each_told setting
+    (machine_messages_over_link setting before journal s) (told_adverts setting before journal s)
+    (setting_switches_in setting (near setting journal s)) (masked_there setting (near setting journal s)))
+    (filter (journal_usable_links_changed setting before journal) (switches_of setting)))
 
 pub link_change : (setting : Setting) (before : List Item) (one two : ℕ) (up : Bool)
-    (journal : List Item) → Change setting journal (link_items setting before one two up journal)
-unfolding link_items
+    (journal : List Item) → Change setting journal (machine_link_items setting before one two up journal)
+unfolding machine_link_items
 link_change setting before one two up journal = grind (arith, have_first, links_change)
 
 pub changes_traffic : (setting : Setting) (journal items : List Item)
@@ -408,22 +408,22 @@ changes_traffic setting =
     have_weaker (IsChange setting) (IsTraffic setting) (change_traffic setting)
 
 pub links_traffic : (setting : Setting) (before journal : List Item)
-    → Traffic setting journal (link_changes setting before journal)
+    → Traffic setting journal (journal_link_changes setting before journal)
 links_traffic setting before journal =
     changes_traffic setting journal _ (links_change setting before journal)
 
 pub links_have : (setting : Setting) (before journal : List Item)
-    → Has setting journal (link_changes setting before journal)
+    → Has setting journal (journal_link_changes setting before journal)
 links_have setting before journal = traffic_has setting journal
-    (link_changes setting before journal) (links_traffic setting before journal)
+    (journal_link_changes setting before journal) (links_traffic setting before journal)
 
 pub passed_traffic : (setting : Setting) (journal : List Item) (s : ℕ) (advert : Advert)
-    → Traffic setting journal (send_items journal (advert_passed_on setting journal s advert))
+    → Traffic setting journal (send_items journal (machine_advert_passed_on setting journal s advert))
 passed_traffic setting journal s advert = sends_each (IsTraffic setting) (IsAdvert setting)
     (λ before n message is. advert_between setting before message.to message.body is) journal
-    (advert_passed_on setting journal s advert)
+    (machine_advert_passed_on setting journal s advert)
     (each_map (IsAdvert setting) (λ neighbour. advert_to neighbour advert)
-    (switches_in setting (near setting journal s)) (masked_there setting (near setting journal s)))
+    (setting_switches_in setting (near setting journal s)) (masked_there setting (near setting journal s)))
 
 -- ---- steps
 

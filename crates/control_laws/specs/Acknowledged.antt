@@ -1,34 +1,34 @@
 -- A switch is told to stamp with a version only after it acknowledged that version's tables;
 -- members acknowledged each version from the one at which they were opened to the current one.
 use Rattle.std.specs.Prelude.{◌<◌, ◌≡◌, ◌≤◌, IsTrue, List, length, ℕ, ⊤}
-use Rattle.update_machine.specs.Exports.{Body, Item, OpenAt, Place, Setting, Stamp, acked_stamp, current_mark, has_acked, is_member, known_boot, open_version, serves, stamp_of}
+use Rattle.update_machine.specs.Exports.{Body, Item, OpenAt, Place, Setting, Stamp, acked_stamp, journal_current_mark, has_acked, is_member, journal_known_boot, open_version, serves, journal_stamp_of}
 use Rattle.ctrl_msg.specs.declared.message.Place.TheVariants as receiver
 use Rattle.journal.specs.declared.item.Item.TheVariants as item
 
 -- a switch of the network may stamp with a version, in its known boot, only if it acknowledged
 -- this version in that boot; the version is at most the current one
-pub record IsLetStamp (setting : Setting) (before : List Item) (s boot version : ℕ) : Type 0 where
-  pub known : boot ≡ known_boot before s
+pub record IsLetStampAfterAck (setting : Setting) (before : List Item) (s boot version : ℕ) : Type 0 where
+  pub known : boot ≡ journal_known_boot before s
   pub acked : s < length setting.net.switches → IsTrue (has_acked before s version)
-  pub current : version ≤ current_mark before
+  pub current : version ≤ journal_current_mark before
 
-abbrev pub LetsStamp : Setting → List Item → Place → Body → Type 0
-LetsStamp setting before (receiver.Switch s) (OpenAt boot version) =
-    IsLetStamp setting before s boot version
-LetsStamp setting before (receiver.Switch s) (Stamp boot version touched) =
-    IsLetStamp setting before s boot version
-LetsStamp setting before to body = ⊤
+abbrev pub LetsStampAfterAck : Setting → List Item → Place → Body → Type 0
+LetsStampAfterAck setting before (receiver.Switch s) (OpenAt boot version) =
+    IsLetStampAfterAck setting before s boot version
+LetsStampAfterAck setting before (receiver.Switch s) (Stamp boot version touched) =
+    IsLetStampAfterAck setting before s boot version
+LetsStampAfterAck setting before to body = ⊤
 
 -- a message that lets a switch stamp has this cause; other items need none
 abbrev pub IsAckedFirst : Setting → List Item → Item → Type 0
 IsAckedFirst setting before (item.Sent number message) =
-    LetsStamp setting before message.to message.body
+    LetsStampAfterAck setting before message.to message.body
 IsAckedFirst setting before _ = ⊤
 
 -- a member of the network acknowledged each version from the one at which it was opened to the
 -- current one; the stamp of a switch that serves is at least the one that the controller knows
 pub record MembersAcknowledged (setting : Setting) (journal : List Item) : Type 0 where
   pub acked : (s version : ℕ) → s < length setting.net.switches → IsTrue (is_member journal s)
-      → open_version journal s ≤ version → version ≤ current_mark journal
+      → open_version journal s ≤ version → version ≤ journal_current_mark journal
       → IsTrue (has_acked journal s version)
-  pub stamps : (s : ℕ) → IsTrue (serves journal s) → acked_stamp journal s ≤ stamp_of journal s
+  pub stamps : (s : ℕ) → IsTrue (serves journal s) → acked_stamp journal s ≤ journal_stamp_of journal s

@@ -4,19 +4,19 @@
 use Rattle.std.specs.Prelude.{[], ◌<◌, ◌∷◌, ◌≡◌, ◌≤◌, ◌⊎◌, All, IsTrue, List, Some, ℕ, ⊤}
 use Rattle.failover.specs.Exports.{AreJoinedByLinks, is_newer}
 use Rattle.base.specs.Exports.{has}
-use Rattle.update_machine.specs.Exports.{Advert, Item, Net, Setting, advert_known, advert_to, adverts_heard, boot_of, is_up, links_known, message_of, near, own_advert, route_from}
+use Rattle.update_machine.specs.Exports.{Advert, Item, Net, Setting, journal_advert_known, advert_to, journal_adverts_heard, journal_boot_of, is_up, journal_links_known, message_of, near, own_advert, journal_route_from}
 use Rattle.steps.specs.Exports.{HasLink, HasSwitch}
 
 -- ---- all adverts of a journal
 
 -- true of each advert that was sent, and of each that a switch heard in its boot, has or makes
-pub record AllAdverts (setting : Setting) (journal : List Item) (Holds : Advert → Type 0)
+pub record AllControlAdverts (setting : Setting) (journal : List Item) (Holds : Advert → Type 0)
     : Type 0 where
   pub sent : (n s : ℕ) (advert : Advert) → message_of journal n ≡ Some (advert_to s advert) →
       Holds advert
-  pub heard : (s : ℕ) → All Holds (adverts_heard journal s)
+  pub heard : (s : ℕ) → All Holds (journal_adverts_heard journal s)
   pub held : (s origin : ℕ) (advert : Advert) → origin < 64 →
-      advert_known setting journal s origin ≡ Some advert → Holds advert
+      journal_advert_known setting journal s origin ≡ Some advert → Holds advert
   pub own : (s : ℕ) → Holds (own_advert setting journal s)
 
 -- ---- links of the network
@@ -35,27 +35,27 @@ IsOverLinks net [] = ⊤
 IsOverLinks net (first ∷ route) = GoesOverLinks net first route
 
 -- all adverts name only links of the network, so known links are links of it, and routes use these
-pub record LinksAreThere (setting : Setting) (journal : List Item) : Type 0 where
-  pub adverts : AllAdverts setting journal (AdvertNamesLinks setting.net)
+pub record AdvertisedLinksAreThere (setting : Setting) (journal : List Item) : Type 0 where
+  pub adverts : AllControlAdverts setting journal (AdvertNamesLinks setting.net)
   pub usable : (s k : ℕ) → IsTrue (has (near setting journal s) k) → HasLink setting.net s k
   pub known : (s one other : ℕ) (down : List ℕ) → one < 64 → other < 64 →
-      AreJoinedByLinks (links_known setting journal s down) one other → HasLink setting.net one other
+      AreJoinedByLinks (journal_links_known setting journal s down) one other → HasLink setting.net one other
   pub routes : (s : ℕ) (targets down route : List ℕ) →
-      route_from setting journal s targets down ≡ Some route → IsOverLinks setting.net route
+      journal_route_from setting journal s targets down ≡ Some route → IsOverLinks setting.net route
 
 -- ---- own adverts
 
 -- the advert's boot is at most its origin's present one; and while the origin is up, the advert is
 -- the origin's own or older than that
-pub record IsNoNewer (setting : Setting) (journal : List Item) (advert : Advert) : Type 0 where
-  pub boot : advert.boot ≤ boot_of journal advert.origin
+pub record IsNoNewerControlAdvert (setting : Setting) (journal : List Item) (advert : Advert) : Type 0 where
+  pub boot : advert.boot ≤ journal_boot_of journal advert.origin
   pub own : IsTrue (is_up journal advert.origin) →
       (advert ≡ own_advert setting journal advert.origin)
       ⊎ IsTrue (is_newer (own_advert setting journal advert.origin) advert)
 
 -- no advert is newer than its origin's own
-abbrev pub OwnAreNewest : Setting → List Item → Type 0
-OwnAreNewest setting journal = AllAdverts setting journal (IsNoNewer setting journal)
+abbrev pub OwnAdvertsAreNewest : Setting → List Item → Type 0
+OwnAdvertsAreNewest setting journal = AllControlAdverts setting journal (IsNoNewerControlAdvert setting journal)
 
 -- ---- adverts of the network's switches
 
@@ -65,7 +65,7 @@ pub record AdvertsAreOfSwitches (setting : Setting) (journal : List Item) : Type
   pub sent : (n s : ℕ) (advert : Advert) → message_of journal n ≡ Some (advert_to s advert) →
       HasSwitch setting.net advert.origin
   pub heard : (s : ℕ) →
-      All (λ (advert : Advert). HasSwitch setting.net advert.origin) (adverts_heard journal s)
+      All (λ (advert : Advert). HasSwitch setting.net advert.origin) (journal_adverts_heard journal s)
   pub held : (s origin : ℕ) (advert : Advert) → HasSwitch setting.net s → origin < 64 →
-      advert_known setting journal s origin ≡ Some advert →
+      journal_advert_known setting journal s origin ≡ Some advert →
       HasSwitch setting.net origin × (advert.origin ≡ origin)

@@ -1,9 +1,9 @@
 -- What it means that a fact is true of each journal: of any steps in any order, or of the steps
 -- that a network may take.
 use Rattle.std.specs.Prelude.{[], ◌++◌, All, List, length, take, ℕ}
-use Rattle.update_machine.specs.Exports.{Answers, AnswersSoFar, BeginsAnswer, Event, HaveCauses, IsReached, Item, Setting, StepOfRow, journal_after_steps}
+use Rattle.update_machine.specs.Exports.{Answers, JournalAnswersSoFar, JournalBeginsAnswer, Event, JournalItemsHaveCauses, IsJournalReached, Item, Setting, StepOfRow, journal_after_steps}
 use Rattle.steps.specs.Exports.{IsEvent}
-use Rattle.control_laws.specs.ItemCauses.{HasItemCause}
+use Rattle.control_laws.specs.ItemCauses.{HasControlItemCause}
 
 -- it is true after any steps of any kind; so of each answer to a schedule, and of each beginning
 -- of one that ends where a step ends
@@ -13,7 +13,7 @@ pub record HoldsAtEnds (Holds : Setting → List Item → Type 0) : Type 0 where
   pub answered : (setting : Setting) (events : List Event) (journal : List Item) →
       Answers setting events journal → Holds setting journal
   pub so_far : (setting : Setting) (events : List Event) (journal : List Item) →
-      AnswersSoFar setting events journal → Holds setting journal
+      JournalAnswersSoFar setting events journal → Holds setting journal
 
 -- it is true after any first items that steps of any kind wrote, and after all of them; so of each
 -- beginning of an answer to a schedule, which may end within a step
@@ -22,12 +22,12 @@ pub record HoldsBehindItems (Holds : Setting → List Item → Type 0) : Type 0 
       Holds setting (take n (journal_after_steps setting [] steps))
   pub ends : HoldsAtEnds Holds
   pub begun : (setting : Setting) (events : List Event) (journal : List Item) →
-      BeginsAnswer setting events journal → Holds setting journal
+      JournalBeginsAnswer setting events journal → Holds setting journal
 
 -- it is true of each journal whose items have their causes; so after any first items of any steps
 pub record HoldsAlways (Holds : Setting → List Item → Type 0) : Type 0 where
   pub caused : (setting : Setting) (journal : List Item) →
-      HaveCauses (HasItemCause setting) [] journal → Holds setting journal
+      JournalItemsHaveCauses (HasControlItemCause setting) [] journal → Holds setting journal
   pub behind : HoldsBehindItems Holds
 
 -- events of a schedule: they name only switches and links of the network, and files that exist
@@ -37,11 +37,11 @@ AreNetworkEvents setting events = All (IsEvent setting.net (length setting.files
 -- it is true after any steps that the network may take, and after any first items that they wrote,
 -- which may end within a step; of each answer to its events, and of each beginning of one
 pub record HoldsReached (Holds : Setting → List Item → Type 0) : Type 0 where
-  pub reached : (setting : Setting) (journal : List Item) → IsReached setting journal
+  pub reached : (setting : Setting) (journal : List Item) → IsJournalReached setting journal
       → Holds setting journal
   pub within : (setting : Setting) (journal rest : List Item)
-      → IsReached setting (journal ++ rest) → Holds setting journal
+      → IsJournalReached setting (journal ++ rest) → Holds setting journal
   pub answered : (setting : Setting) (events : List Event) (journal : List Item)
       → AreNetworkEvents setting events → Answers setting events journal → Holds setting journal
   pub begun : (setting : Setting) (events : List Event) (journal : List Item)
-      → AreNetworkEvents setting events → BeginsAnswer setting events journal → Holds setting journal
+      → AreNetworkEvents setting events → JournalBeginsAnswer setting events journal → Holds setting journal

@@ -3,9 +3,9 @@
 -- version's plan; or to the switch of its port.
 use Rattle.std.specs.Prelude.{◌≡◌, IsTrue, List, Some, nat_eq, slice_get, ℕ}
 use Rattle.base.specs.Exports.{list_any}
-use Rattle.update_machine.specs.Exports.{Exit, Header, Item, Leg, Seek, Setting, plan_at}
-use Rattle.net_file.specs.Exports.{owner_of}
-use Rattle.policy_rules.specs.Exports.{is_in}
+use Rattle.update_machine.specs.Exports.{Exit, Header, Item, Leg, Seek, Setting, journal_plan_at}
+use Rattle.net_file.specs.Exports.{net_port_owner}
+use Rattle.policy_rules.specs.Exports.{is_in_policy_partition}
 use Rattle.switch_table.specs.Exports.{Hosted, part_of}
 
 -- the partition at this place of the version's plan has this number, its region holds the header,
@@ -13,13 +13,13 @@ use Rattle.switch_table.specs.Exports.{Hosted, part_of}
 pub record IsSoughtAt (setting : Setting) (journal : List Item) (s : ℕ) (header : Header)
     (version partition : ℕ) : Type 0 where
   pub hosted : Hosted
-  pub found : slice_get (plan_at setting journal version) partition ≡ Some hosted
+  pub found : slice_get (journal_plan_at setting journal version) partition ≡ Some hosted
   pub number : hosted.0.number ≡ partition
-  pub holds : IsTrue (is_in header (part_of hosted))
+  pub holds : IsTrue (is_in_policy_partition header (part_of hosted))
   pub target : IsTrue (list_any (nat_eq s) hosted.1)
 
 -- the switch is where the leg leads: at an authority of the partition, or at the port's switch
 abbrev pub LegEndsAt : Setting → List Item → ℕ → Header → Leg → Type 0
 LegEndsAt setting journal s header (Seek version partition) =
     IsSoughtAt setting journal s header version partition
-LegEndsAt setting journal s header (Exit port) = owner_of setting.net.switches port ≡ Some s
+LegEndsAt setting journal s header (Exit port) = net_port_owner setting.net.switches port ≡ Some s

@@ -2,16 +2,16 @@
 -- them. OSPF has a rule for a router that used up its sequence numbers (RFC 2328, section 12.1.6);
 -- here they are never used up.
 use Rattle.std.specs.Prelude.{if◌then◌else◌, ◌*◌, ◌+◌, ◌-◌, ◌<◌, ◌==◌, ◌^◌, ◌≤◌, List, length, ℕ}
-use Rattle.update_machine.specs.Exports.{Item, Setting, Step, boot_of, count_of, is_sending, near, next_message, own_seq, piece}
+use Rattle.update_machine.specs.Exports.{Item, Setting, Step, journal_boot_of, count_of, is_sending, near, journal_next_message, journal_own_seq, piece}
 
 -- how many messages were sent
-abbrev pub messages_sent_count : List Item → ℕ
-messages_sent_count items = count_of is_sending items
+abbrev pub control_messages_sent_count : List Item → ℕ
+control_messages_sent_count items = count_of is_sending items
 
 -- whatever step comes next, it sends at most this many messages
 abbrev pub StepsSendAtMost : ℕ → Setting → List Item → Type 0
 StepsSendAtMost most setting journal =
-    (row : ℕ) (step : Step) → messages_sent_count (piece setting journal row step) ≤ most
+    (row : ℕ) (step : Step) → control_messages_sent_count (piece setting journal row step) ≤ most
 
 -- the next step sends at most 10,000 messages
 abbrev pub StepsSendFew : Setting → List Item → Type 0
@@ -19,15 +19,15 @@ StepsSendFew setting journal = StepsSendAtMost 10_000 setting journal
 
 -- each boot after the first begins with a message; and of two changes of a switch's links at least
 -- one is sent to a neighbour: the switch has none only after its last link failed
-pub record NumbersAreFew (setting : Setting) (journal : List Item) : Type 0 where
-  pub boots : (s : ℕ) → boot_of journal s ≤ messages_sent_count journal + 1
-  pub seqs : (s : ℕ) → s < length setting.net.switches → own_seq setting journal s
-      ≤ 2 * messages_sent_count journal + (if near setting journal s == 0 then 2 else 1)
+pub record ControlNumbersAreFew (setting : Setting) (journal : List Item) : Type 0 where
+  pub boots : (s : ℕ) → journal_boot_of journal s ≤ control_messages_sent_count journal + 1
+  pub seqs : (s : ℕ) → s < length setting.net.switches → journal_own_seq setting journal s
+      ≤ 2 * control_messages_sent_count journal + (if near setting journal s == 0 then 2 else 1)
 
 -- there is room for the next boot of each switch, for the next number of its own advert, and for
 -- the number of the next message, in 32 bits
-pub record NumbersFit (setting : Setting) (journal : List Item) : Type 0 where
-  pub sent : messages_sent_count journal ≤ 1_000_000
-  pub message : next_message journal < 2 ^ 32
-  pub boots : (s : ℕ) → boot_of journal s < 2 ^ 32 - 1
-  pub seqs : (s : ℕ) → s < length setting.net.switches → own_seq setting journal s < 2 ^ 32 - 1
+pub record ControlNumbersFit (setting : Setting) (journal : List Item) : Type 0 where
+  pub sent : control_messages_sent_count journal ≤ 1_000_000
+  pub message : journal_next_message journal < 2 ^ 32
+  pub boots : (s : ℕ) → journal_boot_of journal s < 2 ^ 32 - 1
+  pub seqs : (s : ℕ) → s < length setting.net.switches → journal_own_seq setting journal s < 2 ^ 32 - 1

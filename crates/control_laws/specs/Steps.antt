@@ -1,9 +1,9 @@
 -- The steps that may change what the controller knows; a resend only sends what it knows again.
 use Rattle.std.specs.Prelude.{Bool, List, false, true}
-use Rattle.update_machine.specs.Exports.{Confirm, Deliver, Item, Step, Update, is_message_to_controller}
+use Rattle.update_machine.specs.Exports.{Confirm, Deliver, Item, Step, Update, is_journal_controller_message}
 
 abbrev pub asks_controller : List Item → Step → Bool
-asks_controller before (Deliver number) = is_message_to_controller before number
+asks_controller before (Deliver number) = is_journal_controller_message before number
 asks_controller before (Update file) = true
 asks_controller before (Confirm s) = true
 asks_controller before _ = false

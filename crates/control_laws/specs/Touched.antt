@@ -1,22 +1,22 @@
 -- What is sent to switches about the changes that made versions.
 use Rattle.std.specs.Prelude.{◌≡◌, ◌≤◌, List, Some, ℕ}
-use Rattle.update_machine.specs.Exports.{Item, Message, Setting, Stamp, message_of, to_switch, touched_by, version_count}
+use Rattle.update_machine.specs.Exports.{Item, Message, Setting, Stamp, message_of, machine_message_to_switch, touched_by, journal_version_count}
 use Rattle.ternary.specs.Exports.{WordValue}
 
 -- the version exists, and these are the words that its change touches
-pub record IsStampTouched (setting : Setting) (journal : List Item) (version : ℕ)
+pub record IsStampMessageTouched (setting : Setting) (journal : List Item) (version : ℕ)
     (touched : List WordValue) : Type 0 where
   pub first : 1 ≤ version
-  pub last : version ≤ version_count journal
+  pub last : version ≤ journal_version_count journal
   pub says : touched ≡ touched_by setting journal version
 
 -- the message that tells the switch, in this boot, to stamp with a version
 abbrev pub stamp_message_to : ℕ → ℕ → ℕ → List WordValue → Message
-stamp_message_to s boot version touched = to_switch s (Stamp boot version touched)
+stamp_message_to s boot version touched = machine_message_to_switch s (Stamp boot version touched)
 
 -- each message that tells a switch to stamp with a version, sent again or not, carries the words
 -- that the change of that version touches
 pub record StampsSayTouched (setting : Setting) (journal : List Item) : Type 0 where
   pub sent : (n s boot version : ℕ) (touched : List WordValue)
       → message_of journal n ≡ Some (stamp_message_to s boot version touched)
-      → IsStampTouched setting journal version touched
+      → IsStampMessageTouched setting journal version touched

@@ -1,20 +1,20 @@
 //! Laws about adverts, and about how many messages, boots and sequence numbers there are.
 ghost use Rattle.std.specs.Prelude.{List, []};
 ghost use Rattle.net_file.specs.Net.{IsNet};
-ghost use Rattle.update_machine.specs.Exports.{HasRoom, JournalsHaveRoom, Setting, StepOfRow, journal_after_steps};
+ghost use Rattle.update_machine.specs.Exports.{HasRoom, MachineJournalsHaveRoom, Setting, StepOfRow, journal_after_steps};
 ghost use Rattle.control_laws.specs.Always.{HoldsBehindItems, HoldsAlways, HoldsAtEnds};
-ghost use Rattle.control_laws.specs.Adverts.{AdvertsAreOfSwitches, LinksAreThere, OwnAreNewest};
-ghost use Rattle.control_laws.specs.Sends.{NumbersAreFew, NumbersFit, StepsSendFew};
+ghost use Rattle.control_laws.specs.Adverts.{AdvertsAreOfSwitches, AdvertisedLinksAreThere, OwnAdvertsAreNewest};
+ghost use Rattle.control_laws.specs.Sends.{ControlNumbersAreFew, ControlNumbersFit, StepsSendFew};
 
 /// Each advert that is sent, heard or kept names only links of the network; the links that a
 /// switch knows, and its routes, are of the network too.
 pub fn adverts_name_links()
-    ensures { HoldsBehindItems LinksAreThere }
+    ensures { HoldsBehindItems AdvertisedLinksAreThere }
 {}
 
 /// No advert that is sent, heard or kept is newer than its origin's own.
 pub fn own_adverts_are_newest()
-    ensures { HoldsBehindItems OwnAreNewest }
+    ensures { HoldsBehindItems OwnAdvertsAreNewest }
 {}
 
 /// In a network each advert that is sent, heard, or kept by one of its switches has one of them as
@@ -33,7 +33,7 @@ pub fn steps_send_few()
 /// After each step the number of messages sent bounds the boots and the numbers of own adverts.
 pub fn numbers_are_few()
     ensures { HoldsAtEnds (λ setting journal. IsNet setting.net
-        → NumbersAreFew setting journal) }
+        → ControlNumbersAreFew setting journal) }
 {}
 
 /// If the journal has room for a step, or each of its steps began with room, the numbers of
@@ -41,7 +41,7 @@ pub fn numbers_are_few()
 pub fn numbers_fit()
     ensures before { (setting : Setting) (steps : List StepOfRow) → IsNet setting.net
         → HasRoom (journal_after_steps setting [] steps)
-        → NumbersFit setting (journal_after_steps setting [] steps) }
+        → ControlNumbersFit setting (journal_after_steps setting [] steps) }
     ensures behind { (setting : Setting) (steps : List StepOfRow) → IsNet setting.net
-        → JournalsHaveRoom setting [] steps → NumbersFit setting (journal_after_steps setting [] steps) }
+        → MachineJournalsHaveRoom setting [] steps → ControlNumbersFit setting (journal_after_steps setting [] steps) }
 {}

@@ -1,12 +1,12 @@
 //! Laws about boots, versions, tables and marks.
 ghost use Rattle.std.specs.Prelude.{[], ℕ, ◌++◌, ◌≤◌, List, IsFalse};
 ghost use Rattle.net_file.specs.Net.{IsNet};
-ghost use Rattle.update_machine.specs.Exports.{AreSettled, ControllerKeeps, HaveCauses, Item, Setting, Step, VersionsAreNumbered, next_retired, piece, retired_mark};
-ghost use Rattle.control_laws.specs.Exports.{AcksHold, BodiesNameThere, BootsAreKnown, HasItemCause, HoldsAlways, HoldsAtEnds, HoldsReached, InstallsArePlanned, IsAckedFirst, MarksAreBounded, MembersAcknowledged, OpensAtOneVersion, CurrentRiseHasCause, ServingHoldVersions, ServingIsKnown, StampsSayTouched, TablesArePlanned, VersionsArePlanned, asks_controller};
+ghost use Rattle.update_machine.specs.Exports.{AreMachineMarksSettled, JournalControllerKeeps, JournalItemsHaveCauses, Item, Setting, Step, VersionsAreNumbered, journal_next_retired, piece, journal_retired_mark};
+ghost use Rattle.control_laws.specs.Exports.{AcksHold, ControlBodiesNameThere, BootsAreKnown, HasControlItemCause, HoldsAlways, HoldsAtEnds, HoldsReached, InstallsArePlanned, IsAckedFirst, MarksAreBounded, MembersAcknowledged, OpeningMessagesNameOneVersion, CurrentMarkRiseHasCause, ServingHoldVersions, ServingIsKnown, StampsSayTouched, TablesArePlanned, ControlVersionsArePlanned, asks_controller};
 
 /// Each item of switches and their controller has its cause in the journal before it.
 pub fn items_have_causes()
-    ensures { HoldsAlways (λ setting journal. HaveCauses (HasItemCause setting) [] journal) }
+    ensures { HoldsAlways (λ setting journal. JournalItemsHaveCauses (HasControlItemCause setting) [] journal) }
 {}
 
 /// The versions that exist are those from 1 to their count.
@@ -22,7 +22,7 @@ pub fn boots_are_known()
 
 /// All messages that open a switch in one of its boots carry the same version.
 pub fn switches_open_once()
-    ensures { HoldsAlways (λ setting journal. OpensAtOneVersion journal) }
+    ensures { HoldsAlways (λ setting journal. OpeningMessagesNameOneVersion journal) }
 {}
 
 /// A switch that serves is up and a member, and the controller knows its boot; a switch that is up
@@ -45,7 +45,7 @@ pub fn installs_are_planned()
 /// A switch is told to stamp with a version only after it acknowledged that version's tables in
 /// its boot, and only if the version is at most the current one.
 pub fn stamps_are_acked_first()
-    ensures { HoldsAlways (λ setting journal. HaveCauses (IsAckedFirst setting) [] journal) }
+    ensures { HoldsAlways (λ setting journal. JournalItemsHaveCauses (IsAckedFirst setting) [] journal) }
 {}
 
 /// A member acknowledged each version from the one at which it was opened to the current one, and
@@ -74,7 +74,7 @@ pub fn serving_switches_hold()
 
 /// At most 64 versions exist, at most eight of them not retired; each has a plan if version 1 has.
 pub fn versions_are_planned()
-    ensures { HoldsAlways (λ setting journal. VersionsArePlanned setting journal) }
+    ensures { HoldsAlways (λ setting journal. ControlVersionsArePlanned setting journal) }
 {}
 
 /// The tables that a switch was sent, and those that it heard, are those that their version's plan
@@ -87,20 +87,20 @@ pub fn tables_are_planned()
 /// its version exists; the same is true of what switches and the controller heard.
 pub fn bodies_name_what_is_there()
     ensures { HoldsReached (λ setting journal.
-        IsNet setting.net → BodiesNameThere setting journal) }
+        IsNet setting.net → ControlBodiesNameThere setting journal) }
 {}
 
 /// The current mark rises only to a version that exists, and only when each member has
 /// acknowledged every version above the old mark up to it.
 pub fn current_rises_rightly()
-    ensures { HoldsAlways (λ setting journal. HaveCauses (CurrentRiseHasCause setting) [] journal) }
+    ensures { HoldsAlways (λ setting journal. JournalItemsHaveCauses (CurrentMarkRiseHasCause setting) [] journal) }
 {}
 
 /// The retired mark is never above what the members' acknowledged stamps allow, not even in the
 /// middle of a step.
 pub fn retired_stays_behind()
     ensures { HoldsAlways (λ setting journal.
-        retired_mark journal ≤ next_retired setting journal) }
+        journal_retired_mark journal ≤ journal_next_retired setting journal) }
 {}
 
 /// What the controller knows changes in only three kinds of steps: a delivery to it, an update,
@@ -108,12 +108,12 @@ pub fn retired_stays_behind()
 pub fn other_steps_leave_controller()
     ensures { (setting : Setting) (journal : List Item) (row : ℕ) (step : Step)
         → IsFalse (asks_controller journal step)
-        → ControllerKeeps journal (journal ++ piece setting journal row step) }
+        → JournalControllerKeeps journal (journal ++ piece setting journal row step) }
 {}
 
 /// At the end of each step the marks are settled: no version above the current one is acknowledged
 /// by all members, no joining switch acknowledged the current one, and retired is as far as the
 /// members' stamps allow.
 pub fn marks_settle()
-    ensures { HoldsAtEnds (λ setting journal. AreSettled setting journal) }
+    ensures { HoldsAtEnds (λ setting journal. AreMachineMarksSettled setting journal) }
 {}

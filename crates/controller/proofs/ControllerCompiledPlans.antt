@@ -9,14 +9,14 @@ use Rattle.net_file.specs.declared.net.Net.{Net}
 use Rattle.cut_tree.specs.Exports.{Shape, leaf_count, tree_of}
 use Rattle.placement.specs.Placement.{RefusesPlacement, placement_of}
 use Rattle.placement.specs.declared.NoRoom.{NoRoom}
-use Rattle.policy_rules.specs.Exports.{RefusesRules, rules_of, word_total}
+use Rattle.policy_rules.specs.Exports.{RefusesRules, rules_of, rule_word_total}
 use Rattle.policy_rules.specs.declared.rule_list.TooManyWords.{TooManyWords}
 use Rattle.cut_tree.specs.declared.tree.TooManyLeaves.{TooManyLeaves}
 use Rattle.partition.specs.Parts.{parts_of}
-use Rattle.partition.specs.Plan.{IsPartitionPlan, Hosted, plan_of, rooms_of, sizes_of}
+use Rattle.partition.specs.Plan.{IsPartitionPlan, Hosted, partition_plan_of, rooms_of, sizes_of}
 use Rattle.policy_rules.specs.Hosted as no_plan
-use Rattle.partition.proofs.CallerLemmas.{no_leaves, no_room, no_words, planned}
-use Rattle.controller.specs.Exports.{IsSoundPlan, LeadEveryHeader, RefusesPlan, placement_plan_cause, rules_plan_cause, tree_plan_cause}
+use Rattle.partition.proofs.PartitionCallerLemmas.{no_leaves, no_room, no_words, planned}
+use Rattle.controller.specs.Exports.{IsSoundPlan, PlanLeadsEveryHeader, RefusesPlan, placement_plan_cause, rules_plan_cause, controller_tree_plan_cause}
 use Rattle.policy_rules.specs.declared.policy.Row.{Row}
 use Rattle.policy_rules.specs.declared.rules.Partition.{Partition}
 use Rattle.policy_rules.specs.declared.rules.Rule.{Rule}
@@ -45,8 +45,8 @@ some_targets rows net plan is = λ k d within. let first = λ (hosted : Hosted).
 
 -- from each switch the tables of a plan lead each header to the policy's first match
 pub plan_leads : (rows : List Row) (net : Net) (plan : List Hosted) → IsPartitionPlan rows net plan
-    → LeadEveryHeader rows plan
-unfolding LeadEveryHeader
+    → PlanLeadsEveryHeader rows plan
+unfolding PlanLeadsEveryHeader
 plan_leads rows net plan is version switch header sound =
     tables_lead rows plan version switch header is.sound (some_targets rows net plan is) sound
 
@@ -74,8 +74,8 @@ retargeted_sound rows plan targets len is =
 pub retargeted_leads : (rows : List Row) (plan : List Hosted) (targets : List (List ℕ))
     → length targets ≡ length plan → IsSoundPlan (record { policy = rows; hosted = plan })
     → All (λ switches. 0 < length switches) targets
-    → LeadEveryHeader rows (zip (map part_of plan) targets)
-unfolding LeadEveryHeader
+    → PlanLeadsEveryHeader rows (zip (map part_of plan) targets)
+unfolding PlanLeadsEveryHeader
 retargeted_leads rows plan targets len is some version switch header sound =
     let parts : List Partition = map part_of plan in
     let each : length targets ≡ length parts = len ∙ sym (length-map plan part_of) in
@@ -92,21 +92,21 @@ retargeted_leads rows plan targets len is some version switch header sound =
 pub rules_refused : (rows : List Row) (net : Net) (error : Failure TooManyWords)
     → IfRefused (RefusesRules rows) error → RefusesPlan rows net (rules_plan_cause error)
 rules_refused rows net (Refused words) is =
-    let many : 4096 < word_total rows = omega (arith, is.0, is.1) in
+    let many : 4096 < rule_word_total rows = omega (arith, is.0, is.1) in
     no_words rows net many ∙ ap (λ n. Err (no_plan.TooManyWords n)) (sym is.0)
 rules_refused rows net NoMemory is = tt
 
 pub tree_refused : (rows : List Row) (net : Net) (list : List Rule) (error : Failure TooManyLeaves)
-    → word_total rows ≤ 4096 → list ≡ rules_of rows
+    → rule_word_total rows ≤ 4096 → list ≡ rules_of rows
     → IfRefused (λ _. 512 < leaf_count (tree_of list net.leaf_rules)) error
-    → RefusesPlan rows net (tree_plan_cause error)
+    → RefusesPlan rows net (controller_tree_plan_cause error)
 tree_refused rows net list (Refused many) few is refused = no_leaves rows net few (rw is at refused)
 tree_refused rows net list NoMemory few is refused = tt
 
 -- what the way has found before it places the partitions
 pub record IsReady (rows : List Row) (net : Net) (list : List Rule) (shape : Shape)
     (sizes rooms : List ℕ) : Type 0 where
-  pub few : word_total rows ≤ 4096
+  pub few : rule_word_total rows ≤ 4096
   pub rules : list ≡ rules_of rows
   pub tree : shape ≡ tree_of list net.leaf_rules
   pub leaves : leaf_count shape ≤ 512
@@ -130,7 +130,7 @@ placement_refused rows net list shape sizes rooms NoMemory is refused = tt
 pub planned_at : (rows : List Row) (net : Net) (list : List Rule) (shape : Shape)
     (sizes rooms : List ℕ) (targets : List (List ℕ)) → IsReady rows net list shape sizes rooms
     → placement_of sizes rooms net.backups ≡ Ok targets
-    → plan_of rows net ≡ Ok (zip (parts_of shape) targets)
+    → partition_plan_of rows net ≡ Ok (zip (parts_of shape) targets)
 planned_at rows net list shape sizes rooms targets is hosted =
     planned rows net shape targets is.few (ready_tree rows net list shape sizes rooms is) is.leaves
     (sym (ap (λ s. placement_of s (rooms_of net) net.backups) is.sizes_are)

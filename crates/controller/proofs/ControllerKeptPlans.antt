@@ -1,7 +1,7 @@
 -- The plan of a version that is kept, and the tables that it gives.
 use Rattle.std.proofs.Common.{[], if◌then◌else◌, ◌+◌, ◌-◌, ◌<◌, ◌==◌, ◌∙◌, ◌∷◌, ◌≡◌, ◌≢◌, ◌≤◌, ◌⊎◌, Bool, List, Some, ap, arith, eq-eqb, eqb-true, false, find, get_or, inl, inr, length, map, option_map, refl, suc, sym, true, zero, ℕ}
 use Rattle.base.proofs.Exports.{cases_eq, false≢true, length-map, length-range_with_len, range_with_len}
-use Rattle.controller.specs.Exports.{ControllerValue, IsController, IsSoundPlan, KeptPlan, current_plan, kept_tables}
+use Rattle.controller.specs.Exports.{ControllerValue, IsSoundController, IsSoundPlan, KeptPlan, current_plan, kept_plan_tables}
 use Rattle.switch_table.specs.Exports.{tables_of}
 
 -- if the versions ascend by one, each is at its place
@@ -33,7 +33,7 @@ found_at_place (kept ∷ plans) first (suc n) v d are low high = by_test (kept.v
         let place : v - first ≡ suc (v - (first + 1)) = omega (arith, low, other) in
         rw place (later (omega (arith, low, other)))
 
-module _ (controller : ControllerValue) (is : IsController controller) (version : ℕ)
+module _ (controller : ControllerValue) (is : IsSoundController controller) (version : ℕ)
     (low : controller.marks.current ≤ version) (high : version ≤ controller.marks.count) where
   count_is : length controller.plans ≡ controller.marks.count + 1 - controller.marks.current
   count_is = sym (length-map controller.plans (λ (kept : KeptPlan). kept.version))
@@ -52,7 +52,7 @@ module _ (controller : ControllerValue) (is : IsController controller) (version 
 
   pub kept_tables_are : (kept : KeptPlan) (s : ℕ)
       → kept ≡ get_or controller.plans (version - controller.marks.current) kept
-      → kept_tables controller version s ≡ Some (tables_of kept.plan.hosted kept.version s)
+      → kept_plan_tables controller version s ≡ Some (tables_of kept.plan.hosted kept.version s)
   kept_tables_are kept s at =
       ap (option_map (λ (kept : KeptPlan). tables_of kept.plan.hosted kept.version s))
       (kept_at kept ∙ ap Some (sym at))
@@ -62,7 +62,7 @@ module _ (controller : ControllerValue) (is : IsController controller) (version 
       → IsSoundPlan kept.plan
   kept_sound kept at = rw at (is.sound _ kept kept_there)
 
-pub current_there : (controller : ControllerValue) → IsController controller
+pub current_there : (controller : ControllerValue) → IsSoundController controller
     → 0 < length controller.plans
 current_there controller is = omega (
   arith,
@@ -70,7 +70,7 @@ current_there controller is = omega (
 )
 
 -- the first is that of the current version
-pub current_kept : (controller : ControllerValue) → IsController controller → (kept : KeptPlan)
+pub current_kept : (controller : ControllerValue) → IsSoundController controller → (kept : KeptPlan)
     → kept ≡ get_or controller.plans 0 kept → current_plan controller ≡ Some kept.plan
 current_kept controller is kept at = let current = controller.marks.current in
     ap (option_map (λ (kept : KeptPlan). kept.plan))

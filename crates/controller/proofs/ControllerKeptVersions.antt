@@ -1,10 +1,10 @@
 -- The versions of the plans that are kept, as the marks settle.
 use Rattle.std.proofs.Common.{[], ◌++◌, ◌+◌, ◌-◌, ◌<◌, ◌∙◌, ◌∷◌, ◌≡◌, ◌≤◌, All, Bool, List, ap, arith, cond, false, filter, get_or, leb, length, map, refl, subst, suc, sym, true, zero, ℕ}
 use Rattle.base.proofs.Exports.{All-append, All-filter, get_or-map, get_or-range_with_len, length-map, length-range_with_len, map-append, nat_tests, range_more, range_with_len}
-use Rattle.version_update.specs.Exports.{MarksValue, Settles, MarksStaySettled, at_switch, with_version}
+use Rattle.version_update.specs.Exports.{MarksValue, Settles, UpdateMarksStaySettled, at_switch, with_version}
 use Rattle.version_update.specs.declared.marks.Settled.{Settled}
 use Rattle.version_update.specs.declared.record.SwitchRecord.{SwitchRecord}
-use Rattle.controller.specs.Exports.{ControllerValue, IsController, IsSoundPlan, KeptPlan, SettlesWith, StaysController, live_from_current, kept_plans_from}
+use Rattle.controller.specs.Exports.{ControllerValue, IsSoundController, IsSoundPlan, KeptPlan, ControllerSettlesWith, ControllerStaysSound, controller_live_versions, kept_plans_from}
 
 test_le : (a b : ℕ) → a ≤ b → leb a b ≡ true
 test_le a b le = grind (arith, nat_tests)
@@ -66,8 +66,8 @@ plans_twice to (kept ∷ plans) = by_test (leb to kept.version) refl (plans_twic
 -- the plans that are kept when the marks settle are those of the current version and later ones
 pub settled_versions : (before marks : MarksValue) (answer : Settled) (kept plans : List KeptPlan)
     → Settles before marks answer → before.current ≤ before.count → map (λ kept. kept.version) kept
-    ≡ live_from_current before → plans ≡ kept_plans_from marks.current kept
-    → map (λ kept. kept.version) plans ≡ live_from_current marks
+    ≡ controller_live_versions before → plans ≡ kept_plans_from marks.current kept
+    → map (λ kept. kept.version) plans ≡ controller_live_versions marks
 settled_versions before marks answer kept plans is low versions picked =
     let count : before.current + (before.count + 1 - before.current) - marks.current
     ≡ marks.count + 1 - marks.current = omega (arith, is.count, low) in
@@ -80,13 +80,13 @@ settled_versions before marks answer kept plans is low versions picked =
 -- with one more version
 pub versions_more : (marks : MarksValue) (plans : List KeptPlan) (next : KeptPlan)
     → marks.current ≤ marks.count → next.version ≡ marks.count + 1
-    → map (λ kept. kept.version) plans ≡ live_from_current marks
-    → map (λ kept. kept.version) (plans ++ next ∷ []) ≡ live_from_current (with_version marks)
+    → map (λ kept. kept.version) plans ≡ controller_live_versions marks
+    → map (λ kept. kept.version) (plans ++ next ∷ []) ≡ controller_live_versions (with_version marks)
 versions_more marks plans next low number versions =
     let last : marks.current + (marks.count + 1 - marks.current) ≡ marks.count + 1 = omega arith in
     map-append (λ (kept : KeptPlan). kept.version) plans (next ∷ [])
     ∙ ap (λ l. l ++ next.version ∷ []) versions
-    ∙ ap (λ v. live_from_current marks ++ v ∷ []) number
+    ∙ ap (λ v. controller_live_versions marks ++ v ∷ []) number
     ∙ sym (range_more marks.current (marks.count + 1 - marks.current) (marks.count + 1) last)
     ∙ ap (range_with_len marks.current) (omega (arith, low))
 
@@ -100,11 +100,11 @@ one_sound next sound (suc k) d within = absurd (omega (arith, within))
 
 -- what a controller's fields keep
 abbrev pub IsWhole : MarksValue → List KeptPlan → Type 0
-IsWhole marks plans = IsController (record { marks = marks; plans = plans })
+IsWhole marks plans = IsSoundController (record { marks = marks; plans = plans })
 
 pub whole : (old before marks : MarksValue) (answer : Settled) (kept plans : List KeptPlan)
-    → MarksStaySettled old marks → Settles before marks answer
-    → before.current ≤ before.count → map (λ kept. kept.version) kept ≡ live_from_current before
+    → UpdateMarksStaySettled old marks → Settles before marks answer
+    → before.current ≤ before.count → map (λ kept. kept.version) kept ≡ controller_live_versions before
     → AreSoundPlans kept → plans ≡ kept_plans_from marks.current kept → IsWhole marks plans
 whole old before marks answer kept plans stays is low versions sound picked =
     let passes : KeptPlan → Bool = λ kept. leb marks.current kept.version in
@@ -126,7 +126,7 @@ settles_seen s change old marks kept answer value seen settled =
 module _ (s : ℕ) (change : SwitchRecord → SwitchRecord) (old : MarksValue) (kept : List KeptPlan)
     (marks : MarksValue) (answer : Settled) (plans : List KeptPlan) where
   -- one switch's record changed
-  pub whole_at : IsWhole old kept → MarksStaySettled old marks
+  pub whole_at : IsWhole old kept → UpdateMarksStaySettled old marks
       → Settles (at_switch s change old) marks answer → plans ≡ kept_plans_from marks.current kept
       → IsWhole marks plans
   whole_at is stays settled picked = whole old (at_switch s change old) marks answer kept
@@ -134,19 +134,19 @@ module _ (s : ℕ) (change : SwitchRecord → SwitchRecord) (old : MarksValue) (
 
   pub settles_at : (value : ControllerValue) → record { marks = old; plans = kept } ≡ value
       → Settles (at_switch s change old) marks answer → plans ≡ kept_plans_from marks.current kept
-      → SettlesWith (at_switch s change value.marks) value.plans
+      → ControllerSettlesWith (at_switch s change value.marks) value.plans
       (record { marks = marks; plans = plans })
   settles_at value seen settled picked =
-      let P : ControllerValue → Type 0 = λ value. SettlesWith (at_switch s change value.marks)
+      let P : ControllerValue → Type 0 = λ value. ControllerSettlesWith (at_switch s change value.marks)
       value.plans (record { marks = marks; plans = plans }) in
       subst P seen (record { marks = (answer, settled); plans = picked })
 
   pub stays_at : (value : ControllerValue) → record { marks = old; plans = kept } ≡ value
-      → IsWhole old kept → MarksStaySettled old marks → Settles (at_switch s change old) marks
+      → IsWhole old kept → UpdateMarksStaySettled old marks → Settles (at_switch s change old) marks
       answer → plans ≡ kept_plans_from marks.current kept
-      → StaysController value (record { marks = marks; plans = plans })
+      → ControllerStaysSound value (record { marks = marks; plans = plans })
   stays_at value seen is stays settled picked =
-      let P : ControllerValue → Type 0 = λ value. StaysController value
+      let P : ControllerValue → Type 0 = λ value. ControllerStaysSound value
       (record { marks = marks; plans = plans }) in
       subst P seen (record {
         controller = whole_at is stays settled picked;
@@ -164,7 +164,7 @@ module _ (old : MarksValue) (kept : List KeptPlan) (next : KeptPlan) (marks : Ma
   with_next pushed picked = picked ∙ ap (kept_plans_from marks.current) pushed
 
   -- one more version
-  pub whole_more : IsSoundPlan next.plan → next.version ≡ old.count + 1 → IsWhole old kept → MarksStaySettled old marks
+  pub whole_more : IsSoundPlan next.plan → next.version ≡ old.count + 1 → IsWhole old kept → UpdateMarksStaySettled old marks
       → Settles (with_version old) marks answer → IsPushed → plans ≡ kept_plans_from marks.current mid
       → IsWhole marks plans
   whole_more sound number is stays settled pushed picked = whole old (with_version old) marks answer
@@ -174,11 +174,11 @@ module _ (old : MarksValue) (kept : List KeptPlan) (next : KeptPlan) (marks : Ma
       (with_next pushed picked)
 
   pub stays_more : IsSoundPlan next.plan → next.version ≡ old.count + 1 → (value : ControllerValue)
-      → record { marks = old; plans = kept } ≡ value → IsWhole old kept → MarksStaySettled old marks
+      → record { marks = old; plans = kept } ≡ value → IsWhole old kept → UpdateMarksStaySettled old marks
       → Settles (with_version old) marks answer → IsPushed → plans ≡ kept_plans_from marks.current mid
-      → StaysController value (record { marks = marks; plans = plans })
+      → ControllerStaysSound value (record { marks = marks; plans = plans })
   stays_more sound number value seen is stays settled pushed picked =
-      let P : ControllerValue → Type 0 = λ value. StaysController value
+      let P : ControllerValue → Type 0 = λ value. ControllerStaysSound value
       (record { marks = marks; plans = plans }) in
       subst P seen (record {
         controller = whole_more sound number is stays settled pushed picked;
@@ -187,7 +187,7 @@ module _ (old : MarksValue) (kept : List KeptPlan) (next : KeptPlan) (marks : Ma
 
 -- each version that is kept is there
 pub versions_within : (marks : MarksValue) (plans read : List KeptPlan) → read ≡ plans
-    → IsController (record { marks = marks; plans = plans })
+    → IsSoundController (record { marks = marks; plans = plans })
     → All (λ kept. (1 ≤ kept.version) × (kept.version ≤ marks.count)) read
 versions_within marks plans read same is = rw same (λ k d within.
     let number = sym (length-map plans (λ kept. kept.version)) ∙ ap length is.versions

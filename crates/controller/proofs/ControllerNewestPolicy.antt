@@ -3,7 +3,7 @@ use Rattle.std.proofs.Common.{[], ◌++◌, ◌+◌, ◌-◌, ◌==◌, ◌∙�
 use Rattle.base.proofs.Exports.{nat_tests, range_with_len}
 use Rattle.policy_rules.specs.declared.policy.Row.{Row}
 use Rattle.version_update.specs.Exports.{MarksValue, with_version}
-use Rattle.controller.specs.Exports.{ControllerValue, IsController, KeptPlan, SettlesWith, SubmitsPlan, newest_policy, kept_plans_from}
+use Rattle.controller.specs.Exports.{ControllerValue, IsSoundController, KeptPlan, ControllerSettlesWith, ControllerSubmitsPlan, controller_newest_policy, kept_plans_from}
 
 abbrev pub found : ℕ → List KeptPlan → Option KeptPlan
 found version plans = find (λ (kept : KeptPlan). kept.version == version) plans
@@ -42,17 +42,17 @@ last_found first (suc n) version (kept ∷ plans) last are is at =
 
 -- what settles keeps the newest version
 newest_settled : (before : MarksValue) (kept : List KeptPlan) (new : ControllerValue)
-    → IsController new → SettlesWith before kept new
-    → newest_policy new ≡ policy_kept before.count kept
+    → IsSoundController new → ControllerSettlesWith before kept new
+    → controller_newest_policy new ≡ policy_kept before.count kept
 newest_settled before kept new is settles =
     ap (λ plans. policy_kept new.marks.count plans) settles.plans
     ∙ ap (option_map (λ (kept : KeptPlan). kept.plan.policy))
     (still_found new.marks.current new.marks.count kept is.marks.bounds.last)
     ∙ ap (λ version. policy_kept version kept) settles.marks.1.count
 
-pub newest_added : (old new : ControllerValue) (next : KeptPlan) → IsController old
-    → IsController new → next.version ≡ old.marks.count + 1 → SubmitsPlan old next new
-    → newest_policy new ≡ Some next.plan.policy
+pub newest_added : (old new : ControllerValue) (next : KeptPlan) → IsSoundController old
+    → IsSoundController new → next.version ≡ old.marks.count + 1 → ControllerSubmitsPlan old next new
+    → controller_newest_policy new ≡ Some next.plan.policy
 newest_added old new next was is number submits =
     newest_settled (with_version old.marks) (old.plans ++ next ∷ []) new is submits
     ∙ ap (option_map (λ (kept : KeptPlan). kept.plan.policy))
@@ -60,8 +60,8 @@ newest_added old new next was is number submits =
     old.plans next was.versions number (omega (arith, was.marks.bounds.last)))
 
 -- so where there is no new version it stays as it was
-pub newest_stays : (before : MarksValue) (old new : ControllerValue) → IsController new
-    → SettlesWith before old.plans new → before.count ≡ old.marks.count
-    → newest_policy new ≡ newest_policy old
+pub newest_stays : (before : MarksValue) (old new : ControllerValue) → IsSoundController new
+    → ControllerSettlesWith before old.plans new → before.count ≡ old.marks.count
+    → controller_newest_policy new ≡ controller_newest_policy old
 newest_stays before old new is settles same = newest_settled before old.plans new is settles
     ∙ ap (λ version. policy_kept version old.plans) same

@@ -5,8 +5,8 @@ use Rattle.ctrl_msg.specs.declared.message.Body.{Body}
 use Rattle.ctrl_msg.specs.declared.message.Body.TheVariants.{OpenAt}
 use Rattle.version_update.specs.declared.record.SwitchRecord.{SwitchRecord}
 use Rattle.version_update.specs.declared.marks.Settled.{Settled}
-use Rattle.version_update.specs.Exports.{MarksValue, Names, Settles, is_member, joining_opens_at, mark_rises_to}
-use Rattle.controller.specs.Exports.{collect_acts, open_acts, controller_posts_to, mark_rising_acts, settling_acts, stamp_acts, switches_in_mask, switches_by_record}
+use Rattle.version_update.specs.Exports.{MarksValue, Names, Settles, is_member, update_joining_opens_at, mark_rises_to}
+use Rattle.controller.specs.Exports.{controller_collect_acts, controller_open_acts, controller_posts_to, controller_mark_rising_acts, controller_settling_acts, stamp_acts, controller_switches_in_mask, controller_switches_by_record}
 use Rattle.controller.specs.declared.sends.Act.{Act}
 use Rattle.controller.proofs.ControllerPickedSwitches.{those_named}
 use Rattle.ternary.specs.Exports.{WordValue}
@@ -45,12 +45,12 @@ pub rising_told : (old new number mask n : ℕ) (answered : Option ℕ) (says : 
     (base mid acts : List Act) → answered ≡ mark_rises_to old new
     → Names mask (λ known. ltb old new && is_member known.phase) switches → n ≡ length switches
     → answered ≡ Some number → mid ≡ base ++ says number ∷ []
-    → acts ≡ mid ++ controller_posts_to after (λ boot. body boot number) (switches_in_mask mask n)
-    → acts ≡ base ++ mark_rising_acts old new says body after switches
+    → acts ≡ mid ++ controller_posts_to after (λ boot. body boot number) (controller_switches_in_mask mask n)
+    → acts ≡ base ++ controller_mark_rising_acts old new says body after switches
 rising_told old new number mask n answered says body after switches base mid acts is names all risen
     begun made =
     let up = rose old new number (sym is ∙ risen) in
-    let told : List ℕ = switches_by_record (λ known. is_member known.phase) switches in
+    let told : List ℕ = controller_switches_by_record (λ known. is_member known.phase) switches in
     headed (says number) base _ mid acts begun made
     ∙ ap (λ l. base ++ says number ∷ controller_posts_to after (λ boot. body boot number) l) (those_named mask
     n _ switches all (and_first _ (λ known. is_member known.phase) mask switches up.1 names))
@@ -61,19 +61,19 @@ rising_told old new number mask n answered says body after switches base mid act
 pub rising_none : (old new : ℕ) (answered : Option ℕ) (says : ℕ → Act) (body : ℕ → ℕ → Body)
     (after : MarksValue) (switches : List SwitchRecord) (base : List Act)
     → answered ≡ mark_rises_to old new → answered ≡ None
-    → base ≡ base ++ mark_rising_acts old new says body after switches
+    → base ≡ base ++ controller_mark_rising_acts old new says body after switches
 rising_none old new answered says body after switches base is none =
     cc (append-nil base, stays old new (sym is ∙ none))
 
 pub opens_told : (before after : MarksValue) (answer : Settled) (n current : ℕ)
     (old acts : List Act) → n ≡ length after.switches → current ≡ after.current
-    → acts ≡ old ++ controller_posts_to after (λ boot. OpenAt boot current) (switches_in_mask answer.opens n)
-    → Settles before after answer → acts ≡ old ++ open_acts before after
+    → acts ≡ old ++ controller_posts_to after (λ boot. OpenAt boot current) (controller_switches_in_mask answer.opens n)
+    → Settles before after answer → acts ≡ old ++ controller_open_acts before after
 opens_told before after answer n current old acts all is_current made is =
     made ∙ ap (λ l. old ++ controller_posts_to after (λ boot. OpenAt boot current) l) (those_named answer.opens
     n _ before.switches (all ∙ same_number before after answer is) is.tells.opens)
     ∙ ap (λ v. old ++ controller_posts_to after (λ boot. OpenAt boot v)
-    (switches_by_record (joining_opens_at after.current) before.switches)) is_current
+    (controller_switches_by_record (update_joining_opens_at after.current) before.switches)) is_current
 
 -- a mark that is told to have risen is the new one
 pub told_current : (before after : MarksValue) (number : ℕ)
@@ -83,12 +83,12 @@ told_current before after number told = sym (rose before.current after.current n
 -- the three parts, one after another
 pub settling_told : (touched : List WordValue) (before after : MarksValue)
     (old one two three : List Act)
-    → one ≡ old ++ stamp_acts touched before after → two ≡ one ++ open_acts before after
-    → three ≡ two ++ collect_acts before after → three ≡ old ++ settling_acts touched before after
+    → one ≡ old ++ stamp_acts touched before after → two ≡ one ++ controller_open_acts before after
+    → three ≡ two ++ controller_collect_acts before after → three ≡ old ++ controller_settling_acts touched before after
 settling_told touched before after old one two three a b c =
     let first = stamp_acts touched before after in
-    let second = open_acts before after in
-    let third = collect_acts before after in
+    let second = controller_open_acts before after in
+    let third = controller_collect_acts before after in
     c ∙ ap (λ l. l ++ third) (b ∙ ap (λ l. l ++ second) a ∙ append_assoc old first second)
     ∙ append_assoc old (first ++ second) third
 

@@ -4,8 +4,8 @@ use Rattle.base.proofs.Exports.{nat_tests, option_map_or, range_with_len, slice_
 use Rattle.ctrl_msg.specs.declared.message.Body.{Body}
 use Rattle.ctrl_msg.specs.declared.message.Body.TheVariants.{Hello, Installed, Stamped}
 use Rattle.version_update.specs.declared.record.SwitchRecord.{SwitchRecord}
-use Rattle.version_update.specs.Exports.{AreMarksSettled, MarksValue, is_member, joining_opens_at, unknown_switch_record}
-use Rattle.controller.specs.Exports.{ControllerValue, KeptPlan, collect_acts, current_touched, hear_acts, marks_after, open_acts, kept_plans_from, controller_posts_to, settling_acts, switches_by_record}
+use Rattle.version_update.specs.Exports.{AreUpdateMarksSettled, MarksValue, is_member, update_joining_opens_at, unknown_switch_record}
+use Rattle.controller.specs.Exports.{ControllerValue, KeptPlan, controller_collect_acts, current_plan_touched, controller_hear_acts, controller_marks_after, controller_open_acts, kept_plans_from, controller_posts_to, controller_settling_acts, controller_switches_by_record}
 use Rattle.controller.specs.declared.sends.Act.TheVariants.{Current, Retired}
 use Rattle.ctrl_msg.specs.declared.message.Body.TheVariants as body
 use Rattle.controller.proofs.ControllerPickedSwitches.{picked_same, passes_there}
@@ -20,7 +20,7 @@ none_picked (x ∷ xs) = none_picked xs
 
 -- where no switch passes, there are none that do
 those_none : (passes : SwitchRecord → Bool) (switches : List SwitchRecord)
-    → All (λ known. IsFalse (passes known)) switches → switches_by_record passes switches ≡ []
+    → All (λ known. IsFalse (passes known)) switches → controller_switches_by_record passes switches ≡ []
 those_none passes switches fail = picked_same _ (λ _. false) fails
     (range_with_len 0 (length switches)) ∙ none_picked (range_with_len 0 (length switches))
   where
@@ -34,19 +34,19 @@ those_none passes switches fail = picked_same _ (λ _. false) fails
           ap (λ o. option_map_or passes o false) (slice_get_past switches s past)
 
 -- nothing is sent
-pub nothing_sent : (touched : List WordValue) (marks : MarksValue) → AreMarksSettled marks
-    → settling_acts touched marks marks ≡ []
+pub nothing_sent : (touched : List WordValue) (marks : MarksValue) → AreUpdateMarksSettled marks
+    → controller_settling_acts touched marks marks ≡ []
 nothing_sent touched marks is =
     let one = ap (λ b. cond b (Current marks.current ∷ controller_posts_to marks (λ boot. body.Stamp boot
-    marks.current touched) (switches_by_record (λ known. is_member known.phase) marks.switches)) [])
+    marks.current touched) (controller_switches_by_record (λ known. is_member known.phase) marks.switches)) [])
     (not_below marks.current) in
     let two = ap (controller_posts_to marks (λ boot. body.OpenAt boot marks.current))
-    (those_none (joining_opens_at marks.current) marks.switches is.opened) in
+    (those_none (update_joining_opens_at marks.current) marks.switches is.opened) in
     let three = ap (λ b. cond b (Retired marks.retired ∷ controller_posts_to marks (λ boot. body.Collect boot
-    marks.retired) (switches_by_record (λ known. is_member known.phase) marks.switches)) [])
+    marks.retired) (controller_switches_by_record (λ known. is_member known.phase) marks.switches)) [])
     (not_below marks.retired) in
-    ap (λ l. l ++ open_acts marks marks ++ collect_acts marks marks) one
-    ∙ ap (λ l. l ++ collect_acts marks marks) two ∙ three
+    ap (λ l. l ++ controller_open_acts marks marks ++ controller_collect_acts marks marks) one
+    ∙ ap (λ l. l ++ controller_collect_acts marks marks) two ∙ three
 
 -- the plans from the current version on are all
 pub all_kept : (to from n : ℕ) (plans : List KeptPlan) → to ≤ from
@@ -61,9 +61,9 @@ all_kept to from (suc n) (kept ∷ plans) low versions =
 
 -- a body that isn't for the controller
 pub record IsUnheard (body : Body) (controller : ControllerValue) : Type 0 where
-  pub same : marks_after body controller.marks ≡ controller.marks
-  pub sent : hear_acts body controller.marks controller
-      ≡ settling_acts (current_touched controller) controller.marks controller.marks ++ []
+  pub same : controller_marks_after body controller.marks ≡ controller.marks
+  pub sent : controller_hear_acts body controller.marks controller
+      ≡ controller_settling_acts (current_plan_touched controller) controller.marks controller.marks ++ []
 
 pub is_unheard : (body : Body) (controller : ControllerValue)
     → ((switch boot : ℕ) → body ≡ Hello switch boot → ⊥)

@@ -11,9 +11,9 @@ abbrev pub rules_plan_cause : Failure NoRules → PlanError
 rules_plan_cause (failure.Refused many) = TooManyWords many.words
 rules_plan_cause failure.NoMemory = NoMemory
 
-abbrev pub tree_plan_cause : Failure NoTree → PlanError
-tree_plan_cause (failure.Refused many) = TooManyLeaves
-tree_plan_cause failure.NoMemory = NoMemory
+abbrev pub controller_tree_plan_cause : Failure NoTree → PlanError
+controller_tree_plan_cause (failure.Refused many) = TooManyLeaves
+controller_tree_plan_cause failure.NoMemory = NoMemory
 
 abbrev pub placement_plan_cause : Failure NoPlacement → PlanError
 placement_plan_cause (failure.Refused lack) = NoRoom lack.partition

@@ -6,11 +6,11 @@ use Rattle.ctrl_msg.specs.declared.message.Body.TheVariants as body
 use Rattle.controller.specs.declared.settling.News.{News}
 use Rattle.controller.specs.declared.settling.News.TheVariants.{Stamp, OpenAt, Collect}
 
-abbrev pub news_body_of : News → ℕ → ℕ → Body
-news_body_of (Stamp touched) version boot = body.Stamp boot version touched
-news_body_of OpenAt version boot = body.OpenAt boot version
-news_body_of Collect version boot = body.Collect boot version
+abbrev pub controller_news_body : News → ℕ → ℕ → Body
+controller_news_body (Stamp touched) version boot = body.Stamp boot version touched
+controller_news_body OpenAt version boot = body.OpenAt boot version
+controller_news_body Collect version boot = body.Collect boot version
 
 -- of this many switches those that a mask names: switch s is bit s
-abbrev pub switches_in_mask : ℕ → ℕ → List ℕ
-switches_in_mask mask switches = filter (λ s. bit_at mask s == 1) (range_with_len 0 switches)
+abbrev pub controller_switches_in_mask : ℕ → ℕ → List ℕ
+controller_switches_in_mask mask switches = filter (λ s. bit_at mask s == 1) (range_with_len 0 switches)

@@ -1,9 +1,9 @@
 -- Plans: a policy with its partitions, each with its targets.
 use Rattle.std.specs.Prelude.{◌<◌, ◌^◌, ◌≡◌, All, Err, List, length, map, ⊤}
 use Rattle.net_file.specs.declared.net.Net.{Net}
-use Rattle.partition.specs.Plan.{Hosted, plan_of}
+use Rattle.partition.specs.Plan.{Hosted, partition_plan_of}
 use Rattle.policy_rules.specs.Hosted as no_plan
-use Rattle.policy_rules.specs.Exports.{AreSoundPartitions, LastRuleCovers}
+use Rattle.policy_rules.specs.Exports.{AreSoundPolicyPartitions, LastRuleCovers}
 use Rattle.policy_rules.specs.declared.policy.Row.{Row}
 use Rattle.switch_table.specs.Exports.{part_of}
 use Rattle.controller.specs.declared.plan_error.PlanError.{PlanError}
@@ -16,14 +16,14 @@ pub record PlanValue : Type 0 where
 -- the partitions are sound for the policy, the last rule of each covers its region, and their
 -- numbers and places have 32 bits
 pub record IsSoundPlan (plan : PlanValue) : Type 0 where
-  pub sound : AreSoundPartitions plan.policy (map (λ hosted. hosted.0) plan.hosted)
+  pub sound : AreSoundPolicyPartitions plan.policy (map (λ hosted. hosted.0) plan.hosted)
   pub covers : All LastRuleCovers (map part_of plan.hosted)
   pub few : length plan.hosted < 2 ^ 32
   pub few_rules : All (λ hosted. length hosted.0.rules < 2 ^ 32) plan.hosted
 
 -- why a policy has no plan on a network, or memory ran out
 abbrev pub RefusesPlan : List Row → Net → PlanError → Type 0
-RefusesPlan rows net (TooManyWords words) = plan_of rows net ≡ Err (no_plan.TooManyWords words)
-RefusesPlan rows net TooManyLeaves = plan_of rows net ≡ Err no_plan.TooManyLeaves
-RefusesPlan rows net (NoRoom partition) = plan_of rows net ≡ Err (no_plan.NoRoom partition)
+RefusesPlan rows net (TooManyWords words) = partition_plan_of rows net ≡ Err (no_plan.TooManyWords words)
+RefusesPlan rows net TooManyLeaves = partition_plan_of rows net ≡ Err no_plan.TooManyLeaves
+RefusesPlan rows net (NoRoom partition) = partition_plan_of rows net ≡ Err (no_plan.NoRoom partition)
 RefusesPlan rows net NoMemory = ⊤

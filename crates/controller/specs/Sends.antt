@@ -7,11 +7,11 @@ use Rattle.ctrl_msg.specs.declared.message.Body.{Body}
 use Rattle.ctrl_msg.specs.declared.message.Body.TheVariants.{Install, OpenAt, Stamp, Collect, Hello, Installed, Stamped}
 use Rattle.ctrl_msg.specs.declared.message.Place.TheVariants.{Switch}
 use Rattle.switch_table.specs.Exports.{tables_of}
-use Rattle.version_update.specs.Exports.{MarksValue, after_installed, after_stamped, at_switch, has_acked, hello_recorded, is_member, is_over, joining_opens_at, record_of, takes_hello, with_version}
+use Rattle.version_update.specs.Exports.{MarksValue, mark_after_installed, update_after_stamped, at_switch, has_acked, update_hello_recorded, is_member, is_over, update_joining_opens_at, record_of, update_takes_hello, with_version}
 use Rattle.version_update.specs.declared.record.Phase.{Phase}
 use Rattle.version_update.specs.declared.record.Phase.TheVariants.{Joining, Member, Over}
 use Rattle.version_update.specs.declared.record.SwitchRecord.{SwitchRecord}
-use Rattle.controller.specs.Controller.{KeptPlan, ControllerValue, current_touched, kept_plans_from}
+use Rattle.controller.specs.Controller.{KeptPlan, ControllerValue, current_plan_touched, kept_plans_from}
 use Rattle.controller.specs.declared.sends.Act.{Act}
 use Rattle.controller.specs.declared.sends.Act.TheVariants.{Current, Retired, Post}
 use Rattle.ternary.specs.Exports.{WordValue}
@@ -23,96 +23,96 @@ abbrev pub post_act : ℕ → Body → Act
 post_act s body = Post (record { to = Switch s; body = body })
 
 -- the tables that the version's plan gives the switch
-abbrev pub install_act : ℕ → ℕ → KeptPlan → Act
-install_act s boot kept = post_act s (Install boot (tables_of kept.plan.hosted kept.version s))
+abbrev pub controller_install_act : ℕ → ℕ → KeptPlan → Act
+controller_install_act s boot kept = post_act s (Install boot (tables_of kept.plan.hosted kept.version s))
 
 -- the known boot of a switch
-abbrev pub boot_recorded : MarksValue → ℕ → ℕ
-boot_recorded marks s = (record_of marks s).boot
+abbrev pub controller_recorded_boot : MarksValue → ℕ → ℕ
+controller_recorded_boot marks s = (record_of marks s).boot
 
 -- the switches that pass, by ascending number
-abbrev pub switches_by_record : (SwitchRecord → Bool) → List SwitchRecord → List ℕ
-switches_by_record passes switches =
+abbrev pub controller_switches_by_record : (SwitchRecord → Bool) → List SwitchRecord → List ℕ
+controller_switches_by_record passes switches =
     filter (λ s. option_map_or passes (slice_get switches s) false)
     (range_with_len 0 (length switches))
 
 -- to each of these switches the message for its known boot
 abbrev pub controller_posts_to : MarksValue → (ℕ → Body) → List ℕ → List Act
-controller_posts_to marks body switches = map (λ s. post_act s (body (boot_recorded marks s))) switches
+controller_posts_to marks body switches = map (λ s. post_act s (body (controller_recorded_boot marks s))) switches
 
 -- ---- settling
 
 -- if a mark rose: its act, and then a message to each member among these switches
-abbrev pub mark_rising_acts : ℕ → ℕ → (ℕ → Act) → (ℕ → ℕ → Body) → MarksValue → List SwitchRecord
+abbrev pub controller_mark_rising_acts : ℕ → ℕ → (ℕ → Act) → (ℕ → ℕ → Body) → MarksValue → List SwitchRecord
     → List Act
-mark_rising_acts old new says body marks switches = if nat_lt old new
+controller_mark_rising_acts old new says body marks switches = if nat_lt old new
     then says new ∷ controller_posts_to marks (λ boot. body boot new)
-    (switches_by_record (λ known. is_member known.phase) switches) else []
+    (controller_switches_by_record (λ known. is_member known.phase) switches) else []
 
 -- a new current version, and its stamps to the members from before, with what its change touches:
 -- they have its tables, and those that join open at it
 abbrev pub stamp_acts : List WordValue → MarksValue → MarksValue → List Act
 stamp_acts touched before after =
-    mark_rising_acts before.current after.current Current (λ boot version. Stamp boot version touched)
+    controller_mark_rising_acts before.current after.current Current (λ boot version. Stamp boot version touched)
     after before.switches
 
 -- the new members open at the current version, which they acknowledged
-abbrev pub open_acts : MarksValue → MarksValue → List Act
-open_acts before after = controller_posts_to after (λ boot. OpenAt boot after.current)
-    (switches_by_record (joining_opens_at after.current) before.switches)
+abbrev pub controller_open_acts : MarksValue → MarksValue → List Act
+controller_open_acts before after = controller_posts_to after (λ boot. OpenAt boot after.current)
+    (controller_switches_by_record (update_joining_opens_at after.current) before.switches)
 
 -- a newly retired version, and to all members the message to drop the tables up to it: no member
 -- stamps with it any more
-abbrev pub collect_acts : MarksValue → MarksValue → List Act
-collect_acts before after =
-    mark_rising_acts before.retired after.retired Retired Collect after after.switches
+abbrev pub controller_collect_acts : MarksValue → MarksValue → List Act
+controller_collect_acts before after =
+    controller_mark_rising_acts before.retired after.retired Retired Collect after after.switches
 
 -- what is sent when marks settle, if the change of the current version touches this
-abbrev pub settling_acts : List WordValue → MarksValue → MarksValue → List Act
-settling_acts touched before after = stamp_acts touched before after ++ open_acts before after
-    ++ collect_acts before after
+abbrev pub controller_settling_acts : List WordValue → MarksValue → MarksValue → List Act
+controller_settling_acts touched before after = stamp_acts touched before after ++ controller_open_acts before after
+    ++ controller_collect_acts before after
 
 -- ---- the calls
 
 -- the new version to each switch that isn't over; then settling
 abbrev pub submit_acts : MarksValue → KeptPlan → ControllerValue → List Act
 submit_acts old next new =
-    map (λ s. install_act s (boot_recorded old s) next)
-    (switches_by_record (λ known. not (is_over known.phase)) old.switches)
-    ++ settling_acts (current_touched new) (with_version old) new.marks
+    map (λ s. controller_install_act s (controller_recorded_boot old s) next)
+    (controller_switches_by_record (λ known. not (is_over known.phase)) old.switches)
+    ++ controller_settling_acts (current_plan_touched new) (with_version old) new.marks
 
 -- what a message changes of what is known
-abbrev pub marks_after : Body → MarksValue → MarksValue
-marks_after (Hello switch boot) marks = at_switch switch (hello_recorded boot) marks
-marks_after (Installed switch boot version) marks =
-    at_switch switch (after_installed boot version) marks
-marks_after (Stamped switch boot version) marks =
-    at_switch switch (after_stamped boot version) marks
-marks_after _ marks = marks
+abbrev pub controller_marks_after : Body → MarksValue → MarksValue
+controller_marks_after (Hello switch boot) marks = at_switch switch (update_hello_recorded boot) marks
+controller_marks_after (Installed switch boot version) marks =
+    at_switch switch (mark_after_installed boot version) marks
+controller_marks_after (Stamped switch boot version) marks =
+    at_switch switch (update_after_stamped boot version) marks
+controller_marks_after _ marks = marks
 
 -- to a new boot, which has no tables, the versions from the current one to the last
-abbrev pub installs_after : Body → MarksValue → ControllerValue → List Act
-installs_after (Hello switch boot) old new = if takes_hello boot (record_of old switch)
-    then map (install_act switch boot) (kept_plans_from new.marks.current new.plans) else []
-installs_after _ old new = []
+abbrev pub controller_installs_after : Body → MarksValue → ControllerValue → List Act
+controller_installs_after (Hello switch boot) old new = if update_takes_hello boot (record_of old switch)
+    then map (controller_install_act switch boot) (kept_plans_from new.marks.current new.plans) else []
+controller_installs_after _ old new = []
 
 -- settling, and then what a new boot lacks
-abbrev pub hear_acts : Body → MarksValue → ControllerValue → List Act
-hear_acts body old new = settling_acts (current_touched new) (marks_after body old) new.marks
-    ++ installs_after body old new
+abbrev pub controller_hear_acts : Body → MarksValue → ControllerValue → List Act
+controller_hear_acts body old new = controller_settling_acts (current_plan_touched new) (controller_marks_after body old) new.marks
+    ++ controller_installs_after body old new
 
 -- the switch exists, and so does the version
-pub record NamesSwitchAndVersion (switch version : ℕ) (marks : MarksValue) : Type 0 where
+pub record NamesWithinControllerMarks (switch version : ℕ) (marks : MarksValue) : Type 0 where
   pub switch_is : switch < length marks.switches
   pub first : 1 ≤ version
   pub last : version ≤ marks.count
 
 -- what a body for the controller names exists
-abbrev pub ReplyNamesExist : Body → MarksValue → Type 0
-ReplyNamesExist (Hello switch boot) marks = switch < length marks.switches
-ReplyNamesExist (Installed switch boot version) marks = NamesSwitchAndVersion switch version marks
-ReplyNamesExist (Stamped switch boot version) marks = NamesSwitchAndVersion switch version marks
-ReplyNamesExist _ marks = ⊤
+abbrev pub ControllerReplyNamesExist : Body → MarksValue → Type 0
+ControllerReplyNamesExist (Hello switch boot) marks = switch < length marks.switches
+ControllerReplyNamesExist (Installed switch boot version) marks = NamesWithinControllerMarks switch version marks
+ControllerReplyNamesExist (Stamped switch boot version) marks = NamesWithinControllerMarks switch version marks
+ControllerReplyNamesExist _ marks = ⊤
 
 -- ---- sending again
 
@@ -121,31 +121,31 @@ abbrev pub is_missing : SwitchRecord → ℕ → ℕ → Bool
 is_missing known first version = nat_le first version && not (has_acked known version)
 
 -- the versions from this one on that the switch didn't acknowledge
-abbrev pub missing_installs : ControllerValue → ℕ → ℕ → List Act
-missing_installs controller s first =
+abbrev pub controller_missing_installs : ControllerValue → ℕ → ℕ → List Act
+controller_missing_installs controller s first =
     let known = record_of controller.marks s in
-    map (install_act s known.boot)
+    map (controller_install_act s known.boot)
     (filter (λ kept. is_missing known first kept.version) controller.plans)
 
 -- to a member the current stamp with what its change touches, if it acknowledged a lower one
-abbrev pub stamp_again : List WordValue → MarksValue → ℕ → List Act
-stamp_again touched marks s = if nat_lt (record_of marks s).acked_stamp marks.current
-    then post_act s (Stamp (boot_recorded marks s) marks.current touched) ∷ [] else []
+abbrev pub controller_stamp_again : List WordValue → MarksValue → ℕ → List Act
+controller_stamp_again touched marks s = if nat_lt (record_of marks s).acked_stamp marks.current
+    then post_act s (Stamp (controller_recorded_boot marks s) marks.current touched) ∷ [] else []
 
 -- to a member the message to drop the tables of the retired versions, if there are any
-abbrev pub resend_collects : MarksValue → ℕ → List Act
-resend_collects marks s = if nat_lt 0 marks.retired
-    then post_act s (Collect (boot_recorded marks s) marks.retired) ∷ [] else []
+abbrev pub controller_resend_collects : MarksValue → ℕ → List Act
+controller_resend_collects marks s = if nat_lt 0 marks.retired
+    then post_act s (Collect (controller_recorded_boot marks s) marks.retired) ∷ [] else []
 
 -- what a switch in this phase may lack
 abbrev pub resend_acts_to : Phase → ControllerValue → ℕ → List Act
-resend_acts_to Joining controller s = missing_installs controller s controller.marks.current
+resend_acts_to Joining controller s = controller_missing_installs controller s controller.marks.current
 resend_acts_to Member controller s =
-    post_act s (OpenAt (boot_recorded controller.marks s)
+    post_act s (OpenAt (controller_recorded_boot controller.marks s)
     (record_of controller.marks s).open_version)
-    ∷ missing_installs controller s (controller.marks.current + 1)
-    ++ stamp_again (current_touched controller) controller.marks s
-    ++ resend_collects controller.marks s
+    ∷ controller_missing_installs controller s (controller.marks.current + 1)
+    ++ controller_stamp_again (current_plan_touched controller) controller.marks s
+    ++ controller_resend_collects controller.marks s
 resend_acts_to Over controller s = []
 
 -- what a switch may lack, by its phase

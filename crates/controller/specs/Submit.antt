@@ -5,7 +5,7 @@ use Rattle.base.specs.declared.error.Failure.{Failure}
 use Rattle.base.specs.declared.error.Failure.TheVariants.{Refused, NoMemory}
 use Rattle.version_update.specs.declared.marks.SubmitError.{SubmitError}
 use Rattle.controller.specs.Plan.{PlanValue}
-use Rattle.controller.specs.Controller.{ControllerValue, KeptPlan, SettlesWith}
+use Rattle.controller.specs.Controller.{ControllerValue, KeptPlan, ControllerSettlesWith}
 use Rattle.ternary.specs.Exports.{WordValue}
 
 -- one more version with this plan, whose change touches this
@@ -17,11 +17,11 @@ next_kept_plan old plan touched = record {
 }
 
 -- the controller after it added this version
-abbrev pub SubmitsPlan : ControllerValue → KeptPlan → ControllerValue → Type 0
-SubmitsPlan old next new = SettlesWith (with_version old.marks) (old.plans ++ next ∷ []) new
+abbrev pub ControllerSubmitsPlan : ControllerValue → KeptPlan → ControllerValue → Type 0
+ControllerSubmitsPlan old next new = ControllerSettlesWith (with_version old.marks) (old.plans ++ next ∷ []) new
 
 -- a refusal changes nothing; if memory ran out, either nothing changed, or the version is added
 -- and what it causes is lost
-abbrev pub IsLeftByRefusal : ControllerValue → KeptPlan → ControllerValue → Failure SubmitError → Type 0
-IsLeftByRefusal old next new (Refused refusal) = new ≡ old
-IsLeftByRefusal old next new NoMemory = (new ≡ old) ⊎ SubmitsPlan old next new
+abbrev pub IsControllerLeftByRefusal : ControllerValue → KeptPlan → ControllerValue → Failure SubmitError → Type 0
+IsControllerLeftByRefusal old next new (Refused refusal) = new ≡ old
+IsControllerLeftByRefusal old next new NoMemory = (new ≡ old) ⊎ ControllerSubmitsPlan old next new

@@ -2,18 +2,18 @@ ghost use Rattle.std.specs.Prelude.{◌≡◌, ◌≢◌, ◌+◌, ◌-◌, ◌<
 ghost use Rattle.net_file.specs.Net.{IsNet};
 ghost use Rattle.ctrl_msg.specs.Kinds.{is_for_controller};
 ghost use Rattle.ctrl_msg.specs.declared.message.Body.TheVariants.{Hello};
-ghost use Rattle.switch_table.specs.Tables.{AreSoundTables};
-ghost use Rattle.version_update.specs.Marks.{MarksStaySettled, at_switch, record_of, with_version, MarksValue};
+ghost use Rattle.switch_table.specs.Tables.{AreSoundSwitchTables};
+ghost use Rattle.version_update.specs.Marks.{UpdateMarksStaySettled, at_switch, record_of, with_version, MarksValue};
 ghost use Rattle.version_update.specs.Record.{is_member, is_over, after_over};
 ghost use Rattle.version_update.specs.Settling.{Settles};
 ghost use Rattle.version_update.specs.declared.marks.SubmitError.TheVariants.{TooManyLive, TooManyVersions};
 ghost use Rattle.version_update.specs.declared.record.Phase.TheVariants.{Joining, Member};
-ghost use Rattle.controller.specs.Exports.{IsController, IsLeftByRefusal, NamesSwitchAndVersion, ReplyNamesExist, SettlesWith, StaysController, SubmitsPlan, record_after_reply, boot_recorded, current_plan, current_touched, first_controller, hear_acts, install_act, kept_tables, kept_touched, marks_after, newest_policy, next_kept_plan, kept_plans_from, resend_acts, resend_acts_to, settling_acts, submit_acts, switches_by_record};
+ghost use Rattle.controller.specs.Exports.{IsSoundController, IsControllerLeftByRefusal, NamesWithinControllerMarks, ControllerReplyNamesExist, ControllerSettlesWith, ControllerStaysSound, ControllerSubmitsPlan, controller_record_after_reply, controller_recorded_boot, current_plan, current_plan_touched, controller_at_start, controller_hear_acts, controller_install_act, kept_plan_tables, kept_plan_touched, controller_marks_after, controller_newest_policy, next_kept_plan, kept_plans_from, resend_acts, resend_acts_to, controller_settling_acts, submit_acts, controller_switches_by_record};
 ghost use Rattle.base.specs.declared.error.Failure.TheVariants.{Refused, NoMemory};
 
 use crate::plan::Plan;
 use crate::replying::Reply;
-use crate::resending::{install_missing, resend_collects, stamp_again};
+use crate::resending::{controller_resend_collects, controller_stamp_again, install_missing};
 use crate::sends::{Act, Sends};
 use crate::settling::{settle, settled_sends};
 use crate::version::Version;
@@ -38,13 +38,13 @@ pub struct Controller {
 }
 
 impl Model for Controller {
-    ghost use Rattle.controller.specs.Controller.{ControllerValue, IsController};
+    ghost use Rattle.controller.specs.Controller.{ControllerValue, IsSoundController};
 
     ghost Value = { ControllerValue };
 
     ghost view = { λ c. record { marks = c.marks; plans = c.versions.items } };
 
-    ghost invariant = { λ c. IsController (record {
+    ghost invariant = { λ c. IsSoundController (record {
       marks = c.marks;
       plans = c.versions.items;
     }) };
@@ -58,8 +58,8 @@ impl Controller {
     pub fn begin(alloc: Global, net: &Net, plan: Plan) -> Result<Controller, AllocError>
         requires { IsNet net.now }
         ensures first { IfOk result (λ controller.
-            controller ≡ first_controller (length net.now.switches) plan) }
-        ensures rule { IfOk result IsController }
+            controller ≡ controller_at_start (length net.now.switches) plan) }
+        ensures rule { IfOk result IsSoundController }
     {
         let switches = net.switches.items().len() as u32;
         // For the proof: the contract of `hosted` says that the plan is sound.
@@ -94,8 +94,8 @@ impl Controller {
     pub fn tables(&self, version: u32, s: u32) -> Result<SharedTables, AllocError>
         requires first { self.now.marks.current ≤ version }
         requires last { version ≤ self.now.marks.count }
-        ensures tables { IfOk result (λ tables. kept_tables self.now version s ≡ Some tables) }
-        ensures sound { IfOk result AreSoundTables }
+        ensures tables { IfOk result (λ tables. kept_plan_tables self.now version s ≡ Some tables) }
+        ensures sound { IfOk result AreSoundSwitchTables }
     {
         let alloc = *self.versions.allocator();
         tables_laws();
@@ -119,8 +119,8 @@ impl Controller {
     /// but what it causes is lost.
     pub fn submit(&mut self, plan: Plan, touched: Touched) -> Result<Sends, Failure<SubmitError>>
         ensures after { OnOk result
-            (SubmitsPlan self.old (next_kept_plan self.old plan touched) self.new) }
-        ensures newest { OnOk result (newest_policy self.new ≡ Some plan.policy) }
+            (ControllerSubmitsPlan self.old (next_kept_plan self.old plan touched) self.new) }
+        ensures newest { OnOk result (controller_newest_policy self.new ≡ Some plan.policy) }
         ensures sends { IfOk result (λ sends.
             sends ≡ submit_acts self.old.marks (next_kept_plan self.old plan touched) self.new) }
         ensures live { (result ≡ Err (Refused TooManyLive))
@@ -128,8 +128,8 @@ impl Controller {
         ensures versions { (result ≡ Err (Refused TooManyVersions))
             ↔ ((self.old.marks.count - self.old.marks.retired ≢ 8) × (self.old.marks.count ≡ 64)) }
         ensures refused { IfErr result
-            (IsLeftByRefusal self.old (next_kept_plan self.old plan touched) self.new) }
-        ensures rule { StaysController self.old self.new }
+            (IsControllerLeftByRefusal self.old (next_kept_plan self.old plan touched) self.new) }
+        ensures rule { ControllerStaysSound self.old self.new }
     {
         let alloc = *self.versions.allocator();
         if let Some(error) = self.marks.refusal() {
@@ -146,15 +146,15 @@ impl Controller {
     /// # Errors
     /// Only out of memory; what the message says is recorded even then.
     pub fn hear(&mut self, body: &Body) -> Result<Sends, AllocError>
-        requires { ReplyNamesExist body.now self.old.marks }
-        ensures after { SettlesWith
-            (marks_after body.now self.old.marks) self.old.plans self.new }
-        ensures newest { newest_policy self.new ≡ newest_policy self.old }
-        ensures sends { IfOk result (λ sends. sends ≡ hear_acts body.now self.old.marks self.new) }
+        requires { ControllerReplyNamesExist body.now self.old.marks }
+        ensures after { ControllerSettlesWith
+            (controller_marks_after body.now self.old.marks) self.old.plans self.new }
+        ensures newest { controller_newest_policy self.new ≡ controller_newest_policy self.old }
+        ensures sends { IfOk result (λ sends. sends ≡ controller_hear_acts body.now self.old.marks self.new) }
         ensures others { IsFalse (is_for_controller body.now) → self.new ≡ self.old }
         ensures silent { IsFalse (is_for_controller body.now)
             → IfOk result (λ sends. sends ≡ []) }
-        ensures rule { StaysController self.old self.new }
+        ensures rule { ControllerStaysSound self.old self.new }
     {
         let alloc = *self.versions.allocator();
         match body {
@@ -179,13 +179,13 @@ impl Controller {
     /// Only out of memory; the switch is over even then.
     pub fn over(&mut self, s: u32) -> Result<Sends, AllocError>
         requires { s < length self.old.marks.switches }
-        ensures after { SettlesWith
+        ensures after { ControllerSettlesWith
             (at_switch s after_over self.old.marks) self.old.plans self.new }
-        ensures newest { newest_policy self.new ≡ newest_policy self.old }
+        ensures newest { controller_newest_policy self.new ≡ controller_newest_policy self.old }
         ensures sends { IfOk result (λ sends.
-            sends ≡ settling_acts (current_touched self.new)
+            sends ≡ controller_settling_acts (current_plan_touched self.new)
             (at_switch s after_over self.old.marks) self.new.marks) }
-        ensures rule { StaysController self.old self.new }
+        ensures rule { ControllerStaysSound self.old self.new }
     {
         let alloc = *self.versions.allocator();
         let settled = self.marks.over(s);
@@ -229,8 +229,8 @@ impl Controller {
         let version = self.marks.open_version(s);
         acts.push(Act::post(s, Body::OpenAt { boot, version }))?;
         install_missing(&mut acts, alloc, &self.marks, &self.versions, s, next)?;
-        stamp_again(&mut acts, &self.marks, &self.versions, s)?;
-        resend_collects(&mut acts, &self.marks, s)?;
+        controller_stamp_again(&mut acts, &self.marks, &self.versions, s)?;
+        controller_resend_collects(&mut acts, &self.marks, s)?;
         Ok(Sends::from_items(acts))
     }
 
@@ -239,13 +239,13 @@ impl Controller {
         requires live { self.old.marks.count - self.old.marks.retired ≢ 8 }
         requires versions { self.old.marks.count ≢ 64 }
         ensures after { OnOk result
-            (SubmitsPlan self.old (next_kept_plan self.old plan touched) self.new) }
-        ensures newest { OnOk result (newest_policy self.new ≡ Some plan.policy) }
+            (ControllerSubmitsPlan self.old (next_kept_plan self.old plan touched) self.new) }
+        ensures newest { OnOk result (controller_newest_policy self.new ≡ Some plan.policy) }
         ensures sends { IfOk result (λ sends.
             sends ≡ submit_acts self.old.marks (next_kept_plan self.old plan touched) self.new) }
         ensures left { OnErr result
-            (IsLeftByRefusal self.old (next_kept_plan self.old plan touched) self.new NoMemory) }
-        ensures rule { StaysController self.old self.new }
+            (IsControllerLeftByRefusal self.old (next_kept_plan self.old plan touched) self.new NoMemory) }
+        ensures rule { ControllerStaysSound self.old self.new }
     {
         // For the proof: the contract of `hosted` says that the plan is sound.
         let _ = plan.hosted();
@@ -261,9 +261,9 @@ impl Controller {
     // A body that isn't for the controller causes nothing: settled marks stay unchanged.
     fn unheard(&self, alloc: Global) -> Sends
         ensures none { result ≡ [] }
-        ensures idle { settling_acts (current_touched self.now) self.now.marks self.now.marks ≡ [] }
-        ensures after { SettlesWith self.now.marks self.now.plans self.now }
-        ensures rule { IsController self.now }
+        ensures idle { controller_settling_acts (current_plan_touched self.now) self.now.marks self.now.marks ≡ [] }
+        ensures after { ControllerSettlesWith self.now.marks self.now.plans self.now }
+        ensures rule { IsSoundController self.now }
     {
         // For the proof: reading the marks yields their invariant.
         let _ = &self.marks;
@@ -273,11 +273,11 @@ impl Controller {
 
     fn hello(&mut self, alloc: Global, s: u32, boot: u32) -> Result<Sends, AllocError>
         requires { s < length self.old.marks.switches }
-        ensures after { SettlesWith
-            (marks_after (Hello s boot) self.old.marks) self.old.plans self.new }
+        ensures after { ControllerSettlesWith
+            (controller_marks_after (Hello s boot) self.old.marks) self.old.plans self.new }
         ensures sends { IfOk result (λ sends.
-            sends ≡ hear_acts (Hello s boot) self.old.marks self.new) }
-        ensures rule { StaysController self.old self.new }
+            sends ≡ controller_hear_acts (Hello s boot) self.old.marks self.new) }
+        ensures rule { ControllerStaysSound self.old self.new }
     {
         let settled = self.marks.hello(s, boot);
         hello_sends(alloc, &mut self.versions, &self.marks, &settled, s, boot)
@@ -292,13 +292,13 @@ impl Controller {
         boot: u32,
         version: u32,
     ) -> Result<Sends, AllocError>
-        requires { NamesSwitchAndVersion s version self.old.marks }
-        ensures after { SettlesWith (at_switch s (record_after_reply reply boot version) self.old.marks)
+        requires { NamesWithinControllerMarks s version self.old.marks }
+        ensures after { ControllerSettlesWith (at_switch s (controller_record_after_reply reply boot version) self.old.marks)
             self.old.plans self.new }
         ensures sends { IfOk result (λ sends. sends
-            ≡ settling_acts (current_touched self.new)
-            (at_switch s (record_after_reply reply boot version) self.old.marks) self.new.marks) }
-        ensures rule { StaysController self.old self.new }
+            ≡ controller_settling_acts (current_plan_touched self.new)
+            (at_switch s (controller_record_after_reply reply boot version) self.old.marks) self.new.marks) }
+        ensures rule { ControllerStaysSound self.old self.new }
     {
         let settled = reply.take_in(&mut self.marks, s, boot, version);
         settled_sends(alloc, &mut self.versions, &self.marks, &settled)
@@ -310,7 +310,7 @@ fn add_version(marks: &mut Marks) -> Settled
     requires live { marks.old.count - marks.old.retired ≢ 8 }
     requires versions { marks.old.count ≢ 64 }
     ensures settled { Settles (with_version marks.old) marks.new result }
-    ensures rule { MarksStaySettled marks.old marks.new }
+    ensures rule { UpdateMarksStaySettled marks.old marks.new }
 {
     match marks.submit() {
         Ok(settled) => settled,
@@ -322,8 +322,8 @@ fn add_version(marks: &mut Marks) -> Settled
 // Sends the version to each switch that isn't over.
 fn install_at_each(alloc: Global, marks: &Marks, version: &Version) -> Result<Vec<Act>, AllocError>
     ensures { IfOk result (λ acts. acts.items
-        ≡ map (λ s. install_act s (boot_recorded marks.now s) version.now)
-        (switches_by_record (λ known. not (is_over known.phase)) marks.now.switches)) }
+        ≡ map (λ s. controller_install_act s (controller_recorded_boot marks.now s) version.now)
+        (controller_switches_by_record (λ known. not (is_over known.phase)) marks.now.switches)) }
 {
     let mut acts = Vec::new(alloc);
     for s in 0..marks.switches() {
@@ -352,8 +352,8 @@ fn hello_sends(
 ) -> Result<Sends, AllocError>
     ensures sends { (before : MarksValue) → Settles before marks.now settled.now
         → IfOk result (λ sends. sends
-        ≡ settling_acts (kept_touched versions.new.items marks.now.current) before marks.now
-        ++ (if settled.now.taken then map (install_act s boot) versions.new.items else [])) }
+        ≡ controller_settling_acts (kept_plan_touched versions.new.items marks.now.current) before marks.now
+        ++ (if settled.now.taken then map (controller_install_act s boot) versions.new.items else [])) }
     ensures versions { versions.new.items ≡ kept_plans_from marks.now.current versions.old.items }
 {
     let mut acts = Vec::new(alloc);
@@ -372,7 +372,7 @@ fn install_all(
     s: u32,
     boot: u32,
 ) -> Result<(), AllocError>
-    ensures { OnOk result (acts.new.items ≡ acts.old.items ++ map (install_act s boot) versions.now) }
+    ensures { OnOk result (acts.new.items ≡ acts.old.items ++ map (controller_install_act s boot) versions.now) }
 {
     for kept in versions {
         acts.push(kept.install(alloc, s, boot)?)?;

@@ -1,7 +1,7 @@
 ghost use Rattle.std.specs.Prelude.{◌≡◌, ◌<◌, length, map, All, IfOk};
 ghost use Rattle.std.specs.List.{zip};
 ghost use Rattle.switch_table.specs.Tables.{part_of, row_of};
-ghost use Rattle.controller.specs.Leads.{LeadEveryHeader};
+ghost use Rattle.controller.specs.Leads.{PlanLeadsEveryHeader};
 ghost use Rattle.controller.specs.Plan.{IsSoundPlan};
 
 use policy_rules::{Partition, Policy, Targets};
@@ -87,7 +87,7 @@ impl Plan {
         ensures hosted { IfOk result (λ plan.
             plan.hosted ≡ zip (map part_of self.hosted) targets.items) }
         ensures leads { All (λ switches. 0 < length switches) targets.items
-            → IfOk result (λ plan. LeadEveryHeader self.policy plan.hosted) }
+            → IfOk result (λ plan. PlanLeadsEveryHeader self.policy plan.hosted) }
     {
         let parts = parts_of(alloc, self.hosted())?;
         let policy = self.policy().clone()?;

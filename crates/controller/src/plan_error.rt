@@ -1,6 +1,6 @@
 ghost use Rattle.std.specs.Prelude.{◌≡◌};
 ghost use Rattle.controller.specs.declared.plan_error.PlanError.TheVariants.{NoMemory};
-ghost use Rattle.controller.specs.Causes.{rules_plan_cause, tree_plan_cause, placement_plan_cause};
+ghost use Rattle.controller.specs.Causes.{rules_plan_cause, controller_tree_plan_cause, placement_plan_cause};
 
 use base::Failure;
 use cut_tree::TooManyLeaves;
@@ -37,7 +37,7 @@ impl From<Failure<TooManyWords>> for PlanError {
 }
 
 impl From<Failure<TooManyLeaves>> for PlanError {
-    ghost from_gives = { λ error e. e ≡ tree_plan_cause error };
+    ghost from_gives = { λ error e. e ≡ controller_tree_plan_cause error };
 
     fn from(error: Failure<TooManyLeaves>) -> Self {
         match error {

@@ -1,7 +1,7 @@
 ghost use Rattle.std.specs.Prelude.{◌≡◌, ◌^◌, ◌<◌, length, All, Ok, IfOk, IfErr};
 ghost use Rattle.net_file.specs.Net.{IsNet};
-ghost use Rattle.partition.specs.Plan.{IsPartitionPlan, plan_of, rooms_of, sizes_of};
-ghost use Rattle.controller.specs.Leads.{LeadEveryHeader};
+ghost use Rattle.partition.specs.Plan.{IsPartitionPlan, partition_plan_of, rooms_of, sizes_of};
+ghost use Rattle.controller.specs.Leads.{PlanLeadsEveryHeader};
 ghost use Rattle.controller.specs.Plan.{RefusesPlan};
 
 use crate::plan::Plan;
@@ -23,9 +23,9 @@ use std::alloc::{AllocError, Global};
 /// and then by number, that finds too few switches.
 pub fn compile(alloc: Global, policy: &Policy, net: &Net) -> Result<Plan, PlanError>
     requires { IsNet net.now }
-    ensures plan { IfOk result (λ plan. plan_of policy.now net.now ≡ Ok plan.hosted) }
+    ensures plan { IfOk result (λ plan. partition_plan_of policy.now net.now ≡ Ok plan.hosted) }
     ensures parts { IfOk result (λ plan. IsPartitionPlan policy.now net.now plan.hosted) }
-    ensures leads { IfOk result (λ plan. LeadEveryHeader policy.now plan.hosted) }
+    ensures leads { IfOk result (λ plan. PlanLeadsEveryHeader policy.now plan.hosted) }
     ensures policy { IfOk result (λ plan. plan.policy ≡ policy.now) }
     ensures refused { IfErr result (RefusesPlan policy.now net.now) }
 {

@@ -1,7 +1,7 @@
 //! What a switch replies about a version.
-ghost use Rattle.version_update.specs.Marks.{MarksStaySettled, at_switch};
+ghost use Rattle.version_update.specs.Marks.{UpdateMarksStaySettled, at_switch};
 ghost use Rattle.version_update.specs.Settling.{Settles};
-ghost use Rattle.controller.specs.Exports.{NamesSwitchAndVersion, record_after_reply};
+ghost use Rattle.controller.specs.Exports.{NamesWithinControllerMarks, controller_record_after_reply};
 
 use version_update::{Marks, Settled};
 
@@ -15,10 +15,10 @@ pub enum Reply {
 impl Reply {
     /// Records the reply of a switch in the marks.
     pub fn take_in(self, marks: &mut Marks, s: u32, boot: u32, version: u32) -> Settled
-        requires { NamesSwitchAndVersion s version marks.old }
+        requires { NamesWithinControllerMarks s version marks.old }
         ensures settled { Settles
-            (at_switch s (record_after_reply self boot version) marks.old) marks.new result }
-        ensures rule { MarksStaySettled marks.old marks.new }
+            (at_switch s (controller_record_after_reply self boot version) marks.old) marks.new result }
+        ensures rule { UpdateMarksStaySettled marks.old marks.new }
     {
         match self {
             Reply::Installed => marks.installed(s, boot, version),

@@ -2,8 +2,8 @@
 ghost use Rattle.std.specs.Prelude.{◌≡◌, ◌++◌, ◌+◌, ◌<◌, ◌≤◌, ◌&&◌, length, All, IsTrue, OnOk};
 ghost use Rattle.version_update.specs.Record.{is_member};
 ghost use Rattle.version_update.specs.Marks.{record_of};
-ghost use Rattle.controller.specs.Controller.{kept_touched};
-ghost use Rattle.controller.specs.Sends.{is_missing, missing_installs, stamp_again, resend_collects};
+ghost use Rattle.controller.specs.Controller.{kept_plan_touched};
+ghost use Rattle.controller.specs.Sends.{is_missing, controller_missing_installs, controller_stamp_again, controller_resend_collects};
 
 use crate::sends::Act;
 use crate::settling::touched_by;
@@ -28,7 +28,7 @@ pub fn install_missing(
     requires versions { All (λ kept. (1 ≤ kept.version) × (kept.version ≤ marks.now.count))
         versions.now }
     ensures { OnOk result (acts.new.items ≡ acts.old.items
-        ++ missing_installs (record { marks = marks.now; plans = versions.now }) s first) }
+        ++ controller_missing_installs (record { marks = marks.now; plans = versions.now }) s first) }
 {
     let boot = marks.boot(s);
     for kept in versions {
@@ -53,7 +53,7 @@ fn is_missing(marks: &Marks, version: u32, s: u32, first: u32) -> bool
 ///
 /// # Errors
 /// Only out of memory.
-pub fn stamp_again(
+pub fn controller_stamp_again(
     acts: &mut Vec<Act>,
     marks: &Marks,
     versions: &[Version],
@@ -62,7 +62,7 @@ pub fn stamp_again(
     requires switch { s < length marks.now.switches }
     requires member { IsTrue (is_member (record_of marks.now s).phase) }
     ensures { OnOk result (acts.new.items ≡ acts.old.items
-        ++ stamp_again (kept_touched versions.now marks.now.current) marks.now s) }
+        ++ controller_stamp_again (kept_plan_touched versions.now marks.now.current) marks.now s) }
 {
     let boot = marks.boot(s);
     let version = marks.current();
@@ -84,9 +84,13 @@ pub fn stamp_again(
 ///
 /// # Errors
 /// Only out of memory.
-pub fn resend_collects(acts: &mut Vec<Act>, marks: &Marks, s: u32) -> Result<(), AllocError>
+pub fn controller_resend_collects(
+    acts: &mut Vec<Act>,
+    marks: &Marks,
+    s: u32,
+) -> Result<(), AllocError>
     requires { s < length marks.now.switches }
-    ensures { OnOk result (acts.new.items ≡ acts.old.items ++ resend_collects marks.now s) }
+    ensures { OnOk result (acts.new.items ≡ acts.old.items ++ controller_resend_collects marks.now s) }
 {
     let boot = marks.boot(s);
     let version = marks.retired();

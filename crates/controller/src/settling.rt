@@ -3,7 +3,7 @@ ghost use Rattle.std.specs.Prelude.{◌≡◌, ◌==◌, ◌∷◌, ◌++◌, �
 ghost use Rattle.std.specs.Option.{option_copied};
 ghost use Rattle.version_update.specs.Marks.{MarksValue};
 ghost use Rattle.version_update.specs.Settling.{Settles};
-ghost use Rattle.controller.specs.Exports.{news_body_of, kept_touched, kept_plans_from, settling_acts, switches_in_mask, controller_posts_to};
+ghost use Rattle.controller.specs.Exports.{controller_news_body, kept_plan_touched, kept_plans_from, controller_settling_acts, controller_switches_in_mask, controller_posts_to};
 
 use crate::sends::{Act, Sends};
 use crate::version::Version;
@@ -24,7 +24,7 @@ pub enum News {
 
 impl News {
     fn body(&self, boot: u32, version: u32) -> Result<Body, AllocError>
-        ensures { IfOk result (λ body. body ≡ news_body_of self.now version boot) }
+        ensures { IfOk result (λ body. body ≡ controller_news_body self.now version boot) }
     {
         let body = match self {
             News::Stamp(touched) => Body::Stamp {
@@ -52,7 +52,7 @@ pub fn settle(
 ) -> Result<(), AllocError>
     ensures acts { OnOk result ((before : MarksValue) → Settles before marks.now settled.now
         → acts.new.items ≡ acts.old.items
-        ++ settling_acts (kept_touched versions.new.items marks.now.current) before marks.now) }
+        ++ controller_settling_acts (kept_plan_touched versions.new.items marks.now.current) before marks.now) }
     ensures versions { versions.new.items ≡ kept_plans_from marks.now.current versions.old.items }
 {
     drop_old_plans(versions, marks.current());
@@ -78,8 +78,8 @@ fn tell_current_version(
     current: u32,
 ) -> Result<(), AllocError>
     ensures { OnOk result (acts.new.items ≡ acts.old.items ++ Act.Current current ∷ []
-        ++ controller_posts_to marks.now (λ boot. Body.Stamp boot current (kept_touched versions.now current))
-        (switches_in_mask mask (length marks.now.switches))) }
+        ++ controller_posts_to marks.now (λ boot. Body.Stamp boot current (kept_plan_touched versions.now current))
+        (controller_switches_in_mask mask (length marks.now.switches))) }
 {
     acts.push(Act::Current(current))?;
     let news = News::Stamp(touched_by(*acts.allocator(), versions, current)?);
@@ -98,7 +98,7 @@ pub fn settled_sends(
 ) -> Result<Sends, AllocError>
     ensures sends { (before : MarksValue) → Settles before marks.now settled.now
         → IfOk result (λ sends. sends
-        ≡ settling_acts (kept_touched versions.new.items marks.now.current) before marks.now) }
+        ≡ controller_settling_acts (kept_plan_touched versions.new.items marks.now.current) before marks.now) }
     ensures versions { versions.new.items ≡ kept_plans_from marks.now.current versions.old.items }
 {
     let mut acts = Vec::new(alloc);
@@ -122,7 +122,7 @@ pub fn touched_by(
     versions: &[Version],
     version: u32,
 ) -> Result<Shared<Touched>, AllocError>
-    ensures { IfOk result (λ touched. touched ≡ kept_touched versions.now version) }
+    ensures { IfOk result (λ touched. touched ≡ kept_plan_touched versions.now version) }
 {
     match find_kept_version(versions, version) {
         Some(kept) => kept.touched(),
@@ -145,8 +145,8 @@ fn send_to_switches(
     version: u32,
 ) -> Result<(), AllocError>
     ensures { OnOk result (acts.new.items
-        ≡ acts.old.items ++ controller_posts_to marks.now (news_body_of news.now version)
-        (switches_in_mask mask (length marks.now.switches))) }
+        ≡ acts.old.items ++ controller_posts_to marks.now (controller_news_body news.now version)
+        (controller_switches_in_mask mask (length marks.now.switches))) }
 {
     for s in 0..marks.switches() {
         if has(mask, s) {

@@ -1,6 +1,6 @@
 ghost use Rattle.std.specs.Prelude.{◌≡◌, map, filter, nat_eq, IfOk};
 ghost use Rattle.std.specs.List.{list_any};
-ghost use Rattle.switch_table.specs.Tables.{AreSoundTables, has_target, part_of, tables_of};
+ghost use Rattle.switch_table.specs.Tables.{AreSoundSwitchTables, has_target, part_of, tables_of};
 
 use crate::plan::Plan;
 use policy_rules::{Partition, Targets};
@@ -15,7 +15,7 @@ use switch_table::{Partitions, Tables, tables_laws};
 /// Only out of memory.
 pub fn tables_of(alloc: Global, plan: &Plan, version: u32, s: u32) -> Result<Tables, AllocError>
     ensures tables { IfOk result (λ tables. tables ≡ tables_of plan.now.hosted version s) }
-    ensures sound { IfOk result AreSoundTables }
+    ensures sound { IfOk result AreSoundSwitchTables }
 {
     tables_laws();
     let own = parts_of(alloc, plan.hosted(), s)?;

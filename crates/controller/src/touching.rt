@@ -4,8 +4,8 @@ ghost use Rattle.std.specs.List.{flat_map};
 ghost use Rattle.std.specs.Option.{option_copied, option_map_or};
 ghost use Rattle.policy_rules.specs.Exports.{IsSoundRow};
 ghost use Rattle.policy_rules.specs.Words.{words_of_row};
-ghost use Rattle.switch_table.specs.Carried.{few_touched_words};
-ghost use Rattle.controller.specs.Exports.{ListsMoreTouched, touched_few};
+ghost use Rattle.switch_table.specs.Carried.{cache_few_touched};
+ghost use Rattle.controller.specs.Exports.{ControllerListsMoreTouched, touched_few};
 
 use policy_rules::{Amendment, Policy, Row, push_match_words};
 use std::alloc::{AllocError, Global};
@@ -32,7 +32,7 @@ pub fn touched(alloc: Global, policy: &Policy, change: &Amendment) -> Result<Tou
 
 // These words, or everything, if there are too many to send.
 fn touched_by_words(words: Vec<Word>) -> Touched
-    ensures { result ≡ few_touched_words words.items }
+    ensures { result ≡ cache_few_touched words.items }
 {
     match Touched::new(words) {
         Some(touched) => touched,
@@ -47,7 +47,7 @@ fn touch_removed_rows(
     removed: &[u32],
 ) -> Result<(), AllocError>
     requires { All IsSoundRow rows.now }
-    ensures { OnOk result (ListsMoreTouched words.old.items words.new.items (flat_map words_of_row
+    ensures { OnOk result (ControllerListsMoreTouched words.old.items words.new.items (flat_map words_of_row
         (filter_map (λ priority. find (λ row. row.priority == priority) rows.now) removed.now))) }
 {
     for priority in removed {
@@ -59,7 +59,7 @@ fn touch_removed_rows(
 // Adds the words of the rows, up to the most that may be sent.
 fn touch_added_rows(words: &mut Vec<Word>, rows: &[Row]) -> Result<(), AllocError>
     requires { All IsSoundRow rows.now }
-    ensures { OnOk result (ListsMoreTouched words.old.items words.new.items
+    ensures { OnOk result (ControllerListsMoreTouched words.old.items words.new.items
         (flat_map words_of_row rows.now)) }
 {
     for row in rows {
@@ -72,7 +72,7 @@ fn touch_added_rows(words: &mut Vec<Word>, rows: &[Row]) -> Result<(), AllocErro
 // it doesn't search for the row.
 fn touch_row_of(words: &mut Vec<Word>, rows: &[Row], priority: u32) -> Result<(), AllocError>
     requires { All IsSoundRow rows.now }
-    ensures { OnOk result (ListsMoreTouched words.old.items words.new.items
+    ensures { OnOk result (ControllerListsMoreTouched words.old.items words.new.items
         (option_map_or words_of_row (find (λ row. row.priority == priority) rows.now) [])) }
 {
     if words.len() > MAX_TOLD {
@@ -93,7 +93,7 @@ fn find_row(rows: &[Row], priority: u32) -> Option<&Row>
 // Adds the words of a row, unless there are already more than may be sent.
 fn touch_row(words: &mut Vec<Word>, row: &Row) -> Result<(), AllocError>
     requires { IsSoundRow row.now }
-    ensures { OnOk result (ListsMoreTouched words.old.items words.new.items (words_of_row row.now)) }
+    ensures { OnOk result (ControllerListsMoreTouched words.old.items words.new.items (words_of_row row.now)) }
 {
     if words.len() > MAX_TOLD {
         return Ok(());

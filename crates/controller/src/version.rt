@@ -1,7 +1,7 @@
 ghost use Rattle.std.specs.Prelude.{◌≡◌, IfOk, map};
 ghost use Rattle.std.specs.List.{range_with_len};
 ghost use Rattle.switch_table.specs.Tables.{tables_of};
-ghost use Rattle.controller.specs.Exports.{install_act};
+ghost use Rattle.controller.specs.Exports.{controller_install_act};
 
 use crate::plan::Plan;
 use crate::sends::Act;
@@ -93,7 +93,7 @@ impl Version {
     /// # Errors
     /// Only out of memory.
     pub fn install(&self, alloc: Global, s: u32, boot: u32) -> Result<Act, AllocError>
-        ensures { IfOk result (λ act. act ≡ install_act s boot self.now) }
+        ensures { IfOk result (λ act. act ≡ controller_install_act s boot self.now) }
     {
         let tables = self.tables(alloc, s)?;
         Ok(Act::post(s, Body::Install { boot, tables }))

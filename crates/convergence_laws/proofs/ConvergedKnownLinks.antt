@@ -1,17 +1,17 @@
 -- So of the links that end where it reaches, a switch knows exactly the usable ones.
 use Rattle.std.proofs.Common.{[], ◌&&◌, ◌++◌, ◌<◌, ◌==◌, ◌∙◌, ◌∷◌, ◌≡◌, ◌≢◌, ◌⊎◌, All, Bool, IsTrue, List, None, Some, ap, arith, false, get_or, get_or-set_other, get_or-set_same, inl, inr, length, map, not, refl, set, slice_index, subst, sym, true, ℕ, rules}
 use Rattle.base.proofs.Exports.{All-from_recursion, cases_eq, length-map, nat_tests}
-use Rattle.failover.specs.Exports.{AreJoinedByLinks, LinksLeadTo, has_link, is_link, named_links, neighbours_named}
-use Rattle.update_machine.specs.Exports.{Advert, Item, Setting, advert_known, adverts_known, adverts_of_others, is_up, links_known, near, own_advert, route_from, serves}
+use Rattle.failover.specs.Exports.{AreJoinedByLinks, LinksLeadTo, has_link, is_link, neighbours_by_adverts, neighbours_named}
+use Rattle.update_machine.specs.Exports.{Advert, Item, Setting, journal_advert_known, journal_adverts_known, journal_adverts_of_others, is_up, journal_links_known, near, own_advert, journal_route_from, serves}
 use Rattle.base.specs.Exports.{has}
 use Rattle.net_file.specs.Exports.{IsNet, are_linked}
 use Rattle.steps.specs.Exports.{HasSwitch}
-use Rattle.control_laws.specs.Exports.{OwnAreNewest}
+use Rattle.control_laws.specs.Exports.{OwnAdvertsAreNewest}
 use Rattle.control_laws.proofs.Exports.{claimed_mask, ends_serve, near_linked, own_origin, second}
-use Rattle.convergence_laws.specs.Exports.{AreUnusableLinks, HasConverged, IsAsNew, LeadsOverUsable, NeighboursAgree, Reaches}
+use Rattle.convergence_laws.specs.Exports.{AreUnusableLinks, HasConverged, IsAsNew, LeadsOverUsableNeighbours, NeighboursAgree, Reaches}
 use Rattle.convergence_laws.proofs.ConvergenceAgreement.{TellsOwn}
 use Rattle.convergence_laws.proofs.ConvergenceLinkChanges.{AreEnds, ends_there, near_back, near_both, own_held}
-use Rattle.policy_rules.proofs.CallerLemmas.{each_weaker}
+use Rattle.policy_rules.proofs.PolicyRulesCallerLemmas.{each_weaker}
 use Rattle.failover.proofs.RouteSearch.{length-known_links, straight_path}
 use Rattle.net_file.proofs.NetFileRowPlaces.{links}
 use Rattle.update_machine.proofs.Exports.{has_known_link, known_places, unreached}
@@ -24,12 +24,12 @@ use Rattle.update_machine.proofs.Exports.{has_known_link, known_places, unreache
 pub record AreAgreed (setting : Setting) (journal : List Item) : Type 0 where
   pub net : IsNet setting.net
   pub agree : NeighboursAgree setting journal
-  pub newest : OwnAreNewest setting journal
+  pub newest : OwnAdvertsAreNewest setting journal
   pub tells : TellsOwn setting journal
 
 abbrev pub HoldsOwn : Setting → List Item → ℕ → ℕ → Type 0
 HoldsOwn setting journal s origin = (s ≡ origin)
-    ⊎ (advert_known setting journal s origin ≡ Some (own_advert setting journal origin))
+    ⊎ (journal_advert_known setting journal s origin ≡ Some (own_advert setting journal origin))
 
 pub serving_up : (setting : Setting) (journal : List Item) → AreAgreed setting journal → (s : ℕ)
     → serves journal s ≡ true → IsTrue (is_up journal s)
@@ -38,7 +38,7 @@ serving_up setting journal are s serving = (are.tells.known.serving s).up servin
 -- of the own advert no other one is as new
 own_alone : (setting : Setting) (journal : List Item) → AreAgreed setting journal
     → (s origin : ℕ) (c : Advert) → origin < 64 → IsTrue (is_up journal origin)
-    → advert_known setting journal s origin ≡ Some c → IsAsNew c (own_advert setting journal origin)
+    → journal_advert_known setting journal s origin ≡ Some c → IsAsNew c (own_advert setting journal origin)
     → c ≡ own_advert setting journal origin
 unfolding own_advert
 own_alone setting journal are s origin c small up known as_new = search rules
@@ -59,9 +59,9 @@ edge_holds setting journal are at next origin small up linked holds = by_place (
     back = near_back setting journal at next are.net linked
 
     known : HoldsOwn setting journal next origin
-        → advert_known setting journal next origin ≡ Some own
+        → journal_advert_known setting journal next origin ≡ Some own
     known (inr held) = held
-    known (inl same) = ap (λ o. advert_known setting journal next o) (sym same)
+    known (inl same) = ap (λ o. journal_advert_known setting journal next o) (sym same)
         ∙ own_held setting journal next (omega (arith, ends.other, are.net.few_switches))
         (are.tells.tells next at back) ∙ ap (λ o. Some (own_advert setting journal o)) same
 
@@ -69,13 +69,13 @@ edge_holds setting journal are at next origin small up linked holds = by_place (
     by_place (inl same) = inl (sym same)
     by_place (inr apart) =
         let as_new = are.agree next at origin own back small (known holds) in
-        let held = ap (advert_known setting journal at) (sym (own_origin _ _ _)) ∙ as_new.held in
+        let held = ap (journal_advert_known setting journal at) (sym (own_origin _ _ _)) ∙ as_new.held in
         inr (held ∙ ap Some (own_alone _ _ are at origin as_new.advert small up held as_new.as_new))
 
 -- so does each switch from which links lead there
 pub leads_hold : (setting : Setting) (journal : List Item) → AreAgreed setting journal
     → (origin at : ℕ) (rest : List ℕ) → origin < 64 → IsTrue (is_up journal origin)
-    → LeadsOverUsable setting journal origin at rest → HoldsOwn setting journal at origin
+    → LeadsOverUsableNeighbours setting journal origin at rest → HoldsOwn setting journal at origin
 leads_hold setting journal are origin at [] small up leads = inl leads
 leads_hold setting journal are origin at (next ∷ rest) small up leads =
     search (rules, edge_holds, leads_hold setting journal are origin next rest small up leads.1)
@@ -87,7 +87,7 @@ pub record IsThere (setting : Setting) (journal : List Item) (s : ℕ) : Type 0 
 
 leads_there : (setting : Setting) (journal : List Item) → AreAgreed setting journal
     → (target at : ℕ) (rest : List ℕ) → IsThere setting journal at
-    → LeadsOverUsable setting journal target at rest → IsThere setting journal target
+    → LeadsOverUsableNeighbours setting journal target at rest → IsThere setting journal target
 leads_there setting journal are target at [] is leads = subst (IsThere setting journal) leads is
 leads_there setting journal are target at (next ∷ rest) is leads =
     leads_there setting journal are target next rest (record {
@@ -106,11 +106,11 @@ reached_holds setting journal are s origin is reaches =
 
 pub adverts_reach : (setting : Setting) (journal : List Item) → AreAgreed setting journal
     → (s origin : ℕ) → s ≢ origin → Reaches setting journal s origin
-    → advert_known setting journal s origin ≡ Some (own_advert setting journal origin)
+    → journal_advert_known setting journal s origin ≡ Some (own_advert setting journal origin)
 adverts_reach setting journal are s origin apart reaches = by_holds (reached_holds setting journal
     are s origin (begins reaches.rest reaches.leads) reaches)
   where
-    begins : (rest : List ℕ) → LeadsOverUsable setting journal origin s rest → IsThere setting journal s
+    begins : (rest : List ℕ) → LeadsOverUsableNeighbours setting journal origin s rest → IsThere setting journal s
     begins [] leads = absurd (apart leads)
     begins (next ∷ rest) leads = record {
       there = (ends_there setting journal s next are.net leads.0).one;
@@ -118,7 +118,7 @@ adverts_reach setting journal are s origin apart reaches = by_holds (reached_hol
     }
 
     by_holds : HoldsOwn setting journal s origin
-        → advert_known setting journal s origin ≡ Some (own_advert setting journal origin)
+        → journal_advert_known setting journal s origin ≡ Some (own_advert setting journal origin)
     by_holds (inl same) = absurd (apart same)
     by_holds (inr known) = known
 
@@ -128,19 +128,19 @@ adverts_reach setting journal are s origin apart reaches = by_holds (reached_hol
 
 mask_known : (setting : Setting) (journal : List Item) (s z : ℕ) → s < 64
     → HoldsOwn setting journal s z
-    → slice_index (named_links (adverts_known setting journal s) s (near setting journal s)) z
+    → slice_index (neighbours_by_adverts (journal_adverts_known setting journal s) s (near setting journal s)) z
     ≡ near setting journal z
-unfolding named_links own_advert
+unfolding neighbours_by_adverts own_advert
 mask_known setting journal s z small holds = by_place (cases_eq z s) holds where
   rows : List ℕ
-  rows = map neighbours_named (adverts_known setting journal s)
+  rows = map neighbours_named (journal_adverts_known setting journal s)
 
   within : s < length rows
   within = omega (
     arith,
     small,
     known_places setting journal s,
-    length-map (adverts_known setting journal s) neighbours_named,
+    length-map (journal_adverts_known setting journal s) neighbours_named,
   )
 
   by_place : (z ≡ s) ⊎ (z ≢ s) → HoldsOwn setting journal s z
@@ -148,7 +148,7 @@ mask_known setting journal s z small holds = by_place (cases_eq z s) holds where
   by_place (inl same) holds = cc (same, get_or-set_same rows s (near setting journal s) 0 within)
   by_place (inr apart) (inl same) = absurd (apart (sym same))
   by_place (inr apart) (inr known) = get_or-set_other rows s z (near setting journal s) 0 apart
-      ∙ claimed_mask (adverts_known setting journal s) z ∙ ap neighbours_named known
+      ∙ claimed_mask (journal_adverts_known setting journal s) z ∙ ap neighbours_named known
 
 -- ---- known links
 
@@ -159,8 +159,8 @@ reach_more setting journal from at next reaches linked = record {
   rest = reaches.rest ++ next ∷ [];
   leads = longer from reaches.rest reaches.leads;
 } where
-  longer : (start : ℕ) (rest : List ℕ) → LeadsOverUsable setting journal at start rest
-      → LeadsOverUsable setting journal next start (rest ++ next ∷ [])
+  longer : (start : ℕ) (rest : List ℕ) → LeadsOverUsableNeighbours setting journal at start rest
+      → LeadsOverUsableNeighbours setting journal next start (rest ++ next ∷ [])
   longer start [] leads = (rw leads linked, refl)
   longer start (step ∷ rest) leads = (leads.0, longer step rest leads.1)
 
@@ -170,11 +170,11 @@ four w x y z p q r t = rw (p, q, r, t) refl
 
 known_usable : (setting : Setting) (journal : List Item) → AreAgreed setting journal
     → (s one other : ℕ) (down : List ℕ) → IsThere setting journal s → Reaches setting journal s one
-    → one < 64 → other < 64 → AreJoinedByLinks (links_known setting journal s down) one other
+    → one < 64 → other < 64 → AreJoinedByLinks (journal_links_known setting journal s down) one other
     → IsTrue (has (near setting journal one) other)
 unfolding is_link
 known_usable setting journal are s one other down is reaches small fits joined =
-    let rows = named_links (adverts_known setting journal s) s (near setting journal s) in
+    let rows = neighbours_by_adverts (journal_adverts_known setting journal s) s (near setting journal s) in
     subst (λ mask. IsTrue (has mask other))
     (mask_known setting journal s one (small_of setting are.net s is.there)
     (reached_holds setting journal are s one is reaches))
@@ -183,10 +183,10 @@ known_usable setting journal are s one other down is reaches small fits joined =
 usable_known : (setting : Setting) (journal : List Item) → AreAgreed setting journal
     → (s one other : ℕ) (down : List ℕ) → IsThere setting journal s → Reaches setting journal s one
     → AreUnusableLinks setting journal down → IsTrue (has (near setting journal one) other)
-    → AreJoinedByLinks (links_known setting journal s down) one other
+    → AreJoinedByLinks (journal_links_known setting journal s down) one other
 unfolding is_link
 usable_known setting journal are s one other down is reaches unusable linked =
-    let rows : List ℕ = named_links (adverts_known setting journal s) s (near setting journal s) in
+    let rows : List ℕ = neighbours_by_adverts (journal_adverts_known setting journal s) s (near setting journal s) in
     let s_small : s < 64 = small_of setting are.net s is.there in
     let small : one < 64 =
     small_of setting are.net one (ends_there setting journal one other are.net linked).one in
@@ -214,7 +214,7 @@ usable_known setting journal are s one other down is reaches unusable linked =
 -- where links lead is a switch with a number below 64
 reached_small : (setting : Setting) (journal : List Item) → AreAgreed setting journal
     → (s target : ℕ) → HasSwitch setting.net s → (rest : List ℕ)
-    → LeadsOverUsable setting journal target s rest → target < 64
+    → LeadsOverUsableNeighbours setting journal target s rest → target < 64
 reached_small setting journal are s target there [] leads = omega (arith, small_of)
 reached_small setting journal are s target there (next ∷ rest) leads = reached_small setting journal
     are next target (ends_there setting journal s next are.net leads.0).other rest leads.1
@@ -224,8 +224,8 @@ reached_small setting journal are s target there (next ∷ rest) leads = reached
 leads_known : (setting : Setting) (journal : List Item) → AreAgreed setting journal
     → (s target : ℕ) (down : List ℕ) → IsThere setting journal s
     → AreUnusableLinks setting journal down → (at : ℕ) (rest : List ℕ) → Reaches setting journal s at
-    → LeadsOverUsable setting journal target at rest
-    → LinksLeadTo (links_known setting journal s down) target at rest
+    → LeadsOverUsableNeighbours setting journal target at rest
+    → LinksLeadTo (journal_links_known setting journal s down) target at rest
 leads_known setting journal are s target down is unusable at [] reaches leads = leads
 leads_known setting journal are s target down is unusable at (next ∷ rest) reaches leads = (
   small_of setting are.net next (ends_there setting journal at next are.net leads.0).other,
@@ -236,8 +236,8 @@ leads_known setting journal are s target down is unusable at (next ∷ rest) rea
 -- a walk over usable links is one over known links
 way_known : (setting : Setting) (journal : List Item) → AreAgreed setting journal
     → (s target : ℕ) (down : List ℕ) → AreUnusableLinks setting journal down → (rest : List ℕ)
-    → LeadsOverUsable setting journal target s rest
-    → LinksLeadTo (links_known setting journal s down) target s rest
+    → LeadsOverUsableNeighbours setting journal target s rest
+    → LinksLeadTo (journal_links_known setting journal s down) target s rest
 way_known setting journal are s target down unusable [] leads = leads
 way_known setting journal are s target down unusable (next ∷ rest) leads =
     leads_known setting journal are s target down (record {
@@ -247,13 +247,13 @@ way_known setting journal are s target down unusable (next ∷ rest) leads =
 
 stuck_apart : (setting : Setting) (journal : List Item) → AreAgreed setting journal
     → (s : ℕ) (targets down : List ℕ) → HasSwitch setting.net s
-    → AreUnusableLinks setting journal down → route_from setting journal s targets down ≡ None
+    → AreUnusableLinks setting journal down → journal_route_from setting journal s targets down ≡ None
     → All (λ target. Reaches setting journal s target → ⊥) targets
 stuck_apart setting journal are s targets down there unusable none =
     All-from_recursion (λ target. Reaches setting journal s target → ⊥) targets
     (each_weaker _ (λ target. Reaches setting journal s target → ⊥) (λ target unreached reaches.
-    unreached (straight_path (links_known setting journal s down) s target reaches.rest
-    (length-known_links (adverts_of_others setting journal s) s (near setting journal s) down)
+    unreached (straight_path (journal_links_known setting journal s down) s target reaches.rest
+    (length-known_links (journal_adverts_of_others setting journal s) s (near setting journal s) down)
     (small_of setting are.net s there) (way_known setting journal are s target down unusable
     reaches.rest reaches.leads))) targets (unreached setting journal s targets down none))
 

@@ -2,10 +2,10 @@
 use Rattle.std.proofs.Common.{[], ◌&&◌, ◌++◌, ◌<◌, ◌==◌, ◌||◌, ◌∙◌, ◌∷◌, ◌≡◌, ◌≤◌, ◌⊎◌, Bool, IsFalse, IsTrue, List, Some, ap, append-nil, append_assoc, arith, eq-eqb, eqb-true, false, inl, inr, refl, subst, sym, true, ℕ, rules}
 use Rattle.base.proofs.Exports.{list_any, nat_tests, ⊤}
 use Rattle.ctrl_msg.specs.Exports.{body_boot, to_controller}
-use Rattle.update_machine.specs.Exports.{AreMessagesReceived, Body, HaveCauses, IsQuiet, IsMessageReceived, IsMessageReplaced, Item, Message, Place, MessageReplaces, Sending, Setting, are_old_tables, begins_boot, receiver_boot_at, boot_of, changes_sendings, controller_heard, current_mark, folded_from, heard, is_for_boot, is_later_body, is_old_ack_in_journal, is_up, matters, sendings, speaking_in_body, to_switch, was_delivered}
+use Rattle.update_machine.specs.Exports.{AreJournalMessagesReceived, Body, JournalItemsHaveCauses, IsMachineQuiet, IsJournalMessageReceived, IsJournalMessageReplaced, Item, Message, Place, MachineMessageReplaces, Sending, Setting, are_old_tables, item_begins_boot, journal_receiver_boot_at, journal_boot_of, item_changes_sendings, controller_heard, journal_current_mark, folded_journal_from, heard, journal_body_for_boot, is_machine_later_body, is_old_ack_in_journal, is_up, matters, sendings, machine_speaking_in_body, machine_message_to_switch, was_delivered}
 use Rattle.steps.specs.Exports.{HasSwitch}
 use Rattle.update_machine.proofs.Exports.{count_of_append}
-use Rattle.control_laws.specs.Exports.{HasItemCause}
+use Rattle.control_laws.specs.Exports.{HasControlItemCause}
 use Rattle.control_laws.proofs.Exports.{boot_more, boot_rises, have_weaker}
 use Rattle.convergence_laws.proofs.ConvergencePlainItems.{IsIn, each_in, in_either, in_left, in_right}
 use Rattle.convergence_laws.proofs.ConvergenceMessages.{AreTraced, IsInOrder, IsSent, IsTraced, SwitchCourse, caused_traced, sendings_more, sent_by}
@@ -37,14 +37,14 @@ sendings_on journal (next ∷ items) x is = rw (append_assoc journal (next ∷ [
 -- what an item of a journal sends
 pub in_sendings : (journal front : List Item) (number : ℕ) (message : Message) (rest : List Item)
     → journal ≡ front ++ Item.Sent number message ∷ rest
-    → IsIn (record { number = number; message = message; boot = receiver_boot_at front message.to })
+    → IsIn (record { number = number; message = message; boot = journal_receiver_boot_at front message.to })
     (sendings journal)
 in_sendings journal front number message rest is =
     let next : Item = Item.Sent number message in
     let x : Sending = record {
       number = number;
       message = message;
-      boot = receiver_boot_at front message.to;
+      boot = journal_receiver_boot_at front message.to;
     } in
     subst (λ now. IsIn x (sendings now)) (append_assoc front (next ∷ []) rest ∙ sym is)
     (sendings_on (front ++ next ∷ []) rest x
@@ -56,9 +56,9 @@ record IsSentBehind (setting : Setting) (journal before items : List Item) (x : 
   between : List Item
   after : List Item
   is : items ≡ between ++ Item.Sent x.number x.message ∷ after
-  boot : x.boot ≡ receiver_boot_at (before ++ between) x.message.to
+  boot : x.boot ≡ journal_receiver_boot_at (before ++ between) x.message.to
   received : (s : ℕ) → HasSwitch setting.net s → IsTrue (matters journal s x.message after)
-      → IsMessageReceived x.number x.message after
+      → IsJournalMessageReceived x.number x.message after
 
 behind_one : (setting : Setting) (journal before : List Item) (next : Item) (items : List Item)
     (x : Sending) → IsSentBehind setting journal (before ++ next ∷ []) items x
@@ -66,8 +66,8 @@ behind_one : (setting : Setting) (journal before : List Item) (next : Item) (ite
 behind_one setting journal before next items x sent = search (rules, append_assoc)
 
 sent_behind : (setting : Setting) (journal before : List Item) (value : List Sending)
-    (items : List Item) (x : Sending) → AreMessagesReceived setting journal items
-    → IsIn x (folded_from changes_sendings before value items)
+    (items : List Item) (x : Sending) → AreJournalMessagesReceived setting journal items
+    → IsIn x (folded_journal_from item_changes_sendings before value items)
     → IsIn x value ⊎ IsSentBehind setting journal before items x
 sent_behind setting journal before value [] x received is = inl is
 sent_behind setting journal before value (Item.Sent number message ∷ items) x received is = elim
@@ -86,20 +86,20 @@ sent_behind setting journal before value (Item.Sent number message ∷ items) x 
     next = Item.Sent number message
 
     own : Sending
-    own = record { number = number; message = message; boot = receiver_boot_at before message.to }
+    own = record { number = number; message = message; boot = journal_receiver_boot_at before message.to }
 
     first : IsSentBehind setting journal before (next ∷ items) own
     first = record {
       between = [];
       after = items;
       is = refl;
-      boot = ap (λ js. receiver_boot_at js message.to) (sym (append-nil before));
+      boot = ap (λ js. journal_receiver_boot_at js message.to) (sym (append-nil before));
       received = received.0;
     }
 sent_behind setting journal before value (next ∷ items) x received is = search
     (rules, behind_one, sent_behind setting journal (before ++ next ∷ []) value items x received is)
 
-sent_at : (setting : Setting) (journal : List Item) (x : Sending) → AreMessagesReceived setting journal
+sent_at : (setting : Setting) (journal : List Item) (x : Sending) → AreJournalMessagesReceived setting journal
     journal → IsIn x (sendings journal) → IsSentBehind setting journal [] journal x
 unfolding sendings
 sent_at setting journal x received is = elim (sent_behind _ journal [] [] journal x received is) [
@@ -122,48 +122,48 @@ delivered_behind journal front after n is delivered = search (rules, delivered_a
 -- ---- boots
 
 have_split : (cause : List Item → Item → Type 0) (before xs ys : List Item)
-    → HaveCauses cause before (xs ++ ys)
-    → HaveCauses cause before xs × HaveCauses cause (before ++ xs) ys
+    → JournalItemsHaveCauses cause before (xs ++ ys)
+    → JournalItemsHaveCauses cause before xs × JournalItemsHaveCauses cause (before ++ xs) ys
 have_split cause before [] ys have = (tt, rw (append-nil before) have)
 have_split cause before (x ∷ xs) ys have =
     let rest = have_split cause (before ++ x ∷ []) xs ys have.1 in (
       (have.0, rest.0),
-      subst (λ js. HaveCauses cause js ys) (append_assoc before (x ∷ []) xs) rest.1,
+      subst (λ js. JournalItemsHaveCauses cause js ys) (append_assoc before (x ∷ []) xs) rest.1,
     )
 
 boots_rise : (setting : Setting) (before items : List Item) (s : ℕ)
-    → HaveCauses (HasItemCause setting) before items
-    → boot_of before s ≤ boot_of (before ++ items) s
-boots_rise setting before [] s have = omega (arith, ap (λ js. boot_of js s) (append-nil before))
+    → JournalItemsHaveCauses (HasControlItemCause setting) before items
+    → journal_boot_of before s ≤ journal_boot_of (before ++ items) s
+boots_rise setting before [] s have = omega (arith, ap (λ js. journal_boot_of js s) (append-nil before))
 boots_rise setting before (next ∷ items) s have = omega (
   arith,
   boot_rises setting before next s have.0,
   boots_rise setting (before ++ next ∷ []) items s have.1,
-  ap (λ js. boot_of js s) (append_assoc before (next ∷ []) items),
+  ap (λ js. journal_boot_of js s) (append_assoc before (next ∷ []) items),
 )
 
 boot_begun : (setting : Setting) (before : List Item) (next : Item) (s : ℕ)
-    → HasItemCause setting before next → begins_boot s next ≡ true
-    → boot_of before s < boot_of (before ++ next ∷ []) s
+    → HasControlItemCause setting before next → item_begins_boot s next ≡ true
+    → journal_boot_of before s < journal_boot_of (before ++ next ∷ []) s
 boot_begun setting before next s cause is = search (rules, eqb-true, boot_more)
 
 -- items behind which a switch is in the same boot begin none of it
 no_boot : (setting : Setting) (before items : List Item) (s : ℕ)
-    → HaveCauses (HasItemCause setting) before items
-    → boot_of (before ++ items) s ≡ boot_of before s → list_any (begins_boot s) items ≡ false
+    → JournalItemsHaveCauses (HasControlItemCause setting) before items
+    → journal_boot_of (before ++ items) s ≡ journal_boot_of before s → list_any (item_begins_boot s) items ≡ false
 no_boot setting before [] s have same = refl
 no_boot setting before (next ∷ items) s have same =
-    by_test (begins_boot s next) refl (no_boot setting (before ++ next ∷ []) items s have.1)
+    by_test (item_begins_boot s next) refl (no_boot setting (before ++ next ∷ []) items s have.1)
   where
-    on : boot_of ((before ++ next ∷ []) ++ items) s ≡ boot_of (before ++ next ∷ items) s
-    on = ap (λ js. boot_of js s) (append_assoc before (next ∷ []) items)
+    on : journal_boot_of ((before ++ next ∷ []) ++ items) s ≡ journal_boot_of (before ++ next ∷ items) s
+    on = ap (λ js. journal_boot_of js s) (append_assoc before (next ∷ []) items)
 
-    rises : boot_of (before ++ next ∷ []) s ≤ boot_of ((before ++ next ∷ []) ++ items) s
+    rises : journal_boot_of (before ++ next ∷ []) s ≤ journal_boot_of ((before ++ next ∷ []) ++ items) s
     rises = boots_rise setting (before ++ next ∷ []) items s have.1
 
-    by_test : (b : Bool) → begins_boot s next ≡ b
-        → (boot_of ((before ++ next ∷ []) ++ items) s ≡ boot_of (before ++ next ∷ []) s
-        → list_any (begins_boot s) items ≡ false) → (b || list_any (begins_boot s) items) ≡ false
+    by_test : (b : Bool) → item_begins_boot s next ≡ b
+        → (journal_boot_of ((before ++ next ∷ []) ++ items) s ≡ journal_boot_of (before ++ next ∷ []) s
+        → list_any (item_begins_boot s) items ≡ false) → (b || list_any (item_begins_boot s) items) ≡ false
     by_test true e rest = absurd (omega (arith, on, rises, same, boot_begun _ _ next s have.0 e))
     by_test false e rest = rest (omega (arith, on, rises, same, boot_rises _ before next s have.0))
 
@@ -175,7 +175,7 @@ record IsReplacedBy (message : Message) (after : List Item) : Type 0 where
   between : List Item
   behind : List Item
   is : after ≡ between ++ Item.Sent number later ∷ behind
-  replaces : MessageReplaces later message
+  replaces : MachineMessageReplaces later message
   delivered : IsTrue (was_delivered behind number)
 
 replaced_on : (message : Message) (next : Item) (after : List Item) → IsReplacedBy message after
@@ -190,7 +190,7 @@ replaced_on message next after found = record {
   delivered = found.delivered;
 }
 
-replaced_by : (message : Message) (after : List Item) → IsMessageReplaced message after
+replaced_by : (message : Message) (after : List Item) → IsJournalMessageReplaced message after
     → IsReplacedBy message after
 replaced_by message [] replaced = absurd replaced
 replaced_by message (Item.Sent number later ∷ after) replaced = elim replaced [
@@ -211,12 +211,12 @@ replaced_by message (next ∷ after) replaced = replaced_on _ next _ (replaced_b
 
 -- the boot is that of the receiver
 abbrev IsOwn : List Item → Place → ℕ → Type 0
-IsOwn journal (Place.Switch s) boot = boot ≡ boot_of journal s
+IsOwn journal (Place.Switch s) boot = boot ≡ journal_boot_of journal s
 IsOwn journal Place.Controller boot = ⊤
 
 -- these items begin no boot of the receiver
 abbrev IsSince : Place → List Item → Type 0
-IsSince (Place.Switch s) after = IsFalse (list_any (begins_boot s) after)
+IsSince (Place.Switch s) after = IsFalse (list_any (item_begins_boot s) after)
 IsSince Place.Controller after = ⊤
 
 -- a message that was delivered, and says the same or more to the same receiver in its boot
@@ -229,12 +229,12 @@ pub record IsGot (journal : List Item) (to : Place) (of : Body) : Type 0 where
     message = record { to = to; body = body };
     boot = boot;
   }) (sendings journal)
-  pub says : (body ≡ of) ⊎ IsTrue (is_later_body body of)
+  pub says : (body ≡ of) ⊎ IsTrue (is_machine_later_body body of)
   pub delivered : IsTrue (was_delivered journal number)
   pub own : IsOwn journal to boot
 
 pub got : (setting : Setting) (journal : List Item) (s number boot : ℕ) (to : Place) (body : Body)
-    → IsQuiet setting journal → HaveCauses (IsInOrder setting) [] journal → HasSwitch setting.net s
+    → IsMachineQuiet setting journal → JournalItemsHaveCauses (IsInOrder setting) [] journal → HasSwitch setting.net s
     → IsIn (record {
       number = number;
       message = record { to = to; body = body };
@@ -257,17 +257,17 @@ got setting journal s number boot to body quiet have there is own matter =
         (record { number = number; message = message; boot = boot })
     at = sent_at setting journal _ quiet.messages is
 
-    causes : HaveCauses (HasItemCause setting) [] (at.between ++ next ∷ at.after)
-    causes = subst (HaveCauses (HasItemCause setting) []) at.is (have_weaker (IsInOrder setting)
-        (HasItemCause setting) (λ before item both. both.first) [] journal have)
+    causes : JournalItemsHaveCauses (HasControlItemCause setting) [] (at.between ++ next ∷ at.after)
+    causes = subst (JournalItemsHaveCauses (HasControlItemCause setting) []) at.is (have_weaker (IsInOrder setting)
+        (HasControlItemCause setting) (λ before item both. both.first) [] journal have)
 
-    behind : HaveCauses (HasItemCause setting) at.between (next ∷ at.after)
-    behind = (have_split (HasItemCause setting) [] at.between (next ∷ at.after) causes).1
+    behind : JournalItemsHaveCauses (HasControlItemCause setting) at.between (next ∷ at.after)
+    behind = (have_split (HasControlItemCause setting) [] at.between (next ∷ at.after) causes).1
 
-    whole : (t : ℕ) → boot_of ((at.between ++ next ∷ []) ++ at.after) t ≡ boot_of journal t
-    whole t = ap (λ js. boot_of js t) (append_assoc at.between (next ∷ []) at.after ∙ sym at.is)
+    whole : (t : ℕ) → journal_boot_of ((at.between ++ next ∷ []) ++ at.after) t ≡ journal_boot_of journal t
+    whole t = ap (λ js. journal_boot_of js t) (append_assoc at.between (next ∷ []) at.after ∙ sym at.is)
 
-    since : (of : Place) → boot ≡ receiver_boot_at at.between of → IsOwn journal of boot
+    since : (of : Place) → boot ≡ journal_receiver_boot_at at.between of → IsOwn journal of boot
         → IsSince of at.after
     since (Place.Switch t) before own = no_boot setting (at.between ++ next ∷ []) at.after t
         behind.1 (omega (arith, whole t, boot_more at.between next t, before, own))
@@ -276,12 +276,12 @@ got setting journal s number boot to body quiet have there is own matter =
     by_replaced : IsReplacedBy message at.after → IsGot journal to body
     by_replaced found = record {
       number = found.number;
-      boot = receiver_boot_at front to;
+      boot = journal_receiver_boot_at front to;
       body = found.later.body;
       is = subst (λ of. IsIn (record {
         number = found.number;
         message = record { to = of; body = found.later.body };
-        boot = receiver_boot_at front of;
+        boot = journal_receiver_boot_at front of;
       }) (sendings journal)) found.replaces.receiver
           (in_sendings journal front found.number found.later found.behind split);
       says = found.replaces.says;
@@ -299,23 +299,23 @@ got setting journal s number boot to body quiet have there is own matter =
       split = at.is ∙ ap (λ xs. at.between ++ next ∷ xs) found.is
           ∙ sym (append_assoc at.between (next ∷ found.between) (later ∷ found.behind))
 
-      parts : HaveCauses (HasItemCause setting) at.between (next ∷ found.between)
-          × HaveCauses (HasItemCause setting) front (later ∷ found.behind)
+      parts : JournalItemsHaveCauses (HasControlItemCause setting) at.between (next ∷ found.between)
+          × JournalItemsHaveCauses (HasControlItemCause setting) front (later ∷ found.behind)
       parts = have_split _ at.between _ (later ∷ found.behind) (rw found.is at behind)
 
-      still : (of : Place) → boot ≡ receiver_boot_at at.between of → IsOwn journal of boot
-          → IsOwn journal of (receiver_boot_at front of)
+      still : (of : Place) → boot ≡ journal_receiver_boot_at at.between of → IsOwn journal of boot
+          → IsOwn journal of (journal_receiver_boot_at front of)
       still (Place.Switch t) before own = omega (
         arith,
         before,
         own,
         boots_rise setting at.between (next ∷ found.between) t parts.0,
         boots_rise setting front (later ∷ found.behind) t parts.1,
-        ap (λ js. boot_of js t) split,
+        ap (λ js. journal_boot_of js t) split,
       )
       still Place.Controller before own = tt
 
-    by_received : IsMessageReceived number message at.after → IsGot journal to body
+    by_received : IsJournalMessageReceived number message at.after → IsGot journal to body
     by_received (inl delivered) = record {
       number = number;
       boot = boot;
@@ -331,11 +331,11 @@ got setting journal s number boot to body quiet have there is own matter =
 -- ---- at a switch
 
 -- what replaces a body of a boot is of that boot
-pub later_boot : (body of : Body) (boot : ℕ) → IsTrue (is_later_body body of)
+pub later_boot : (body of : Body) (boot : ℕ) → IsTrue (is_machine_later_body body of)
     → body_boot of ≡ Some boot → body_boot body ≡ Some boot
 later_boot body of boot later is = search (rules, nat_tests)
 
-pub says_boot : (body of : Body) (boot : ℕ) → (body ≡ of) ⊎ IsTrue (is_later_body body of)
+pub says_boot : (body of : Body) (boot : ℕ) → (body ≡ of) ⊎ IsTrue (is_machine_later_body body of)
     → body_boot of ≡ Some boot → body_boot body ≡ Some boot
 says_boot body of boot h3 is = search (rules, later_boot)
 
@@ -343,51 +343,51 @@ says_boot body of boot h3 is = search (rules, later_boot)
 pub record WasHeard (bodies : List Body) (of : Body) : Type 0 where
   pub body : Body
   pub is : IsIn body bodies
-  pub says : (body ≡ of) ⊎ IsTrue (is_later_body body of)
+  pub says : (body ≡ of) ⊎ IsTrue (is_machine_later_body body of)
 
 -- a message to a switch that carries its boot was sent in that boot
 pub own_boot : (journal : List Item) (s boot : ℕ) (x : Sending) → SwitchCourse journal s x
-    → body_boot x.message.body ≡ Some boot → boot ≡ boot_of journal s → x.boot ≡ boot
+    → body_boot x.message.body ≡ Some boot → boot ≡ journal_boot_of journal s → x.boot ≡ boot
 own_boot journal s boot x course of own = omega (arith, rw of at course.past, own, course.own)
 
 pub heard_in_boot : (journal : List Item) (s number boot : ℕ) (body : Body) → AreTraced journal
-    → IsIn (record { number = number; message = to_switch s body; boot = boot }) (sendings journal)
-    → IsTrue (is_up journal s) → boot ≡ boot_of journal s → IsTrue (is_for_boot boot body)
+    → IsIn (record { number = number; message = machine_message_to_switch s body; boot = boot }) (sendings journal)
+    → IsTrue (is_up journal s) → boot ≡ journal_boot_of journal s → IsTrue (journal_body_for_boot boot body)
     → IsTrue (was_delivered journal number) → IsIn body (heard journal s)
 heard_in_boot journal s number boot body traced is up own for delivered =
-    let x : Sending = record { number = number; message = to_switch s body; boot = boot } in
+    let x : Sending = record { number = number; message = machine_message_to_switch s body; boot = boot } in
     (each_in (IsTraced journal) x (sendings journal) traced.each is).course.heard up own for
     delivered
 
 pub heard_of : (setting : Setting) (journal : List Item) (s : ℕ) (body : Body)
-    → IsQuiet setting journal → HaveCauses (IsInOrder setting) [] journal
-    → HasSwitch setting.net s → IsSent journal (to_switch s body)
-    → IsTrue (is_up journal s) → body_boot body ≡ Some (boot_of journal s)
-    → IsFalse (are_old_tables (current_mark journal) body) → WasHeard (heard journal s) body
+    → IsMachineQuiet setting journal → JournalItemsHaveCauses (IsInOrder setting) [] journal
+    → HasSwitch setting.net s → IsSent journal (machine_message_to_switch s body)
+    → IsTrue (is_up journal s) → body_boot body ≡ Some (journal_boot_of journal s)
+    → IsFalse (are_old_tables (journal_current_mark journal) body) → WasHeard (heard journal s) body
 heard_of setting journal s body quiet causes there sent up of new =
     record { body = later.body; is = heard_later; says = later.says }
   where
     own : ℕ
-    own = boot_of journal s
+    own = journal_boot_of journal s
 
     traced : AreTraced journal
     traced = caused_traced setting journal causes
 
-    its : IsSentAs journal (to_switch s body)
-    its = sent_as journal (to_switch s body) sent
+    its : IsSentAs journal (machine_message_to_switch s body)
+    its = sent_as journal (machine_message_to_switch s body) sent
 
     x : Sending
-    x = record { number = its.number; message = to_switch s body; boot = its.boot }
+    x = record { number = its.number; message = machine_message_to_switch s body; boot = its.boot }
 
     boot : its.boot ≡ own
     boot = own_boot journal s own x (each_in _ x _ traced.each its.is).course of refl
 
-    matter : (after : List Item) → IsFalse (list_any (begins_boot s) after)
-        → IsTrue (matters journal s (to_switch s body) after)
+    matter : (after : List Item) → IsFalse (list_any (item_begins_boot s) after)
+        → IsTrue (matters journal s (machine_message_to_switch s body) after)
     matter after since =
-        let none : list_any (begins_boot s) after ≡ false = since in
+        let none : list_any (item_begins_boot s) after ≡ false = since in
         let mine : (own == own) ≡ true = eq-eqb own own refl in
-        let fresh : are_old_tables (current_mark journal) body ≡ false = new in
+        let fresh : are_old_tables (journal_current_mark journal) body ≡ false = new in
         rw (up, eq-eqb s s refl, none, of, mine, fresh) (by_advert _)
       where
         by_advert : (b : Bool) → ((b || true) && true) ≡ true
@@ -405,17 +405,17 @@ heard_of setting journal s body quiet causes there sent up of new =
 -- ---- at the controller
 
 pub told_of : (setting : Setting) (journal : List Item) (s : ℕ) (body : Body)
-    → IsQuiet setting journal → HaveCauses (IsInOrder setting) [] journal → HasSwitch setting.net s
+    → IsMachineQuiet setting journal → JournalItemsHaveCauses (IsInOrder setting) [] journal → HasSwitch setting.net s
     → IsSent journal (to_controller body) → IsTrue (is_up journal s)
-    → speaking_in_body body ≡ Some (s, boot_of journal s)
-    → IsFalse (is_old_ack_in_journal (current_mark journal) body) → WasHeard (controller_heard journal) body
+    → machine_speaking_in_body body ≡ Some (s, journal_boot_of journal s)
+    → IsFalse (is_old_ack_in_journal (journal_current_mark journal) body) → WasHeard (controller_heard journal) body
 told_of setting journal s body quiet causes there sent up speaks new = record {
   body = later.body;
   is = (each_in _ y _ (caused_traced setting journal causes).each later.is).course later.delivered;
   says = later.says;
 } where
   own : ℕ
-  own = boot_of journal s
+  own = journal_boot_of journal s
 
   its : IsSentAs journal (to_controller body)
   its = sent_as journal (to_controller body) sent
@@ -423,7 +423,7 @@ told_of setting journal s body quiet causes there sent up speaks new = record {
   matter : (after : List Item) → IsTrue (matters journal s (to_controller body) after)
   matter after =
       let mine : (own == own) ≡ true = eq-eqb own own refl in
-      let fresh : is_old_ack_in_journal (current_mark journal) body ≡ false = new in
+      let fresh : is_old_ack_in_journal (journal_current_mark journal) body ≡ false = new in
       rw (up, speaks, eq-eqb s s refl, mine, fresh) refl
 
   later : IsGot journal Place.Controller body

@@ -2,7 +2,7 @@
 use Rattle.std.proofs.Common.{[], ◌++◌, ◌<◌, ◌^◌, ◌||◌, ◌∙◌, ◌∷◌, ◌≡◌, ◌≢◌, ◌≤◌, ◌⊎◌, All, Bool, IsFalse, IsTrue, List, ap, arith, bit_or, false, get_or, get_or-set_other, get_or-set_same, inl, inr, length, length-set, max, min, refl, set, subst, sym, true, ℕ, rules}
 use Rattle.base.proofs.Exports.{⊤, cases_eq, cases_lt, get_or_past, has-or, has-pow_other, has-zero}
 use Rattle.base.specs.Exports.{has}
-use Rattle.update_machine.specs.Exports.{Cause, Exit, HaveCauses, Header, Hop, Item, Leg, LinksKeep, Packet, Seek, Setting, Step, adverts_known, boot_of, changes_found, concerns_links, concerns_policies, found_down, heard, hop_items, is_up, near, packet_items, piece, plan_at, route_from, step_items, targets_in, targets_of}
+use Rattle.update_machine.specs.Exports.{Cause, Exit, JournalItemsHaveCauses, Header, Hop, Item, Leg, MachineLinksKeep, Packet, Seek, Setting, Step, journal_adverts_known, journal_boot_of, item_changes_found, concerns_links, item_concerns_policies, journal_found_down, heard, machine_hop_items, is_up, near, packet_items, piece, journal_plan_at, journal_route_from, step_items, setting_targets_in, targets_of}
 use Rattle.control_laws.proofs.Exports.{AreKept, IsWork, KnowsNoRoute, boot_more, fact_on, have_front, have_rest, have_weaker, heard_more, hop_work, packet_works, up_more}
 use Rattle.failover.specs.Exports.{has_link, no_links, with_link}
 use Rattle.failover.proofs.FailoverLinkSets.{has_link-none}
@@ -29,7 +29,7 @@ Walks setting before (Item.Submitted file version) = ⊥
 Walks setting before _ = ⊤
 
 abbrev pub Walk : Setting → List Item → List Item → Type 0
-Walk setting journal items = HaveCauses (Walks setting) journal items
+Walk setting journal items = JournalItemsHaveCauses (Walks setting) journal items
 
 work_walks : (setting : Setting) (before : List Item) (next : Item) → IsWork setting before next
     → Walks setting before next
@@ -40,7 +40,7 @@ pub packet_walk : (setting : Setting) (i s : ℕ) (header : Header) (journal : L
 packet_walk setting i s header journal = packet_works _ _ (work_walks setting) i s header journal tt
 
 pub hop_walk : (setting : Setting) (i : ℕ) (journal : List Item)
-    → Walk setting journal (hop_items setting i journal)
+    → Walk setting journal (machine_hop_items setting i journal)
 hop_walk setting i journal = have_weaker _ _ (work_walks setting) _ _ (hop_work setting i journal)
 
 -- ---- converged stuck packets
@@ -52,7 +52,7 @@ IsNoEnd before (Item.Stuck i s cause leg down) = ⊥
 IsNoEnd before _ = ⊤
 
 abbrev NoEnd : List Item → List Item → Type 0
-NoEnd journal items = HaveCauses IsNoEnd journal items
+NoEnd journal items = JournalItemsHaveCauses IsNoEnd journal items
 
 ends_none : HasOthers IsNoEnd
 ends_none = search rules
@@ -110,14 +110,14 @@ unusable_more setting journal net down x y unusable none a b linked =
 pub record StaysSo (setting : Setting) (journal now : List Item) (i : ℕ) : Type 0 where
   pub links : (s : ℕ) → near setting now s ≡ near setting journal s
   pub routes : (s : ℕ) (targets down : List ℕ)
-      → route_from setting now s targets down ≡ route_from setting journal s targets down
+      → journal_route_from setting now s targets down ≡ journal_route_from setting journal s targets down
   pub targets : (leg : Leg) → targets_of setting now leg ≡ targets_of setting journal leg
-  pub found : AreUnusableLinks setting journal (found_down now i)
+  pub found : AreUnusableLinks setting journal (journal_found_down now i)
 
 -- the switch is up in its boot as before, and heard what it had heard
 record IsSame (before after : List Item) (s : ℕ) : Type 0 where
   up : is_up after s ≡ is_up before s
-  boot : boot_of after s ≡ boot_of before s
+  boot : journal_boot_of after s ≡ journal_boot_of before s
   heard : heard after s ≡ heard before s
 
 walks_same : (setting : Setting) (before : List Item) (next : Item) (s : ℕ)
@@ -126,9 +126,9 @@ walks_same setting before next s walks = search (rules, up_more, boot_more, hear
 
 -- so it knows the same routes where no links change
 same_route : (setting : Setting) (before after : List Item) (s : ℕ) → IsSame before after s
-    → LinksKeep setting before after → (targets down : List ℕ)
-    → route_from setting after s targets down ≡ route_from setting before s targets down
-unfolding route_from adverts_known
+    → MachineLinksKeep setting before after → (targets down : List ℕ)
+    → journal_route_from setting after s targets down ≡ journal_route_from setting before s targets down
+unfolding journal_route_from journal_adverts_known
 same_route setting before after s same links targets down = search rules
 
 walks_links : (setting : Setting) (before : List Item) (next : Item)
@@ -136,18 +136,18 @@ walks_links : (setting : Setting) (before : List Item) (next : Item)
 walks_links setting before next walks = search rules
 
 walks_policies : (setting : Setting) (before : List Item) (next : Item)
-    → Walks setting before next → IsFalse (concerns_policies before next)
+    → Walks setting before next → IsFalse (item_concerns_policies before next)
 walks_policies setting before next walks = search rules
 
 found_more : (before : List Item) (next : Item) (i : ℕ)
-    → found_down (before ++ next ∷ []) i ≡ changes_found i before (found_down before i) next
-unfolding found_down
-found_more before next i = folded_append (changes_found i) no_links before (next ∷ [])
+    → journal_found_down (before ++ next ∷ []) i ≡ item_changes_found i before (journal_found_down before i) next
+unfolding journal_found_down
+found_more before next i = folded_append (item_changes_found i) no_links before (next ∷ [])
 
 found_on : (setting : Setting) (journal : List Item) → IsNet setting.net
     → (before : List Item) (next : Item) (i : ℕ) → Walks setting before next
     → StaysSo setting journal before i
-    → AreUnusableLinks setting journal (found_down (before ++ next ∷ []) i)
+    → AreUnusableLinks setting journal (journal_found_down (before ++ next ∷ []) i)
 found_on setting journal net before next i walks stays = search (rules, found_more, unusable_more)
 
 pub stays_on : (setting : Setting) (journal : List Item) → IsNet setting.net → (i : ℕ)
@@ -164,13 +164,13 @@ stays_on setting journal net i before next walks stays =
     }
   where
     by_leg : (leg : Leg)
-        → ((v : ℕ) → plan_at setting (before ++ next ∷ []) v ≡ plan_at setting before v)
+        → ((v : ℕ) → journal_plan_at setting (before ++ next ∷ []) v ≡ journal_plan_at setting before v)
         → targets_of setting (before ++ next ∷ []) leg ≡ targets_of setting before leg
-    by_leg (Seek version partition) same = ap (λ plan. targets_in plan partition) (same version)
+    by_leg (Seek version partition) same = ap (λ plan. setting_targets_in plan partition) (same version)
     by_leg (Exit port) same = refl
 
 pub stays_itself : (setting : Setting) (journal : List Item) (i : ℕ)
-    → found_down journal i ≡ no_links → StaysSo setting journal journal i
+    → journal_found_down journal i ≡ no_links → StaysSo setting journal journal i
 stays_itself setting journal i none = record {
   links = λ t. refl;
   routes = λ t targets found. refl;
@@ -183,7 +183,7 @@ stays_itself setting journal i none = record {
 walk_apart : (setting : Setting) (journal : List Item) → AreAgreed setting journal
     → (items front rest : List Item) (i s : ℕ) (cause : Cause) (leg : Leg) (down : List ℕ)
     → Walk setting journal items → items ≡ front ++ Item.Stuck i s cause leg down ∷ rest
-    → found_down journal i ≡ no_links → HasSwitch setting.net s
+    → journal_found_down journal i ≡ no_links → HasSwitch setting.net s
     → All (λ target. Reaches setting journal s target → ⊥) (targets_of setting journal leg)
 walk_apart setting journal are items front rest i s cause leg down walk is none there =
     let whole = subst (Walk setting journal) is walk in
@@ -194,7 +194,7 @@ walk_apart setting journal are items front rest i s cause leg down walk is none 
     (agreed_converged setting journal are).stuck s (targets_of setting journal leg) down there
     (subst (AreUnusableLinks setting journal) (sym knows.found) stays.found)
     (sym (stays.routes s (targets_of setting journal leg) down)
-    ∙ ap (λ targets. route_from setting (journal ++ front) s targets down) (sym (stays.targets leg))
+    ∙ ap (λ targets. journal_route_from setting (journal ++ front) s targets down) (sym (stays.targets leg))
     ∙ knows.none)
 
 end_apart : (setting : Setting) (journal items front rest : List Item) (i s : ℕ) (cause : Cause)

@@ -2,7 +2,7 @@
 -- that were sent to them in their present boot, with no number below a bound.
 use Rattle.std.proofs.Common.{[], if◌then◌else◌, ◌++◌, ◌+◌, ◌<◌, ◌==◌, ◌∙◌, ◌∷◌, ◌≡◌, ◌≢◌, ◌≤◌, ◌⊎◌, Bool, IsTrue, List, None, Option, Some, ap, append-nil, append_assoc, arith, false, inl, inr, refl, subst, sym, true, ℕ, rules}
 use Rattle.base.proofs.Exports.{nat_tests, option_map_or, ⊤}
-use Rattle.update_machine.specs.Exports.{Advert, Advertise, Body, HaveCauses, Item, LinksKeep, Message, Setting, advert_to, adverts_begun, adverts_heard, body_to_switch, receiver_boot_at, boot_of, heard, is_up, near, next_message, other_advert, own_advert, send_items, sendings, sent_from}
+use Rattle.update_machine.specs.Exports.{Advert, Advertise, Body, JournalItemsHaveCauses, Item, MachineLinksKeep, Message, Setting, advert_to, journal_adverts_begun, journal_adverts_heard, journal_body_to_switch, journal_receiver_boot_at, journal_boot_of, heard, is_up, near, journal_next_message, journal_other_advert, own_advert, send_items, sendings, machine_sent_items_from}
 use Rattle.failover.specs.Exports.{held_advert, is_newer}
 use Rattle.failover.proofs.FailoverNewestAdvert.{not_newer}
 use Rattle.base.specs.Exports.{has}
@@ -27,8 +27,8 @@ as_new_through c b a later first = search (rules, new_through)
 
 abbrev pub IsGiven : Setting → List Item → ℕ → Advert → Type 0
 IsGiven setting journal s advert =
-    (held_advert (adverts_begun setting journal s) advert.origin ≡ Some advert)
-    ⊎ IsIn advert (adverts_heard journal s)
+    (held_advert (journal_adverts_begun setting journal s) advert.origin ≡ Some advert)
+    ⊎ IsIn advert (journal_adverts_heard journal s)
 
 pub record IsToldTo (since : ℕ) (journal : List Item) (s : ℕ) (advert : Advert) : Type 0 where
   pub number : ℕ
@@ -36,7 +36,7 @@ pub record IsToldTo (since : ℕ) (journal : List Item) (s : ℕ) (advert : Adve
   pub is : IsIn (record {
     number = number;
     message = advert_to s advert;
-    boot = boot_of journal s;
+    boot = journal_boot_of journal s;
   }) (sendings journal)
 
 pub record HasNews (setting : Setting) (since : ℕ) (journal : List Item) (s : ℕ) (than : Advert)
@@ -67,21 +67,21 @@ pub record HaveNews (setting : Setting) (since : ℕ) (Owed : ℕ → ℕ → Ad
 -- ---- what is kept
 
 pub begun_same : (setting : Setting) (before after : List Item) (s : ℕ)
-    → is_up after s ≡ is_up before s → boot_of after s ≡ boot_of before s
-    → adverts_begun setting after s ≡ adverts_begun setting before s
+    → is_up after s ≡ is_up before s → journal_boot_of after s ≡ journal_boot_of before s
+    → journal_adverts_begun setting after s ≡ journal_adverts_begun setting before s
 begun_same setting before after s up boot = rw (up, boot) refl
 
 pub given_grows : (setting : Setting) (before after : List Item) (s : ℕ) (advert : Advert)
-    → is_up after s ≡ is_up before s → boot_of after s ≡ boot_of before s
+    → is_up after s ≡ is_up before s → journal_boot_of after s ≡ journal_boot_of before s
     → ((body : Body) → IsIn body (heard before s) → IsIn body (heard after s))
     → IsGiven setting before s advert → IsGiven setting after s advert
 given_grows setting before after s advert up boot grows (inl begun) = search (rules, begun_same)
 given_grows setting before after s advert up boot grows (inr told) =
-    let found = of_filter_map (other_advert s) advert (heard before s) told in
+    let found = of_filter_map (journal_other_advert s) advert (heard before s) told in
     inr (in_filter_map _ found.0 advert (heard after s) (grows found.0 found.1) found.2)
 
 pub told_on : {since : ℕ} (before : List Item) (next : Item) (s : ℕ) (advert : Advert)
-    → boot_of (before ++ next ∷ []) s ≡ boot_of before s
+    → journal_boot_of (before ++ next ∷ []) s ≡ journal_boot_of before s
     → IsToldTo since before s advert → IsToldTo since (before ++ next ∷ []) s advert
 told_on before next s advert boot told = record {
   number = told.number;
@@ -96,7 +96,7 @@ told_on before next s advert boot told = record {
 
 pub news_on : {since : ℕ} (setting : Setting) (before : List Item) (next : Item) (s : ℕ) (than : Advert)
     → is_up (before ++ next ∷ []) s ≡ is_up before s
-    → boot_of (before ++ next ∷ []) s ≡ boot_of before s
+    → journal_boot_of (before ++ next ∷ []) s ≡ journal_boot_of before s
     → ((body : Body) → IsIn body (heard before s) → IsIn body (heard (before ++ next ∷ []) s))
     → HasNews setting since before s than → HasNews setting since (before ++ next ∷ []) s than
 news_on {since = since} setting before next s than up boot grows has = record {
@@ -123,7 +123,7 @@ IsStill before _ = ⊤
 -- what such items leave
 pub record Leaves (setting : Setting) (before after : List Item) : Type 0 where
   pub up : (s : ℕ) → is_up after s ≡ is_up before s
-  pub boot : (s : ℕ) → boot_of after s ≡ boot_of before s
+  pub boot : (s : ℕ) → journal_boot_of after s ≡ journal_boot_of before s
   pub bodies : (s : ℕ) → heard after s ≡ heard before s
   pub links : (s : ℕ) → near setting after s ≡ near setting before s
   pub advert : (s : ℕ) → own_advert setting after s ≡ own_advert setting before s
@@ -145,7 +145,7 @@ still_leaves setting before next still =
     }
 
 pub stills_leave : (setting : Setting) (journal items : List Item)
-    → HaveCauses IsStill journal items → Leaves setting journal (journal ++ items)
+    → JournalItemsHaveCauses IsStill journal items → Leaves setting journal (journal ++ items)
 stills_leave setting journal items still = fact_on IsStill (Leaves setting journal)
     (λ now next is so_far. let leaves = still_leaves setting now next is in
     record {
@@ -180,13 +180,13 @@ still_news setting Owed before next still have =
     }
 
 pub stills_news : {since : ℕ} (setting : Setting) (Owed : ℕ → ℕ → Advert → Type 0)
-    (journal items : List Item) → HaveCauses IsStill journal items
+    (journal items : List Item) → JournalItemsHaveCauses IsStill journal items
     → HaveNews setting since Owed journal → HaveNews setting since Owed (journal ++ items)
 stills_news {since = since} _ Owed _ _ still have = fact_on _ _ (still_news _ Owed) _ _ still have
 
 -- what was told stays told
 pub told_stills : {since : ℕ} (setting : Setting) (journal items : List Item) (s : ℕ)
-    (advert : Advert) → HaveCauses IsStill journal items → IsToldTo since journal s advert
+    (advert : Advert) → JournalItemsHaveCauses IsStill journal items → IsToldTo since journal s advert
     → IsToldTo since (journal ++ items) s advert
 told_stills {since = since} setting journal items s advert still told = fact_on IsStill
     (λ now. IsToldTo since now s advert) (λ now next is so_far. told_on now next s advert
@@ -196,7 +196,7 @@ told_stills {since = since} setting journal items s advert still told = fact_on 
 
 -- an advert of another switch that is delivered to this one
 pub record IsDelivered (here : List Item) (number s : ℕ) (advert : Advert) : Type 0 where
-  pub said : body_to_switch here s number ≡ Some (Advertise advert)
+  pub said : journal_body_to_switch here s number ≡ Some (Advertise advert)
   pub other : advert.origin ≢ s
   pub small : advert.origin < 64
 
@@ -214,7 +214,7 @@ delivered_news {since = since} setting here number have = record {
   now : List Item
   now = here ++ next ∷ []
 
-  keeps : LinksKeep setting here now
+  keeps : MachineLinksKeep setting here now
   keeps = links_keep setting here (next ∷ []) (refl, tt)
 
   old : (s neighbour : ℕ) (advert : Advert) → IsTrue (has (near setting here s) neighbour)
@@ -226,7 +226,7 @@ delivered_news {since = since} setting here number have = record {
         (boot_more here next neighbour) (delivered_grows here number neighbour) has)
   ]
 
-  of_advert : (s : ℕ) (body : Body) (advert : Advert) → other_advert s body ≡ Some advert
+  of_advert : (s : ℕ) (body : Body) (advert : Advert) → journal_other_advert s body ≡ Some advert
       → body ≡ Advertise advert
   of_advert s (Advertise told) advert is = by_test (told.origin == s) is where
     by_test : (b : Bool) → (if b then None else Some told) ≡ Some advert
@@ -237,21 +237,21 @@ delivered_news {since = since} setting here number have = record {
 
   by_said : (s neighbour : ℕ) (advert : Advert) → IsTrue (has (near setting here s) neighbour)
       → advert.origin ≢ neighbour → advert.origin ≢ s → advert.origin < 64 → (body : Body)
-      → other_advert s body ≡ Some advert → (o : Option Body) → body_to_switch here s number ≡ o
+      → journal_other_advert s body ≡ Some advert → (o : Option Body) → journal_body_to_switch here s number ≡ o
       → IsIn body (option_map_or (λ b. heard here s ++ b ∷ []) o (heard here s))
       → IsDelivered here number s advert ⊎ HasNews setting since now neighbour advert
   by_said s neighbour advert linked other apart small body is None e was =
       old s neighbour advert linked other (inr (record {
         other = apart;
         small = small;
-        given = inr (in_filter_map (other_advert s) body advert (heard here s) was is);
+        given = inr (in_filter_map (journal_other_advert s) body advert (heard here s) was is);
       }))
   by_said s neighbour advert linked other apart small body is (Some b) e was =
       elim (in_either body (heard here s) (b ∷ []) was) [
         | inl earlier ↦ old s neighbour advert linked other (inr (record {
           other = apart;
           small = small;
-          given = inr (in_filter_map (other_advert s) body advert (heard here s) earlier is);
+          given = inr (in_filter_map (journal_other_advert s) body advert (heard here s) earlier is);
         }))
         | inr last ↦ elim last [
           | inl same ↦ inl (record {
@@ -277,38 +277,38 @@ delivered_news {since = since} setting here number have = record {
       given = inl (ap (λ adverts. held_advert adverts advert.origin)
           (sym (begun_same setting _ now s (up_more here next s) (boot_more here next s))) ∙ begun);
     }))
-    by_given (inr told) = let found = of_filter_map (other_advert s) advert (heard now s) told in
+    by_given (inr told) = let found = of_filter_map (journal_other_advert s) advert (heard now s) told in
         by_said s neighbour advert linked other of.other of.small found.0 found.2
-        (body_to_switch here s number) refl
+        (journal_body_to_switch here s number) refl
         (subst (λ bodies. IsIn found.0 bodies) (heard_more here next s) found.1)
 
 -- ---- what is sent now is of the present boot
 
 boot_sent : (journal : List Item) (n : ℕ) (message : Message) (s : ℕ)
-    → boot_of (journal ++ Item.Sent n message ∷ []) s ≡ boot_of journal s
+    → journal_boot_of (journal ++ Item.Sent n message ∷ []) s ≡ journal_boot_of journal s
 boot_sent journal n message s = boot_more journal (Item.Sent n message) s
 
 told_items : {since : ℕ} (journal : List Item) (n : ℕ) (messages : List Message) (s : ℕ) (advert : Advert)
-    → IsToldTo since journal s advert → IsToldTo since (journal ++ sent_from n messages) s advert
-unfolding sent_from
+    → IsToldTo since journal s advert → IsToldTo since (journal ++ machine_sent_items_from n messages) s advert
+unfolding machine_sent_items_from
 told_items {since = since} journal n [] s advert told = rw (append-nil journal) told
 told_items {since = since} journal n (message ∷ messages) s advert told =
     let next : Item = Item.Sent n message in
     subst (λ now. IsToldTo since now s advert)
-    (append_assoc journal (next ∷ []) (sent_from (n + 1) messages))
+    (append_assoc journal (next ∷ []) (machine_sent_items_from (n + 1) messages))
     (told_items (journal ++ next ∷ []) (n + 1) messages s advert
     (told_on journal next s advert (boot_sent journal n message s) told))
 
 told_now : {since : ℕ} (journal : List Item) (n : ℕ) (messages : List Message) (s : ℕ)
     (advert : Advert) → since ≤ n
-    → IsIn (advert_to s advert) messages → IsToldTo since (journal ++ sent_from n messages) s advert
-unfolding sent_from
+    → IsIn (advert_to s advert) messages → IsToldTo since (journal ++ machine_sent_items_from n messages) s advert
+unfolding machine_sent_items_from
 told_now journal n [] s advert late is = absurd is
 told_now {since = since} journal n (message ∷ messages) s advert late is =
     let next : Item = Item.Sent n message in
     let now : List Item = journal ++ next ∷ [] in
     subst (λ js. IsToldTo since js s advert)
-    (append_assoc journal (next ∷ []) (sent_from (n + 1) messages))
+    (append_assoc journal (next ∷ []) (machine_sent_items_from (n + 1) messages))
     (elim is [
       | inl here ↦ told_items now (n + 1) messages s advert (record {
         number = n;
@@ -317,7 +317,7 @@ told_now {since = since} journal n (message ∷ messages) s advert late is =
             (inl (ap (λ (m : Message). record {
               number = n;
               message = m;
-              boot = receiver_boot_at journal m.to;
+              boot = journal_receiver_boot_at journal m.to;
             }) here
             ∙ ap (λ b. record { number = n; message = advert_to s advert; boot = b })
             (sym (boot_sent journal n message s)))));
@@ -326,6 +326,6 @@ told_now {since = since} journal n (message ∷ messages) s advert late is =
     ])
 
 pub sends_tell : {since : ℕ} (journal : List Item) (messages : List Message) (s : ℕ)
-    (advert : Advert) → since ≤ next_message journal → IsIn (advert_to s advert) messages
+    (advert : Advert) → since ≤ journal_next_message journal → IsIn (advert_to s advert) messages
     → IsToldTo since (journal ++ send_items journal messages) s advert
 sends_tell journal messages s advert late is = search (rules, told_now)

@@ -2,14 +2,14 @@
 use Rattle.std.proofs.Common.{[], ◌++◌, ◌<◌, ◌∙◌, ◌∷◌, ◌≡◌, ◌≢◌, ◌≤◌, ◌⊎◌, IsFalse, IsTrue, List, None, Some, ap, arith, false, inl, inr, not, refl, subst, sym, true, ℕ, rules}
 use Rattle.base.proofs.Exports.{All-from_recursion, cases_eq, nat_tests}
 use Rattle.failover.specs.Exports.{first_advert, has_link, is_newer, no_links, with_link}
-use Rattle.update_machine.specs.Exports.{Advert, HaveCauses, Hello, Item, Setting, advert_known, boot_of, current_mark, is_deliverable, is_forgotten, is_link_up, is_up, message_of, near, next_waiting, own_advert, own_seq, serves, version_count, was_delivered}
-use Rattle.base.specs.Exports.{has, mask_of, mask_where, switches}
+use Rattle.update_machine.specs.Exports.{Advert, JournalItemsHaveCauses, Hello, Item, Setting, journal_advert_known, journal_boot_of, journal_current_mark, is_deliverable, is_forgotten_in_journal, is_link_up_in_journal, is_up, message_of, near, next_waiting, own_advert, journal_own_seq, serves, journal_version_count, was_delivered}
+use Rattle.base.specs.Exports.{has, small_number_mask, number_set_where, switches}
 use Rattle.net_file.specs.Exports.{IsNet}
 use Rattle.steps.specs.Exports.{HasSwitch}
 use Rattle.update_machine.proofs.Exports.{known_link_laws, open_net, ring, start_laws}
 use Rattle.control_laws.proofs.Exports.{AreKept, HasBothCauses, IsKnown, boot_more, ends_serve, fact_on, known_at_first, known_kept, own_on, own_origin, own_told, same_near, same_seq, turns}
-use Rattle.control_laws.specs.Exports.{OwnAreNewest}
-use Rattle.convergence_laws.specs.Exports.{AreUnusableLinks, HoldsAsNew, IsAsNew, IsNetworkFinished, IsNetworkUpdated, LeadsOverUsable, NeighboursAgree, Reaches}
+use Rattle.control_laws.specs.Exports.{OwnAdvertsAreNewest}
+use Rattle.convergence_laws.specs.Exports.{AreUnusableLinks, HoldsAsNew, IsAsNew, IsNetworkFinished, HasConvergedOnVersion, LeadsOverUsableNeighbours, NeighboursAgree, Reaches}
 use Rattle.convergence_laws.proofs.ConvergenceLinkChanges.{AreEnds, ends_there, near_both, newest_held, own_held, serving_turns}
 use Rattle.convergence_laws.proofs.ConvergenceFloods.{known_given}
 use Rattle.convergence_laws.proofs.ConvergenceAdverts.{HasNews, IsGiven, IsHad, IsToldTo, as_new_itself, as_new_through}
@@ -20,14 +20,14 @@ use Rattle.ctrl_msg.specs.Exports.{to_controller}
 
 pub record TellsOwn (setting : Setting) (journal : List Item) : Type 0 where
   pub known : IsKnown journal
-  pub tells : (s k : ℕ) → IsTrue (has (near setting journal s) k) → 1 ≤ own_seq setting journal s
+  pub tells : (s k : ℕ) → IsTrue (has (near setting journal s) k) → 1 ≤ journal_own_seq setting journal s
 
 boot_stays : (before : List Item) (next : Item) (s : ℕ) → turns s next ≡ false
-    → boot_of (before ++ next ∷ []) s ≡ boot_of before s
+    → journal_boot_of (before ++ next ∷ []) s ≡ journal_boot_of before s
 boot_stays before next s e = search (rules, boot_more)
 
 serving_boot : (before : List Item) (next : Item) (s : ℕ)
-    → serves (before ++ next ∷ []) s ≡ true → boot_of (before ++ next ∷ []) s ≡ boot_of before s
+    → serves (before ++ next ∷ []) s ≡ true → journal_boot_of (before ++ next ∷ []) s ≡ journal_boot_of before s
 serving_boot before next s serving = search (rules, serving_turns, boot_stays)
 
 tells_kept : (setting : Setting) → AreKept (HasBothCauses setting) (TellsOwn setting)
@@ -38,7 +38,7 @@ tells_kept setting before next both are = record { known = known_now; tells = te
   known_now : IsKnown now
   known_now = known_kept setting before next both.first are.known
 
-  tells : (s k : ℕ) → IsTrue (has (near setting now s) k) → 1 ≤ own_seq setting now s
+  tells : (s k : ℕ) → IsTrue (has (near setting now s) k) → 1 ≤ journal_own_seq setting now s
   tells s k linked = let serving = (ends_serve setting now s k linked).0 in
       elim (own_on _ _ _ s both ((known_now.serving s).up serving) (serving_boot _ _ s serving)) [
         | inl same ↦ omega (
@@ -50,7 +50,7 @@ tells_kept setting before next both are = record { known = known_now; tells = te
       ]
 
 pub caused_tells : (setting : Setting) (journal : List Item)
-    → HaveCauses (HasBothCauses setting) [] journal → TellsOwn setting journal
+    → JournalItemsHaveCauses (HasBothCauses setting) [] journal → TellsOwn setting journal
 caused_tells setting journal have = fact_on _ _ (tells_kept setting) [] journal have (record {
   known = known_at_first;
   tells = λ s k linked. omega (arith, start_laws.seq setting s);
@@ -72,7 +72,7 @@ given_held setting journal s b a apart small as_new given =
       given = given;
     }) in record {
       advert = best.advert;
-      held = ap (advert_known setting journal s) (sym of) ∙ best.held;
+      held = ap (journal_advert_known setting journal s) (sym of) ∙ best.held;
       as_new = as_new_through best.advert b a best.as_new as_new;
     }
 
@@ -80,7 +80,7 @@ given_held setting journal s b a apart small as_new given =
 pub record AreSpread (setting : Setting) (since : ℕ) (journal : List Item) : Type 0 where
   pub net : IsNet setting.net
   pub spread : Spread setting since journal
-  pub newest : OwnAreNewest setting journal
+  pub newest : OwnAdvertsAreNewest setting journal
   pub tells : TellsOwn setting journal
 
 -- an advert of another switch that is as new was told to the switch
@@ -93,7 +93,7 @@ pub record IsToldAsNew (since : ℕ) (journal : List Item) (s : ℕ) (than : Adv
 
 pub spread_cases : {since : ℕ} (setting : Setting) (journal : List Item)
     → AreSpread setting since journal → (s neighbour origin : ℕ) (a : Advert) → IsTrue (has (near setting journal s) neighbour)
-    → origin < 64 → advert_known setting journal s origin ≡ Some a
+    → origin < 64 → journal_advert_known setting journal s origin ≡ Some a
     → HoldsAsNew setting journal neighbour a ⊎ IsToldAsNew since journal neighbour a
 spread_cases {since = since} setting journal are s neighbour origin a linked small known =
     by_place (cases_eq a.origin neighbour)
@@ -109,7 +109,7 @@ spread_cases {since = since} setting journal are s neighbour origin a linked sma
       by_origin : (origin ≡ s) ⊎ (origin ≢ s) → IsHad setting journal s a
       by_origin (inl same) = inl (sym (own_told (own_advert setting journal s) a
           (sym (known_link_laws.own setting journal s s_small)
-          ∙ ap (advert_known setting journal s) (sym same) ∙ known)))
+          ∙ ap (journal_advert_known setting journal s) (sym same) ∙ known)))
       by_origin (inr apart) =
           let given = known_given setting journal s origin a apart small known in
           inr (record {
@@ -127,7 +127,7 @@ spread_cases {since = since} setting journal are s neighbour origin a linked sma
         (are.tells.known.serving neighbour).up (ends_serve setting journal s neighbour linked).1 in
         record {
           advert = own_advert setting journal neighbour;
-          held = ap (advert_known setting journal neighbour) same
+          held = ap (journal_advert_known setting journal neighbour) same
               ∙ own_held setting journal neighbour fits (are.tells.tells neighbour s back);
           as_new = record {
             origin = own_origin setting journal neighbour ∙ sym same;
@@ -195,21 +195,21 @@ spread_agree setting journal are gets s neighbour origin a linked small known =
 
 -- in the ring a reaches d by b
 across_the_ring : Reaches ring [] 0 3
-unfolding near is_link_up serves mask_of mask_where switches has
+unfolding near is_link_up_in_journal serves small_number_mask number_set_where switches has
 across_the_ring = record { rest = 1 ∷ 3 ∷ []; leads = (refl, (refl, refl)) }
 
 -- and by c where b is down
 around_b : Reaches ring (Item.Down 1 ∷ []) 0 3
-unfolding near is_link_up serves mask_of mask_where switches has
+unfolding near is_link_up_in_journal serves small_number_mask number_set_where switches has
 around_b = record { rest = 2 ∷ 3 ∷ []; leads = (refl, (refl, refl)) }
 
-not_by_b : LeadsOverUsable ring (Item.Down 1 ∷ []) 3 0 (1 ∷ 3 ∷ []) → ⊥
-unfolding near is_link_up serves mask_of mask_where switches has
+not_by_b : LeadsOverUsableNeighbours ring (Item.Down 1 ∷ []) 3 0 (1 ∷ 3 ∷ []) → ⊥
+unfolding near is_link_up_in_journal serves small_number_mask number_set_where switches has
 not_by_b leads = let no : false ≡ true = leads.0 in absurd cc
 
 -- a usable link isn't among those that aren't
 not_unusable : AreUnusableLinks ring [] (with_link no_links 0 1) → ⊥
-unfolding near is_link_up serves mask_of mask_where switches has has_link with_link
+unfolding near is_link_up_in_journal serves small_number_mask number_set_where switches has has_link with_link
 not_unusable all = let no : true ≡ false = all 0 1 refl in absurd cc
 
 -- ---- adverts
@@ -236,19 +236,19 @@ some_none : (n : ℕ) → Some n ≡ None → ⊥
 some_none n clash = cc
 
 not_while_one_waits : IsNetworkFinished open_net (Item.Sent 1 (to_controller (Hello 0 1)) ∷ []) → ⊥
-unfolding next_waiting is_deliverable message_of is_forgotten was_delivered
+unfolding next_waiting is_deliverable message_of is_forgotten_in_journal was_delivered
 not_while_one_waits finished = absurd (some_none 1 finished.waiting)
 
 not_where_one_is_lost : IsNetworkFinished open_net
     (Item.Sent 1 (to_controller (Hello 0 1)) ∷ Item.Forgotten 1 ∷ []) → ⊥
-unfolding is_forgotten
+unfolding is_forgotten_in_journal
 not_where_one_is_lost finished = let no : true ≡ false = finished.forgotten 1 in absurd cc
 
 -- ---- updates
 
-updated_at_first : IsNetworkUpdated open_net []
+updated_at_first : HasConvergedOnVersion open_net []
 updated_at_first = search (rules, All-from_recursion, start_laws)
 
-not_while_one_waits_for_it : IsNetworkUpdated open_net (Item.Submitted 2 2 ∷ []) → ⊥
-unfolding current_mark version_count
+not_while_one_waits_for_it : HasConvergedOnVersion open_net (Item.Submitted 2 2 ∷ []) → ⊥
+unfolding journal_current_mark journal_version_count
 not_while_one_waits_for_it is = absurd (omega (arith, is.current))

@@ -2,7 +2,7 @@
 -- controller of that boot.
 use Rattle.std.proofs.Common.{[], if◌then◌else◌, ◌++◌, ◌+◌, ◌==◌, ◌∙◌, ◌∷◌, ◌≡◌, ◌⊎◌, Bool, IfSome, IsFalse, IsTrue, List, None, Option, Some, ap, append-nil, append_assoc, arith, eq-eqb, eqb-true, false, inl, inr, refl, subst, sym, true, unwrap_or, ℕ, rules}
 use Rattle.base.proofs.Exports.{IfSome_then, nat_tests, option_map_or}
-use Rattle.update_machine.specs.Exports.{Body, Deliver, Hello, Install, Installed, Item, OpenAt, Restart, Setting, Stamp, Stamped, Step, body_to_switch, boot_of, deliver_items, delivery_items, heard, hello_of, is_up, journal_items_then, link_changes, message_of, nothing, piece, restart_items, send_items, serves, stamp_of, step_items, switch_items, to_switch}
+use Rattle.update_machine.specs.Exports.{Body, Deliver, Hello, Install, Installed, Item, OpenAt, Restart, Setting, Stamp, Stamped, Step, journal_body_to_switch, journal_boot_of, deliver_items, machine_delivery_items, heard, machine_hello_of, is_up, journal_items_then, journal_link_changes, message_of, nothing, piece, restart_items, send_items, serves, journal_stamp_of, step_items, journal_switch_items, machine_message_to_switch}
 use Rattle.ctrl_msg.specs.Exports.{to_controller}
 use Rattle.update_machine.proofs.Exports.{start_laws}
 use Rattle.control_laws.proofs.Exports.{AreKept, IsTraffic, behind_piece, boot_more, deliver_cases, fact_on, heard_more, is_delivered, links_traffic, restart_cases, said_parts, said_row, serving_more, up_more}
@@ -30,8 +30,8 @@ pub record AreAnswered (Owed : ℕ → Body → Type 0) (journal : List Item) : 
 
 -- the controller was told of the boot of each switch that is up, but of those that still owe it
 pub record AreGreeted (Owed : ℕ → Type 0) (journal : List Item) : Type 0 where
-  pub each : (s : ℕ) → IsTrue (is_up journal s) → Owed s ⊎ ((boot_of journal s ≡ 1)
-      ⊎ IsSent journal (to_controller (Hello s (boot_of journal s))))
+  pub each : (s : ℕ) → IsTrue (is_up journal s) → Owed s ⊎ ((journal_boot_of journal s ≡ 1)
+      ⊎ IsSent journal (to_controller (Hello s (journal_boot_of journal s))))
 
 pub record HaveSpoken (journal : List Item) : Type 0 where
   pub answers : AreAnswered (λ s body. ⊥) journal
@@ -106,7 +106,7 @@ hellos_on Owed before next plain are = record {
       ];
 } where
   boot_same : (next : Item) (s : ℕ) → IsFalse (is_booted next)
-      → boot_of (before ++ next ∷ []) s ≡ boot_of before s
+      → journal_boot_of (before ++ next ∷ []) s ≡ journal_boot_of before s
   boot_same (Item.Booted t boot) s plain = absurd cc
   boot_same next s plain = boot_more before next s
 
@@ -134,18 +134,18 @@ spoken_stay : (journal items : List Item) → Plain journal items → HaveSpoken
     → HaveSpoken (journal ++ items)
 spoken_stay journal items plain spoken = search (rules, answers_stay, hellos_stay)
 
-boot_kept : (s boot : ℕ) → AreKept IsPlain (λ journal. boot_of journal s ≡ boot)
+boot_kept : (s boot : ℕ) → AreKept IsPlain (λ journal. journal_boot_of journal s ≡ boot)
 boot_kept s boot before next plain is = search (rules, boot_more)
 
 boot_stays : (journal items : List Item) → Plain journal items → (s : ℕ)
-    → boot_of (journal ++ items) s ≡ boot_of journal s
+    → journal_boot_of (journal ++ items) s ≡ journal_boot_of journal s
 boot_stays journal items plain s = fact_on IsPlain _ (boot_kept s _) journal items plain refl
 
 -- ---- a delivery
 
 -- the delivery is owed its answers
 delivered_owed : (here : List Item) (number : ℕ) → AreAnswered (λ s body. ⊥) here
-    → AreAnswered (λ s body. body_to_switch here s number ≡ Some body)
+    → AreAnswered (λ s body. journal_body_to_switch here s number ≡ Some body)
     (here ++ Item.Delivered number ∷ [])
 delivered_owed here number are = record {
   each = λ s body is. by_said s body _ refl (rw (heard_more here (Item.Delivered number) s) at is);
@@ -154,16 +154,16 @@ delivered_owed here number are = record {
   next = Item.Delivered number
 
   old : (s : ℕ) (body : Body) → IsIn body (heard here s)
-      → (body_to_switch here s number ≡ Some body) ⊎ IsAnswered (here ++ next ∷ []) s body
+      → (journal_body_to_switch here s number ≡ Some body) ⊎ IsAnswered (here ++ next ∷ []) s body
   old s body is = elim (are.each s body is) [
     | inl owed ↦ absurd owed
     | inr answered ↦ inr (answered_stays here next s body
         (λ serving. rw (serving_more here next s) serving) answered)
   ]
 
-  by_said : (s : ℕ) (body : Body) (o : Option Body) → body_to_switch here s number ≡ o
+  by_said : (s : ℕ) (body : Body) (o : Option Body) → journal_body_to_switch here s number ≡ o
       → IsIn body (option_map_or (λ b. heard here s ++ b ∷ []) o (heard here s))
-      → (body_to_switch here s number ≡ Some body) ⊎ IsAnswered (here ++ next ∷ []) s body
+      → (journal_body_to_switch here s number ≡ Some body) ⊎ IsAnswered (here ++ next ∷ []) s body
   by_said s body None e is = old s body is
   by_said s body (Some said) e is = elim (in_either body (heard here s) (said ∷ []) is) [
     | inl earlier ↦ old s body earlier
@@ -177,29 +177,29 @@ serving_on setting s before next is serving = search (rules, serving_more)
 
 pub opens : (setting : Setting) (before : List Item) (s : ℕ) (now : List Item)
     → serves now s ≡ serves before s → (boot version : ℕ)
-    → IsTrue (serves (now ++ switch_items setting before s (OpenAt boot version) now) s)
-unfolding switch_items
+    → IsTrue (serves (now ++ journal_switch_items setting before s (OpenAt boot version) now) s)
+unfolding journal_switch_items
 opens setting before s now same boot version = by_serving (serves before s) refl where
   next : Item
-  next = Item.Opened s (stamp_of now s)
+  next = Item.Opened s (journal_stamp_of now s)
 
   opened : IsTrue (serves (now ++ next ∷ []) s)
   opened = rw (serving_more now next s, eq-eqb s s refl) refl
 
   by_serving : (b : Bool) → serves before s ≡ b → IsTrue (serves (now ++ elim b [
     | true ↦ []
-    | false ↦ journal_items_then (next ∷ []) (link_changes setting before) now
+    | false ↦ journal_items_then (next ∷ []) (journal_link_changes setting before) now
   ]) s)
   by_serving true e = ap (λ j. serves j s) (append-nil now) ∙ same ∙ e
   by_serving false e =
-      rw (append_assoc now (next ∷ []) (link_changes setting before (now ++ next ∷ []))) at
+      rw (append_assoc now (next ∷ []) (journal_link_changes setting before (now ++ next ∷ []))) at
       (fact_on (IsTraffic setting) (λ j. IsTrue (serves j s)) (serving_on setting s)
       (now ++ next ∷ []) _ (links_traffic setting before (now ++ next ∷ [])) opened)
 
 switch_answers : (setting : Setting) (before : List Item) (s : ℕ) (body : Body)
     (now : List Item) → serves now s ≡ serves before s
-    → IsAnswered (now ++ switch_items setting before s body now) s body
-unfolding switch_items
+    → IsAnswered (now ++ journal_switch_items setting before s body now) s body
+unfolding journal_switch_items
 switch_answers setting before s (Install boot tables) now same = search (rules, sends_all)
 switch_answers setting before s (Stamp boot version touched) now same = search (rules, sends_all)
 switch_answers setting before s (OpenAt boot version) now same = opens _ _ s now same boot version
@@ -207,24 +207,24 @@ switch_answers setting before s _ now same = tt
 
 -- what is sent to a switch is answered in the step, if it is said
 pub sent_items : (setting : Setting) (before : List Item) (number s : ℕ) (body : Body)
-    (now : List Item) → message_of before number ≡ Some (to_switch s body) → (said : Option Body)
-    → body_to_switch before s number ≡ said → delivery_items setting before number now ≡ elim said [
+    (now : List Item) → message_of before number ≡ Some (machine_message_to_switch s body) → (said : Option Body)
+    → journal_body_to_switch before s number ≡ said → machine_delivery_items setting before number now ≡ elim said [
       | None ↦ []
-      | Some told ↦ switch_items setting before s told now
+      | Some told ↦ journal_switch_items setting before s told now
     ]
-unfolding delivery_items
+unfolding machine_delivery_items
 sent_items setting before number s body now sent said is = search rules
 
 pub delivery_is : (setting : Setting) (before : List Item) (number : ℕ) (now : List Item)
-    (s : ℕ) (body : Body) → body_to_switch before s number ≡ Some body
-    → delivery_items setting before number now ≡ switch_items setting before s body now
+    (s : ℕ) (body : Body) → journal_body_to_switch before s number ≡ Some body
+    → machine_delivery_items setting before number now ≡ journal_switch_items setting before s body now
 delivery_is setting before number now s body said = sent_items setting before number s body now
     (said_parts before s number body said).sent (Some body) said
 
 delivery_answers : (setting : Setting) (before : List Item) (number : ℕ) (now : List Item)
-    (s : ℕ) (body : Body) → body_to_switch before s number ≡ Some body
+    (s : ℕ) (body : Body) → journal_body_to_switch before s number ≡ Some body
     → serves now s ≡ serves before s
-    → IsAnswered (now ++ delivery_items setting before number now) s body
+    → IsAnswered (now ++ machine_delivery_items setting before number now) s body
 delivery_answers setting before number now s body said same =
     rw (delivery_is _ before number now s body said) (switch_answers setting before s body now same)
 
@@ -234,9 +234,9 @@ deliver_spoken : (setting : Setting) (before : List Item) (row number : ℕ)
 deliver_spoken setting before row number spoken =
     let here : List Item = before ++ Item.Row row (Deliver number) ∷ [] in
     let now : List Item = here ++ Item.Delivered number ∷ [] in
-    let items : List Item = delivery_items setting before number now in
+    let items : List Item = machine_delivery_items setting before number now in
     let answers : AreAnswered (λ s body. ⊥) (now ++ items) = record {
-      each = λ s body is. elim ((answers_stay (λ t b. body_to_switch here t number ≡ Some b) now
+      each = λ s body is. elim ((answers_stay (λ t b. journal_body_to_switch here t number ≡ Some b) now
           items (delivery_plain setting before number now)
           (delivered_owed here number spoken.answers)).each s body is) [
             | inl owed ↦ inr (delivery_answers setting before number now s body
@@ -267,18 +267,18 @@ booted_owed here s boot are = search (rules, eqb-true, boot_more, up_more, sent_
 restart_spoken : (s : ℕ) (here : List Item) → HaveSpoken here
     → HaveSpoken (here ++ restart_items s here)
 restart_spoken s here spoken =
-    let next : Item = Item.Booted s (boot_of here s + 1) in
-    let hello : List Item → List Item = λ booted. send_items booted (hello_of booted s ∷ []) in
+    let next : Item = Item.Booted s (journal_boot_of here s + 1) in
+    let hello : List Item → List Item = λ booted. send_items booted (machine_hello_of booted s ∷ []) in
     let now : List Item = here ++ next ∷ [] in
-    let plain : Plain now (hello now) = sends_plain now (hello_of now s ∷ []) in
-    let same : boot_of (now ++ hello now) s ≡ boot_of now s = boot_stays now (hello now) plain s in
+    let plain : Plain now (hello now) = sends_plain now (machine_hello_of now s ∷ []) in
+    let same : journal_boot_of (now ++ hello now) s ≡ journal_boot_of now s = boot_stays now (hello now) plain s in
     let answers : AreAnswered (λ t body. ⊥) (now ++ hello now) = answers_stay (λ t body. ⊥) now
-    (hello now) plain (booted_answers here s (boot_of here s + 1) spoken.answers) in
+    (hello now) plain (booted_answers here s (journal_boot_of here s + 1) spoken.answers) in
     let hellos : AreGreeted (λ t. ⊥) (now ++ hello now) = record {
       each = λ t up. elim ((hellos_stay (λ u. u ≡ s) now (hello now) plain
-          (booted_owed here s (boot_of here s + 1) spoken.hellos)).each t up) [
+          (booted_owed here s (journal_boot_of here s + 1) spoken.hellos)).each t up) [
             | inl owed ↦ inr
-                (inr (rw owed (rw same (sends_all now (hello_of now s ∷ []) _ (inl refl)))))
+                (inr (rw owed (rw same (sends_all now (machine_hello_of now s ∷ []) _ (inl refl)))))
             | inr known ↦ inr known
           ];
     } in

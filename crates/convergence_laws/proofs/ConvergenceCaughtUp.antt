@@ -1,10 +1,10 @@
 -- Where the controller knows of each switch that is up what it needs, every update has ended.
 use Rattle.std.proofs.Common.{[], ◌&&◌, ◌-◌, ◌<◌, ◌||◌, ◌∙◌, ◌∷◌, ◌≡◌, ◌≤◌, All, Bool, IsFalse, IsTrue, List, ap, arith, false, fold, inl, inr, is_some, length, min, not, refl, sym, true, unwrap_or, ℕ, rules}
 use Rattle.base.proofs.Exports.{All-from_recursion, AllByRecursion, each_map, list_all}
-use Rattle.update_machine.specs.Exports.{AreSettled, HaveCauses, Item, Setting, acked_stamp, boot_of, current_mark, has_acked, is_joining, is_member, is_over, is_up, is_waited_for, known_boot, least_number, members, next_retired, retired_mark, serves, stamp_of, switches_of, version_count}
-use Rattle.control_laws.specs.Exports.{HasItemCause, MarksAreBounded, MembersAcknowledged}
+use Rattle.update_machine.specs.Exports.{AreMachineMarksSettled, JournalItemsHaveCauses, Item, Setting, acked_stamp, journal_boot_of, journal_current_mark, has_acked, is_joining, is_member, is_over, is_up, is_waited_for, journal_known_boot, machine_least_number, members, journal_next_retired, journal_retired_mark, serves, journal_stamp_of, switches_of, journal_version_count}
+use Rattle.control_laws.specs.Exports.{HasControlItemCause, MarksAreBounded, MembersAcknowledged}
 use Rattle.control_laws.proofs.Exports.{acknowledged, each_range, have_weaker, member_parts}
-use Rattle.convergence_laws.specs.Exports.{IsNetworkUpdated}
+use Rattle.convergence_laws.specs.Exports.{HasConvergedOnVersion}
 use Rattle.convergence_laws.proofs.ConvergenceAnswers.{HaveSpoken}
 use Rattle.convergence_laws.proofs.ConvergenceDownSwitches.{AreRecorded}
 use Rattle.convergence_laws.proofs.ConvergenceTables.{AllInstalled}
@@ -20,7 +20,7 @@ fold_least c first [] is all = is
 fold_least c first (x ∷ xs) is all = fold_least c (min first x) xs (omega (arith, is, all.0)) all.1
 
 least_same : (c : ℕ) (xs : List ℕ) → AllByRecursion (λ x. x ≡ c) xs
-    → unwrap_or (least_number xs) c ≡ c
+    → unwrap_or (machine_least_number xs) c ≡ c
 least_same c xs all = search (rules, fold_least)
 
 all_true : (test : ℕ → Bool) (xs : List ℕ) → ((x : ℕ) → IsIn x xs → IsTrue (test x))
@@ -31,16 +31,16 @@ all_true test (x ∷ xs) all = rw (all x (inl refl)) (all_true test xs (λ y is.
 -- ---- what is known at the end of a step
 
 pub record AreReady (setting : Setting) (journal : List Item) : Type 0 where
-  pub causes : HaveCauses (IsInOrder setting) [] journal
+  pub causes : JournalItemsHaveCauses (IsInOrder setting) [] journal
   pub recorded : AreRecorded journal
   pub bounds : MarksAreBounded setting journal
-  pub settled : AreSettled setting journal
+  pub settled : AreMachineMarksSettled setting journal
   pub spoken : HaveSpoken journal
   pub installs : AllInstalled setting journal
   pub stamps : HaveStamps setting journal
 
 pub items_caused : (setting : Setting) (journal : List Item)
-    → HaveCauses (IsInOrder setting) [] journal → HaveCauses (HasItemCause setting) [] journal
+    → JournalItemsHaveCauses (IsInOrder setting) [] journal → JournalItemsHaveCauses (HasControlItemCause setting) [] journal
 items_caused setting journal have = search (rules, have_weaker)
 
 -- ---- what the controller is to know
@@ -52,14 +52,14 @@ pub record IsCaughtUp (setting : Setting) (journal : List Item) : Type 0 where
   pub switches : All (λ s. IsTrue (is_up journal s || not (is_waited_for journal s)))
       (switches_of setting)
   pub known : (s : ℕ) → s < length setting.net.switches → IsTrue (is_up journal s)
-      → known_boot journal s ≡ boot_of journal s
+      → journal_known_boot journal s ≡ journal_boot_of journal s
   pub acked : (s version : ℕ) → s < length setting.net.switches → IsTrue (is_up journal s)
-      → current_mark journal ≤ version → version ≤ version_count journal
+      → journal_current_mark journal ≤ version → version ≤ journal_version_count journal
       → IsTrue (has_acked journal s version)
   pub serving : (s : ℕ) → s < length setting.net.switches → IsTrue (is_up journal s)
       → IsTrue (is_member journal s) → IsTrue (serves journal s)
   pub stamps : (s : ℕ) → s < length setting.net.switches → IsTrue (is_up journal s)
-      → IsTrue (is_member journal s) → current_mark journal ≤ acked_stamp journal s
+      → IsTrue (is_member journal s) → journal_current_mark journal ≤ acked_stamp journal s
 
 -- ---- members
 
@@ -89,7 +89,7 @@ member_up setting journal are caught s there member = by_up (is_up journal s) re
 
 -- so the current version is the last one
 current_is : (setting : Setting) (journal : List Item) → AreReady setting journal
-    → IsCaughtUp setting journal → current_mark journal ≡ version_count journal
+    → IsCaughtUp setting journal → journal_current_mark journal ≡ journal_version_count journal
 current_is setting journal are caught = search (rules, all_true, of_filter, of_range, member_up)
 
 -- and each switch that is up is a member
@@ -106,24 +106,24 @@ up_member setting journal are caught s there up = by_member (is_member journal s
       let not_over : is_over journal s ≡ false =
       (are.recorded.known.serving s).not_over up (caught.known s there up) in
       let none = all_in (λ t. IsTrue (is_joining journal t)
-      → IsFalse (has_acked journal t (current_mark journal))) s (switches_of setting)
+      → IsFalse (has_acked journal t (journal_current_mark journal))) s (switches_of setting)
       are.settled.joining (in_range s 0 (length setting.net.switches) (omega arith) (omega arith))
       (joins (is_over journal s) (is_member journal s) not_over e) in
-      absurd (cc (sym none ∙ (caught.acked s (current_mark journal) there up (omega arith)
+      absurd (cc (sym none ∙ (caught.acked s (journal_current_mark journal) there up (omega arith)
       (omega (arith, are.bounds.there)))))
 
 -- ---- retired
 
 retired_is : (setting : Setting) (journal : List Item) → AreReady setting journal
-    → IsCaughtUp setting journal → retired_mark journal ≡ current_mark journal - 1
-unfolding next_retired
+    → IsCaughtUp setting journal → journal_retired_mark journal ≡ journal_current_mark journal - 1
+unfolding journal_next_retired
 retired_is setting journal are caught = are.settled.retired ∙ ap (λ n. n - 1)
-    (least_same (current_mark journal) _ (each_map (λ x. x ≡ current_mark journal)
+    (least_same (journal_current_mark journal) _ (each_map (λ x. x ≡ journal_current_mark journal)
     (acked_stamp journal) (members setting journal) (each_of_in _ (members setting journal)
     (λ s is. of_member s (of_filter (is_member journal) s (switches_of setting) is)))))
   where
     of_member : (s : ℕ) → IsIn s (switches_of setting) × IsTrue (is_member journal s)
-        → acked_stamp journal s ≡ current_mark journal
+        → acked_stamp journal s ≡ journal_current_mark journal
     of_member s parts =
         let there : s < length setting.net.switches = omega (arith, (of_range s 0 _ parts.0).1) in
         let known = caught.stamps s there (member_up _ _ are caught s there parts.1) parts.1 in
@@ -132,13 +132,13 @@ retired_is setting journal are caught = are.settled.retired ∙ ap (λ n. n - 1)
 -- ---- together
 
 pub caught_updated : (setting : Setting) (journal : List Item) → AreReady setting journal
-    → IsCaughtUp setting journal → IsNetworkUpdated setting journal
+    → IsCaughtUp setting journal → HasConvergedOnVersion setting journal
 caught_updated setting journal are caught = record {
   serving = All-from_recursion (λ s. IsTrue (is_up journal s) → IsTrue (serves journal s))
       (switches_of setting) (each_range (λ s. IsTrue (is_up journal s) → IsTrue (serves journal s))
       0 (length setting.net.switches) (λ s above below. up_serves s (omega (arith, below))));
   stamps = All-from_recursion (λ s. IsTrue (is_up journal s)
-      → stamp_of journal s ≡ version_count journal) (switches_of setting)
+      → journal_stamp_of journal s ≡ journal_version_count journal) (switches_of setting)
       (each_range _ 0 (length setting.net.switches)
       (λ s above below up. let there : s < length setting.net.switches = omega (arith, below) in
       let known = caught.stamps s there up (up_member setting journal are caught s there up) in
@@ -146,7 +146,7 @@ caught_updated setting journal are caught = record {
   current = current;
   retired = retired_is setting journal are caught ∙ ap (λ n. n - 1) current;
 } where
-  current : current_mark journal ≡ version_count journal
+  current : journal_current_mark journal ≡ journal_version_count journal
   current = current_is setting journal are caught
 
   members : MembersAcknowledged setting journal

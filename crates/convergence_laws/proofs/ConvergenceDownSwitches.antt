@@ -2,10 +2,10 @@
 -- over, nothing is known in its known boot; and where openings and acknowledgements come from.
 use Rattle.std.proofs.Common.{[], if◌then◌else◌, ◌++◌, ◌==◌, ◌∙◌, ◌∷◌, ◌≡◌, ◌≤◌, ◌⊎◌, Bool, IsFalse, IsTrue, List, None, Option, Some, ap, arith, eqb-true, false, filter_map, inl, inr, nat_eq, option_to_list, refl, subst, sym, true, unwrap_or, ℕ, rules}
 use Rattle.base.proofs.Exports.{list_any, option_or}
-use Rattle.update_machine.specs.Exports.{Body, Installed, Item, Message, OpenAt, Sending, Setting, all_given, body_to_controller, boot_of, controller_heard, first_open_number, gives_waited_for, has_acked, heard, installed_version_in, installs_version, is_over, is_up, is_waited_for, known_boot, message_of, open_sent, opened_at, raises_known, serves, to_switch}
+use Rattle.update_machine.specs.Exports.{Body, Installed, Item, Message, OpenAt, Sending, Setting, journal_all_given, journal_body_to_controller, journal_boot_of, controller_heard, machine_first_open, gives_waited_for, has_acked, heard, journal_installed_in_body, installs_version, is_over, is_up, is_waited_for, journal_known_boot, message_of, machine_open_sent, opened_at, journal_raises_known_boot, serves, machine_message_to_switch}
 use Rattle.ctrl_msg.specs.Exports.{to_controller}
 use Rattle.update_machine.proofs.Exports.{start_laws}
-use Rattle.control_laws.specs.Exports.{HasItemCause}
+use Rattle.control_laws.specs.Exports.{HasControlItemCause}
 use Rattle.control_laws.proofs.Exports.{AreKept, FromCauses, IsKnown, StampsAreCurrent, boot_more, by_number, current_kept, from_causes, heard_known, installed_is, is_delivered, known_at_first, known_kept, known_more, known_rises, last_more, opened_at_more, opened_in, opened_more, opened_same, opens_by, over_more, raised_above, raised_none, said_sent, serving_more, told_more, unraised_same, up_more}
 use Rattle.convergence_laws.proofs.ConvergencePlainItems.{IsIn, in_either}
 use Rattle.convergence_laws.proofs.ConvergenceMessages.{IsSent, sendings_more, sent_by, sent_now, sent_stays}
@@ -46,19 +46,19 @@ pub record AreRecorded (journal : List Item) : Type 0 where
       → IsSent journal (to_controller body)
   -- a switch was opened by a message, except in its first boot
   pub openings : (s boot version : ℕ) → opened_in journal s boot ≡ Some version
-      → (boot ≡ 1) ⊎ IsSent journal (to_switch s (OpenAt boot version))
+      → (boot ≡ 1) ⊎ IsSent journal (machine_message_to_switch s (OpenAt boot version))
   -- it heard tables, and acknowledges them, in a boot that is known
   pub heard : (s version : ℕ) → IsTrue (list_any (installs_version version) (heard journal s))
-      → boot_of journal s ≤ known_boot journal s
+      → journal_boot_of journal s ≤ journal_known_boot journal s
   pub acks : (s boot version : ℕ) → IsSent journal (to_controller (Installed s boot version))
-      → boot ≤ known_boot journal s
+      → boot ≤ journal_known_boot journal s
   -- in its first boot it serves
-  pub first : (s : ℕ) → IsTrue (is_up journal s) → boot_of journal s ≡ 1 → IsTrue (serves journal s)
-  pub boots : (s : ℕ) → 1 ≤ boot_of journal s
+  pub first : (s : ℕ) → IsTrue (is_up journal s) → journal_boot_of journal s ≡ 1 → IsTrue (serves journal s)
+  pub boots : (s : ℕ) → 1 ≤ journal_boot_of journal s
   -- an idle switch was neither opened in its known boot, nor has it acknowledged any tables
   pub closed : (s : ℕ) → IsIdle journal s → opened_at journal s ≡ None
   pub silent : (s version : ℕ) → IsIdle journal s
-      → IsSent journal (to_controller (Installed s (known_boot journal s) version)) → ⊥
+      → IsSent journal (to_controller (Installed s (journal_known_boot journal s) version)) → ⊥
 
 -- ---- items keep them
 
@@ -82,14 +82,14 @@ told_on setting before (Item.Delivered number) are body is = by_said _ refl
     old : IsIn body (controller_heard before) → IsSent (before ++ next ∷ []) (to_controller body)
     old is = sent_stays before next (to_controller body) (are.told body is)
 
-    by_said : (o : Option Body) → body_to_controller before number ≡ o
+    by_said : (o : Option Body) → journal_body_to_controller before number ≡ o
         → IsIn body (controller_heard before ++ option_to_list o)
         → IsSent (before ++ next ∷ []) (to_controller body)
     by_said o e is = elim (in_either body (controller_heard before) (option_to_list o) is) [
       | inl earlier ↦ old earlier
       | inr now ↦ by_now o e now
     ] where
-      by_now : (o : Option Body) → body_to_controller before number ≡ o
+      by_now : (o : Option Body) → journal_body_to_controller before number ≡ o
           → IsIn body (option_to_list o) → IsSent (before ++ next ∷ []) (to_controller body)
       by_now None e is = absurd is
       by_now (Some said) e is = elim is [
@@ -101,13 +101,13 @@ told_on setting before next are body is = search (rules, sent_stays, told_more)
 
 openings_on : (before : List Item) (next : Item) → AreRecorded before → (s boot version : ℕ)
     → opened_in (before ++ next ∷ []) s boot ≡ Some version
-    → (boot ≡ 1) ⊎ IsSent (before ++ next ∷ []) (to_switch s (OpenAt boot version))
+    → (boot ≡ 1) ⊎ IsSent (before ++ next ∷ []) (machine_message_to_switch s (OpenAt boot version))
 openings_on before next are s boot version opened =
     by_opened (opened_in before s boot) refl (sym (opened_more before next s boot) ∙ opened)
   where
     by_opened : (o : Option ℕ) → opened_in before s boot ≡ o
-        → option_or o (first_open_number (open_sent s boot next)) ≡ Some version
-        → (boot ≡ 1) ⊎ IsSent (before ++ next ∷ []) (to_switch s (OpenAt boot version))
+        → option_or o (machine_first_open (machine_open_sent s boot next)) ≡ Some version
+        → (boot ≡ 1) ⊎ IsSent (before ++ next ∷ []) (machine_message_to_switch s (OpenAt boot version))
     by_opened (Some w) e is = elim (are.openings s boot version (e ∙ is)) [
       | inl first ↦ inl first
       | inr sent ↦ inr (sent_stays before next _ sent)
@@ -116,24 +116,24 @@ openings_on before next are s boot version opened =
         let new = opens_by next s boot version is in inr (rw new.1 (sent_now before new.0 _))
 
 acks_on : (setting : Setting) (before : List Item) (next : Item)
-    → HasItemCause setting before next → AreRecorded before → (s boot version : ℕ)
+    → HasControlItemCause setting before next → AreRecorded before → (s boot version : ℕ)
     → IsSent (before ++ next ∷ []) (to_controller (Installed s boot version))
-    → boot ≤ known_boot (before ++ next ∷ []) s
+    → boot ≤ journal_known_boot (before ++ next ∷ []) s
 acks_on setting before next cause are s boot version sent = elim (sent_either before next _ sent) [
   | inl earlier ↦ omega (arith, known_rises before next s, are.acks s boot version earlier)
-  | inr new ↦ let right = subst (HasItemCause setting before) new.1 cause in
+  | inr new ↦ let right = subst (HasControlItemCause setting before) new.1 cause in
       omega (arith, right.present.own, are.heard, known_rises)
 ]
 
 -- ---- the first boot
 
-boots_on : (setting : Setting) (before : List Item) (next : Item) → HasItemCause setting before next
-    → AreRecorded before → (s : ℕ) → 1 ≤ boot_of (before ++ next ∷ []) s
+boots_on : (setting : Setting) (before : List Item) (next : Item) → HasControlItemCause setting before next
+    → AreRecorded before → (s : ℕ) → 1 ≤ journal_boot_of (before ++ next ∷ []) s
 boots_on setting before next cause are s = search (rules, boot_more)
 
-first_on : (setting : Setting) (before : List Item) (next : Item) → HasItemCause setting before next
+first_on : (setting : Setting) (before : List Item) (next : Item) → HasControlItemCause setting before next
     → AreRecorded before → (s : ℕ) → IsTrue (is_up (before ++ next ∷ []) s)
-    → boot_of (before ++ next ∷ []) s ≡ 1 → IsTrue (serves (before ++ next ∷ []) s)
+    → journal_boot_of (before ++ next ∷ []) s ≡ 1 → IsTrue (serves (before ++ next ∷ []) s)
 first_on setting before next cause are s up first = search (rules, boot_more, serving_more, up_more)
 
 -- ---- idle switches
@@ -158,7 +158,7 @@ idle_was before next s none idle = record {
 }
 
 -- a delivery that raises no known boot
-idle_delivered : (before : List Item) (number s : ℕ) → raises_known before s number ≡ false
+idle_delivered : (before : List Item) (number s : ℕ) → journal_raises_known_boot before s number ≡ false
     → IsIdle (before ++ Item.Delivered number ∷ []) s → IsIdle before s
 idle_delivered before number s e idle = let next : Item = Item.Delivered number in record {
   down = rw (up_more before next s) at idle.down;
@@ -177,37 +177,37 @@ any_told reads v (body ∷ bodies) any = search (rules, eqb-true, any_told reads
 acked_sent : (journal : List Item) (s version : ℕ)
     → ((body : Body) → IsIn body (controller_heard journal) → IsSent journal (to_controller body))
     → opened_at journal s ≡ None → IsTrue (has_acked journal s version)
-    → IsSent journal (to_controller (Installed s (known_boot journal s) version))
+    → IsSent journal (to_controller (Installed s (journal_known_boot journal s) version))
 unfolding has_acked opened_at
-acked_sent journal s version told closed any = by_first (known_boot journal s == 1) closed any where
+acked_sent journal s version told closed any = by_first (journal_known_boot journal s == 1) closed any where
   boot : ℕ
-  boot = known_boot journal s
+  boot = journal_known_boot journal s
 
   by_first : (b : Bool)
-      → (if b then Some 1 else first_open_number (all_given (open_sent s boot) journal)) ≡ None
+      → (if b then Some 1 else machine_first_open (journal_all_given (machine_open_sent s boot) journal)) ≡ None
       → IsTrue (list_any (nat_eq version) ((if b then 1 ∷ [] else [])
-      ++ filter_map (installed_version_in s boot) (controller_heard journal)))
+      ++ filter_map (journal_installed_in_body s boot) (controller_heard journal)))
       → IsSent journal (to_controller (Installed s boot version))
   by_first true closed any = absurd cc
   by_first false closed any =
-      let found = any_told (installed_version_in s boot) version (controller_heard journal) any in
+      let found = any_told (journal_installed_in_body s boot) version (controller_heard journal) any in
       subst (λ body. IsSent journal (to_controller body))
       (installed_is s boot found.0 version found.2) (told found.0 found.1)
 
 closed_on : (setting : Setting) (before : List Item) (next : Item)
-    → HasItemCause setting before next → AreRecorded before → (s : ℕ)
+    → HasControlItemCause setting before next → AreRecorded before → (s : ℕ)
     → IsIdle (before ++ next ∷ []) s → opened_at (before ++ next ∷ []) s ≡ None
 closed_on setting before (Item.Delivered number) cause are s idle =
     search (rules, raised_none, opened_same, unraised_same, idle_delivered)
 closed_on setting before (Item.Sent n message) cause are s idle =
     opened_at_more before next s (known_more before next s)
-    ∙ ap (λ o. option_or o (first_open_number (open_sent s boot next))) closed ∙ by_new _ refl
+    ∙ ap (λ o. option_or o (machine_first_open (machine_open_sent s boot next))) closed ∙ by_new _ refl
   where
     next : Item
     next = Item.Sent n message
 
     boot : ℕ
-    boot = known_boot before s
+    boot = journal_known_boot before s
 
     was : IsIdle before s
     was = idle_was before next s refl idle
@@ -215,11 +215,11 @@ closed_on setting before (Item.Sent n message) cause are s idle =
     closed : opened_at before s ≡ None
     closed = are.closed s was
 
-    by_new : (o : Option ℕ) → first_open_number (open_sent s boot next) ≡ o
-        → first_open_number (open_sent s boot next) ≡ None
+    by_new : (o : Option ℕ) → machine_first_open (machine_open_sent s boot next) ≡ o
+        → machine_first_open (machine_open_sent s boot next) ≡ None
     by_new None e = e
     by_new (Some w) e =
-        elim (subst (HasItemCause setting before) (opens_by next s boot w e).1 cause).opens [
+        elim (subst (HasControlItemCause setting before) (opens_by next s boot w e).1 cause).opens [
           | inl first ↦ absurd (are.silent s w was (acked_sent _ s w are.told closed first.acked))
           | inr same ↦ let clash : None ≡ Some w = sym closed ∙ same in absurd cc
         ]
@@ -227,32 +227,32 @@ closed_on setting before next cause are s idle = search (rules, opened_same, kno
 
 -- a switch that is down acknowledges nothing
 silent_now : (setting : Setting) (before : List Item) (next : Item)
-    → HasItemCause setting before next → AreRecorded before → (s version : ℕ)
-    → known_boot (before ++ next ∷ []) s ≡ known_boot before s → IsIdle before s
+    → HasControlItemCause setting before next → AreRecorded before → (s version : ℕ)
+    → journal_known_boot (before ++ next ∷ []) s ≡ journal_known_boot before s → IsIdle before s
     → IsSent (before ++ next ∷ [])
-    (to_controller (Installed s (known_boot (before ++ next ∷ []) s) version)) → ⊥
+    (to_controller (Installed s (journal_known_boot (before ++ next ∷ []) s) version)) → ⊥
 silent_now setting before next cause are s version known idle sent = elim (sent_either before next
-    (to_controller (Installed s (known_boot before s) version)) (rw known at sent)) [
+    (to_controller (Installed s (journal_known_boot before s) version)) (rw known at sent)) [
       | inl earlier ↦ are.silent s version idle earlier
       | inr new ↦ let clash : false ≡ true = sym idle.down ∙ (rw new.1 at cause).present.up in
           absurd cc
     ]
 
-silent_on : (setting : Setting) (before : List Item) (next : Item) → HasItemCause setting before
+silent_on : (setting : Setting) (before : List Item) (next : Item) → HasControlItemCause setting before
     next → AreRecorded before → (s version : ℕ) → IsIdle (before ++ next ∷ []) s → IsSent
-    (before ++ next ∷ []) (to_controller (Installed s (known_boot (before ++ next ∷ []) s) version))
+    (before ++ next ∷ []) (to_controller (Installed s (journal_known_boot (before ++ next ∷ []) s) version))
     → ⊥
 silent_on setting before (Item.Delivered number) cause are s version idle sent =
-    by_raise (raises_known before s number) refl
+    by_raise (journal_raises_known_boot before s number) refl
   where
     next : Item
     next = Item.Delivered number
 
     no_delivery : (n : ℕ) → Item.Delivered number ≡ Item.Sent n (to_controller
-        (Installed s (known_boot (before ++ next ∷ []) s) version)) → ⊥
+        (Installed s (journal_known_boot (before ++ next ∷ []) s) version)) → ⊥
     no_delivery n is = absurd cc
 
-    by_raise : (b : Bool) → raises_known before s number ≡ b → ⊥
+    by_raise : (b : Bool) → journal_raises_known_boot before s number ≡ b → ⊥
     by_raise true e = elim (sent_either before next _ sent) [
       | inl earlier ↦ absurd (omega (arith, raised_above, are.acks))
       | inr new ↦ absurd (no_delivery new.0 new.1)
@@ -264,7 +264,7 @@ silent_on setting before next cause are s version idle sent = silent_now setting
 
 -- ---- together
 
-recorded_kept : (setting : Setting) → AreKept (HasItemCause setting) AreRecorded
+recorded_kept : (setting : Setting) → AreKept (HasControlItemCause setting) AreRecorded
 recorded_kept setting before next cause are = record {
   known = known_kept setting before next cause are.known;
   current = current_kept setting before next cause are.current;

@@ -2,7 +2,7 @@
 -- or the neighbour has it or what is as new.
 use Rattle.std.proofs.Common.{[], ◌&&◌, ◌++◌, ◌<◌, ◌==◌, ◌∙◌, ◌∷◌, ◌≡◌, ◌≢◌, ◌≤◌, ◌⊎◌, Bool, IsFalse, IsTrue, List, None, Option, Some, ap, append-nil, append_assoc, arith, false, inl, inr, length, map, not, option_to_list, refl, subst, sym, true, ℕ, rules}
 use Rattle.base.proofs.Exports.{get_or-map-range_with_len, nat_tests, option_map_or}
-use Rattle.update_machine.specs.Exports.{Advert, Advertise, Body, Confirm, Crash, Deliver, HaveCauses, Item, LinkDown, LinkUp, Message, OpenAt, Packet, Place, Resend, Restart, Setting, Step, StepOfRow, Update, advert_known, advert_to, adverts_begun, adverts_heard, adverts_known, journal_after_steps, body_to_switch, deliver_items, delivery_items, is_news_to, is_to_controller, journal_items_then, link_changes, message_of, near, next_message, next_packet, nothing, own_advert, advert_passed_on, piece, send_items, serves, stamp_of, step_items, switch_items, switches_in, switches_of, to_switch}
+use Rattle.update_machine.specs.Exports.{Advert, Advertise, Body, Confirm, Crash, Deliver, JournalItemsHaveCauses, Item, LinkDown, LinkUp, Message, OpenAt, Packet, Place, Resend, Restart, Setting, Step, StepOfRow, Update, journal_advert_known, advert_to, journal_adverts_begun, journal_adverts_heard, journal_adverts_known, journal_after_steps, journal_body_to_switch, deliver_items, machine_delivery_items, is_journal_news_to, is_to_controller, journal_items_then, journal_link_changes, message_of, near, journal_next_message, journal_next_packet, nothing, own_advert, machine_advert_passed_on, piece, send_items, serves, journal_stamp_of, step_items, journal_switch_items, setting_switches_in, switches_of, machine_message_to_switch}
 use Rattle.failover.specs.Exports.{IsNewestAdvert, first_adverts, held_advert, is_newer, is_news}
 use Rattle.failover.proofs.FailoverHeldAdverts.{held-first}
 use Rattle.base.specs.Exports.{has}
@@ -26,19 +26,19 @@ pub record IsGivenOf (setting : Setting) (journal : List Item) (s origin : ℕ) 
   pub given : IsGiven setting journal s advert
 
 pub known_given : (setting : Setting) (journal : List Item) (s origin : ℕ) (advert : Advert)
-    → origin ≢ s → origin < 64 → advert_known setting journal s origin ≡ Some advert
+    → origin ≢ s → origin < 64 → journal_advert_known setting journal s origin ≡ Some advert
     → IsGivenOf setting journal s origin advert
 known_given setting journal s origin advert other small known = record {
   of = newest.3;
-  given = by_place (in_either advert begun (adverts_heard journal s) there);
+  given = by_place (in_either advert begun (journal_adverts_heard journal s) there);
 } where
   begun : List Advert
-  begun = option_to_list (held_advert (adverts_begun setting journal s) origin)
+  begun = option_to_list (held_advert (journal_adverts_begun setting journal s) origin)
 
-  newest : IsNewestAdvert origin (begun ++ adverts_heard journal s) (Some advert)
+  newest : IsNewestAdvert origin (begun ++ journal_adverts_heard journal s) (Some advert)
   newest = is_newest setting journal s origin advert other small known
 
-  there : IsIn advert (begun ++ adverts_heard journal s)
+  there : IsIn advert (begun ++ journal_adverts_heard journal s)
   there = rw newest.2 (in_right advert newest.0 (advert ∷ newest.1) (inl refl))
 
   by_option : (o : Option Advert) → IsIn advert (option_to_list o) → o ≡ Some advert
@@ -46,17 +46,17 @@ known_given setting journal s origin advert other small known = record {
   by_option (Some x) (inl same) = ap Some same
   by_option (Some x) (inr none) = absurd none
 
-  by_place : IsIn advert begun ⊎ IsIn advert (adverts_heard journal s)
+  by_place : IsIn advert begun ⊎ IsIn advert (journal_adverts_heard journal s)
       → IsGiven setting journal s advert
-  by_place (inl first) = inl (ap (held_advert (adverts_begun setting journal s)) newest.3
-      ∙ by_option (held_advert (adverts_begun setting journal s) origin) first)
+  by_place (inl first) = inl (ap (held_advert (journal_adverts_begun setting journal s)) newest.3
+      ∙ by_option (held_advert (journal_adverts_begun setting journal s) origin) first)
   by_place (inr told) = inr told
 
 -- ---- a delivery
 
 -- nothing is owed where no advert of another switch is delivered
 unowed : {since : ℕ} (setting : Setting) (here : List Item) (number : ℕ) (journal : List Item)
-    → ((s : ℕ) (advert : Advert) → body_to_switch here s number ≡ Some (Advertise advert) → ⊥)
+    → ((s : ℕ) (advert : Advert) → journal_body_to_switch here s number ≡ Some (Advertise advert) → ⊥)
     → HaveNews setting since (λ s neighbour advert. IsDelivered here number s advert) journal
     → Spread setting since journal
 unowed setting here number journal none have = owed_as setting _ (λ s neighbour advert. ⊥) journal
@@ -64,8 +64,8 @@ unowed setting here number journal none have = owed_as setting _ (λ s neighbour
 
 -- what isn't news to a switch it held as new
 held_as_new : (setting : Setting) (before : List Item) (s : ℕ) (a : Advert) → a.origin < 64
-    → is_news (adverts_known setting before s) a ≡ false
-    → (c : Advert) × (advert_known setting before s a.origin ≡ Some c) × IsFalse (is_newer a c)
+    → is_news (journal_adverts_known setting before s) a ≡ false
+    → (c : Advert) × (journal_advert_known setting before s a.origin ≡ Some c) × IsFalse (is_newer a c)
 unfolding is_news
 held_as_new setting before s a small none = search (rules, nat_tests)
 
@@ -73,14 +73,14 @@ held_as_new setting before s a small none = search (rules, nat_tests)
 advert_spread : {since : ℕ} (setting : Setting) (before : List Item) (row number : ℕ)
     (step : Step) (t : ℕ) (advert : Advert) → IsNet setting.net → let here = before ++ Item.Row row step ∷ [] in
     let now = here ++ Item.Delivered number ∷ [] in
-    since ≤ next_message now → body_to_switch here t number ≡ Some (Advertise advert)
-    → ((s : ℕ) (a : Advert) → body_to_switch here s number ≡ Some (Advertise a)
+    since ≤ journal_next_message now → journal_body_to_switch here t number ≡ Some (Advertise advert)
+    → ((s : ℕ) (a : Advert) → journal_body_to_switch here s number ≡ Some (Advertise a)
     → (s ≡ t) × (a ≡ advert)) → Spread setting since here
     → HaveNews setting since (λ s neighbour a. IsDelivered here number s a) now
-    → Spread setting since (now ++ switch_items setting before t (Advertise advert) now)
-unfolding switch_items
+    → Spread setting since (now ++ journal_switch_items setting before t (Advertise advert) now)
+unfolding journal_switch_items
 advert_spread {since = since} setting before row number step t advert net late said alone spread
-    have = by_news (is_news_to setting before t advert) refl
+    have = by_news (is_journal_news_to setting before t advert) refl
   where
     here : List Item
     here = before ++ Item.Row row step ∷ []
@@ -89,7 +89,7 @@ advert_spread {since = since} setting before row number step t advert net late s
     now = here ++ Item.Delivered number ∷ []
 
     messages : List Message
-    messages = advert_passed_on setting now t advert
+    messages = machine_advert_passed_on setting now t advert
 
     passed : (s neighbour : ℕ) (a : Advert)
         → IsTrue (has (near setting (now ++ send_items now messages) s) neighbour)
@@ -104,21 +104,21 @@ advert_spread {since = since} setting before row number step t advert net late s
           as_new = as_new_itself a;
           had = inr (sends_tell now messages neighbour a late
               (rw is.1 (in_map (λ k. advert_to k advert) neighbour
-              (switches_in setting (near setting now t)) (in_filter (has (near setting now t))
+              (setting_switches_in setting (near setting now t)) (in_filter (has (near setting now t))
               neighbour (switches_of setting) (in_range neighbour 0 (length setting.net.switches)
               (omega arith) (omega (arith, there))) near_now))));
         }
 
     -- it held one as new before
-    had_news : is_news_to setting before t advert ≡ false → (s neighbour : ℕ) (a : Advert)
+    had_news : is_journal_news_to setting before t advert ≡ false → (s neighbour : ℕ) (a : Advert)
         → IsTrue (has (near setting now s) neighbour) → a.origin ≢ neighbour
         → IsDelivered here number s a → HasNews setting since now neighbour a
     had_news none s neighbour a linked elsewhere owed =
         let is = alone s a owed.said in
         let apart : a.origin ≢ t = subst (λ u. a.origin ≢ u) is.0 owed.other in
         let not_own : (a.origin == t) ≡ false = grind (arith, nat_tests) in
-        let no_news = sym (ap (λ b. not b && is_news (adverts_known setting before t) a) not_own)
-        ∙ ap (is_news_to setting before t) is.1 ∙ none in
+        let no_news = sym (ap (λ b. not b && is_news (journal_adverts_known setting before t) a) not_own)
+        ∙ ap (is_journal_news_to setting before t) is.1 ∙ none in
         let best = held_as_new setting before t a owed.small no_news in
         let given = known_given setting before t a.origin best.0 apart owed.small best.1 in
         let near_here : IsTrue (has (near setting here t) neighbour) =
@@ -146,9 +146,9 @@ advert_spread {since = since} setting before row number step t advert net late s
               had = later.had;
             }
 
-    by_news : (b : Bool) → is_news_to setting before t advert ≡ b
+    by_news : (b : Bool) → is_journal_news_to setting before t advert ≡ b
         → Spread setting since (now ++ elim b [
-          | true ↦ send_items now (advert_passed_on setting now t advert)
+          | true ↦ send_items now (machine_advert_passed_on setting now t advert)
           | false ↦ []
         ])
     by_news true e = record {
@@ -170,11 +170,11 @@ advert_spread {since = since} setting before row number step t advert net late s
 open_spread : {since : ℕ} (setting : Setting) (before : List Item) (row number : ℕ)
     (step : Step) (t boot version : ℕ) → IsNet setting.net → let here = before ++ Item.Row row step ∷ [] in
     let now = here ++ Item.Delivered number ∷ [] in
-    since ≤ next_message now
-    → Has setting now (switch_items setting before t (OpenAt boot version) now) → IsKnown now
+    since ≤ journal_next_message now
+    → Has setting now (journal_switch_items setting before t (OpenAt boot version) now) → IsKnown now
     → Spread setting since now
-    → Spread setting since (now ++ switch_items setting before t (OpenAt boot version) now)
-unfolding switch_items
+    → Spread setting since (now ++ journal_switch_items setting before t (OpenAt boot version) now)
+unfolding journal_switch_items
 open_spread {since = since} setting before row number step t boot version net late =
     by_serving (serves before t)
   where
@@ -185,7 +185,7 @@ open_spread {since = since} setting before row number step t boot version net la
     now = here ++ Item.Delivered number ∷ []
 
     next : Item
-    next = Item.Opened t (stamp_of now t)
+    next = Item.Opened t (journal_stamp_of now t)
 
     near_now : (s : ℕ) → near setting now s ≡ near setting before s
     near_now s = near_stays setting s here (Item.Delivered number ∷ []) (refl, tt)
@@ -193,14 +193,14 @@ open_spread {since = since} setting before row number step t boot version net la
 
     by_serving : (b : Bool) → Has setting now (elim b [
       | true ↦ []
-      | false ↦ journal_items_then (next ∷ []) (link_changes setting before) now
+      | false ↦ journal_items_then (next ∷ []) (journal_link_changes setting before) now
     ]) → IsKnown now → Spread setting since now → Spread setting since (now ++ elim b [
       | true ↦ []
-      | false ↦ journal_items_then (next ∷ []) (link_changes setting before) now
+      | false ↦ journal_items_then (next ∷ []) (journal_link_changes setting before) now
     ])
     by_serving true causes known have = subst (Spread setting since) (sym (append-nil now)) have
     by_serving false causes known have = subst (Spread setting since) (append_assoc now
-        (next ∷ []) (link_changes setting before (now ++ next ∷ []))) (pay_links setting before
+        (next ∷ []) (journal_link_changes setting before (now ++ next ∷ []))) (pay_links setting before
         (now ++ next ∷ []) net (omega (arith, late, next_grows now (next ∷ []))) (link_news setting
         before now next near_now (record {
           first = causes.0;
@@ -209,7 +209,7 @@ open_spread {since = since} setting before row number step t boot version net la
 
 other_still : (setting : Setting) (before : List Item) (s : ℕ) (body : Body) (now : List Item)
     → ((boot version : ℕ) → body ≡ OpenAt boot version → ⊥)
-    → Still now (switch_items setting before s body now)
+    → Still now (journal_switch_items setting before s body now)
 other_still setting before s body now none = switch_cases (Still now) setting before s body now
     (λ boot version. sends_still now _) (λ boot version. sends_still now _)
     (λ boot version is. absurd (none boot version is)) (λ advert is news. sends_still now _) tt
@@ -219,13 +219,13 @@ said_spread : {since : ℕ} (setting : Setting) (before : List Item) (row number
     (step : Step) (t : ℕ) (body : Body) → IsNet setting.net
     → let here = before ++ Item.Row row step ∷ [] in
     let now = here ++ Item.Delivered number ∷ [] in
-    since ≤ next_message now → body_to_switch here t number ≡ Some body
-    → ((s : ℕ) (other : Body) → body_to_switch here s number ≡ Some other → (s ≡ t)
+    since ≤ journal_next_message now → journal_body_to_switch here t number ≡ Some body
+    → ((s : ℕ) (other : Body) → journal_body_to_switch here s number ≡ Some other → (s ≡ t)
     × (other ≡ body))
-    → Has setting now (switch_items setting before t body now) → IsKnown now
+    → Has setting now (journal_switch_items setting before t body now) → IsKnown now
     → Spread setting since here
     → HaveNews setting since (λ s neighbour a. IsDelivered here number s a) now
-    → Spread setting since (now ++ switch_items setting before t body now)
+    → Spread setting since (now ++ journal_switch_items setting before t body now)
 said_spread setting before row number step t (Advertise advert) net late said alone causes known
     spread have = advert_spread setting before row number step t advert net late said
     (λ s a told. let is = alone s (Advertise a) told in (is.0, same_advert a _ is.1)) spread have
@@ -245,8 +245,8 @@ said_spread setting before row number step t body net late said alone causes kno
 -- ---- deliveries that say nothing to a switch
 
 unsent_items : (setting : Setting) (before : List Item) (number : ℕ) (now : List Item)
-    → message_of before number ≡ None → delivery_items setting before number now ≡ []
-unfolding delivery_items
+    → message_of before number ≡ None → machine_delivery_items setting before number now ≡ []
+unfolding machine_delivery_items
 unsent_items setting before number now none = search rules
 
 abbrev receiver_or : Place → ℕ
@@ -255,7 +255,7 @@ receiver_or Place.Controller = 0
 
 deliver_spread : {since : ℕ} (setting : Setting) (before : List Item) (row number : ℕ) (step : Step)
     → IsNet setting.net → let here = before ++ Item.Row row step ∷ [] in
-    since ≤ next_message here → IsKnown here → Spread setting since here
+    since ≤ journal_next_message here → IsKnown here → Spread setting since here
     → Spread setting since (here ++ deliver_items setting before number here)
 deliver_spread {since = since} setting before row number step net late known spread =
     deliver_cases (Spread setting since) setting before number here
@@ -271,21 +271,21 @@ deliver_spread {since = since} setting before row number step net late known spr
     have = delivered_news setting here number spread
 
     -- what is said was sent to the switch
-    sent_of : (s : ℕ) (body : Body) → body_to_switch here s number ≡ Some body
-        → message_of before number ≡ Some (to_switch s body)
+    sent_of : (s : ℕ) (body : Body) → journal_body_to_switch here s number ≡ Some body
+        → message_of before number ≡ Some (machine_message_to_switch s body)
     sent_of s body said = (said_parts _ s _ body (sym (said_row _ row s number step) ∙ said)).sent
 
     -- where nothing is said to a switch the rest is still
-    silent : Still now (delivery_items setting before number now)
-        → ((s : ℕ) (body : Body) → body_to_switch here s number ≡ Some body → ⊥)
-        → Spread setting since (now ++ delivery_items setting before number now)
+    silent : Still now (machine_delivery_items setting before number now)
+        → ((s : ℕ) (body : Body) → journal_body_to_switch here s number ≡ Some body → ⊥)
+        → Spread setting since (now ++ machine_delivery_items setting before number now)
     silent still none = still_spread setting now _ still
         (unowed setting here number now (λ s advert said. none s (Advertise advert) said) have)
 
-    to_switch_alone : (t : ℕ) (body : Body) → body_to_switch here t number ≡ Some body → (s : ℕ)
-        (other : Body) → body_to_switch here s number ≡ Some other → (s ≡ t) × (other ≡ body)
+    to_switch_alone : (t : ℕ) (body : Body) → journal_body_to_switch here t number ≡ Some body → (s : ℕ)
+        (other : Body) → journal_body_to_switch here s number ≡ Some other → (s ≡ t) × (other ≡ body)
     to_switch_alone t body said s other told =
-        let same : Some (to_switch s other) ≡ Some (to_switch t body) =
+        let same : Some (machine_message_to_switch s other) ≡ Some (machine_message_to_switch t body) =
         sym (sent_of s other told) ∙ sent_of t body said in (
           ap (λ (o : Option Message). option_map_or (λ m. receiver_or m.to) o 0) same,
           ap (λ (o : Option Message). option_map_or (λ m. m.body) o body) same,
@@ -293,23 +293,23 @@ deliver_spread {since = since} setting before row number step net late known spr
 
     by_receiver : (to : Place) (body : Body)
         → message_of before number ≡ Some (record { to = to; body = body })
-        → Spread setting since (now ++ delivery_items setting before number now)
+        → Spread setting since (now ++ machine_delivery_items setting before number now)
     by_receiver Place.Controller body e = silent (rw (delivery_told _ before number body now e)
         (control_still now _ (controller_control setting before body now)))
         (λ s other said. let clash : false ≡ true = ap (λ (o : Option Message). option_map_or
         (λ m. is_to_controller m.to) o false) (sym (sent_of s other said) ∙ e) in
         absurd cc)
-    by_receiver (Place.Switch t) body e = by_said (body_to_switch here t number) refl where
-      by_said : (o : Option Body) → body_to_switch here t number ≡ o
-          → Spread setting since (now ++ delivery_items setting before number now)
+    by_receiver (Place.Switch t) body e = by_said (journal_body_to_switch here t number) refl where
+      by_said : (o : Option Body) → journal_body_to_switch here t number ≡ o
+          → Spread setting since (now ++ machine_delivery_items setting before number now)
       by_said None f = silent (rw (nothing_said f) tt) (λ s other said.
           let at : s ≡ t = ap (λ (o : Option Message). option_map_or (λ m. receiver_or m.to) o 0)
           (sym (sent_of s other said) ∙ e) in
-          let clash = sym f ∙ ap (λ u. body_to_switch here u number) (sym at) ∙ said in
+          let clash = sym f ∙ ap (λ u. journal_body_to_switch here u number) (sym at) ∙ said in
           absurd cc)
         where
-          nothing_said : body_to_switch here t number ≡ None
-              → delivery_items setting before number now ≡ []
+          nothing_said : journal_body_to_switch here t number ≡ None
+              → machine_delivery_items setting before number now ≡ []
           nothing_said f = sent_items _ _ _ t body now e None (sym (said_row _ row t _ step) ∙ f)
       by_said (Some told) f = rw (delivery_is setting before number now t told
           (sym (said_row before row t number step) ∙ f)) (said_spread setting before row number step
@@ -318,19 +318,19 @@ deliver_spread {since = since} setting before row number step net late known spr
           (known_kept setting here (Item.Delivered number) tt known) spread have)
 
     by_message : (o : Option Message) → message_of before number ≡ o
-        → Spread setting since (now ++ delivery_items setting before number now)
+        → Spread setting since (now ++ machine_delivery_items setting before number now)
     by_message None e = silent (rw (unsent_items setting before number now e) tt) (λ s other said.
-        let clash : None ≡ Some (to_switch s other) = sym e ∙ sent_of s other said in absurd cc)
+        let clash : None ≡ Some (machine_message_to_switch s other) = sym e ∙ sent_of s other said in absurd cc)
     by_message (Some message) e = by_receiver message.to message.body e
 
 -- ---- steps
 
 step_spread : {since : ℕ} (setting : Setting) (before : List Item) (row : ℕ) (step : Step) → IsNet setting.net
     → let here = before ++ Item.Row row step ∷ [] in
-    since ≤ next_message here → IsKnown here → Spread setting since here
+    since ≤ journal_next_message here → IsKnown here → Spread setting since here
     → Spread setting since (here ++ step_items setting before step here)
 step_spread setting before row (Packet s header) net = λ late known have. still_spread setting _ _
-    (packet_works setting IsStill (work_is_still setting) (next_packet before) s header _ tt) have
+    (packet_works setting IsStill (work_is_still setting) (journal_next_packet before) s header _ tt) have
 step_spread setting before row (Deliver number) net = deliver_spread setting before row number _ net
 step_spread setting before row (Update file) net = λ late known have. still_spread setting _ _
     (update_has IsStill control_is_still setting file _ (λ version. tt)) have
@@ -346,7 +346,7 @@ step_spread setting before row step net = λ late known have.
     still_spread setting _ _ (work_still setting _ _ (step_work setting before step _ tt)) have
 
 piece_spread : {since : ℕ} (setting : Setting) (before : List Item) (row : ℕ) (step : Step)
-    → IsNet setting.net → since ≤ next_message before → IsKnown before → Spread setting since before
+    → IsNet setting.net → since ≤ journal_next_message before → IsKnown before → Spread setting since before
     → Spread setting since (before ++ piece setting before row step)
 piece_spread {since = since} setting before row step net late known have =
     let next : Item = Item.Row row step in
@@ -355,7 +355,7 @@ piece_spread {since = since} setting before row step net late known have =
     next tt known) (still_spread setting before (next ∷ []) (tt, tt) have))
 
 pub steps_spread : {since : ℕ} (setting : Setting) (before : List Item) (steps : List StepOfRow)
-    → IsNet setting.net → since ≤ next_message before → HaveCauses (IsInOrder setting) [] before
+    → IsNet setting.net → since ≤ journal_next_message before → JournalItemsHaveCauses (IsInOrder setting) [] before
     → Spread setting since before → Spread setting since (journal_after_steps setting before steps)
 steps_spread setting before [] net late causes have = have
 steps_spread setting before (next ∷ steps) net late causes have = steps_spread setting
@@ -366,13 +366,13 @@ steps_spread setting before (next ∷ steps) net late causes have = steps_spread
 
 -- ---- the beginning
 
-begun_first : (setting : Setting) (s : ℕ) → adverts_begun setting [] s ≡ first_adverts
+begun_first : (setting : Setting) (s : ℕ) → journal_adverts_begun setting [] s ≡ first_adverts
     (map (links_of setting.net.links) (switches_of setting)) (length setting.net.switches)
 begun_first setting s = rw (start_laws.up s, start_laws.boot s) refl
 
 -- each switch begins with the first advert of each one
 has_first : (setting : Setting) (s neighbour : ℕ) → s < length setting.net.switches → s < 64
-    → held_advert (adverts_begun setting [] neighbour) s ≡ Some (own_advert setting [] s)
+    → held_advert (journal_adverts_begun setting [] neighbour) s ≡ Some (own_advert setting [] s)
 has_first setting s neighbour there small =
     search (rules, nat_tests, begun_first, held-first, get_or-map-range_with_len, start_laws)
 
@@ -388,8 +388,8 @@ first_spread {since = since} setting net = record {
   by_had : (s neighbour : ℕ) (a : Advert) → s < length setting.net.switches
       → IsHad setting [] s a → HasNews setting since [] neighbour a
   by_had s neighbour a there (inl own) = given_news neighbour a (inl (
-      ap (λ (b : Advert). held_advert (adverts_begun setting [] neighbour) b.origin) own
-      ∙ ap (held_advert (adverts_begun setting [] neighbour)) (own_origin setting [] s)
+      ap (λ (b : Advert). held_advert (journal_adverts_begun setting [] neighbour) b.origin) own
+      ∙ ap (held_advert (journal_adverts_begun setting [] neighbour)) (own_origin setting [] s)
       ∙ has_first setting s neighbour there (omega (arith, there, net.few_switches))
       ∙ ap Some (sym own)))
   by_had s neighbour a there (inr of) = by_given of.given where

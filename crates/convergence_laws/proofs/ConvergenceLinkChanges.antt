@@ -4,7 +4,7 @@ use Rattle.base.specs.Exports.{has, switches}
 use Rattle.net_file.specs.Exports.{IsNet}
 use Rattle.net_file.proofs.NetFilePortMasks.{in_mask_of}
 use Rattle.net_file.proofs.NetFileRowPlaces.{linked_turn, links}
-use Rattle.update_machine.specs.Exports.{Advert, HaveCauses, Item, Message, Setting, advert_known, advert_to, adverts_begun, adverts_heard, adverts_known, boot_of, usable_links_changed, heard, held_adverts, is_up, link_changes, messages_of, messages_over_link, near, next_message, own_advert, own_seq, send_items, serves, switches_in, switches_of}
+use Rattle.update_machine.specs.Exports.{Advert, JournalItemsHaveCauses, Item, Message, Setting, journal_advert_known, advert_to, journal_adverts_begun, journal_adverts_heard, journal_adverts_known, journal_boot_of, journal_usable_links_changed, heard, journal_held_adverts, is_up, journal_link_changes, machine_messages_of, machine_messages_over_link, near, journal_next_message, own_advert, journal_own_seq, send_items, serves, setting_switches_in, switches_of}
 use Rattle.control_laws.proofs.Exports.{AdvertGoesOn, HasBothCauses, IsKnown, boot_more, ends_serve, heard_more, is_delivered, known_kept, linked_by_mask, near_linked, own_on, same_near, sends_any, serving_more, turns, up_more}
 use Rattle.base.proofs.Exports.{nat_tests}
 use Rattle.failover.specs.Exports.{IsNewestAdvert, held_advert, is_newer}
@@ -33,27 +33,27 @@ older a b newer = grind (arith, nat_tests)
 pub record IsHeldAsNew (setting : Setting) (journal : List Item) (s : ℕ) (than : Advert)
     : Type 0 where
   pub advert : Advert
-  pub held : advert_known setting journal s than.origin ≡ Some advert
+  pub held : journal_advert_known setting journal s than.origin ≡ Some advert
   pub as_new : IsAsNew advert than
 
 pub newest_held : (setting : Setting) (journal : List Item) (s : ℕ) (a : Advert)
     → IsOther setting journal s a → IsHeldAsNew setting journal s a
-newest_held setting journal s a of = by_known (advert_known setting journal s a.origin) refl
+newest_held setting journal s a of = by_known (journal_advert_known setting journal s a.origin) refl
     (known_link_laws.newest setting journal s a.origin of.other of.small)
   where
     begun : List Advert
-    begun = option_to_list (held_advert (adverts_begun setting journal s) a.origin)
+    begun = option_to_list (held_advert (journal_adverts_begun setting journal s) a.origin)
 
-    there : IsIn a (begun ++ adverts_heard journal s)
+    there : IsIn a (begun ++ journal_adverts_heard journal s)
     there = elim of.given [
-      | inl given ↦ in_left a begun (adverts_heard journal s) (rw given (inl refl))
-      | inr told ↦ in_right a begun (adverts_heard journal s) told
+      | inl given ↦ in_left a begun (journal_adverts_heard journal s) (rw given (inl refl))
+      | inr told ↦ in_right a begun (journal_adverts_heard journal s) told
     ]
 
-    by_known : (o : Option Advert) → advert_known setting journal s a.origin ≡ o
-        → IsNewestAdvert a.origin (begun ++ adverts_heard journal s) o → IsHeldAsNew setting journal s a
+    by_known : (o : Option Advert) → journal_advert_known setting journal s a.origin ≡ o
+        → IsNewestAdvert a.origin (begun ++ journal_adverts_heard journal s) o → IsHeldAsNew setting journal s a
     by_known None e newest = absurd (all_in (λ (b : Advert). b.origin ≢ a.origin) a
-        (begun ++ adverts_heard journal s) newest there refl)
+        (begun ++ journal_adverts_heard journal s) newest there refl)
     by_known (Some best) e newest = record {
       advert = best;
       held = e;
@@ -72,16 +72,16 @@ newest_held setting journal s a of = by_known (advert_known setting journal s a.
           newest.5 after refl
 
 pub held_in : (setting : Setting) (journal : List Item) (s origin : ℕ) (advert : Advert)
-    → origin < 64 → advert_known setting journal s origin ≡ Some advert
-    → IsIn advert (held_adverts setting journal s)
-unfolding held_adverts switches
+    → origin < 64 → journal_advert_known setting journal s origin ≡ Some advert
+    → IsIn advert (journal_held_adverts setting journal s)
+unfolding journal_held_adverts switches
 held_in setting journal s origin advert small known =
-    in_filter_map (held_advert (adverts_known setting journal s)) origin advert switches
+    in_filter_map (held_advert (journal_adverts_known setting journal s)) origin advert switches
     (in_range origin 0 64 (omega arith) (omega (arith, small))) known
 
 pub own_held : (setting : Setting) (journal : List Item) (s : ℕ) → s < 64
-    → 1 ≤ own_seq setting journal s
-    → advert_known setting journal s s ≡ Some (own_advert setting journal s)
+    → 1 ≤ journal_own_seq setting journal s
+    → journal_advert_known setting journal s s ≡ Some (own_advert setting journal s)
 unfolding own_advert
 own_held setting journal s small told = search (rules, nat_tests, known_link_laws)
 
@@ -93,7 +93,7 @@ serving_turns before next s e = search (rules, serving_more)
 
 record LivesOn (before : List Item) (next : Item) (s : ℕ) : Type 0 where
   up : is_up (before ++ next ∷ []) s ≡ is_up before s
-  boot : boot_of (before ++ next ∷ []) s ≡ boot_of before s
+  boot : journal_boot_of (before ++ next ∷ []) s ≡ journal_boot_of before s
   bodies : heard (before ++ next ∷ []) s ≡ heard before s
 
 lives_on : (before : List Item) (next : Item) (s : ℕ) → is_delivered next ≡ false
@@ -126,8 +126,8 @@ serving_lives before next s none serving = by_turn (turns s next) refl where
 -- a switch whose links changed owes its neighbours its own advert, and new ones all that it holds
 pub record IsOwed (setting : Setting) (before now : List Item) (s neighbour : ℕ) (advert : Advert)
     : Type 0 where
-  pub changed : IsTrue (usable_links_changed setting before now s)
-  pub told : 1 ≤ own_seq setting now s
+  pub changed : IsTrue (journal_usable_links_changed setting before now s)
+  pub told : 1 ≤ journal_own_seq setting now s
   pub had : IsHad setting now s advert
   pub which : (advert ≡ own_advert setting now s) ⊎ IsFalse (has (near setting before s) neighbour)
 
@@ -181,7 +181,7 @@ link_news {since = since} setting before here next links_same both none known ha
     ]
 
     seq_now : (s : ℕ) → serves now s ≡ true
-        → (near setting before s == near setting now s) ≡ false → 1 ≤ own_seq setting now s
+        → (near setting before s == near setting now s) ≡ false → 1 ≤ journal_own_seq setting now s
     seq_now s serving apart = elim (goes_on s serving) [
       | inl stays ↦ absurd (cc (sym (eq-eqb (near setting before s) (near setting now s)
           (sym (links_same s) ∙ sym (same_near setting now here s stays))) ∙ apart))
@@ -235,7 +235,7 @@ link_news {since = since} setting before here next links_same both none known ha
 -- ---- the debt is paid
 
 pub sends_still : (journal : List Item) (messages : List Message)
-    → HaveCauses IsStill journal (send_items journal messages)
+    → JournalItemsHaveCauses IsStill journal (send_items journal messages)
 sends_still = sends_any IsStill (λ before n message. tt)
 
 pub sends_near : (setting : Setting) (journal : List Item) (messages : List Message) (s : ℕ)
@@ -269,7 +269,7 @@ record TellsAsNew (messages : List Message) (to : ℕ) (than : Advert) : Type 0 
 
 over_tells : (setting : Setting) (before now : List Item) (s neighbour : ℕ) (a : Advert)
     → s < 64 → IsOwed setting before now s neighbour a
-    → TellsAsNew (messages_over_link setting before now s neighbour) neighbour a
+    → TellsAsNew (machine_messages_over_link setting before now s neighbour) neighbour a
 over_tells setting before now s neighbour a small owed =
     by_old (has (near setting before s) neighbour) refl owed.which owed.had
   where
@@ -283,7 +283,7 @@ over_tells setting before now s neighbour a small owed =
         → (a ≡ own) ⊎ IsFalse (has (near setting before s) neighbour) → IsHad setting now s a
         → TellsAsNew (elim b [
           | true ↦ advert_to neighbour own ∷ []
-          | false ↦ map (advert_to neighbour) (held_adverts setting now s)
+          | false ↦ map (advert_to neighbour) (journal_held_adverts setting now s)
         ]) neighbour a
     by_old true e (inl same) had = record { advert = own; as_new = is_own same; is = inl refl }
     by_old true e (inr new) had = let clash : true ≡ false = sym e ∙ new in absurd cc
@@ -299,9 +299,9 @@ over_tells setting before now s neighbour a small owed =
     }
 
 pub pay_links : {since : ℕ} (setting : Setting) (before now : List Item) → IsNet setting.net
-    → since ≤ next_message now → HaveNews setting since (IsOwed setting before now) now
-    → HaveNews setting since (λ s neighbour advert. ⊥) (now ++ link_changes setting before now)
-unfolding link_changes
+    → since ≤ journal_next_message now → HaveNews setting since (IsOwed setting before now) now
+    → HaveNews setting since (λ s neighbour advert. ⊥) (now ++ journal_link_changes setting before now)
+unfolding journal_link_changes
 pay_links {since = since} setting before now net late have = record {
   each = λ s neighbour a linked had other. elim (kept.each s neighbour a linked had other) [
     | inl owed ↦ inr (paid s neighbour a (rw (sends_near setting now messages s) at linked) owed)
@@ -309,8 +309,8 @@ pay_links {since = since} setting before now net late have = record {
   ];
 } where
   messages : List Message
-  messages = flat_map (messages_of setting before now)
-      (filter (usable_links_changed setting before now) (switches_of setting))
+  messages = flat_map (machine_messages_of setting before now)
+      (filter (journal_usable_links_changed setting before now) (switches_of setting))
 
   after : List Item
   after = now ++ send_items now messages
@@ -328,12 +328,12 @@ pay_links {since = since} setting before now net late have = record {
         advert = tells.advert;
         as_new = tells.as_new;
         had = inr (sends_tell now messages neighbour tells.advert late
-            (in_flat_map (messages_of setting before now) s (advert_to neighbour tells.advert)
-            (filter (usable_links_changed setting before now) (switches_of setting))
-            (in_filter (usable_links_changed setting before now) s (switches_of setting) (in_range s 0
+            (in_flat_map (machine_messages_of setting before now) s (advert_to neighbour tells.advert)
+            (filter (journal_usable_links_changed setting before now) (switches_of setting))
+            (in_filter (journal_usable_links_changed setting before now) s (switches_of setting) (in_range s 0
             (length setting.net.switches) (omega arith) (omega (arith, ends.one))) owed.changed)
-            (in_flat_map (messages_over_link setting before now s) neighbour
-            (advert_to neighbour tells.advert) (switches_in setting (near setting now s)) (in_filter
+            (in_flat_map (machine_messages_over_link setting before now s) neighbour
+            (advert_to neighbour tells.advert) (setting_switches_in setting (near setting now s)) (in_filter
             (has (near setting now s)) neighbour (switches_of setting) (in_range neighbour 0 (length
             setting.net.switches) (omega arith) (omega (arith, ends.other))) linked) tells.is)));
       }

@@ -3,9 +3,9 @@
 use Rattle.std.proofs.Common.{[], if◌then◌else◌, ◌++◌, ◌+◌, ◌<◌, ◌==◌, ◌||◌, ◌∙◌, ◌∷◌, ◌≡◌, ◌≤◌, ◌⊎◌, Bool, IfSome, IsFalse, IsTrue, List, None, Option, Some, ap, append-nil, append_assoc, arith, eq-eqb, eqb-true, false, inl, inr, refl, subst, sym, true, ℕ, rules}
 use Rattle.base.proofs.Exports.{AllByRecursion, IfSome_then, each_append, nat_tests, option_map_or, ⊤}
 use Rattle.ctrl_msg.specs.Exports.{body_boot, to_controller}
-use Rattle.update_machine.specs.Exports.{Body, HaveCauses, Item, Message, Place, Sending, Setting, TakesNextNumber, body_to_controller, body_to_switch, receiver_boot_at, boot_of, controller_heard, heard, is_deliverable, is_delivery, is_for_boot, is_forgetting, is_forgotten, is_sending, is_up, message_of, next_message, send_items, sendings, sent_from, to_switch, was_delivered}
+use Rattle.update_machine.specs.Exports.{Body, JournalItemsHaveCauses, Item, Message, Place, Sending, Setting, MachineTakesNextNumber, journal_body_to_controller, journal_body_to_switch, journal_receiver_boot_at, journal_boot_of, controller_heard, heard, is_deliverable, is_delivery_item, journal_body_for_boot, is_forgetting, is_forgotten_in_journal, is_sending, is_up, message_of, journal_next_message, send_items, sendings, machine_sent_items_from, machine_message_to_switch, was_delivered}
 use Rattle.update_machine.proofs.Exports.{PiecesHave, count_of_append, folded_append, next_rises, piece_next, start_laws}
-use Rattle.control_laws.specs.Exports.{HasItemCause}
+use Rattle.control_laws.specs.Exports.{HasControlItemCause}
 use Rattle.control_laws.proofs.Exports.{AreKept, Both, GoesOn, IsKnown, boot_more, boot_rises, counted_more, each_weaker, fact_on, goes_on, have_both, heard_more, known_at_first, known_kept, message_more, some_more, told_more, turns}
 use Rattle.control_laws.proofs.ControlPieceCauses as boots
 use Rattle.convergence_laws.proofs.ConvergencePlainItems.{IsIn, in_left, in_right}
@@ -16,7 +16,7 @@ use Rattle.convergence_laws.proofs.ConvergencePlainItems as plain
 -- the sending of an item
 abbrev pub sent_by : List Item → Item → List Sending
 sent_by before (Item.Sent number message) =
-    record { number = number; message = message; boot = receiver_boot_at before message.to } ∷ []
+    record { number = number; message = message; boot = journal_receiver_boot_at before message.to } ∷ []
 sent_by before _ = []
 
 pub sendings_more : (before : List Item) (next : Item)
@@ -49,19 +49,19 @@ sent_on journal (next ∷ items) message sent = rw (append_assoc journal (next �
 pub sent_now : (before : List Item) (number : ℕ) (message : Message)
     → IsSent (before ++ Item.Sent number message ∷ []) message
 sent_now before number message = record {
-  sending = record { number = number; message = message; boot = receiver_boot_at before message.to };
+  sending = record { number = number; message = message; boot = journal_receiver_boot_at before message.to };
   is = rw (sendings_more before _) (in_right _ (sendings before) _ (inl refl));
   of = refl;
 }
 
 -- each of these messages is sent
 pub all_sent : (journal : List Item) (n : ℕ) (messages : List Message) (message : Message)
-    → IsIn message messages → IsSent (journal ++ sent_from n messages) message
-unfolding sent_from
+    → IsIn message messages → IsSent (journal ++ machine_sent_items_from n messages) message
+unfolding machine_sent_items_from
 all_sent journal n [] message is = absurd is
 all_sent journal n (first ∷ messages) message is = let next : Item = Item.Sent n first in
     subst (λ now. IsSent now message)
-    (append_assoc journal (next ∷ []) (sent_from (n + 1) messages))
+    (append_assoc journal (next ∷ []) (machine_sent_items_from (n + 1) messages))
     (elim is [
       | inl here ↦ sent_on _ _ _ (subst (IsSent (journal ++ next ∷ [])) here (sent_now _ n first))
       | inr later ↦ all_sent (journal ++ next ∷ []) (n + 1) messages message later
@@ -69,32 +69,32 @@ all_sent journal n (first ∷ messages) message is = let next : Item = Item.Sent
 
 pub sends_all : (journal : List Item) (messages : List Message) (message : Message)
     → IsIn message messages → IsSent (journal ++ send_items journal messages) message
-sends_all journal messages message is = all_sent journal (next_message journal) messages message is
+sends_all journal messages message is = all_sent journal (journal_next_message journal) messages message is
 
 -- ---- what one more item makes of numbers and deliveries
 
-next_more : (before : List Item) (next : Item) → next_message (before ++ next ∷ [])
-    ≡ (if is_sending next then next_message before + 1 else next_message before)
-unfolding next_message
+next_more : (before : List Item) (next : Item) → journal_next_message (before ++ next ∷ [])
+    ≡ (if is_sending next then journal_next_message before + 1 else journal_next_message before)
+unfolding journal_next_message
 next_more before next = counted_more is_sending before next
 
-pub next_first : (journal : List Item) → 1 ≤ next_message journal
-unfolding next_message
+pub next_first : (journal : List Item) → 1 ≤ journal_next_message journal
+unfolding journal_next_message
 next_first journal = omega arith
 
 pub delivered_more : (before : List Item) (next : Item) (n : ℕ)
-    → was_delivered (before ++ next ∷ []) n ≡ (is_delivery n next || was_delivered before n)
+    → was_delivered (before ++ next ∷ []) n ≡ (is_delivery_item n next || was_delivered before n)
 unfolding was_delivered
-delivered_more before next n = some_more (is_delivery n) before next
+delivered_more before next n = some_more (is_delivery_item n) before next
 
 pub forgotten_more : (before : List Item) (next : Item) (n : ℕ)
-    → is_forgotten (before ++ next ∷ []) n ≡ (is_forgetting n next || is_forgotten before n)
-unfolding is_forgotten
+    → is_forgotten_in_journal (before ++ next ∷ []) n ≡ (is_forgetting n next || is_forgotten_in_journal before n)
+unfolding is_forgotten_in_journal
 forgotten_more before next n = some_more (is_forgetting n) before next
 
 -- numbers of messages never fall
-pub next_grows : (journal items : List Item) → next_message journal ≤ next_message (journal ++ items)
-unfolding next_message
+pub next_grows : (journal items : List Item) → journal_next_message journal ≤ journal_next_message (journal ++ items)
+unfolding journal_next_message
 next_grows journal items = omega (arith, count_of_append is_sending journal items)
 
 -- ---- what becomes of a message
@@ -102,10 +102,10 @@ next_grows journal items = omega (arith, count_of_append is_sending journal item
 -- the boot in which it was sent to the switch isn't above the switch's, nor is that of its body
 -- above it; delivered in that boot it was heard
 pub record SwitchCourse (journal : List Item) (s : ℕ) (x : Sending) : Type 0 where
-  pub own : x.boot ≤ boot_of journal s
+  pub own : x.boot ≤ journal_boot_of journal s
   pub past : IfSome (body_boot x.message.body) (λ boot. boot ≤ x.boot)
-  pub heard : IsTrue (is_up journal s) → x.boot ≡ boot_of journal s
-      → IsTrue (is_for_boot x.boot x.message.body) → IsTrue (was_delivered journal x.number)
+  pub heard : IsTrue (is_up journal s) → x.boot ≡ journal_boot_of journal s
+      → IsTrue (journal_body_for_boot x.boot x.message.body) → IsTrue (was_delivered journal x.number)
       → IsIn x.message.body (heard journal s)
 
 abbrev pub Course : List Item → Place → Sending → Type 0
@@ -115,7 +115,7 @@ Course journal Place.Controller x =
 
 pub record IsTraced (journal : List Item) (x : Sending) : Type 0 where
   pub first : 1 ≤ x.number
-  pub number : x.number < next_message journal
+  pub number : x.number < journal_next_message journal
   pub message : message_of journal x.number ≡ Some x.message
   pub course : Course journal x.message.to x
 
@@ -123,9 +123,9 @@ pub record IsTraced (journal : List Item) (x : Sending) : Type 0 where
 pub record AreTraced (journal : List Item) : Type 0 where
   pub known : IsKnown journal
   pub sent : (n : ℕ) (message : Message) → message_of journal n ≡ Some message
-      → n < next_message journal
-  pub delivered : (n : ℕ) → IsTrue (was_delivered journal n) → n < next_message journal
-  pub forgotten : (n : ℕ) → IsTrue (is_forgotten journal n) → n < next_message journal
+      → n < journal_next_message journal
+  pub delivered : (n : ℕ) → IsTrue (was_delivered journal n) → n < journal_next_message journal
+  pub forgotten : (n : ℕ) → IsTrue (is_forgotten_in_journal journal n) → n < journal_next_message journal
   pub each : AllByRecursion (IsTraced journal) (sendings journal)
 
 -- ---- causes
@@ -156,21 +156,21 @@ sent_first_others = record {
 
 -- the causes of items: they take the next numbers, and what is delivered or forgotten was sent
 abbrev pub IsInOrder : Setting → List Item → Item → Type 0
-IsInOrder setting = Both (HasItemCause setting) (Both TakesNextNumber IsSentFirst)
+IsInOrder setting = Both (HasControlItemCause setting) (Both MachineTakesNextNumber IsSentFirst)
 
 pub pieces_in_order : (setting : Setting) → PiecesHave (IsInOrder setting) setting
-pieces_in_order setting journal row step = have_both (HasItemCause setting) _ journal _
+pieces_in_order setting journal row step = have_both (HasControlItemCause setting) _ journal _
     (boots.pieces_have setting journal row step) (have_both _ _ _ _ (piece_next _ journal row step)
     (plain.pieces_have IsSentFirst sent_first_others plain_sent_first setting journal row step))
 
 -- ---- items keep it
 
-number_on : (before : List Item) (next : Item) (x : Sending) → x.number < next_message before
-    → x.number < next_message (before ++ next ∷ [])
+number_on : (before : List Item) (next : Item) (x : Sending) → x.number < journal_next_message before
+    → x.number < journal_next_message (before ++ next ∷ [])
 number_on before next x below = omega (arith, below, next_rises before next)
 
-message_on : (before : List Item) (next : Item) (x : Sending) → TakesNextNumber before next
-    → x.number < next_message before → message_of before x.number ≡ Some x.message
+message_on : (before : List Item) (next : Item) (x : Sending) → MachineTakesNextNumber before next
+    → x.number < journal_next_message before → message_of before x.number ≡ Some x.message
     → message_of (before ++ next ∷ []) x.number ≡ Some x.message
 message_on before (Item.Sent number message) x takes below is =
     let apart : (number == x.number) ≡ false = grind (arith, nat_tests) in
@@ -194,13 +194,13 @@ heard_grows before next s body same is = rw (heard_more before next s) is
 
 -- what is delivered to the switch in its boot it hears
 delivery_heard : (before : List Item) (s number : ℕ) (body : Body)
-    → message_of before number ≡ Some (to_switch s body) → IsTrue (is_up before s)
-    → IsTrue (is_for_boot (boot_of before s) body)
+    → message_of before number ≡ Some (machine_message_to_switch s body) → IsTrue (is_up before s)
+    → IsTrue (journal_body_for_boot (journal_boot_of before s) body)
     → IsIn body (heard (before ++ Item.Delivered number ∷ []) s)
 delivery_heard before s number body sent up own =
-    let for_it : is_for_boot (boot_of before s) body ≡ true = own in
-    let said : body_to_switch before s number ≡ Some body =
-    rw (sent, eq-eqb s s refl, up, for_it, body_to_switch) refl in
+    let for_it : journal_body_for_boot (journal_boot_of before s) body ≡ true = own in
+    let said : journal_body_to_switch before s number ≡ Some body =
+    rw (sent, eq-eqb s s refl, up, for_it, journal_body_to_switch) refl in
     rw (heard_more before (Item.Delivered number) s, said)
     (in_right body (heard before s) (body ∷ []) (inl refl))
 
@@ -208,7 +208,7 @@ delivery_told : (before : List Item) (number : ℕ) (body : Body)
     → message_of before number ≡ Some (to_controller body)
     → IsIn body (controller_heard (before ++ Item.Delivered number ∷ []))
 delivery_told before number body sent =
-    let said : body_to_controller before number ≡ Some body = rw (sent, body_to_controller) refl in
+    let said : journal_body_to_controller before number ≡ Some body = rw (sent, journal_body_to_controller) refl in
     rw (told_more before (Item.Delivered number), said)
     (in_right body (controller_heard before) (body ∷ []) (inl refl))
 
@@ -219,9 +219,9 @@ delivered_either : (before : List Item) (number n : ℕ)
 delivered_either before number n delivered = search (rules, delivered_more, eqb-true)
 
 switch_heard : (before : List Item) (next : Item) (s : ℕ) (x : Sending) (to : Message)
-    → to ≡ to_switch s x.message.body → message_of before x.number ≡ Some to
+    → to ≡ machine_message_to_switch s x.message.body → message_of before x.number ≡ Some to
     → GoesOn before next s x.boot → SwitchCourse before s x
-    → IsTrue (is_for_boot x.boot x.message.body)
+    → IsTrue (journal_body_for_boot x.boot x.message.body)
     → IsTrue (was_delivered (before ++ next ∷ []) x.number)
     → IsIn x.message.body (heard (before ++ next ∷ []) s)
 switch_heard before (Item.Delivered number) s x to is sent on course own delivered =
@@ -234,13 +234,13 @@ switch_heard before next s x to is sent on course own delivered = heard_grows be
     on.same (course.heard on.up on.own own (rw (delivered_more before next x.number) at delivered))
 
 switch_on : (setting : Setting) (before : List Item) (next : Item) (s : ℕ) (x : Sending)
-    → HasItemCause setting before next
-    → message_of before x.number ≡ Some (to_switch s x.message.body)
+    → HasControlItemCause setting before next
+    → message_of before x.number ≡ Some (machine_message_to_switch s x.message.body)
     → SwitchCourse before s x → SwitchCourse (before ++ next ∷ []) s x
 switch_on setting before next s x cause sent course = record {
   own = omega (arith, course.own, boot_rises setting before next s cause);
   past = course.past;
-  heard = λ up own for delivered. switch_heard before next s x (to_switch s x.message.body) refl
+  heard = λ up own for delivered. switch_heard before next s x (machine_message_to_switch s x.message.body) refl
       sent (goes_on setting before next s x.boot cause course.own up own) course for delivered;
 }
 
@@ -256,7 +256,7 @@ told_on before next x sent course delivered =
     rw (told_more before next) (course (rw (delivered_more before next x.number) at delivered))
 
 course_on : (setting : Setting) (before : List Item) (next : Item) (to : Place) (x : Sending)
-    → HasItemCause setting before next
+    → HasControlItemCause setting before next
     → message_of before x.number ≡ Some (record { to = to; body = x.message.body })
     → Course before to x → Course (before ++ next ∷ []) to x
 course_on setting before next (Place.Switch s) x cause sent course =
@@ -280,14 +280,14 @@ new_course : (before : List Item) (number : ℕ) (to : Place) (body : Body)
     → Course (before ++ Item.Sent number (record { to = to; body = body }) ∷ []) to (record {
       number = number;
       message = record { to = to; body = body };
-      boot = receiver_boot_at before to;
+      boot = journal_receiver_boot_at before to;
     })
 new_course before number (Place.Switch s) body known fresh =
-    let next : Item = Item.Sent number (to_switch s body) in
-    let same : boot_of (before ++ next ∷ []) s ≡ boot_of before s = boot_more before next s in
+    let next : Item = Item.Sent number (machine_message_to_switch s body) in
+    let same : journal_boot_of (before ++ next ∷ []) s ≡ journal_boot_of before s = boot_more before next s in
     record {
       own = omega (arith, same);
-      past = IfSome_then (body_boot body) (known.boots.sent number (to_switch s body)
+      past = IfSome_then (body_boot body) (known.boots.sent number (machine_message_to_switch s body)
           (rw (message_more before next number, eq-eqb number number refl) refl))
           (λ boot past. omega (arith, past, known.boots.known s, same));
       heard = λ up own for delivered.
@@ -300,10 +300,10 @@ new_course before number Place.Controller body known fresh = λ delivered. let n
 new_traced : (setting : Setting) (before : List Item) (number : ℕ) (message : Message)
     → IsInOrder setting before (Item.Sent number message) → AreTraced before
     → IsTraced (before ++ Item.Sent number message ∷ [])
-    (record { number = number; message = message; boot = receiver_boot_at before message.to })
+    (record { number = number; message = message; boot = journal_receiver_boot_at before message.to })
 new_traced setting before number message cause are =
     let next : Item = Item.Sent number message in
-    let takes : number ≡ next_message before = cause.second.first in record {
+    let takes : number ≡ journal_next_message before = cause.second.first in record {
       first = omega (arith, takes, next_first before);
       number = rw (next_more before next) (omega (arith, takes));
       message = rw (message_more before next number, eq-eqb number number refl) refl;
@@ -323,14 +323,14 @@ sent_traced setting before next cause are = search (rules, new_traced)
 
 sent_below : (setting : Setting) (before : List Item) (next : Item) (n : ℕ) (message : Message)
     → IsInOrder setting before next → AreTraced before
-    → message_of (before ++ next ∷ []) n ≡ Some message → n < next_message (before ++ next ∷ [])
+    → message_of (before ++ next ∷ []) n ≡ Some message → n < journal_next_message (before ++ next ∷ [])
 sent_below setting before (Item.Sent number sent) n message cause are is =
     by_test (number == n) refl
   where
     next : Item
     next = Item.Sent number sent
 
-    by_test : (b : Bool) → (number == n) ≡ b → n < next_message (before ++ next ∷ [])
+    by_test : (b : Bool) → (number == n) ≡ b → n < journal_next_message (before ++ next ∷ [])
     by_test true e = rw next_more (omega (arith, cause.second.first, eqb-true))
     by_test false e = let was = rw (message_more before next n, e) at is in
         omega (arith, are.sent n message was, next_rises before next)
@@ -340,13 +340,13 @@ sent_below setting before next n message cause are is =
 
 delivered_below : (setting : Setting) (before : List Item) (next : Item) (n : ℕ)
     → IsInOrder setting before next → AreTraced before
-    → IsTrue (was_delivered (before ++ next ∷ []) n) → n < next_message (before ++ next ∷ [])
+    → IsTrue (was_delivered (before ++ next ∷ []) n) → n < journal_next_message (before ++ next ∷ [])
 delivered_below setting before next n cause are is =
     search (rules, delivered_more, eqb-true, next_rises)
 
 forgotten_below : (setting : Setting) (before : List Item) (next : Item) (n : ℕ)
     → IsInOrder setting before next → AreTraced before
-    → IsTrue (is_forgotten (before ++ next ∷ []) n) → n < next_message (before ++ next ∷ [])
+    → IsTrue (is_forgotten_in_journal (before ++ next ∷ []) n) → n < journal_next_message (before ++ next ∷ [])
 forgotten_below setting before next n cause are is =
     search (rules, forgotten_more, eqb-true, next_rises)
 
@@ -363,9 +363,9 @@ traced_kept setting before next cause are = record {
 }
 
 pub traced_at_first : AreTraced []
-unfolding was_delivered is_forgotten
+unfolding was_delivered is_forgotten_in_journal
 traced_at_first = search (rules, known_at_first, start_laws)
 
 pub caused_traced : (setting : Setting) (journal : List Item)
-    → HaveCauses (IsInOrder setting) [] journal → AreTraced journal
+    → JournalItemsHaveCauses (IsInOrder setting) [] journal → AreTraced journal
 caused_traced setting journal have = fact_on _ _ (traced_kept setting) [] _ have traced_at_first

@@ -1,7 +1,7 @@
 -- At the end of each step what a switch has each neighbour has as new, or was sent.
 use Rattle.std.proofs.Common.{[], ◌&&◌, ◌++◌, ◌+◌, ◌==◌, ◌∙◌, ◌∷◌, ◌≡◌, ◌≤◌, ◌⊎◌, Bool, IsFalse, IsTrue, List, ap, append_assoc, arith, eq-eqb, eqb-true, false, inl, inr, map, max, min, not, refl, subst, sym, true, ℕ, rules}
 use Rattle.base.proofs.Exports.{beq}
-use Rattle.update_machine.specs.Exports.{Advert, HaveCauses, Item, LinksKeep, Setting, Step, boot_of, crash_items, usable_links_changed, heard, hello_of, is_link_up, is_up, journal_items_then, link_changes, link_items, near, next_message, nothing, own_advert, packets_at, restart_items, serves}
+use Rattle.update_machine.specs.Exports.{Advert, JournalItemsHaveCauses, Item, MachineLinksKeep, Setting, Step, journal_boot_of, journal_crash_items, journal_usable_links_changed, heard, machine_hello_of, is_link_up_in_journal, is_up, journal_items_then, journal_link_changes, machine_link_items, near, journal_next_message, nothing, own_advert, journal_packets_at, restart_items, serves}
 use Rattle.base.specs.Exports.{has}
 use Rattle.net_file.specs.Exports.{IsNet}
 use Rattle.update_machine.proofs.Exports.{last_given_append, links_keep, near_same, near_stays}
@@ -11,7 +11,7 @@ use Rattle.convergence_laws.proofs.ConvergenceAdverts.{HaveNews, IsHad, IsStill,
 use Rattle.convergence_laws.proofs.ConvergenceMessages.{next_grows}
 
 abbrev pub Still : List Item → List Item → Type 0
-Still journal items = HaveCauses IsStill journal items
+Still journal items = JournalItemsHaveCauses IsStill journal items
 
 -- nobody owes anything
 abbrev pub Spread : Setting → ℕ → List Item → Type 0
@@ -46,11 +46,11 @@ row_near setting before row step s = near_stays setting s before (Item.Row row s
 pub link_spread : {since : ℕ} (setting : Setting) (before : List Item) (row : ℕ) (step : Step)
     (one two : ℕ) (up : Bool) → IsNet setting.net
     → let here = before ++ Item.Row row step ∷ [] in
-    since ≤ next_message here → IsKnown here → Spread setting since here
-    → Spread setting since (here ++ link_items setting before one two up here)
-unfolding link_items
+    since ≤ journal_next_message here → IsKnown here → Spread setting since here
+    → Spread setting since (here ++ machine_link_items setting before one two up here)
+unfolding machine_link_items
 link_spread {since = since} setting before row step one two up net late known have =
-    by_test (beq (is_link_up before one two) up)
+    by_test (beq (is_link_up_in_journal before one two) up)
   where
     here : List Item
     here = before ++ Item.Row row step ∷ []
@@ -63,10 +63,10 @@ link_spread {since = since} setting before row step one two up net late known ha
 
     by_test : (b : Bool) → Spread setting since (here ++ elim b [
       | true ↦ nothing
-      | false ↦ journal_items_then (next ∷ []) (link_changes setting before) here
+      | false ↦ journal_items_then (next ∷ []) (journal_link_changes setting before) here
     ])
     by_test true = still_spread setting here nothing (tt, tt) have
-    by_test false = rw (append_assoc here (next ∷ []) (link_changes setting before now)) at
+    by_test false = rw (append_assoc here (next ∷ []) (journal_link_changes setting before now)) at
         (pay_links setting before now net (omega (arith, late, next_grows here (next ∷ [])))
         (link_news setting before here next (row_near setting before row step)
         (record { first = tt; second = row_first before row step }) refl known have))
@@ -84,14 +84,14 @@ owed_later setting before now packets s neighbour advert owed = record {
   after : List Item
   after = now ++ map Item.Lost packets
 
-  keeps : LinksKeep setting now after
+  keeps : MachineLinksKeep setting now after
   keeps = links_keep setting now (map Item.Lost packets)
       (losts_have _ (λ before i. refl) packets now)
 
   up : is_up after s ≡ is_up now s
   up = losts_keep _ (λ journal i. up_more journal (Item.Lost i) s) packets now
 
-  boot : boot_of after s ≡ boot_of now s
+  boot : journal_boot_of after s ≡ journal_boot_of now s
   boot = losts_keep _ (λ journal i. boot_more journal (Item.Lost i) s) packets now
 
   same : heard after s ≡ heard now s
@@ -99,7 +99,7 @@ owed_later setting before now packets s neighbour advert owed = record {
 
   by_changed : (up : Bool) (mask : ℕ) → (up && not (near setting before s == mask)) ≡ true
       → is_up after s ≡ up → near setting after s ≡ mask
-      → IsTrue (usable_links_changed setting before after s)
+      → IsTrue (journal_usable_links_changed setting before after s)
   by_changed up mask changed same links = rw (same, links) changed
 
   by_had : IsHad setting now s advert → IsHad setting after s advert
@@ -124,9 +124,9 @@ owed_as setting One Other journal as_other have = search rules
 
 pub crash_spread : {since : ℕ} (setting : Setting) (before : List Item) (row : ℕ) (step : Step)
     (s : ℕ) → IsNet setting.net → let here = before ++ Item.Row row step ∷ [] in
-    since ≤ next_message here → IsKnown here → Spread setting since here
-    → Spread setting since (here ++ crash_items setting before s here)
-unfolding crash_items
+    since ≤ journal_next_message here → IsKnown here → Spread setting since here
+    → Spread setting since (here ++ journal_crash_items setting before s here)
+unfolding journal_crash_items
 crash_spread {since = since} setting before row step s net late known have = by_up (is_up before s) refl
   where
     here : List Item
@@ -136,7 +136,7 @@ crash_spread {since = since} setting before row step s net late known have = by_
     next = Item.Down s
 
     packets : List ℕ
-    packets = packets_at before s
+    packets = journal_packets_at before s
 
     losts : List Item
     losts = map Item.Lost packets
@@ -144,11 +144,11 @@ crash_spread {since = since} setting before row step s net late known have = by_
     now : List Item
     now = here ++ next ∷ []
 
-    later : since ≤ next_message (now ++ losts)
+    later : since ≤ journal_next_message (now ++ losts)
     later = omega (arith, late, next_grows here (next ∷ []), next_grows now losts)
 
     down : is_up before s ≡ true → Spread setting since
-        ((now ++ losts) ++ link_changes setting before (now ++ losts))
+        ((now ++ losts) ++ journal_link_changes setting before (now ++ losts))
     down up = pay_links setting before (now ++ losts) net later
         (owed_as setting (IsOwed setting before now) (IsOwed setting before (now ++ losts))
         (now ++ losts) (owed_later setting before now packets) (stills_news setting
@@ -163,15 +163,15 @@ crash_spread {since = since} setting before row step s net late known have = by_
 
     by_up : (b : Bool) → is_up before s ≡ b → Spread setting since (here ++ elim b [
       | false ↦ nothing
-      | true ↦ journal_items_then (next ∷ losts) (link_changes setting before) here
+      | true ↦ journal_items_then (next ∷ losts) (journal_link_changes setting before) here
     ])
     by_up false e = still_spread setting here nothing (tt, tt) have
     by_up true e = subst (Spread setting since) (append_assoc here
-        (next ∷ losts) (link_changes setting before (here ++ (next ∷ losts)))) (rw same at (down e))
+        (next ∷ losts) (journal_link_changes setting before (here ++ (next ∷ losts)))) (rw same at (down e))
 
 booted_link : (here : List Item) (s boot one other : ℕ)
-    → is_link_up (here ++ Item.Booted s boot ∷ []) one other ≡ is_link_up here one other
-unfolding is_link_up
+    → is_link_up_in_journal (here ++ Item.Booted s boot ∷ []) one other ≡ is_link_up_in_journal here one other
+unfolding is_link_up_in_journal
 booted_link here s boot one other = search (rules, last_given_append)
 
 -- a switch that began a boot has no links yet, and had none
@@ -181,13 +181,13 @@ pub restart_spread : {since : ℕ} (setting : Setting) (before : List Item) (row
     → Spread setting since (here ++ restart_items s here)
 restart_spread {since = since} setting before row step s known have =
     restart_cases (Spread setting since) s here (still_spread setting here nothing (tt, tt) have)
-    (λ down. still_spread setting now _ (sends_still now (hello_of now s ∷ [])) (booted down))
+    (λ down. still_spread setting now _ (sends_still now (machine_hello_of now s ∷ [])) (booted down))
   where
     here : List Item
     here = before ++ Item.Row row step ∷ []
 
     next : Item
-    next = Item.Booted s (boot_of here s + 1)
+    next = Item.Booted s (journal_boot_of here s + 1)
 
     now : List Item
     now = here ++ next ∷ []

@@ -1,10 +1,10 @@
 -- The laws on news and on known links, behind any steps.
 use Rattle.std.proofs.Common.{[], ◌&&◌, ◌++◌, ◌+◌, ◌<◌, ◌==◌, ◌||◌, ◌∙◌, ◌∷◌, ◌≡◌, ◌≢◌, ◌≤◌, ◌⊎◌, Bool, Contains, IsFalse, IsTrue, List, None, Option, Some, ap, append-nil, append_assoc, arith, eq-eqb, eqb-true, false, find, if◌then◌else◌, inl, inr, not, refl, subst, suc, sym, true, zero, ℕ, rules}
 use Rattle.base.proofs.Exports.{nat_tests}
-use Rattle.update_machine.specs.Exports.{Advert, Advertise, AreAllEventSteps, AreMessagesReceived, AreSteps, AreStepsOf, Body, Event, Flush, HaveCauses, IsQuiet, Item, Message, Place, Sending, Setting, Step, StepOfRow, journal_after_steps, receiver_boot_at, boot_of, count_of, heard, is_deliverable, is_for_boot, is_forgotten, is_later_body, is_sending, is_up, is_waiting, message_of, next_delivery, next_message, next_waiting, other_advert, piece, sendings, was_delivered}
-use Rattle.control_laws.specs.Exports.{HoldsAtEnds, HoldsBehindItems, OwnAreNewest}
+use Rattle.update_machine.specs.Exports.{Advert, Advertise, AreAllMachineEventSteps, AreJournalMessagesReceived, AreMachineSteps, AreMachineStepsOf, Body, Event, Flush, JournalItemsHaveCauses, IsMachineQuiet, Item, Message, Place, Sending, Setting, Step, StepOfRow, journal_after_steps, journal_receiver_boot_at, journal_boot_of, count_of, heard, is_deliverable, journal_body_for_boot, is_forgotten_in_journal, is_machine_later_body, is_sending, is_up, is_waiting, message_of, journal_next_delivery, journal_next_message, next_waiting, journal_other_advert, piece, sendings, was_delivered}
+use Rattle.control_laws.specs.Exports.{HoldsAtEnds, HoldsBehindItems, OwnAdvertsAreNewest}
 use Rattle.control_laws.proofs.Exports.{at_ends, behind_both, behind_items, own_newest, steps_have}
-use Rattle.convergence_laws.specs.Exports.{EndsInFinishedNetwork, GetStuckApart, HasConverged, IsAsNew, IsNetworkFinished, IsNetworkUpdated, NeighboursAgree, AdvertNewsSpreads}
+use Rattle.convergence_laws.specs.Exports.{EndsInFinishedConvergence, GetStuckApart, HasConverged, IsAsNew, IsNetworkFinished, HasConvergedOnVersion, NeighboursAgree, NewsSpreadsToNeighbours}
 use Rattle.convergence_laws.proofs.ConvergencePlainItems.{IsIn, each_in, in_filter_map, in_range}
 use Rattle.convergence_laws.proofs.ConvergedReceipts.{IsGot, delivered_append, got, heard_in_boot, in_sendings}
 use Rattle.convergence_laws.proofs.ConvergenceMessages.{AreTraced, IsInOrder, IsTraced, caused_traced, pieces_in_order, traced_at_first, traced_kept}
@@ -29,14 +29,14 @@ none_found test x (y ∷ xs) none is = search (rules, none_found test x xs)
 
 -- so a message that was sent was delivered
 not_waiting : (journal : List Item) (number : ℕ) → next_waiting journal ≡ None → 1 ≤ number
-    → number < next_message journal → IsFalse (is_waiting journal number)
-unfolding next_waiting next_message
+    → number < journal_next_message journal → IsFalse (is_waiting journal number)
+unfolding next_waiting journal_next_message
 not_waiting journal number none first below = none_found (is_waiting journal) number _ none
     (in_range number 1 (count_of is_sending journal) first (omega (arith, below)))
 
 pub sent_delivered : (journal : List Item) (number : ℕ) (message : Message) → next_waiting journal
-    ≡ None → IsFalse (is_forgotten journal number) → message_of journal number ≡ Some message
-    → 1 ≤ number → number < next_message journal → IsTrue (was_delivered journal number)
+    ≡ None → IsFalse (is_forgotten_in_journal journal number) → message_of journal number ≡ Some message
+    → 1 ≤ number → number < journal_next_message journal → IsTrue (was_delivered journal number)
 unfolding is_deliverable
 sent_delivered journal number message waiting forgotten sent first below = by_delivered _ refl
     (not_waiting journal number waiting first below)
@@ -50,7 +50,7 @@ sent_delivered journal number message waiting forgotten sent first below = by_de
     by_delivered false e waits = absurd (cc (sym (ap (λ b. b && true) deliverable) ∙ waits))
 
 pub one_delivered : (journal : List Item) (x : Sending) → next_waiting journal ≡ None
-    → IsFalse (is_forgotten journal x.number) → IsTraced journal x
+    → IsFalse (is_forgotten_in_journal journal x.number) → IsTraced journal x
     → IsTrue (was_delivered journal x.number)
 one_delivered journal x waiting forgotten traced = search (rules, sent_delivered)
 
@@ -63,8 +63,8 @@ sent_alone number n message = refl
 -- where each message was delivered, it was behind its sending
 each_received : (setting : Setting) (journal front items : List Item) → journal ≡ front ++ items
     → ((x : Sending) → IsIn x (sendings journal) → IsTrue (was_delivered journal x.number))
-    → AreTraced front → HaveCauses (IsInOrder setting) front items
-    → AreMessagesReceived setting journal items
+    → AreTraced front → JournalItemsHaveCauses (IsInOrder setting) front items
+    → AreJournalMessagesReceived setting journal items
 each_received setting journal front [] is all traced have = tt
 each_received setting journal front (Item.Sent number message ∷ items) is all traced have = (
   λ s there matter. inl (by_test (was_delivered front number) refl),
@@ -79,7 +79,7 @@ each_received setting journal front (Item.Sent number message ∷ items) is all 
   whole =
       ap (λ b. was_delivered front number || b) (sym (delivered_append (next ∷ []) items number))
       ∙ sym (delivered_append front _ number) ∙ ap (λ js. was_delivered js number) (sym is)
-      ∙ all (record { number = number; message = message; boot = receiver_boot_at front message.to })
+      ∙ all (record { number = number; message = message; boot = journal_receiver_boot_at front message.to })
       (in_sendings journal front number message items is)
 
   by_test : (b : Bool) → was_delivered front number ≡ b → IsTrue (was_delivered items number)
@@ -90,8 +90,8 @@ each_received setting journal front (next ∷ items) is all traced have = each_r
     (traced_kept setting front next have.0 traced) have.1
 
 finished_quiet : (setting : Setting) (journal : List Item)
-    → HaveCauses (IsInOrder setting) [] journal → IsNetworkFinished setting journal
-    → IsQuiet setting journal
+    → JournalItemsHaveCauses (IsInOrder setting) [] journal → IsNetworkFinished setting journal
+    → IsMachineQuiet setting journal
 finished_quiet setting journal have finished = record {
   switches = finished.switches;
   messages = each_received setting journal [] journal refl (λ x is. one_delivered journal x
@@ -100,9 +100,9 @@ finished_quiet setting journal have finished = record {
 }
 
 pub finished_behind :
-    HoldsBehindItems (λ setting journal. IsNetworkFinished setting journal → IsQuiet setting journal)
+    HoldsBehindItems (λ setting journal. IsNetworkFinished setting journal → IsMachineQuiet setting journal)
 finished_behind =
-    behind_items (λ setting journal. IsNetworkFinished setting journal → IsQuiet setting journal)
+    behind_items (λ setting journal. IsNetworkFinished setting journal → IsMachineQuiet setting journal)
     IsInOrder pieces_in_order finished_quiet
 
 -- ---- news laws
@@ -116,7 +116,7 @@ contains_in x (y ∷ xs) (inr later) =
     let found = contains_in x xs later in (suc found.0, omega (arith, found.1), found.2)
 
 news_spread : (setting : Setting) (journal : List Item) → AreSpread setting 0 journal
-    → AdvertNewsSpreads setting journal
+    → NewsSpreadsToNeighbours setting journal
 news_spread setting journal are s neighbour origin a linked small known =
     elim (spread_cases setting journal are s neighbour origin a linked small known) [
       | inl held ↦ inl held
@@ -131,29 +131,29 @@ news_spread setting journal are s neighbour origin a linked small known =
 -- ---- in a quiet journal what was told was heard
 
 later_advert : (body : Body) (b : Advert) → (body ≡ Advertise b)
-    ⊎ IsTrue (is_later_body body (Advertise b)) → (c : Advert) × (body ≡ Advertise c) × IsAsNew c b
+    ⊎ IsTrue (is_machine_later_body body (Advertise b)) → (c : Advert) × (body ≡ Advertise c) × IsAsNew c b
 later_advert body b h2 = search (rules, nat_tests, as_new_itself, eqb-true)
 
 told_given : (setting : Setting) (journal : List Item) (s : ℕ) (b : Advert)
-    → IsQuiet setting journal → HaveCauses (IsInOrder setting) [] journal
+    → IsMachineQuiet setting journal → JournalItemsHaveCauses (IsInOrder setting) [] journal
     → HasSwitch setting.net s → IsTrue (is_up journal s) → b.origin ≢ s
     → IsToldTo 0 journal s b → IsGivenNew setting journal s b
 told_given setting journal s b quiet causes there up other told = record {
   advert = says.0;
   as_new = says.2;
-  given = inr (in_filter_map (other_advert s) (Advertise says.0) says.0 (heard journal s)
+  given = inr (in_filter_map (journal_other_advert s) (Advertise says.0) says.0 (heard journal s)
       (subst (λ body. IsIn body (heard journal s)) says.1 heard_it) told_of);
 } where
   later : IsGot journal (Place.Switch s) (Advertise b)
-  later = got setting journal s told.number (boot_of journal s) (Place.Switch s) (Advertise b)
+  later = got setting journal s told.number (journal_boot_of journal s) (Place.Switch s) (Advertise b)
       quiet causes there told.is refl (λ after since. let to : (s == s) ≡ true = eq-eqb s s refl in
       rw (up, to, since) refl)
 
   says : (c : Advert) × (later.body ≡ Advertise c) × IsAsNew c b
   says = later_advert later.body b later.says
 
-  for_it : IsTrue (is_for_boot later.boot later.body)
-  for_it = subst (λ body. IsTrue (is_for_boot later.boot body)) (sym says.1) refl
+  for_it : IsTrue (journal_body_for_boot later.boot later.body)
+  for_it = subst (λ body. IsTrue (journal_body_for_boot later.boot body)) (sym says.1) refl
 
   heard_it : IsIn later.body (heard journal s)
   heard_it = heard_in_boot journal s later.number later.boot later.body
@@ -163,14 +163,14 @@ told_given setting journal s b quiet causes there up other told = record {
   apart = let elsewhere : says.0.origin ≢ s = λ same. other (sym says.2.origin ∙ same) in
       grind (arith, nat_tests)
 
-  told_of : other_advert s (Advertise says.0) ≡ Some says.0
+  told_of : journal_other_advert s (Advertise says.0) ≡ Some says.0
   told_of = ap (λ c. if c then None else Some says.0) apart
 
 -- ---- behind any steps
 
 newest_stepped : (setting : Setting) (steps : List StepOfRow)
-    → OwnAreNewest setting (journal_after_steps setting [] steps)
-newest_stepped = (behind_both OwnAreNewest own_newest).ends.stepped
+    → OwnAdvertsAreNewest setting (journal_after_steps setting [] steps)
+newest_stepped = (behind_both OwnAdvertsAreNewest own_newest).ends.stepped
 
 pub ends_tell : (setting : Setting) (steps : List StepOfRow)
     → TellsOwn setting (journal_after_steps setting [] steps)
@@ -191,13 +191,13 @@ all_spread : (setting : Setting) (steps : List StepOfRow) → IsNet setting.net
     → AreSpread setting 0 (journal_after_steps setting [] steps)
 all_spread setting steps net = ends_spread setting steps net (spread_at_ends setting steps net)
 
-pub news_at_ends : HoldsAtEnds (λ setting journal. IsNet setting.net → AdvertNewsSpreads setting journal)
+pub news_at_ends : HoldsAtEnds (λ setting journal. IsNet setting.net → NewsSpreadsToNeighbours setting journal)
 news_at_ends = search (rules, at_ends, news_spread, all_spread)
 
 -- ---- neighbours that agree
 
 pub quiet_at_ends : HoldsAtEnds (λ setting journal.
-    IsNet setting.net → IsQuiet setting journal → NeighboursAgree setting journal)
+    IsNet setting.net → IsMachineQuiet setting journal → NeighboursAgree setting journal)
 quiet_at_ends = at_ends _ (λ setting steps net quiet. spread_agree setting
     (journal_after_steps setting [] steps) (all_spread setting steps net) (λ s b there up other told.
     told_given setting (journal_after_steps setting [] steps) s b quiet (steps_have (IsInOrder setting)
@@ -227,22 +227,22 @@ apart_at_ends = agreed_at_ends GetStuckApart stuck_reaches_none
 quiet_ends : (Holds : Setting → List Item → Type 0) → HoldsAtEnds (λ setting journal.
     IsNet setting.net → NeighboursAgree setting journal → Holds setting journal)
     → HoldsAtEnds (λ setting journal.
-    IsNet setting.net → IsQuiet setting journal → Holds setting journal)
+    IsNet setting.net → IsMachineQuiet setting journal → Holds setting journal)
 quiet_ends Holds law = search (rules, at_ends, quiet_at_ends)
 
 pub quiet_converged : HoldsAtEnds (λ setting journal.
-    IsNet setting.net → IsQuiet setting journal → HasConverged setting journal)
+    IsNet setting.net → IsMachineQuiet setting journal → HasConverged setting journal)
 quiet_converged = quiet_ends HasConverged converged_at_ends
 
 pub quiet_apart : HoldsAtEnds (λ setting journal.
-    IsNet setting.net → IsQuiet setting journal → GetStuckApart setting journal)
+    IsNet setting.net → IsMachineQuiet setting journal → GetStuckApart setting journal)
 quiet_apart = quiet_ends GetStuckApart apart_at_ends
 
 -- ---- a schedule that ends with a flush leaves no message waiting
 
 -- behind all of them there is no next one
 pub all_end : (setting : Setting) (next : List Item → Option Step) (row : ℕ) (before : List Item)
-    (steps : List StepOfRow) → AreAllEventSteps setting next row before steps
+    (steps : List StepOfRow) → AreAllMachineEventSteps setting next row before steps
     → next (journal_after_steps setting before steps) ≡ None
 all_end setting next row before [] are = are
 all_end setting next row before (first ∷ steps) are =
@@ -251,9 +251,9 @@ all_end setting next row before (first ∷ steps) are =
 -- so where the last event takes all of its steps
 pub last_ends : (setting : Setting) (next : List Item → Option Step) (event : Event)
     → ((row : ℕ) (before : List Item) (steps : List StepOfRow)
-    → AreStepsOf setting row event before steps → AreAllEventSteps setting next row before steps)
+    → AreMachineStepsOf setting row event before steps → AreAllMachineEventSteps setting next row before steps)
     → (row : ℕ) (events : List Event) (before : List Item) (steps : List StepOfRow)
-    → AreSteps setting row (events ++ event ∷ []) before steps
+    → AreMachineSteps setting row (events ++ event ∷ []) before steps
     → next (journal_after_steps setting before steps) ≡ None
 last_ends setting next event takes row [] before steps are =
     rw (are.2.split ∙ ap (λ rest. are.0 ++ rest) are.4 ∙ append-nil are.0)
@@ -264,15 +264,15 @@ last_ends setting next event takes row (first ∷ events) before steps are =
     are.4)
 
 pub flush_ends : (setting : Setting) (row : ℕ) (events : List Event) (before : List Item)
-    (steps : List StepOfRow) → AreSteps setting row (events ++ Flush ∷ []) before steps
-    → next_delivery (journal_after_steps setting before steps) ≡ None
-flush_ends setting = last_ends setting next_delivery Flush (λ row before steps are. are)
+    (steps : List StepOfRow) → AreMachineSteps setting row (events ++ Flush ∷ []) before steps
+    → journal_next_delivery (journal_after_steps setting before steps) ≡ None
+flush_ends setting = last_ends setting journal_next_delivery Flush (λ row before steps are. are)
 
-pub none_waits : (journal : List Item) → next_delivery journal ≡ None → next_waiting journal ≡ None
+pub none_waits : (journal : List Item) → journal_next_delivery journal ≡ None → next_waiting journal ≡ None
 none_waits journal none = search rules
 
 pub flushed_quiet : (setting : Setting) (events : List Event) (journal : List Item)
-    → EndsInFinishedNetwork setting events journal → IsQuiet setting journal
+    → EndsInFinishedConvergence setting events journal → IsMachineQuiet setting journal
 flushed_quiet setting events journal ends =
     finished_behind.ends.answered setting (events ++ Flush ∷ []) journal ends.answered (record {
       waiting = none_waits journal (rw ends.answered.written
@@ -282,11 +282,11 @@ flushed_quiet setting events journal ends =
     })
 
 pub flushed_converged : (setting : Setting) (events : List Event) (journal : List Item)
-    → IsNet setting.net → EndsInFinishedNetwork setting events journal → HasConverged setting journal
+    → IsNet setting.net → EndsInFinishedConvergence setting events journal → HasConverged setting journal
 flushed_converged setting events journal net ends = quiet_converged.answered setting
     (events ++ Flush ∷ []) journal ends.answered net (flushed_quiet setting events journal ends)
 
 pub flushed_updated : (setting : Setting) (events : List Event) (journal : List Item)
-    → EndsInFinishedNetwork setting events journal → IsNetworkUpdated setting journal
+    → EndsInFinishedConvergence setting events journal → HasConvergedOnVersion setting journal
 flushed_updated setting events journal ends = updated_at_ends.answered setting
     (events ++ Flush ∷ []) journal ends.answered (flushed_quiet setting events journal ends)

@@ -3,7 +3,7 @@
 -- make none stuck either.
 use Rattle.std.proofs.Common.{[], ◌++◌, ◌+◌, ◌<◌, ◌∙◌, ◌∷◌, ◌≡◌, ◌≤◌, ◌⊎◌, All, Bool, IsFalse, IsTrue, List, None, Option, Some, ap, arith, false, filter, filter_map, flat_map, inl, inr, length, map, refl, slice_index_or, subst, suc, sym, true, zero, ℕ, rules}
 use Rattle.base.proofs.Exports.{⊤, AllByRecursion, cases_eq, cons_option, range_with_len, recursion_from_All}
-use Rattle.update_machine.specs.Exports.{Body, Confirm, Crash, Deliver, HaveCauses, Hop, Item, LinkDown, LinkUp, Message, Packet, Resend, Restart, Setting, Step, Update, boot_of, deliver_items, delivery_items, expire_items, forget_items, hello_of, is_deliverable, is_up, journal_items_then, link_changes, lose_items, nothing, restart_items, send_items, settling, step_items, switch_items}
+use Rattle.update_machine.specs.Exports.{Body, Confirm, Crash, Deliver, JournalItemsHaveCauses, Hop, Item, LinkDown, LinkUp, Message, Packet, Resend, Restart, Setting, Step, Update, journal_boot_of, deliver_items, machine_delivery_items, machine_expire_items, forget_items, machine_hello_of, is_deliverable, is_up, journal_items_then, journal_link_changes, lose_items, nothing, restart_items, send_items, settling, step_items, journal_switch_items}
 use Rattle.update_machine.proofs.Exports.{PiecesHave, have_first, message_keeps}
 use Rattle.control_laws.proofs.Exports.{Change, Control, IsChange, IsControl, IsTraffic, confirm_control, controller_control, crash_changes, delivery_has, have_weaker, link_change, links_change, packet_has, piece_has, resends_any, sends_any, settling_control, step_traffic, switch_cases, update_has, work_cases}
 
@@ -124,7 +124,7 @@ IsPlain before (Item.Forgotten number) = IsTrue (is_deliverable before number)
 IsPlain before _ = ⊤
 
 abbrev pub Plain : List Item → List Item → Type 0
-Plain journal items = HaveCauses IsPlain journal items
+Plain journal items = JournalItemsHaveCauses IsPlain journal items
 
 -- plain items that make no packet stuck
 abbrev pub IsAside : List Item → Item → Type 0
@@ -132,7 +132,7 @@ IsAside before (Item.Stuck i s cause leg down) = ⊥
 IsAside before next = IsPlain before next
 
 abbrev Aside : List Item → List Item → Type 0
-Aside journal items = HaveCauses IsAside journal items
+Aside journal items = JournalItemsHaveCauses IsAside journal items
 
 pub aside_is : (before : List Item) (next : Item) → IsAside before next → IsPlain before next
 aside_is before next is = search rules
@@ -169,7 +169,7 @@ change_aside : (setting : Setting) (journal items : List Item) → Change settin
 change_aside setting = have_weaker (IsChange setting) IsAside (change_is setting)
 
 links_aside : (setting : Setting) (before journal : List Item)
-    → Aside journal (link_changes setting before journal)
+    → Aside journal (journal_link_changes setting before journal)
 links_aside setting before journal =
     change_aside setting journal _ (links_change setting before journal)
 
@@ -180,20 +180,20 @@ traffic_is setting before next is = search rules
 -- ---- deliveries
 
 switch_aside : (setting : Setting) (before : List Item) (s : ℕ) (body : Body) (now : List Item)
-    → Aside now (switch_items setting before s body now)
+    → Aside now (journal_switch_items setting before s body now)
 switch_aside setting before s body now = switch_cases (Aside now) setting before s body now
     (λ boot version. sends_aside now _) (λ boot version. sends_aside now _)
     (λ boot version is. grind (arith, have_first, links_aside))
     (λ advert is news. sends_aside now _) tt
 
 delivery_aside : (setting : Setting) (before : List Item) (number : ℕ) (now : List Item)
-    → Aside now (delivery_items setting before number now)
+    → Aside now (machine_delivery_items setting before number now)
 delivery_aside setting before number now = delivery_has (Aside now) setting before number now tt
     (λ body sent. control_aside now _ (controller_control setting before body now))
     (λ s body said. switch_aside setting before s body now)
 
 pub delivery_plain : (setting : Setting) (before : List Item) (number : ℕ) (now : List Item)
-    → Plain now (delivery_items setting before number now)
+    → Plain now (machine_delivery_items setting before number now)
 delivery_plain setting before number now = aside_plain now _ (delivery_aside _ before number now)
 
 -- ---- other steps
@@ -213,8 +213,8 @@ forget_aside number journal = by_test (is_deliverable journal number) refl where
   by_test true e = (e, tt)
 
 expire_aside : (setting : Setting) (s place : ℕ) (journal : List Item)
-    → Aside journal (expire_items setting s place journal)
-unfolding expire_items
+    → Aside journal (machine_expire_items setting s place journal)
+unfolding machine_expire_items
 expire_aside setting s place journal = grind arith
 
 -- the steps that move no packet and write neither a `Delivered` nor a `Booted`
@@ -268,16 +268,16 @@ pub record HasOthers (cause : List Item → Item → Type 0) : Type 0 where
   pub delivered : (journal : List Item) (number : ℕ) → is_deliverable journal number ≡ true
       → cause journal (Item.Delivered number)
   pub booted : (journal : List Item) (s : ℕ) → is_up journal s ≡ false
-      → cause journal (Item.Booted s (boot_of journal s + 1))
+      → cause journal (Item.Booted s (journal_boot_of journal s + 1))
 
 aside_have : (cause : List Item → Item → Type 0) → HasOthers cause
-    → (journal items : List Item) → Aside journal items → HaveCauses cause journal items
+    → (journal items : List Item) → Aside journal items → JournalItemsHaveCauses cause journal items
 aside_have cause others = have_weaker IsAside cause others.aside
 
 deliver_have : (cause : List Item → Item → Type 0) → HasOthers cause → (setting : Setting)
     → (before : List Item) (row number : ℕ) (step : Step)
     → let here = before ++ Item.Row row step ∷ [] in
-    HaveCauses cause here (deliver_items setting before number here)
+    JournalItemsHaveCauses cause here (deliver_items setting before number here)
 unfolding deliver_items
 deliver_have cause others setting before row number step =
     by_test (is_deliverable before number) refl
@@ -288,27 +288,27 @@ deliver_have cause others setting before row number step =
     next : Item
     next = Item.Delivered number
 
-    by_test : (b : Bool) → is_deliverable before number ≡ b → HaveCauses cause here (elim b [
+    by_test : (b : Bool) → is_deliverable before number ≡ b → JournalItemsHaveCauses cause here (elim b [
       | false ↦ nothing
-      | true ↦ journal_items_then (next ∷ []) (delivery_items setting before number) here
+      | true ↦ journal_items_then (next ∷ []) (machine_delivery_items setting before number) here
     ])
     by_test false e = (others.aside here Item.Nothing tt, tt)
-    by_test true e = have_first cause next (delivery_items setting before number) here
+    by_test true e = have_first cause next (machine_delivery_items setting before number) here
         (others.delivered here number
         ((message_keeps number before (Item.Row row step ∷ []) (refl, tt)).deliverable ∙ e))
         (aside_have cause others _ _ (delivery_aside setting before number (here ++ next ∷ [])))
 
 restart_have : (cause : List Item → Item → Type 0) → HasOthers cause → (s : ℕ)
-    → (journal : List Item) → HaveCauses cause journal (restart_items s journal)
+    → (journal : List Item) → JournalItemsHaveCauses cause journal (restart_items s journal)
 unfolding restart_items
 restart_have cause others s journal = by_up (is_up journal s) refl where
   next : Item
-  next = Item.Booted s (boot_of journal s + 1)
+  next = Item.Booted s (journal_boot_of journal s + 1)
 
   hello : List Item → List Item
-  hello booted = send_items booted (hello_of booted s ∷ [])
+  hello booted = send_items booted (machine_hello_of booted s ∷ [])
 
-  by_up : (b : Bool) → is_up journal s ≡ b → HaveCauses cause journal (elim b [
+  by_up : (b : Bool) → is_up journal s ≡ b → JournalItemsHaveCauses cause journal (elim b [
     | true ↦ nothing
     | false ↦ journal_items_then (next ∷ []) hello journal
   ])
@@ -325,7 +325,7 @@ moves _ = false
 pub others_have : (cause : List Item → Item → Type 0) → HasOthers cause → (setting : Setting)
     → (before : List Item) (row : ℕ) (step : Step) → IsFalse (moves step)
     → let here = before ++ Item.Row row step ∷ [] in
-    HaveCauses cause here (step_items setting before step here)
+    JournalItemsHaveCauses cause here (step_items setting before step here)
 others_have cause others setting before row (Packet s header) none = absurd cc
 others_have cause others setting before row (Hop packet) none = absurd cc
 others_have cause others setting before row (Deliver message) none = deliver_have _ others _ _ _ _ _
@@ -337,7 +337,7 @@ step_have : (cause : List Item → Item → Type 0) → HasOthers cause
     → ((before : List Item) (next : Item) → IsPlain before next → cause before next)
     → (setting : Setting) (before : List Item) (row : ℕ) (step : Step)
     → let here = before ++ Item.Row row step ∷ [] in
-    HaveCauses cause here (step_items setting before step here)
+    JournalItemsHaveCauses cause here (step_items setting before step here)
 step_have cause others plain setting before row (Packet s header) =
     have_weaker IsPlain cause plain _ _ (step_plain setting before (Packet s header) _ refl)
 step_have cause others plain setting before row (Hop packet) =

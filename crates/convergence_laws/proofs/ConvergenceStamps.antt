@@ -1,9 +1,9 @@
 -- After each step each member was opened at the current version, or was told to stamp with it.
 use Rattle.std.proofs.Common.{[], ◌++◌, ◌+◌, ◌<◌, ◌∙◌, ◌∷◌, ◌≡◌, ◌⊎◌, Bool, IsTrue, List, Some, ap, append-nil, append_assoc, arith, false, inl, inr, length, map, nat_lt, refl, subst, sym, true, ℕ, rules}
 use Rattle.base.proofs.Exports.{each_always, each_map, ⊤}
-use Rattle.update_machine.specs.Exports.{Body, ControllerKeeps, HaveCauses, Hello, Item, Message, Setting, Step, after_hello, confirm_items, controller_heard, controller_items, current_items, current_mark, deliver_items, in_turn, is_member, is_message_to_controller, is_over, journal_items_then, known_boot, members, next_current, nothing, open_items, open_sent, opened_at, piece, retired_items, send_items, settling, stamp_for, step_items, switches_of, touched_by, update_items, version_count}
+use Rattle.update_machine.specs.Exports.{Body, JournalControllerKeeps, JournalItemsHaveCauses, Hello, Item, Message, Setting, Step, after_hello, confirm_items, controller_heard, controller_items, current_items, journal_current_mark, deliver_items, in_turn, is_member, is_journal_controller_message, is_over, journal_items_then, journal_known_boot, members, journal_next_current, nothing, machine_open_items, machine_open_sent, opened_at, piece, retired_items, send_items, settling, journal_stamp_for, step_items, switches_of, touched_by, update_items, journal_version_count}
 use Rattle.update_machine.proofs.Exports.{have_first, have_in_turn}
-use Rattle.control_laws.specs.Exports.{HasItemCause, asks_controller, stamp_message_to}
+use Rattle.control_laws.specs.Exports.{HasControlItemCause, asks_controller, stamp_message_to}
 use Rattle.control_laws.proofs.Exports.{AreKept, Both, LeavesMember, ReopensAlone, StampsAreCurrent, behind_piece, confirm_cases, current_kept, current_more, deliver_cases, delivered_cases, fact_on, have_both, have_rest, in_two, known_more, leaves_keep, member_was, others_keep, over_cases, over_more, quiet_leaves, sends_any, sends_leave, sent_cases, settling_have, told_is, update_cases}
 use Rattle.convergence_laws.proofs.ConvergenceTables.{all_keep, delivery_told, installs_keep}
 use Rattle.convergence_laws.proofs.ConvergencePlainItems.{in_filter, in_map, in_range}
@@ -17,35 +17,35 @@ pub record IsStampSent (journal : List Item) (s boot version : ℕ) : Type 0 whe
 
 pub record HaveStamps (setting : Setting) (journal : List Item) : Type 0 where
   pub each : (s : ℕ) → s < length setting.net.switches → IsTrue (is_member journal s)
-      → (opened_at journal s ≡ Some (current_mark journal))
-      ⊎ IsStampSent journal s (known_boot journal s) (current_mark journal)
+      → (opened_at journal s ≡ Some (journal_current_mark journal))
+      ⊎ IsStampSent journal s (journal_known_boot journal s) (journal_current_mark journal)
 
 -- the same of one switch
 abbrev IsStamped : List Item → ℕ → Type 0
 IsStamped journal s = IsTrue (is_member journal s)
-    → (opened_at journal s ≡ Some (current_mark journal))
-    ⊎ IsStampSent journal s (known_boot journal s) (current_mark journal)
+    → (opened_at journal s ≡ Some (journal_current_mark journal))
+    ⊎ IsStampSent journal s (journal_known_boot journal s) (journal_current_mark journal)
 
 -- ---- where nothing changes for the switch
 
-stamped_same : (before items : List Item) (s : ℕ) → known_boot (before ++ items) s
-    ≡ known_boot before s → (IsTrue (is_member (before ++ items) s) → IsTrue (is_member before s))
+stamped_same : (before items : List Item) (s : ℕ) → journal_known_boot (before ++ items) s
+    ≡ journal_known_boot before s → (IsTrue (is_member (before ++ items) s) → IsTrue (is_member before s))
     → opened_at (before ++ items) s ≡ opened_at before s
-    → current_mark (before ++ items) ≡ current_mark before → IsStamped before s
+    → journal_current_mark (before ++ items) ≡ journal_current_mark before → IsStamped before s
     → IsStamped (before ++ items) s
 stamped_same before items s known member opened current is now = elim (is (member now)) [
   | inl at_it ↦ inl (opened ∙ at_it ∙ ap Some (sym current))
-  | inr told ↦ inr (rw known (subst (IsStampSent (before ++ items) s (known_boot before s))
+  | inr told ↦ inr (rw known (subst (IsStampSent (before ++ items) s (journal_known_boot before s))
       (sym current) (record { touched = told.touched; sent = sent_on before items _ told.sent })))
 ]
 
 stamped_leaving : (before : List Item) (next : Item) (s : ℕ) → LeavesMember before next s
-    → current_mark (before ++ next ∷ []) ≡ current_mark before
+    → journal_current_mark (before ++ next ∷ []) ≡ journal_current_mark before
     → IsStamped before s → IsStamped (before ++ next ∷ []) s
 stamped_leaving before next s leaves current is = search (rules, stamped_same, member_was)
 
 stamps_keep : (setting : Setting) (before items : List Item)
-    → ControllerKeeps before (before ++ items) → HaveStamps setting before
+    → JournalControllerKeeps before (before ++ items) → HaveStamps setting before
     → HaveStamps setting (before ++ items)
 stamps_keep setting before items keeps have = search (rules, stamped_same)
 
@@ -53,7 +53,7 @@ stamps_keep setting before items keeps have = search (rules, stamped_same)
 
 -- one that is opened now is opened at the current version
 stamped_sent : (setting : Setting) (before : List Item) (n s : ℕ) (message : Message)
-    → HasItemCause setting before (Item.Sent n message) → IsStamped before s
+    → HasControlItemCause setting before (Item.Sent n message) → IsStamped before s
     → IsStamped (before ++ Item.Sent n message ∷ []) s
 stamped_sent setting before n s message cause is = let next : Item = Item.Sent n message in
     sent_cases setting before n s message cause (IsStamped (before ++ next ∷ []) s)
@@ -62,10 +62,10 @@ stamped_sent setting before n s message cause is = let next : Item = Item.Sent n
     (λ version first now member. inl (now ∙ ap Some (first.current ∙ sym (current_more _ next))))
 
 -- an item that opens none, and ends and raises no boot
-stamped_still : (before : List Item) (next : Item) (s : ℕ) → known_boot (before ++ next ∷ []) s
-    ≡ known_boot before s → is_over (before ++ next ∷ []) s ≡ is_over before s
-    → open_sent s (known_boot before s) next ≡ []
-    → current_mark (before ++ next ∷ []) ≡ current_mark before → IsStamped before s
+stamped_still : (before : List Item) (next : Item) (s : ℕ) → journal_known_boot (before ++ next ∷ []) s
+    ≡ journal_known_boot before s → is_over (before ++ next ∷ []) s ≡ is_over before s
+    → machine_open_sent s (journal_known_boot before s) next ≡ []
+    → journal_current_mark (before ++ next ∷ []) ≡ journal_current_mark before → IsStamped before s
     → IsStamped (before ++ next ∷ []) s
 stamped_still before next s known over none current is =
     stamped_leaving before next s (quiet_leaves before next s known over none) current is
@@ -93,28 +93,28 @@ IsLater before (Item.Retired version) = ⊤
 IsLater before _ = ⊥
 
 stamps_later : (setting : Setting)
-    → AreKept (Both (HasItemCause setting) IsLater) (HaveStamps setting)
+    → AreKept (Both (HasControlItemCause setting) IsLater) (HaveStamps setting)
 stamps_later setting before h2 both have =
     search (rules, stamped_sent, stamped_still, known_more, over_more, current_more)
 
 later_sends : (journal : List Item) (messages : List Message)
-    → HaveCauses IsLater journal (send_items journal messages)
+    → JournalItemsHaveCauses IsLater journal (send_items journal messages)
 later_sends = sends_any IsLater (λ before n message. tt)
 
 open_later : (setting : Setting) (journal : List Item)
-    → HaveCauses IsLater journal (open_items setting journal)
-unfolding open_items
+    → JournalItemsHaveCauses IsLater journal (machine_open_items setting journal)
+unfolding machine_open_items
 open_later setting journal = later_sends journal _
 
 retired_later : (setting : Setting) (journal : List Item)
-    → HaveCauses IsLater journal (retired_items setting journal)
+    → JournalItemsHaveCauses IsLater journal (retired_items setting journal)
 unfolding retired_items
 retired_later setting journal = grind (arith, have_first, later_sends)
 
 -- the members are told of the version to which current rises
 raised_stamps : (setting : Setting) (now : List Item) (version : ℕ)
     → let raised = now ++ Item.Current version ∷ [] in HaveStamps setting
-    (raised ++ send_items raised (map (stamp_for setting now version) (members setting now)))
+    (raised ++ send_items raised (map (journal_stamp_for setting now version) (members setting now)))
 raised_stamps setting now version = record {
   each = λ s there member. inr (by_member s there (was_member s member));
 } where
@@ -125,12 +125,12 @@ raised_stamps setting now version = record {
   raised = now ++ next ∷ []
 
   stamps : List Message
-  stamps = map (stamp_for setting now version) (members setting now)
+  stamps = map (journal_stamp_for setting now version) (members setting now)
 
   after : List Item
   after = raised ++ send_items raised stamps
 
-  keeps : ControllerKeeps raised after
+  keeps : JournalControllerKeeps raised after
   keeps = leaves_keep raised _ (sends_leave raised stamps (each_map (ReopensAlone raised) _
       (members setting now) (each_always _ (λ s. tt) (members setting now))))
 
@@ -140,16 +140,16 @@ raised_stamps setting now version = record {
   was_member : (s : ℕ) → IsTrue (is_member after s) → IsTrue (is_member now s)
   was_member s member = member_was now next s (leaves s) (sym (keeps.member s) ∙ member)
 
-  mark : current_mark after ≡ version
+  mark : journal_current_mark after ≡ version
   mark = keeps.current ∙ current_more now next
 
   by_member : (s : ℕ) → s < length setting.net.switches → IsTrue (is_member now s)
-      → IsStampSent after s (known_boot after s) (current_mark after)
-  by_member s there member = subst (λ b. IsStampSent after s b (current_mark after))
+      → IsStampSent after s (journal_known_boot after s) (journal_current_mark after)
+  by_member s there member = subst (λ b. IsStampSent after s b (journal_current_mark after))
       (sym (keeps.known s ∙ known_more now next s))
-      (subst (IsStampSent after s (known_boot now s)) (sym mark) (record {
+      (subst (IsStampSent after s (journal_known_boot now s)) (sym mark) (record {
         touched = touched_by setting now version;
-        sent = sends_all raised stamps _ (in_map (stamp_for setting now version) s
+        sent = sends_all raised stamps _ (in_map (journal_stamp_for setting now version) s
             (members setting now) (in_filter (is_member now) s (switches_of setting) (in_range s 0
             (length setting.net.switches) (omega arith) (omega (arith, there))) member));
       }))
@@ -157,13 +157,13 @@ raised_stamps setting now version = record {
 current_stamps : (setting : Setting) (now : List Item) → HaveStamps setting now
     → HaveStamps setting (now ++ current_items setting now)
 unfolding current_items
-current_stamps setting now have = by_test (nat_lt (current_mark now) (next_current setting now))
+current_stamps setting now have = by_test (nat_lt (journal_current_mark now) (journal_next_current setting now))
   where
     version : ℕ
-    version = next_current setting now
+    version = journal_next_current setting now
 
     stamps : List Message
-    stamps = map (stamp_for setting now version) (members setting now)
+    stamps = map (journal_stamp_for setting now version) (members setting now)
 
     by_test : (b : Bool) → HaveStamps setting (now ++ elim b [
       | false ↦ []
@@ -180,12 +180,12 @@ unfolding settling
 settling_stamps setting now have =
     let first : List Item = current_items setting now in
     let rest : List Item =
-    in_turn (open_items setting ∷ retired_items setting ∷ []) (now ++ first) in
+    in_turn (machine_open_items setting ∷ retired_items setting ∷ []) (now ++ first) in
     subst (HaveStamps setting) (append_assoc now first rest)
-    (fact_on (Both (HasItemCause setting) IsLater) (HaveStamps setting) (stamps_later setting)
-    (now ++ first) rest (have_both (HasItemCause setting) IsLater (now ++ first) rest
-    (have_rest (HasItemCause setting) now first rest (settling_have setting now))
-    (have_in_turn IsLater (open_items setting ∷ retired_items setting ∷ [])
+    (fact_on (Both (HasControlItemCause setting) IsLater) (HaveStamps setting) (stamps_later setting)
+    (now ++ first) rest (have_both (HasControlItemCause setting) IsLater (now ++ first) rest
+    (have_rest (HasControlItemCause setting) now first rest (settling_have setting now))
+    (have_in_turn IsLater (machine_open_items setting ∷ retired_items setting ∷ [])
     (open_later setting, (retired_later setting, tt)) (now ++ first))) (current_stamps setting now
     have))
 
@@ -204,10 +204,10 @@ heard_stamps setting before body now have = subst (HaveStamps setting)
     before body (now ++ settling setting now) (settling_stamps setting now have))
 
 still_stamps : (setting : Setting) (before : List Item) (next : Item)
-    → ((s : ℕ) → known_boot (before ++ next ∷ []) s ≡ known_boot before s)
+    → ((s : ℕ) → journal_known_boot (before ++ next ∷ []) s ≡ journal_known_boot before s)
     → ((s : ℕ) → is_over (before ++ next ∷ []) s ≡ is_over before s)
-    → ((s : ℕ) → open_sent s (known_boot before s) next ≡ [])
-    → current_mark (before ++ next ∷ []) ≡ current_mark before
+    → ((s : ℕ) → machine_open_sent s (journal_known_boot before s) next ≡ [])
+    → journal_current_mark (before ++ next ∷ []) ≡ journal_current_mark before
     → HaveStamps setting before → HaveStamps setting (before ++ next ∷ [])
 still_stamps setting before next known over none current have = search (rules, stamped_still)
 
@@ -217,7 +217,7 @@ nothing_stamps : (setting : Setting) (here : List Item) → HaveStamps setting h
 nothing_stamps setting here have = search (rules, still_stamps, known_more, over_more, current_more)
 
 deliver_stamps : (setting : Setting) (before here : List Item) (number : ℕ) → StampsAreCurrent here
-    → IsTrue (is_message_to_controller before number) → HaveStamps setting here
+    → IsTrue (is_journal_controller_message before number) → HaveStamps setting here
     → HaveStamps setting (here ++ deliver_items setting before number here)
 deliver_stamps setting before here number are is have =
     let now : List Item = here ++ Item.Delivered number ∷ [] in
@@ -229,7 +229,7 @@ deliver_stamps setting before here number are is have =
 update_stamps : (setting : Setting) (file : ℕ) (here : List Item) → HaveStamps setting here
     → HaveStamps setting (here ++ update_items setting file here)
 update_stamps setting file here have =
-    let next : Item = Item.Submitted file (version_count here + 1) in
+    let next : Item = Item.Submitted file (journal_version_count here + 1) in
     let now : List Item = here ++ next ∷ [] in
     update_cases (HaveStamps setting) setting file here
     (λ code. let refused : Item = Item.Refused file code in
@@ -269,5 +269,5 @@ piece_stamps setting before row step are have = by_kind (asks_controller before 
 
 -- each switch begins at the first version
 pub stamps_at_first : (setting : Setting) → HaveStamps setting []
-unfolding opened_at known_boot controller_heard current_mark
+unfolding opened_at journal_known_boot controller_heard journal_current_mark
 stamps_at_first setting = record { each = λ s there member. inl refl }

@@ -2,10 +2,10 @@
 -- each version from the current one to the last.
 use Rattle.std.proofs.Common.{[], if◌then◌else◌, ◌++◌, ◌+◌, ◌<◌, ◌∙◌, ◌∷◌, ◌≡◌, ◌≤◌, ◌⊎◌, Bool, IsFalse, IsTrue, List, Some, ap, append-nil, arith, false, inl, inr, length, nat_lt, not, refl, subst, sym, true, ℕ, rules}
 use Rattle.base.proofs.Exports.{cases_eq, each_always, each_map, ⊤}
-use Rattle.update_machine.specs.Exports.{Body, ControllerKeeps, Deliver, Hello, Install, Item, Message, Setting, Step, Tables, after_hello, confirm_items, controller_items, current_mark, deliver_items, delivery_items, install_for, installs_to, installs_to_all, is_message_to_controller, is_new_boot, is_over, known_boot, message_of, piece, raises_known, send_items, settling, step_items, switches_of, tables_at, to_switch, update_items, version_count, versions_from_current}
+use Rattle.update_machine.specs.Exports.{Body, JournalControllerKeeps, Deliver, Hello, Install, Item, Message, Setting, Step, Tables, after_hello, confirm_items, controller_items, journal_current_mark, deliver_items, machine_delivery_items, journal_install_for, machine_installs_to, machine_installs_to_all, is_journal_controller_message, is_new_boot_in_journal, is_over, journal_known_boot, message_of, piece, journal_raises_known_boot, send_items, settling, step_items, switches_of, journal_tables_at, machine_message_to_switch, update_items, journal_version_count, journal_versions_from_current}
 use Rattle.ctrl_msg.specs.Exports.{to_controller}
 use Rattle.update_machine.proofs.Exports.{start_laws}
-use Rattle.control_laws.specs.Exports.{HasItemCause, asks_controller}
+use Rattle.control_laws.specs.Exports.{HasControlItemCause, asks_controller}
 use Rattle.control_laws.proofs.Exports.{AreKept, Both, ReopensAlone, behind_piece, confirm_cases, count_more, current_more, deliver_cases, fact_on, grows, have_both, hello_sent, in_two, installs_reopen, known_more, leaves_keep, message_more, others_keep, over_more, sends_any, sends_leave, settling_have, settling_settles, told_is, unraised_same, update_cases}
 use Rattle.convergence_laws.proofs.ConvergencePlainItems.{IsPlain, in_filter, in_map, in_range, settling_plain}
 use Rattle.convergence_laws.proofs.ConvergenceMessages.{IsSent, sends_all, sent_on}
@@ -14,31 +14,31 @@ use Rattle.convergence_laws.proofs.ConvergenceMessages.{IsSent, sends_all, sent_
 pub record TablesSent (journal : List Item) (s boot version : ℕ) : Type 0 where
   pub tables : Tables
   pub of : tables.version ≡ version
-  pub sent : IsSent journal (to_switch s (Install boot tables))
+  pub sent : IsSent journal (machine_message_to_switch s (Install boot tables))
 
 -- each switch that isn't over has those of each version from the current one to the last of these,
 -- or began with them; but those that are still owed
 pub record HaveInstalls (setting : Setting) (Owed : ℕ → Type 0) (last : ℕ) (journal : List Item)
     : Type 0 where
   pub each : (s version : ℕ) → s < length setting.net.switches → IsFalse (is_over journal s)
-      → current_mark journal ≤ version → version ≤ last
-      → Owed s ⊎ (((version ≡ 1) × (known_boot journal s ≡ 1))
-      ⊎ TablesSent journal s (known_boot journal s) version)
+      → journal_current_mark journal ≤ version → version ≤ last
+      → Owed s ⊎ (((version ≡ 1) × (journal_known_boot journal s ≡ 1))
+      ⊎ TablesSent journal s (journal_known_boot journal s) version)
 
 tables_on : (journal items : List Item) (s boot version : ℕ) → TablesSent journal s boot version
     → TablesSent (journal ++ items) s boot version
 tables_on journal items s boot version sent = record {
   tables = sent.tables;
   of = sent.of;
-  sent = sent_on journal items (to_switch s (Install boot sent.tables)) sent.sent;
+  sent = sent_on journal items (machine_message_to_switch s (Install boot sent.tables)) sent.sent;
 }
 
 -- ---- where nothing changes for the switch
 
 installs_same : (setting : Setting) (Owed : ℕ → Type 0) (last : ℕ) (before items : List Item)
-    → ((s : ℕ) → known_boot (before ++ items) s ≡ known_boot before s)
+    → ((s : ℕ) → journal_known_boot (before ++ items) s ≡ journal_known_boot before s)
     → ((s : ℕ) → IsFalse (is_over (before ++ items) s) → IsFalse (is_over before s))
-    → current_mark before ≤ current_mark (before ++ items)
+    → journal_current_mark before ≤ journal_current_mark (before ++ items)
     → HaveInstalls setting Owed last before → HaveInstalls setting Owed last (before ++ items)
 installs_same setting Owed last before items known over current have = record {
   each = λ s version there not_over above below.
@@ -54,7 +54,7 @@ installs_same setting Owed last before items known over current have = record {
 -- ---- items
 
 plain_known : (before : List Item) (next : Item) → IsPlain before next → (s : ℕ)
-    → known_boot (before ++ next ∷ []) s ≡ known_boot before s
+    → journal_known_boot (before ++ next ∷ []) s ≡ journal_known_boot before s
 plain_known before next plain s = search (rules, known_more)
 
 plain_over : (before : List Item) (next : Item) → IsPlain before next → (s : ℕ)
@@ -62,11 +62,11 @@ plain_over : (before : List Item) (next : Item) → IsPlain before next → (s :
 plain_over before next plain s none = search (rules, over_more)
 
 current_up : (setting : Setting) (before : List Item) (next : Item)
-    → HasItemCause setting before next → current_mark before ≤ current_mark (before ++ next ∷ [])
+    → HasControlItemCause setting before next → journal_current_mark before ≤ journal_current_mark (before ++ next ∷ [])
 current_up setting before next cause = search (rules, current_more)
 
 installs_on : (setting : Setting) (Owed : ℕ → Type 0) (last : ℕ)
-    → AreKept (Both (HasItemCause setting) IsPlain) (HaveInstalls setting Owed last)
+    → AreKept (Both (HasControlItemCause setting) IsPlain) (HaveInstalls setting Owed last)
 installs_on setting Owed last before next both have =
     installs_same setting Owed last before (next ∷ []) (plain_known before next both.second)
     (plain_over before next both.second) (current_up setting before next both.first) have
@@ -75,7 +75,7 @@ settling_installs : (setting : Setting) (Owed : ℕ → Type 0) (last : ℕ) (no
     → HaveInstalls setting Owed last now
     → HaveInstalls setting Owed last (now ++ settling setting now)
 settling_installs setting Owed last now have = fact_on _ _ (installs_on setting Owed last) now
-    (settling setting now) (have_both (HasItemCause setting) IsPlain now (settling setting now)
+    (settling setting now) (have_both (HasControlItemCause setting) IsPlain now (settling setting now)
     (settling_have setting now) (settling_plain setting now)) have
 
 -- messages leave all of it
@@ -101,7 +101,7 @@ sends_installs setting Owed last now messages have = fact_on IsSending _ kept no
 -- the switch whose known boot it raises is owed its tables
 delivered_owed : (setting : Setting) (last : ℕ) (before : List Item) (number : ℕ)
     → HaveInstalls setting (λ s. ⊥) last before → HaveInstalls setting
-    (λ s. raises_known before s number ≡ true) last (before ++ Item.Delivered number ∷ [])
+    (λ s. journal_raises_known_boot before s number ≡ true) last (before ++ Item.Delivered number ∷ [])
 delivered_owed setting last before number have = record {
   each = λ s version there none above below. by_raise s version there none above below _ refl;
 } where
@@ -110,10 +110,10 @@ delivered_owed setting last before number have = record {
 
   by_raise : (s version : ℕ) → s < length setting.net.switches
       → IsFalse (is_over (before ++ next ∷ []) s)
-      → current_mark (before ++ next ∷ []) ≤ version → version ≤ last → (b : Bool)
-      → raises_known before s number ≡ b → (raises_known before s number ≡ true)
-      ⊎ (((version ≡ 1) × (known_boot (before ++ next ∷ []) s ≡ 1))
-      ⊎ TablesSent (before ++ next ∷ []) s (known_boot (before ++ next ∷ []) s) version)
+      → journal_current_mark (before ++ next ∷ []) ≤ version → version ≤ last → (b : Bool)
+      → journal_raises_known_boot before s number ≡ b → (journal_raises_known_boot before s number ≡ true)
+      ⊎ (((version ≡ 1) × (journal_known_boot (before ++ next ∷ []) s ≡ 1))
+      ⊎ TablesSent (before ++ next ∷ []) s (journal_known_boot (before ++ next ∷ []) s) version)
   by_raise s version there none above below true e = inl e
   by_raise s version there none above below false e = let known = unraised_same before number s e in
       elim (have.each s version there
@@ -130,33 +130,33 @@ delivered_owed setting last before number have = record {
 record IsHello (before : List Item) (number s : ℕ) : Type 0 where
   boot : ℕ
   sent : message_of before number ≡ Some (to_controller (Hello s boot))
-  new : IsTrue (is_new_boot before s boot)
+  new : IsTrue (is_new_boot_in_journal before s boot)
 
-raises_by : (before : List Item) (number s : ℕ) → raises_known before s number ≡ true
+raises_by : (before : List Item) (number s : ℕ) → journal_raises_known_boot before s number ≡ true
     → IsHello before number s
 raises_by before number s raises = search (rules, hello_sent)
 
 -- all versions from the current one on are sent
 installs_sent : (setting : Setting) (now : List Item) (s version : ℕ)
-    → current_mark now ≤ version → version ≤ version_count now
-    → TablesSent (now ++ installs_to setting s now) s (known_boot now s) version
-unfolding installs_to
+    → journal_current_mark now ≤ version → version ≤ journal_version_count now
+    → TablesSent (now ++ machine_installs_to setting s now) s (journal_known_boot now s) version
+unfolding machine_installs_to
 installs_sent setting now s version above below = record {
-  tables = tables_at setting now version s;
+  tables = journal_tables_at setting now version s;
   of = refl;
-  sent = sends_all now _ _ (in_map (λ v. install_for setting now v s) version
-      (versions_from_current now) (in_range version (current_mark now) _ above (omega arith)));
+  sent = sends_all now _ _ (in_map (λ v. journal_install_for setting now v s) version
+      (journal_versions_from_current now) (in_range version (journal_current_mark now) _ above (omega arith)));
 }
 
 hello_is : (setting : Setting) (before : List Item) (s boot : ℕ) (now : List Item)
-    → IsTrue (is_new_boot before s boot)
-    → after_hello setting before (Hello s boot) now ≡ installs_to setting s now
+    → IsTrue (is_new_boot_in_journal before s boot)
+    → after_hello setting before (Hello s boot) now ≡ machine_installs_to setting s now
 hello_is setting before s boot now new = cc new
 
 to_installs : (setting : Setting) (Owed : ℕ → Type 0) (last s : ℕ) (now : List Item)
     → HaveInstalls setting Owed last now
-    → HaveInstalls setting Owed last (now ++ installs_to setting s now)
-unfolding installs_to
+    → HaveInstalls setting Owed last (now ++ machine_installs_to setting s now)
+unfolding machine_installs_to
 to_installs setting Owed last s now have = sends_installs setting Owed last now _ have
 
 hello_installs : (setting : Setting) (Owed : ℕ → Type 0) (last : ℕ) (before : List Item)
@@ -165,27 +165,27 @@ hello_installs : (setting : Setting) (Owed : ℕ → Type 0) (last : ℕ) (befor
 hello_installs setting Owed last before body now have = search (rules, to_installs)
 
 pub installs_keep : (setting : Setting) (s : ℕ) (now : List Item)
-    → ControllerKeeps now (now ++ installs_to setting s now)
-unfolding installs_to
+    → JournalControllerKeeps now (now ++ machine_installs_to setting s now)
+unfolding machine_installs_to
 installs_keep setting s now = leaves_keep now _ (sends_leave now _ (installs_reopen _ now s _))
 
 -- behind a hello that raised it all tables are sent
 hello_sends : (setting : Setting) (before : List Item) (s boot version : ℕ) (body : Body)
-    (now : List Item) → body ≡ Hello s boot → IsTrue (is_new_boot before s boot)
-    → version ≤ version_count now
+    (now : List Item) → body ≡ Hello s boot → IsTrue (is_new_boot_in_journal before s boot)
+    → version ≤ journal_version_count now
     → let after = now ++ after_hello setting before body now in
-    current_mark after ≤ version → TablesSent after s (known_boot after s) version
+    journal_current_mark after ≤ version → TablesSent after s (journal_known_boot after s) version
 hello_sends setting before s boot version body now is new below =
-    subst (λ items. current_mark (now ++ items) ≤ version
-    → TablesSent (now ++ items) s (known_boot (now ++ items) s) version)
+    subst (λ items. journal_current_mark (now ++ items) ≤ version
+    → TablesSent (now ++ items) s (journal_known_boot (now ++ items) s) version)
     (sym (ap (λ b. after_hello setting before b now) is ∙ hello_is setting before s boot now new))
     (λ above. let keeps = installs_keep setting s now in
-    subst (λ b. TablesSent (now ++ installs_to setting s now) s b version) (sym (keeps.known s))
+    subst (λ b. TablesSent (now ++ machine_installs_to setting s now) s b version) (sym (keeps.known s))
     (installs_sent setting now s version (omega (arith, above, keeps.current)) below))
 
 -- the count of the versions stays while the marks settle
 settling_count : (setting : Setting) (now : List Item)
-    → version_count (now ++ settling setting now) ≡ version_count now
+    → journal_version_count (now ++ settling setting now) ≡ journal_version_count now
 settling_count setting now = (grows now (settling setting now) (settling_settles setting now)).count
 
 same_body : (before : List Item) (number : ℕ) (one other : Body) → message_of before number
@@ -195,12 +195,12 @@ same_body before number one other first second = search rules
 heard_installs : (setting : Setting) (before : List Item) (row number : ℕ) (step : Step)
     (body : Body) (now : List Item) → message_of before number ≡ Some (to_controller body)
     → let here = before ++ Item.Row row step ∷ [] in
-    (last : ℕ) → last ≡ version_count now
-    → HaveInstalls setting (λ s. raises_known here s number ≡ true) last now
+    (last : ℕ) → last ≡ journal_version_count now
+    → HaveInstalls setting (λ s. journal_raises_known_boot here s number ≡ true) last now
     → HaveInstalls setting (λ s. ⊥) last (now ++ controller_items setting before body now)
 unfolding controller_items
 heard_installs setting before row number step body now sent last is have =
-    let all : HaveInstalls setting (λ s. raises_known here s number ≡ true) last after =
+    let all : HaveInstalls setting (λ s. journal_raises_known_boot here s number ≡ true) last after =
     hello_installs setting _ last before body settled (settling_installs setting _ last now have) in
     subst (HaveInstalls setting (λ s. ⊥) last)
     (sym (in_two (settling setting) (after_hello setting before body) now)) (record {
@@ -217,11 +217,11 @@ heard_installs setting before row number step body now sent last is have =
     after : List Item
     after = settled ++ after_hello setting before body settled
 
-    by_owed : (s version : ℕ) → current_mark after ≤ version → version ≤ last
-        → (raises_known here s number ≡ true) ⊎ (((version ≡ 1) × (known_boot after s ≡ 1))
-        ⊎ TablesSent after s (known_boot after s) version)
-        → ⊥ ⊎ (((version ≡ 1) × (known_boot after s ≡ 1))
-        ⊎ TablesSent after s (known_boot after s) version)
+    by_owed : (s version : ℕ) → journal_current_mark after ≤ version → version ≤ last
+        → (journal_raises_known_boot here s number ≡ true) ⊎ (((version ≡ 1) × (journal_known_boot after s ≡ 1))
+        ⊎ TablesSent after s (journal_known_boot after s) version)
+        → ⊥ ⊎ (((version ≡ 1) × (journal_known_boot after s ≡ 1))
+        ⊎ TablesSent after s (journal_known_boot after s) version)
     by_owed s version above below (inr had) = inr had
     by_owed s version above below (inl raises) =
         let hello = raises_by here number s raises in
@@ -233,21 +233,21 @@ heard_installs setting before row number step body now sent last is have =
 
 pub delivery_told : (setting : Setting) (before : List Item) (number : ℕ) (body : Body)
     (now : List Item) → message_of before number ≡ Some (to_controller body)
-    → delivery_items setting before number now ≡ controller_items setting before body now
-unfolding delivery_items
+    → machine_delivery_items setting before number now ≡ controller_items setting before body now
+unfolding machine_delivery_items
 delivery_told setting before number body now sent = search rules
 
 deliver_installs : (setting : Setting) (before : List Item) (row number : ℕ)
-    → IsTrue (is_message_to_controller before number)
+    → IsTrue (is_journal_controller_message before number)
     → let here = before ++ Item.Row row (Deliver number) ∷ [] in
-    HaveInstalls setting (λ s. ⊥) (version_count before) here
-    → HaveInstalls setting (λ s. ⊥) (version_count before)
+    HaveInstalls setting (λ s. ⊥) (journal_version_count before) here
+    → HaveInstalls setting (λ s. ⊥) (journal_version_count before)
     (here ++ deliver_items setting before number here)
 deliver_installs setting before row number is have =
     let here : List Item = before ++ Item.Row row (Deliver number) ∷ [] in
     let now : List Item = here ++ Item.Delivered number ∷ [] in
-    let last : ℕ = version_count before in
-    let same : last ≡ version_count now = sym (count_more here (Item.Delivered number)
+    let last : ℕ = journal_version_count before in
+    let same : last ≡ journal_version_count now = sym (count_more here (Item.Delivered number)
     ∙ count_more before (Item.Row row (Deliver number))) in
     let told : (body : Body) × (message_of before number ≡ Some (to_controller body)) =
     told_is before number is in
@@ -258,36 +258,36 @@ deliver_installs setting before row number is have =
     (delivered_owed setting last here number have)))
 
 hello_count : (setting : Setting) (before : List Item) (body : Body) (now : List Item)
-    → version_count (now ++ after_hello setting before body now) ≡ version_count now
-hello_count setting before (Hello s boot) now = by_new (is_new_boot before s boot) where
-  by_new : (b : Bool) → version_count (now ++ elim b [
-    | true ↦ installs_to setting s now
+    → journal_version_count (now ++ after_hello setting before body now) ≡ journal_version_count now
+hello_count setting before (Hello s boot) now = by_new (is_new_boot_in_journal before s boot) where
+  by_new : (b : Bool) → journal_version_count (now ++ elim b [
+    | true ↦ machine_installs_to setting s now
     | false ↦ []
-  ]) ≡ version_count now
-  by_new false = ap version_count (append-nil now)
+  ]) ≡ journal_version_count now
+  by_new false = ap journal_version_count (append-nil now)
   by_new true = (installs_keep setting s now).count
-hello_count setting before _ now = ap version_count (append-nil now)
+hello_count setting before _ now = ap journal_version_count (append-nil now)
 
 controller_count : (setting : Setting) (before : List Item) (body : Body) (now : List Item)
-    → version_count (now ++ controller_items setting before body now) ≡ version_count now
+    → journal_version_count (now ++ controller_items setting before body now) ≡ journal_version_count now
 unfolding controller_items
 controller_count setting before body now =
-    ap version_count (in_two (settling setting) (after_hello setting before body) now)
+    ap journal_version_count (in_two (settling setting) (after_hello setting before body) now)
     ∙ hello_count setting before body (now ++ settling setting now) ∙ settling_count setting now
 
 deliver_count : (setting : Setting) (before : List Item) (row number : ℕ)
-    → IsTrue (is_message_to_controller before number)
+    → IsTrue (is_journal_controller_message before number)
     → let here = before ++ Item.Row row (Deliver number) ∷ [] in
-    version_count (here ++ deliver_items setting before number here) ≡ version_count before
+    journal_version_count (here ++ deliver_items setting before number here) ≡ journal_version_count before
 deliver_count setting before row number is =
     let here : List Item = before ++ Item.Row row (Deliver number) ∷ [] in
     let next : Item = Item.Delivered number in
     let now : List Item = here ++ next ∷ [] in
     let same = count_more before (Item.Row row (Deliver number)) in
     let told = told_is before number is in
-    deliver_cases (λ js. version_count js ≡ version_count before) setting before number here
+    deliver_cases (λ js. journal_version_count js ≡ journal_version_count before) setting before number here
     (count_more here Item.Nothing ∙ same)
-    (ap (λ items. version_count (now ++ items)) (delivery_told setting before number told.0 now
+    (ap (λ items. journal_version_count (now ++ items)) (delivery_told setting before number told.0 now
     told.1) ∙ controller_count setting before told.0 now ∙ count_more here next ∙ same)
 
 -- ---- an update, and a confirmation
@@ -295,70 +295,70 @@ deliver_count setting before row number is =
 -- all that aren't over are sent the newest tables
 newest_sent : (setting : Setting) (now : List Item) (s : ℕ) → s < length setting.net.switches
     → IsFalse (is_over now s)
-    → TablesSent (now ++ installs_to_all setting now) s (known_boot now s) (version_count now)
-unfolding installs_to_all
+    → TablesSent (now ++ machine_installs_to_all setting now) s (journal_known_boot now s) (journal_version_count now)
+unfolding machine_installs_to_all
 newest_sent setting now s there none = record {
-  tables = tables_at setting now (version_count now) s;
+  tables = journal_tables_at setting now (journal_version_count now) s;
   of = refl;
-  sent = sends_all now _ _ (in_map (install_for setting now (version_count now)) s _
+  sent = sends_all now _ _ (in_map (journal_install_for setting now (journal_version_count now)) s _
       (in_filter (λ t. not (is_over now t)) s (switches_of setting) (in_range s 0
       (length setting.net.switches) (omega arith) (omega (arith, there))) (ap not none)));
 }
 
 pub all_keep : (setting : Setting) (now : List Item)
-    → ControllerKeeps now (now ++ installs_to_all setting now)
-unfolding installs_to_all
+    → JournalControllerKeeps now (now ++ machine_installs_to_all setting now)
+unfolding machine_installs_to_all
 all_keep setting now = leaves_keep now _ (sends_leave now _ (each_map (ReopensAlone now)
-    (install_for setting now (version_count now)) _ (each_always _ (λ s. tt) _)))
+    (journal_install_for setting now (journal_version_count now)) _ (each_always _ (λ s. tt) _)))
 
 all_installs : (setting : Setting) (last : ℕ) (now : List Item)
-    → last + 1 ≡ version_count now → HaveInstalls setting (λ s. ⊥) last now
-    → HaveInstalls setting (λ s. ⊥) (last + 1) (now ++ installs_to_all setting now)
+    → last + 1 ≡ journal_version_count now → HaveInstalls setting (λ s. ⊥) last now
+    → HaveInstalls setting (λ s. ⊥) (last + 1) (now ++ machine_installs_to_all setting now)
 all_installs setting last now is have = record {
-  each = λ s version there none above below. elim (cases_eq version (version_count now)) [
+  each = λ s version there none above below. elim (cases_eq version (journal_version_count now)) [
     | inl newest ↦ inr (inr (rw newest
         (rw (keeps.known s) (newest_sent setting now s there (sym (keeps.over s) ∙ none)))))
     | inr older ↦ (kept have).each s version there none above (omega (arith, older, below, is))
   ];
 } where
   after : List Item
-  after = now ++ installs_to_all setting now
+  after = now ++ machine_installs_to_all setting now
 
-  keeps : ControllerKeeps now after
+  keeps : JournalControllerKeeps now after
   keeps = all_keep setting now
 
   kept : HaveInstalls setting (λ s. ⊥) last now → HaveInstalls setting (λ s. ⊥) last after
-  kept have = installs_same setting (λ s. ⊥) last now (installs_to_all setting now)
+  kept have = installs_same setting (λ s. ⊥) last now (machine_installs_to_all setting now)
       keeps.known (λ s none. sym (keeps.over s) ∙ none) (omega (arith, keeps.current)) have
 
 -- tables of all versions that are there
 abbrev pub AllInstalled : Setting → List Item → Type 0
-AllInstalled setting journal = HaveInstalls setting (λ s. ⊥) (version_count journal) journal
+AllInstalled setting journal = HaveInstalls setting (λ s. ⊥) (journal_version_count journal) journal
 
 -- items that leave the count of the versions, and the switches that aren't over
 counted_on : (setting : Setting) (before : List Item) (next : Item)
-    → Both (HasItemCause setting) IsPlain before next
-    → version_count (before ++ next ∷ []) ≡ version_count before
+    → Both (HasControlItemCause setting) IsPlain before next
+    → journal_version_count (before ++ next ∷ []) ≡ journal_version_count before
     → AllInstalled setting before → AllInstalled setting (before ++ next ∷ [])
 counted_on setting before next both same have = search (rules, installs_on)
 
 -- and settling behind a version that may be new
-settled_installs : (setting : Setting) (last : ℕ) (now : List Item) → last ≡ version_count now
+settled_installs : (setting : Setting) (last : ℕ) (now : List Item) → last ≡ journal_version_count now
     → HaveInstalls setting (λ s. ⊥) last now → AllInstalled setting (now ++ settling setting now)
 settled_installs setting last now same have = search (rules, settling_count, settling_installs)
 
 update_installs : (setting : Setting) (file : ℕ) (here : List Item) → AllInstalled setting here
     → AllInstalled setting (here ++ update_items setting file here)
 update_installs setting file here have =
-    let next : Item = Item.Submitted file (version_count here + 1) in
+    let next : Item = Item.Submitted file (journal_version_count here + 1) in
     let now : List Item = here ++ next ∷ [] in
-    let more : version_count here + 1 ≡ version_count now = sym (count_more here next) in
+    let more : journal_version_count here + 1 ≡ journal_version_count now = sym (count_more here next) in
     update_cases (AllInstalled setting) setting file here
     (λ code. counted_on setting here (Item.Refused file code) (record { first = tt; second = tt })
     (count_more here (Item.Refused file code)) have)
-    (settled_installs setting (version_count here + 1) (now ++ installs_to_all setting now)
-    (more ∙ sym (all_keep setting now).count) (all_installs setting (version_count here) now more
-    (installs_same setting (λ s. ⊥) (version_count here) here (next ∷ []) (λ s. known_more here next
+    (settled_installs setting (journal_version_count here + 1) (now ++ machine_installs_to_all setting now)
+    (more ∙ sym (all_keep setting now).count) (all_installs setting (journal_version_count here) now more
+    (installs_same setting (λ s. ⊥) (journal_version_count here) here (next ∷ []) (λ s. known_more here next
     s) (λ s none. sym (over_more here next s) ∙ none) (omega (arith, current_more)) have)))
 
 confirm_installs : (setting : Setting) (s : ℕ) (here : List Item) → AllInstalled setting here
@@ -366,8 +366,8 @@ confirm_installs : (setting : Setting) (s : ℕ) (here : List Item) → AllInsta
 confirm_installs setting s here have = let next : Item = Item.OverNow s in
     confirm_cases (AllInstalled setting) setting s here
     (counted_on setting here _ (record { first = tt; second = tt }) (count_more here _) have)
-    (settled_installs setting (version_count here) (here ++ next ∷ []) (sym (count_more here next))
-    (installs_same setting (λ t. ⊥) (version_count here) here (next ∷ []) (λ t. known_more here next
+    (settled_installs setting (journal_version_count here) (here ++ next ∷ []) (sym (count_more here next))
+    (installs_same setting (λ t. ⊥) (journal_version_count here) here (next ∷ []) (λ t. known_more here next
     t) (λ t none. plain_over here next tt t none) (omega (arith, current_more here next)) have))
 
 -- ---- steps
@@ -385,7 +385,7 @@ other_installs setting before row step is have =
     let keeps = others_keep setting before row step is in
     subst (λ m. HaveInstalls setting (λ s. ⊥) m (before ++ piece setting before row step))
     (sym keeps.count)
-    (installs_same setting (λ s. ⊥) (version_count before) before (piece setting before row step)
+    (installs_same setting (λ s. ⊥) (journal_version_count before) before (piece setting before row step)
     keeps.known (λ s none. sym (keeps.over s) ∙ none) (omega (arith, keeps.current)) have)
 
 pub piece_installs : (setting : Setting) (before : List Item) (row : ℕ) (step : Step)

@@ -1,12 +1,12 @@
 -- In a quiet journal every update has ended.
 use Rattle.std.proofs.Common.{[], if◌then◌else◌, ◌++◌, ◌+◌, ◌-◌, ◌<◌, ◌==◌, ◌||◌, ◌∙◌, ◌∷◌, ◌≡◌, ◌≤◌, ◌⊎◌, Bool, IsFalse, IsTrue, List, None, Option, Some, ap, arith, eq-eqb, false, fold, inl, inr, is_some, length, max, nat_eq, nat_lt, refl, sym, true, unwrap_or, ℕ, rules}
 use Rattle.base.proofs.Exports.{list_any, nat_tests}
-use Rattle.update_machine.specs.Exports.{Body, HaveCauses, Hello, Install, Installed, IsQuiet, Item, OpenAt, Setting, Stamp, Stamped, StepOfRow, Tables, acked_stamp, journal_after_steps, boot_of, controller_heard, current_mark, has_acked, heard, installed_version_in, is_later_body, is_member, is_up, known_boot, opened_at, piece, serves, version_count}
+use Rattle.update_machine.specs.Exports.{Body, JournalItemsHaveCauses, Hello, Install, Installed, IsMachineQuiet, Item, OpenAt, Setting, Stamp, Stamped, StepOfRow, Tables, acked_stamp, journal_after_steps, journal_boot_of, controller_heard, journal_current_mark, has_acked, heard, journal_installed_in_body, is_machine_later_body, is_member, is_up, journal_known_boot, opened_at, piece, serves, journal_version_count}
 use Rattle.ctrl_msg.specs.Exports.{to_controller}
 use Rattle.update_machine.proofs.Exports.{have_append}
 use Rattle.control_laws.specs.Exports.{HoldsAtEnds}
 use Rattle.control_laws.proofs.Exports.{acked_stamp_opened, at_ends, bounded, fold_up, known_first, member_parts, opened_in, opened_is, settled_at_ends}
-use Rattle.convergence_laws.specs.Exports.{IsNetworkUpdated}
+use Rattle.convergence_laws.specs.Exports.{HasConvergedOnVersion}
 use Rattle.convergence_laws.proofs.ConvergenceCaughtUp.{AreReady, IsCaughtUp, caught_updated, items_caused}
 use Rattle.convergence_laws.proofs.ConvergenceAnswers.{HaveSpoken, piece_spoken, spoken_at_first}
 use Rattle.convergence_laws.proofs.ConvergenceDownSwitches.{caused_recorded}
@@ -40,7 +40,7 @@ any_in v (x ∷ xs) is = elim is [
 
 -- the causes, and what steps keep
 record Standing (setting : Setting) (journal : List Item) : Type 0 where
-  causes : HaveCauses (IsInOrder setting) [] journal
+  causes : JournalItemsHaveCauses (IsInOrder setting) [] journal
   spoken : HaveSpoken journal
   installs : AllInstalled setting journal
   stamps : HaveStamps setting journal
@@ -90,7 +90,7 @@ is_alone (Installed s boot version) = true
 is_alone _ = false
 
 says_same : (body of : Body) → IsTrue (is_alone of)
-    → (body ≡ of) ⊎ IsTrue (is_later_body body of) → body ≡ of
+    → (body ≡ of) ⊎ IsTrue (is_machine_later_body body of) → body ≡ of
 says_same body of alone h3 = search rules
 
 was_itself : (bodies : List Body) (of : Body) → IsTrue (is_alone of) → WasHeard bodies of
@@ -98,22 +98,22 @@ was_itself : (bodies : List Body) (of : Body) → IsTrue (is_alone of) → WasHe
 was_itself bodies of alone was = rw (says_same was.body of alone was.says) at was.is
 
 pub hello_known : (journal : List Item) (s boot : ℕ) → IsIn (Hello s boot) (controller_heard journal)
-    → boot ≤ known_boot journal s
-unfolding known_boot
+    → boot ≤ journal_known_boot journal s
+unfolding journal_known_boot
 hello_known journal s boot is = search (rules, eq-eqb, in_fold, in_filter_map)
 
 -- the controller knows the boot of each switch that is up
 known_own : (setting : Setting) (journal : List Item) → AreReady setting journal
-    → IsQuiet setting journal → (s : ℕ) → s < length setting.net.switches
-    → IsTrue (is_up journal s) → known_boot journal s ≡ boot_of journal s
+    → IsMachineQuiet setting journal → (s : ℕ) → s < length setting.net.switches
+    → IsTrue (is_up journal s) → journal_known_boot journal s ≡ journal_boot_of journal s
 known_own setting journal are quiet s there up = let below = are.recorded.known.boots.known s in
     elim (are.spoken.hellos.each s up) [
       | inl none ↦ absurd none
       | inr said ↦ elim said [
         | inl first ↦ omega (arith, below, first, known_first journal s)
-        | inr sent ↦ let told : boot_of journal s ≤ known_boot journal s = hello_known journal s
-            (boot_of journal s) (was_itself (controller_heard journal) _ refl (told_of setting
-            journal s (Hello s (boot_of journal s)) quiet are.causes there sent up refl refl)) in
+        | inr sent ↦ let told : journal_boot_of journal s ≤ journal_known_boot journal s = hello_known journal s
+            (journal_boot_of journal s) (was_itself (controller_heard journal) _ refl (told_of setting
+            journal s (Hello s (journal_boot_of journal s)) quiet are.causes there sent up refl refl)) in
             omega (arith, below, told)
       ]
     ]
@@ -121,27 +121,27 @@ known_own setting journal are quiet s there up = let below = are.recorded.known.
 -- ---- what is acknowledged
 
 pub installed_acked : (journal : List Item) (s version : ℕ)
-    → IsIn (Installed s (known_boot journal s) version) (controller_heard journal)
+    → IsIn (Installed s (journal_known_boot journal s) version) (controller_heard journal)
     → IsTrue (has_acked journal s version)
 unfolding has_acked
 installed_acked journal s version is = any_in version _
-    (in_right version (if known_boot journal s == 1 then 1 ∷ [] else []) _
-    (in_filter_map (installed_version_in s (known_boot journal s))
-    (Installed s (known_boot journal s) version) version (controller_heard journal) is
-    (rw ((eq-eqb s s refl), eq-eqb (known_boot journal s) (known_boot journal s) refl) refl)))
+    (in_right version (if journal_known_boot journal s == 1 then 1 ∷ [] else []) _
+    (in_filter_map (journal_installed_in_body s (journal_known_boot journal s))
+    (Installed s (journal_known_boot journal s) version) version (controller_heard journal) is
+    (rw ((eq-eqb s s refl), eq-eqb (journal_known_boot journal s) (journal_known_boot journal s) refl) refl)))
 
-pub first_acked : (journal : List Item) (s : ℕ) → known_boot journal s ≡ 1
+pub first_acked : (journal : List Item) (s : ℕ) → journal_known_boot journal s ≡ 1
     → IsTrue (has_acked journal s 1)
 unfolding has_acked
-first_acked journal s first = rw (eq-eqb (known_boot journal s) 1 first) refl
+first_acked journal s first = rw (eq-eqb (journal_known_boot journal s) 1 first) refl
 
 not_below : (v w : ℕ) → w ≤ v → IsFalse (nat_lt v w)
 not_below v w above = grind (arith, nat_tests)
 
 -- a switch that is up acknowledged each version from the current one to the last
 all_installed : (setting : Setting) (journal : List Item) → AreReady setting journal
-    → IsQuiet setting journal → (s version : ℕ) → s < length setting.net.switches
-    → IsTrue (is_up journal s) → current_mark journal ≤ version → version ≤ version_count journal
+    → IsMachineQuiet setting journal → (s version : ℕ) → s < length setting.net.switches
+    → IsTrue (is_up journal s) → journal_current_mark journal ≤ version → version ≤ journal_version_count journal
     → IsTrue (has_acked journal s version)
 all_installed setting journal are quiet s version there up above below = elim (are.installs.each s
     version there ((are.recorded.known.serving s).not_over up own) above below) [
@@ -149,42 +149,42 @@ all_installed setting journal are quiet s version there up above below = elim (a
       | inr had ↦ elim had [
         | inl first ↦ rw first.0 (first_acked journal s first.1)
         | inr sent ↦ let tables : Tables = sent.tables in
-            let body : Body = Install (known_boot journal s) tables in
+            let body : Body = Install (journal_known_boot journal s) tables in
             elim (are.spoken.answers.each s body (was_itself (heard journal s) body refl
             (heard_of setting journal s body quiet are.causes there sent.sent up (ap Some own)
-            (not_below tables.version (current_mark journal) (omega (arith, sent.of, above)))))) [
+            (not_below tables.version (journal_current_mark journal) (omega (arith, sent.of, above)))))) [
               | inl none ↦ absurd none
               | inr answer ↦ rw sent.of at (installed_acked journal s tables.version
                   (was_itself (controller_heard journal) _ refl (told_of setting journal s
-                  (Installed s (known_boot journal s) tables.version) quiet are.causes there answer
-                  up (ap (λ b. Some (s, b)) own) (not_below tables.version (current_mark journal)
+                  (Installed s (journal_known_boot journal s) tables.version) quiet are.causes there answer
+                  up (ap (λ b. Some (s, b)) own) (not_below tables.version (journal_current_mark journal)
                   (omega (arith, sent.of, above))))))
             ]
       ]
     ]
   where
-    own : known_boot journal s ≡ boot_of journal s
+    own : journal_known_boot journal s ≡ journal_boot_of journal s
     own = known_own setting journal are quiet s there up
 
 -- in the first boot a switch is opened at the first version
-opened_first : (journal : List Item) (s : ℕ) → known_boot journal s ≡ 1
+opened_first : (journal : List Item) (s : ℕ) → journal_known_boot journal s ≡ 1
     → opened_at journal s ≡ Some 1
 unfolding opened_at
-opened_first journal s first = rw (eq-eqb (known_boot journal s) 1 first) refl
+opened_first journal s first = rw (eq-eqb (journal_known_boot journal s) 1 first) refl
 
 -- ---- opened switches
 
 -- it heard the version at which it was opened, except in its first boot
 opening_heard : (setting : Setting) (journal : List Item) → AreReady setting journal
-    → IsQuiet setting journal → (s version : ℕ) → s < length setting.net.switches
+    → IsMachineQuiet setting journal → (s version : ℕ) → s < length setting.net.switches
     → IsTrue (is_up journal s) → opened_at journal s ≡ Some version
-    → (boot_of journal s ≡ 1) ⊎ IsIn (OpenAt (boot_of journal s) version) (heard journal s)
+    → (journal_boot_of journal s ≡ 1) ⊎ IsIn (OpenAt (journal_boot_of journal s) version) (heard journal s)
 opening_heard setting journal are quiet s version there up opened =
-    elim (are.recorded.openings s (boot_of journal s) version (ap (opened_in journal s)
+    elim (are.recorded.openings s (journal_boot_of journal s) version (ap (opened_in journal s)
     (sym (known_own setting journal are quiet s there up)) ∙ sym (opened_is journal s) ∙ opened)) [
       | inl first ↦ inl first
       | inr sent ↦ inr (was_itself (heard journal s) _ refl (heard_of setting journal s
-          (OpenAt (boot_of journal s) version) quiet are.causes there sent up refl refl))
+          (OpenAt (journal_boot_of journal s) version) quiet are.causes there sent up refl refl))
     ]
 
 pub some_opening : (journal : List Item) (s : ℕ) → IsTrue (is_member journal s)
@@ -196,13 +196,13 @@ some_opening journal s member = by_opened _ refl (member_parts journal s member)
   by_opened (Some version) e is = (version, e)
 
 member_serves : (setting : Setting) (journal : List Item) → AreReady setting journal
-    → IsQuiet setting journal → (s : ℕ) → s < length setting.net.switches
+    → IsMachineQuiet setting journal → (s : ℕ) → s < length setting.net.switches
     → IsTrue (is_up journal s) → IsTrue (is_member journal s) → IsTrue (serves journal s)
 member_serves setting journal are quiet s there up member =
     let opening = some_opening journal s member in
     elim (opening_heard setting journal are quiet s opening.0 there up opening.1) [
       | inl first ↦ are.recorded.first s up first
-      | inr told ↦ elim (are.spoken.answers.each s (OpenAt (boot_of journal s) opening.0) told) [
+      | inr told ↦ elim (are.spoken.answers.each s (OpenAt (journal_boot_of journal s) opening.0) told) [
         | inl none ↦ absurd none
         | inr serving ↦ serving
       ]
@@ -212,25 +212,25 @@ member_serves setting journal are quiet s there up member =
 
 -- a stamp, or one of a greater version
 later_stamp : (body : Body) (boot version : ℕ) (touched : List WordValue)
-    → (body ≡ Stamp boot version touched) ⊎ IsTrue (is_later_body body (Stamp boot version touched))
+    → (body ≡ Stamp boot version touched) ⊎ IsTrue (is_machine_later_body body (Stamp boot version touched))
     → (later : ℕ) × (words : List WordValue) × (body ≡ Stamp boot later words) × (version ≤ later)
 later_stamp body boot version touched h4 = search (rules, nat_tests)
 
 later_stamped : (body : Body) (s boot version : ℕ)
-    → (body ≡ Stamped s boot version) ⊎ IsTrue (is_later_body body (Stamped s boot version))
+    → (body ≡ Stamped s boot version) ⊎ IsTrue (is_machine_later_body body (Stamped s boot version))
     → (later : ℕ) × (body ≡ Stamped s boot later) × (version ≤ later)
 later_stamped body s boot version h4 = search (rules, nat_tests)
 
 pub stamped_acked : (journal : List Item) (s version : ℕ)
-    → IsIn (Stamped s (known_boot journal s) version) (controller_heard journal)
+    → IsIn (Stamped s (journal_known_boot journal s) version) (controller_heard journal)
     → version ≤ acked_stamp journal s
 unfolding acked_stamp
 stamped_acked journal s version is = search (rules, in_fold, in_filter_map, eq-eqb)
 
 told_stamps : (setting : Setting) (journal : List Item) → AreReady setting journal
-    → IsQuiet setting journal → (s : ℕ) → s < length setting.net.switches → IsTrue (is_up journal s)
-    → IsStampSent journal s (known_boot journal s) (current_mark journal)
-    → current_mark journal ≤ acked_stamp journal s
+    → IsMachineQuiet setting journal → (s : ℕ) → s < length setting.net.switches → IsTrue (is_up journal s)
+    → IsStampSent journal s (journal_known_boot journal s) (journal_current_mark journal)
+    → journal_current_mark journal ≤ acked_stamp journal s
 told_stamps setting journal are quiet s there up stamp = omega (
   arith,
   later.3,
@@ -238,17 +238,17 @@ told_stamps setting journal are quiet s there up stamp = omega (
   stamped_acked journal s more.0 (rw more.1 at told.is),
 ) where
   known : ℕ
-  known = known_boot journal s
+  known = journal_known_boot journal s
 
-  own : known ≡ boot_of journal s
+  own : known ≡ journal_boot_of journal s
   own = known_own setting journal are quiet s there up
 
-  was : WasHeard (heard journal s) (Stamp known (current_mark journal) stamp.touched)
+  was : WasHeard (heard journal s) (Stamp known (journal_current_mark journal) stamp.touched)
   was = heard_of setting journal s _ quiet are.causes there stamp.sent up (ap Some own) refl
 
   later : (v : ℕ) × (words : List WordValue) × (was.body ≡ Stamp known v words)
-      × (current_mark journal ≤ v)
-  later = later_stamp was.body known (current_mark journal) stamp.touched was.says
+      × (journal_current_mark journal ≤ v)
+  later = later_stamp was.body known (journal_current_mark journal) stamp.touched was.says
 
   answer : IsSent journal (to_controller (Stamped s known later.0))
   answer = elim (are.spoken.answers.each s (Stamp known later.0 later.1) (rw later.2 at was.is)) [
@@ -263,20 +263,20 @@ told_stamps setting journal are quiet s there up stamp = omega (
   more = later_stamped told.body s known later.0 told.says
 
 -- one that was opened at the current version is known to stamp with it
-pub opened_stamps : (journal : List Item) (s : ℕ) → opened_at journal s ≡ Some (current_mark journal)
-    → current_mark journal ≤ acked_stamp journal s
+pub opened_stamps : (journal : List Item) (s : ℕ) → opened_at journal s ≡ Some (journal_current_mark journal)
+    → journal_current_mark journal ≤ acked_stamp journal s
 opened_stamps journal s opened = omega (arith, acked_stamp_opened, ap (λ o. unwrap_or o 0) opened)
 
 -- ---- together
 
 quiet_caught : (setting : Setting) (journal : List Item) → AreReady setting journal
-    → IsQuiet setting journal → IsCaughtUp setting journal
+    → IsMachineQuiet setting journal → IsCaughtUp setting journal
 quiet_caught setting journal are quiet =
     search (rules, known_own, all_installed, member_serves, opened_stamps, told_stamps)
 
 pub updated_at_ends :
-    HoldsAtEnds (λ setting journal. IsQuiet setting journal → IsNetworkUpdated setting journal)
-updated_at_ends = at_ends (λ setting journal. IsQuiet setting journal → IsNetworkUpdated setting journal)
+    HoldsAtEnds (λ setting journal. IsMachineQuiet setting journal → HasConvergedOnVersion setting journal)
+updated_at_ends = at_ends (λ setting journal. IsMachineQuiet setting journal → HasConvergedOnVersion setting journal)
     (λ setting steps quiet. let ready = steps_ready setting steps in
     caught_updated setting (journal_after_steps setting [] steps) ready
     (quiet_caught setting (journal_after_steps setting [] steps) ready quiet))

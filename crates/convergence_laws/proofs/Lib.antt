@@ -15,5 +15,5 @@ pub mod ConvergenceFloods
 pub mod ConvergenceAgreement
 pub mod ConvergedKnownLinks
 pub mod ConvergedStuckPackets
-pub mod CallerLemmas
+pub mod ConvergenceLawsCallerLemmas
 pub mod Exports

@@ -4,19 +4,19 @@
 use Rattle.std.specs.Prelude.{[], ◌<◌, ◌↔◌, ◌∷◌, ◌≡◌, ◌≢◌, All, IsFalse, IsTrue, List, None, Some, ℕ}
 use Rattle.failover.specs.Exports.{AreJoinedByLinks, has_link}
 use Rattle.base.specs.Exports.{has}
-use Rattle.update_machine.specs.Exports.{Item, Setting, advert_known, is_up, links_known, near, own_advert, route_from}
+use Rattle.update_machine.specs.Exports.{Item, Setting, journal_advert_known, is_up, journal_links_known, near, own_advert, journal_route_from}
 use Rattle.steps.specs.Exports.{HasSwitch}
 
 -- usable links lead from the switch `at` to each of these switches in turn, and end at the target
-abbrev pub LeadsOverUsable : Setting → List Item → ℕ → ℕ → List ℕ → Type 0
-LeadsOverUsable setting journal target at [] = at ≡ target
-LeadsOverUsable setting journal target at (next ∷ rest) =
-    IsTrue (has (near setting journal at) next) × LeadsOverUsable setting journal target next rest
+abbrev pub LeadsOverUsableNeighbours : Setting → List Item → ℕ → ℕ → List ℕ → Type 0
+LeadsOverUsableNeighbours setting journal target at [] = at ≡ target
+LeadsOverUsableNeighbours setting journal target at (next ∷ rest) =
+    IsTrue (has (near setting journal at) next) × LeadsOverUsableNeighbours setting journal target next rest
 
 -- usable links lead from the switch to the target
 pub record Reaches (setting : Setting) (journal : List Item) (from target : ℕ) : Type 0 where
   pub rest : List ℕ
-  pub leads : LeadsOverUsable setting journal target from rest
+  pub leads : LeadsOverUsableNeighbours setting journal target from rest
 
 -- none of these links is usable: they are those that a packet just found down, for example
 abbrev pub AreUnusableLinks : Setting → List Item → List ℕ → Type 0
@@ -26,15 +26,15 @@ AreUnusableLinks setting journal down = (one other : ℕ)
 pub record HasConverged (setting : Setting) (journal : List Item) : Type 0 where
   -- a switch has the own advert of each other switch that it reaches
   pub adverts : (s origin : ℕ) → s ≢ origin → Reaches setting journal s origin →
-      advert_known setting journal s origin ≡ Some (own_advert setting journal origin)
+      journal_advert_known setting journal s origin ≡ Some (own_advert setting journal origin)
   -- of the links that end at a switch that it reaches it knows exactly the usable ones
   pub links : (s one other : ℕ) (down : List ℕ) → HasSwitch setting.net s →
       IsTrue (is_up journal s) → Reaches setting journal s one → other < 64 →
       AreUnusableLinks setting journal down →
-      AreJoinedByLinks (links_known setting journal s down) one other
+      AreJoinedByLinks (journal_links_known setting journal s down) one other
       ↔ IsTrue (has (near setting journal one) other)
   -- so it finds no route only if it reaches no target, whatever unusable links a packet found down
   pub stuck : (s : ℕ) (targets down : List ℕ) → HasSwitch setting.net s →
       AreUnusableLinks setting journal down →
-      route_from setting journal s targets down ≡ None →
+      journal_route_from setting journal s targets down ≡ None →
       All (λ target. Reaches setting journal s target → ⊥) targets

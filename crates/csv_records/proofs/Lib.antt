@@ -1,2 +1,2 @@
 mod CsvRecordTaking
-pub mod CallerLemmas
+pub mod CsvRecordsCallerLemmas

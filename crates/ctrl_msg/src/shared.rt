@@ -1,5 +1,5 @@
 ghost use Rattle.std.specs.Prelude.{◌≡◌, ◌<◌, ◌^◌, All, IfOk, IsTrue, length};
-ghost use Rattle.switch_table.specs.Tables.{AreSoundTables};
+ghost use Rattle.switch_table.specs.Tables.{AreSoundSwitchTables};
 
 use std::alloc::{AllocError, Global};
 use std::marker::Model;
@@ -95,7 +95,7 @@ impl SharedTables {
     /// # Errors
     /// Only out of memory.
     pub fn finder(&self, alloc: Global) -> Result<Finder, AllocError>
-        requires { AreSoundTables self.now }
+        requires { AreSoundSwitchTables self.now }
         ensures { IfOk result (λ finder. finder.tables ≡ self.now) }
     {
         let tables = self.shared.clone()?;

@@ -1,16 +1,16 @@
 -- What a word shares with half of a region that it lies in.
 use Rattle.std.proofs.Common.{◌&&◌, ◌/◌, ◌<◌, ◌==◌, ◌^◌, ◌∙◌, ◌≡◌, All, Bool, IsFalse, IsTrue, List, None, Some, ap, bit_and, eq-eqb, eqb-true, false, get_or, length, refl, subst, sym, true, ℕ, rules}
 use Rattle.base.proofs.Exports.{beq, bit_at, bit_at-lt, both_ways, false_from_ne_true, from_bool, nat_tests, shr_and_one}
-use Rattle.ternary.specs.Exports.{HoldsLaws, IsWord, WordValue, word_admits, covers_of, fix_of, holds, is_fixed_of, meet_of, meeting_word, meets}
+use Rattle.ternary.specs.Exports.{WordHoldsLaws, IsWord, WordValue, word_admits, word_covers_of, word_fix_of, holds, is_fixed_of, meet_of, meeting_word, meets}
 use Rattle.policy_rules.specs.declared.rules.Rule.{Rule}
-use Rattle.cut_tree.specs.Exports.{LiesInRegion}
-use Rattle.ternary.proofs.CallerLemmas.{apart_none, covers_held, fix_holds, fix_word, meet_both, meet_word, meets_cover, meets_half, met_joined}
+use Rattle.cut_tree.specs.Exports.{LiesInCutRegion}
+use Rattle.ternary.proofs.TernaryCallerLemmas.{apart_none, covers_held, fix_holds, fix_word, meet_both, meet_word, meets_cover, meets_half, met_joined}
 
 both_within : (p q t : Bool) → (p ≡ true → q ≡ true) → (p && (q && t)) ≡ (p && t)
 both_within p q t is = search rules
 
 meets_by : (w r : WordValue) (bit : ℕ) (one : Bool) → IsFalse (is_fixed_of r bit)
-    → IsTrue (covers_of r w) → meets w (fix_of r bit one) ≡ word_admits w bit one
+    → IsTrue (word_covers_of r w) → meets w (word_fix_of r bit one) ≡ word_admits w bit one
 meets_by w r bit one free within = cc (meets_half w r bit one free, meets_cover r w within)
 
 -- ---- a word's own bit
@@ -51,7 +51,7 @@ both_same : (p t : Bool) → (p ≡ true → t ≡ true) → p ≡ (p && t)
 both_same p t is = search rules
 
 -- each header of a word has the bit that the word fixes
-pub held_bit : HoldsLaws → (w : WordValue) (bit : ℕ) (one : Bool) → is_fixed_of w bit ≡ true
+pub held_bit : WordHoldsLaws → (w : WordValue) (bit : ℕ) (one : Bool) → is_fixed_of w bit ≡ true
     → bit_at w.value bit ≡ from_bool one
     → (h : ℕ) → holds w h ≡ (holds w h && (bit_at h bit == from_bool one))
 unfolding is_fixed_of
@@ -60,18 +60,18 @@ held_bit laws w bit one fixed is h = search (rules, both_same, eq-eqb, eqb-true)
 -- ---- half of a region
 
 pub lies_at : (region : WordValue) (rules : List Rule) (index : ℕ) (rule : Rule)
-    → All (LiesInRegion region) rules → index < length rules → rule ≡ get_or rules index rule
-    → LiesInRegion region rule
+    → All (LiesInCutRegion region) rules → index < length rules → rule ≡ get_or rules index rule
+    → LiesInCutRegion region rule
 lies_at region rules index rule all within is =
-    subst (LiesInRegion region) (sym is) (all index rule within)
+    subst (LiesInCutRegion region) (sym is) (all index rule within)
 
 -- the word of those of its headers that have the bit
-pub half_met : HoldsLaws → (w r x : WordValue) (bit : ℕ) (one : Bool) → IsWord w → IsWord r
-    → IsWord x → bit < 104 → IsFalse (is_fixed_of r bit) → IsTrue (covers_of r w) → word_admits w bit one
+pub half_met : WordHoldsLaws → (w r x : WordValue) (bit : ℕ) (one : Bool) → IsWord w → IsWord r
+    → IsWord x → bit < 104 → IsFalse (is_fixed_of r bit) → IsTrue (word_covers_of r w) → word_admits w bit one
     ≡ true → ((h : ℕ) → holds x h ≡ (holds w h && (bit_at h bit == from_bool one)))
-    → Some x ≡ meet_of w (fix_of r bit one)
+    → Some x ≡ meet_of w (word_fix_of r bit one)
 half_met laws w r x bit one w_word r_word x_word bound free within admitted each =
-    let half = fix_of r bit one in
+    let half = word_fix_of r bit one in
     let met = met_joined w half (meets_by w r bit one free within ∙ admitted) in
     let m_word = meet_word w half (meeting_word w half) w_word (fix_word r bit one r_word bound)
     met in
@@ -82,5 +82,5 @@ half_met laws w r x bit one w_word r_word x_word bound free within admitted each
 
 -- no header where the word has the other bit
 pub half_apart : (w r : WordValue) (bit : ℕ) (one : Bool) → IsFalse (is_fixed_of r bit)
-    → IsTrue (covers_of r w) → word_admits w bit one ≡ false → None ≡ meet_of w (fix_of r bit one)
+    → IsTrue (word_covers_of r w) → word_admits w bit one ≡ false → None ≡ meet_of w (word_fix_of r bit one)
 half_apart w r bit one free within lost = search (rules, apart_none, meets_by)

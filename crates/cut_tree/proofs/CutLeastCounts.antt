@@ -3,7 +3,7 @@ use Rattle.std.proofs.Common.{[], ◌%◌, ◌*◌, ◌+◌, ◌-◌, ◌<◌, �
 use Rattle.base.proofs.Exports.{and_le_l, bit_at, bit_at-lt, bit_at-trailing_zeros, bit_at-zero, bit_at_and, bit_at_not, bit_at_ones, bit_at_ones_above, bit_at_or, bit_at_xor, both_ways, cases_Bool, cases_eq, cases_lt, cond-false, cond-true, trailing_zeros, w128, xor_lt}
 use Rattle.ternary.specs.Exports.{WordValue, is_fixed_of}
 use Rattle.policy_rules.specs.declared.rules.Rule.{Rule}
-use Rattle.cut_tree.specs.Exports.{CostsAtMost, HaveSidesCounted, IsFreeBit, IsPlaneHeight, IsLeastOf, cut_cost_from, cut_cost_of, count_at, count_by, counted_cut_cost, least_below, side_of_cut}
+use Rattle.cut_tree.specs.Exports.{CostsAtMost, HaveSidesCounted, IsCuttableBit, IsCutPlaneHeight, IsCutBitOfLeastCount, cut_cost_from, cut_cost_of, count_at, count_by, counted_cut_cost, least_below, side_of_cut}
 use Rattle.cut_tree.specs.declared.choice.Cost.{Cost}
 use Rattle.cut_tree.specs.declared.choice.CutSide.{CutSide}
 use Rattle.cut_tree.proofs.CutLemmas.{least_is}
@@ -17,15 +17,15 @@ fewer_digit left plane bit = search (rules, bit_at_xor, bit_at_and, bit_at-lt)
 -- a least count is least by its higher planes
 least_above : (bits plane : ℕ) (rest count : ℕ → ℕ)
     → ((bit : ℕ) → count bit ≡ bit_at plane bit + 2 * rest bit) → (bit : ℕ)
-    → IsLeastOf bits count bit → IsLeastOf bits rest bit
+    → IsCutBitOfLeastCount bits count bit → IsCutBitOfLeastCount bits rest bit
 least_above bits plane rest count is bit best = search (rules, bit_at-lt)
 
 -- counts with one plane more below: those that are least have a 0 there, if any has
 pub least_fewer : (bits left plane : ℕ) (rest count : ℕ → ℕ)
     → ((bit : ℕ) → count bit ≡ bit_at plane bit + 2 * rest bit)
-    → ((bit : ℕ) → (bit_at left bit ≡ 1) ↔ IsLeastOf bits rest bit)
+    → ((bit : ℕ) → (bit_at left bit ≡ 1) ↔ IsCutBitOfLeastCount bits rest bit)
     → left < 2 ^ 128 → bit_xor left (bit_and left plane) ≢ 0
-    → (bit : ℕ) → (bit_at (bit_xor left (bit_and left plane)) bit ≡ 1) ↔ IsLeastOf bits count bit
+    → (bit : ℕ) → (bit_at (bit_xor left (bit_and left plane)) bit ≡ 1) ↔ IsCutBitOfLeastCount bits count bit
 least_fewer bits left plane rest count is known small some bit =
     let fewer = bit_xor left (bit_and left plane) in
     let k = trailing_zeros w128 fewer in
@@ -58,9 +58,9 @@ least_fewer bits left plane rest count is known small some bit =
 -- and else all of them have a 1 there
 pub least_same : (bits left plane : ℕ) (rest count : ℕ → ℕ)
     → ((bit : ℕ) → count bit ≡ bit_at plane bit + 2 * rest bit)
-    → ((bit : ℕ) → (bit_at left bit ≡ 1) ↔ IsLeastOf bits rest bit)
+    → ((bit : ℕ) → (bit_at left bit ≡ 1) ↔ IsCutBitOfLeastCount bits rest bit)
     → bit_xor left (bit_and left plane) ≡ 0
-    → (bit : ℕ) → (bit_at left bit ≡ 1) ↔ IsLeastOf bits count bit
+    → (bit : ℕ) → (bit_at left bit ≡ 1) ↔ IsCutBitOfLeastCount bits count bit
 least_same bits left plane rest count is known none bit =
     let ones : (k : ℕ) → bit_at left k ≡ 1 → bit_at plane k ≡ 1 = λ k set.
     let zero_bit = ap (λ n. bit_at n k) none ∙ bit_at-zero k in
@@ -127,9 +127,9 @@ chosen_at first second place next which bit is within also =
     search (rules, planes_at, cases_eq, eq-eqb, chosen_digit, ne_eqb, left_digit)
 
 -- past the height there is no difference
-pub least_start : (first second : List ℕ) (height which bits bit : ℕ) → IsPlaneHeight first height
-    → IsPlaneHeight second height → (bit_at bits bit ≡ 1)
-    ↔ IsLeastOf bits (count_by (drop height first) (drop height second) which) bit
+pub least_start : (first second : List ℕ) (height which bits bit : ℕ) → IsCutPlaneHeight first height
+    → IsCutPlaneHeight second height → (bit_at bits bit ≡ 1)
+    ↔ IsCutBitOfLeastCount bits (count_by (drop height first) (drop height second) which) bit
 least_start first second height which bits bit p q = search (rules, cases_eq)
 
 -- ---- which count is higher
@@ -141,8 +141,8 @@ AreOrdered settled more first second = ((settled ≡ 0) × (more ≡ 0) × (firs
     ⊎ ((settled ≡ 1) × (more ≡ 0) × (first < second))
 
 -- nor an order
-pub ordered_start : (first second : List ℕ) (height bit : ℕ) → IsPlaneHeight first height
-    → IsPlaneHeight second height → AreOrdered (bit_at 0 bit) (bit_at 0 bit)
+pub ordered_start : (first second : List ℕ) (height bit : ℕ) → IsCutPlaneHeight first height
+    → IsCutPlaneHeight second height → AreOrdered (bit_at 0 bit) (bit_at 0 bit)
     (count_at (drop height first) bit) (count_at (drop height second) bit)
 ordered_start first second height bit p q = search (rules, bit_at-zero)
 
@@ -186,8 +186,8 @@ larger_is low high above bit is = search (rules, cases_eq)
 
 pub least_first : (low high : List ℕ) (above bits fewest least bit : ℕ)
     → ((k : ℕ) → (bit_at above k ≡ 1) ↔ (count_at low k < count_at high k))
-    → ((k : ℕ) → (bit_at fewest k ≡ 1) ↔ IsLeastOf bits (count_by low high above) k)
-    → ((k : ℕ) → (bit_at least k ≡ 1) ↔ IsLeastOf fewest (count_by high low above) k)
+    → ((k : ℕ) → (bit_at fewest k ≡ 1) ↔ IsCutBitOfLeastCount bits (count_by low high above) k)
+    → ((k : ℕ) → (bit_at least k ≡ 1) ↔ IsCutBitOfLeastCount fewest (count_by high low above) k)
     → bit_at least bit ≡ 1 → ((j : ℕ) → j < bit → bit_at least j ≡ 0) → (other : ℕ)
     → bit_at bits other ≡ 1 → CostsAtMost (counted_cut_cost low high bit) (counted_cut_cost low high other)
 least_first low high above bits fewest least bit is_above is_fewest is_least set before other m =
@@ -218,7 +218,7 @@ least_first low high above bits fewest least bit is_above is_fewest is_least set
 
 -- a bit of the complement of the mask, below 104
 pub free_mask : (region : WordValue) (mask bit : ℕ) → mask ≡ region.mask → mask < 2 ^ 104
-    → (bit_at (bit_and (2 ^ 104 - 1) (2 ^ 128 - 1 - mask)) bit ≡ 1) ↔ IsFreeBit region bit
+    → (bit_at (bit_and (2 ^ 104 - 1) (2 ^ 128 - 1 - mask)) bit ≡ 1) ↔ IsCuttableBit region bit
 unfolding is_fixed_of
 free_mask region mask bit same small =
     let fixed = ap (λ m. bit_at m bit == 1) same in
@@ -240,19 +240,19 @@ free_mask region mask bit same small =
     )
 
 pub all_fixed : (region : WordValue) (free bit : ℕ) → bit < 104
-    → ((bit_at free bit ≡ 1) ↔ IsFreeBit region bit) → free ≡ 0 → is_fixed_of region bit ≡ true
+    → ((bit_at free bit ≡ 1) ↔ IsCuttableBit region bit) → free ≡ 0 → is_fixed_of region bit ≡ true
 all_fixed region free bit within is none = search (rules, cases_Bool, bit_at-zero)
 
 -- what is counted at the first bit that costs least
 pub counted_cut : (low high : CutSide) (rules : List Rule) (region : WordValue) (free bit : ℕ)
     → HaveSidesCounted low false rules region → HaveSidesCounted high true rules region
-    → ((k : ℕ) → (bit_at free k ≡ 1) ↔ IsFreeBit region k) → bit_at free bit ≡ 1
+    → ((k : ℕ) → (bit_at free k ≡ 1) ↔ IsCuttableBit region k) → bit_at free bit ≡ 1
     → ((other : ℕ) → bit_at free other ≡ 1 → CostsAtMost (counted_cut_cost low.counts.planes
     high.counts.planes bit) (counted_cut_cost low.counts.planes high.counts.planes other))
     → Some (counted_cut_cost low.counts.planes high.counts.planes bit) ≡ least_below 104 rules region
 counted_cut low high rules region free bit lows highs frees set least =
     let counted : ℕ → Cost = counted_cut_cost low.counts.planes high.counts.planes in
-    let same : (k : ℕ) → IsFreeBit region k → counted k ≡ cut_cost_of rules region k = λ k f.
+    let same : (k : ℕ) → IsCuttableBit region k → counted k ≡ cut_cost_of rules region k = λ k f.
     ap (λ n. cut_cost_from k n (count_at high.counts.planes k)) (lows k f)
     ∙ ap (cut_cost_from k (length (side_of_cut rules region k false))) (highs k f) in
     let is_free = (frees bit).0 set in

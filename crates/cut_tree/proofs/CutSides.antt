@@ -1,10 +1,10 @@
 -- Which halves of a region a word meets and covers, bit by bit.
 use Rattle.std.proofs.Common.{◌%◌, ◌&&◌, ◌*◌, ◌+◌, ◌-◌, ◌<◌, ◌==◌, ◌^◌, ◌||◌, ◌∙◌, ◌∷◌, ◌≡◌, ◌≢◌, ◌≤◌, Bool, IsTrue, List, ap, arith, bit_and, bit_or, bit_xor, drop, false, inl, inr, length, max, min, not, suc, sym, true, zero, ℕ, rules}
 use Rattle.base.proofs.Exports.{bit_at, bit_at-lt, bit_at-pow_other, bit_at-pow_same, bit_at-trailing_zeros, bit_at-zero, bit_at_and, bit_at_not, bit_at_or, bit_at_xor, both_ways, cases_Bool, cases_eq, false_from_ne_true, from_bool, nat_tests, pow_below, same_from_bits, trailing_zeros, w128, xor_lt}
-use Rattle.ternary.specs.Exports.{IsWord, WordValue, word_admits, covers_of, fix_of, free_of, is_fixed_of, meets}
-use Rattle.ternary.proofs.CallerLemmas.{covers_decides, covers_half, meets_comm, meets_cover, meets_half, without_bit-other, without_bit-same}
+use Rattle.ternary.specs.Exports.{IsWord, WordValue, word_admits, word_covers_of, word_fix_of, free_of, is_fixed_of, meets}
+use Rattle.ternary.proofs.TernaryCallerLemmas.{covers_decides, covers_half, meets_comm, meets_cover, meets_half, ternary_without_bit-other, ternary_without_bit-same}
 use Rattle.policy_rules.specs.declared.rules.Rule.{Rule}
-use Rattle.cut_tree.specs.Exports.{HaveSidesCounted, IsSideCounting, IsFreeBit, IsNarrowIn, narrow, side_of_cut}
+use Rattle.cut_tree.specs.Exports.{HaveSidesCounted, IsSideCounting, IsCuttableBit, IsNarrowInCutRegion, narrow, side_of_cut}
 use Rattle.cut_tree.specs.declared.choice.CutSide.{CutSide}
 use Rattle.cut_tree.proofs.CutNarrowing.{narrow_covered, narrow_more, narrow_apart, narrow_end}
 
@@ -48,38 +48,38 @@ IsOnly bits k = (j : ℕ) → j ≢ k → bit_at bits j ≡ 0
 same_digit : (a b : ℕ) → a < 2 → b < 2 → (b ≡ 1 → a ≡ 1) → (a ≡ 1 → b ≡ 1) → (a + b) % 2 ≡ 0
 same_digit a b p q r s = grind (arith, nat_tests)
 
-pub covers_only : (w r : WordValue) (k : ℕ) → IsTrue (covers_of r w)
-    → IsTrue (covers_of (free_of w k) r) → IsOnly (beyond w r) k
+pub covers_only : (w r : WordValue) (k : ℕ) → IsTrue (word_covers_of r w)
+    → IsTrue (word_covers_of (free_of w k) r) → IsOnly (beyond w r) k
 unfolding free_of
 covers_only w r k within covers = λ j other. let inner = (covers_decides r w).0 within j in
     let outer = (covers_decides (free_of w k) r).0 covers j in
     let fixed : bit_at w.mask j ≡ 1 → bit_at r.mask j ≡ 1 =
-    λ e. (outer (without_bit-other w.mask k j other ∙ e)).0 in
+    λ e. (outer (ternary_without_bit-other w.mask k j other ∙ e)).0 in
     bit_at_xor w.mask r.mask j ∙ same_digit (bit_at w.mask j) (bit_at r.mask j) (bit_at-lt w.mask j)
     (bit_at-lt r.mask j) (λ e. (inner e).0) fixed
 
-pub only_covers : (w r : WordValue) (k : ℕ) → IsTrue (covers_of r w) → IsOnly (beyond w r) k
-    → IsTrue (covers_of (free_of w k) r)
+pub only_covers : (w r : WordValue) (k : ℕ) → IsTrue (word_covers_of r w) → IsOnly (beyond w r) k
+    → IsTrue (word_covers_of (free_of w k) r)
 unfolding free_of
 only_covers w r k within only = (covers_decides (free_of w k) r).1 (λ j set.
     let other : j ≢ k = λ e. let lost : bit_at (free_of w k).mask j ≡ 0 =
-    ap (bit_at (free_of w k).mask) e ∙ without_bit-same w.mask k in omega (arith, lost, set) in
-    let m : bit_at w.mask j ≡ 1 = sym (without_bit-other w.mask k j other) ∙ set in
+    ap (bit_at (free_of w k).mask) e ∙ ternary_without_bit-same w.mask k in omega (arith, lost, set) in
+    let m : bit_at w.mask j ≡ 1 = sym (ternary_without_bit-other w.mask k j other) ∙ set in
     let q : bit_at r.mask j ≡ 1 =
     omega (arith, m, sym (bit_at_xor w.mask r.mask j) ∙ only j other, bit_at-lt r.mask j) in
-    (q, sym ((covers_decides r w).0 within j q).1 ∙ sym (without_bit-other w.value k j other)))
+    (q, sym ((covers_decides r w).0 within j q).1 ∙ sym (ternary_without_bit-other w.value k j other)))
 
 -- a word that fixes what the region does
-pub covered_whole : (w r : WordValue) (k : ℕ) (one : Bool) (met : ℕ) → IsTrue (covers_of r w)
+pub covered_whole : (w r : WordValue) (k : ℕ) (one : Bool) (met : ℕ) → IsTrue (word_covers_of r w)
     → beyond w r ≡ 0 → bit_at met k ≡ from_bool (word_admits w k one)
-    → bit_at met k ≡ from_bool (covers_of w (fix_of r k one))
+    → bit_at met k ≡ from_bool (word_covers_of w (word_fix_of r k one))
 covered_whole w r k one met within none admitted =
     search (rules, only_covers, bit_at-zero, covers_half)
 
 -- a word that fixes one bit more
-pub covered_one : (w r : WordValue) (t k : ℕ) (one : Bool) (met : ℕ) → IsTrue (covers_of r w)
+pub covered_one : (w r : WordValue) (t k : ℕ) (one : Bool) (met : ℕ) → IsTrue (word_covers_of r w)
     → beyond w r ≡ 2 ^ t → bit_at met k ≡ from_bool (word_admits w k one)
-    → bit_at (bit_and (beyond w r) met) k ≡ from_bool (covers_of w (fix_of r k one))
+    → bit_at (bit_and (beyond w r) met) k ≡ from_bool (word_covers_of w (word_fix_of r k one))
 covered_one w r t k one met within is admitted =
     let bits = bit_at_and (beyond w r) met k ∙ ap (λ n. min (bit_at n k) (bit_at met k)) is in
     let half = covers_half w r k one in
@@ -89,7 +89,7 @@ covered_one w r t k one met within is admitted =
           let least : min (bit_at (2 ^ t) k) (bit_at met k) ≡ bit_at met k =
           omega (arith, ap (bit_at (2 ^ t)) same ∙ bit_at-pow_same t, bit_at-lt met k) in
           bits ∙ least ∙ admitted ∙ sym (ap from_bool (half ∙ ap (λ t. t && word_admits w k one) covers))
-      | inr other ↦ let lost : covers_of (free_of w k) r ≡ false =
+      | inr other ↦ let lost : word_covers_of (free_of w k) r ≡ false =
           false_from_ne_true _ (λ covers. omega (
             arith,
             sym (ap (λ n. bit_at n t) is) ∙ covers_only w r k within covers t (λ e. other (sym e)),
@@ -100,13 +100,13 @@ covered_one w r t k one met within is admitted =
     ]
 
 -- a word that fixes more than one
-pub covered_none : (w r : WordValue) (k : ℕ) (one : Bool) → IsTrue (covers_of r w) → 0 < beyond w r
+pub covered_none : (w r : WordValue) (k : ℕ) (one : Bool) → IsTrue (word_covers_of r w) → 0 < beyond w r
     → beyond w r < 2 ^ 128 → (beyond w r ≡ 2 ^ trailing_zeros w128 (beyond w r) → ⊥)
-    → bit_at 0 k ≡ from_bool (covers_of w (fix_of r k one))
+    → bit_at 0 k ≡ from_bool (word_covers_of w (word_fix_of r k one))
 covered_none w r k one within some small many =
     let t = trailing_zeros w128 (beyond w r) in
     let lowest = bit_at-trailing_zeros w128 (beyond w r) some small in
-    let lost : covers_of (free_of w k) r ≡ false = false_from_ne_true _ (λ covers.
+    let lost : word_covers_of (free_of w k) r ≡ false = false_from_ne_true _ (λ covers.
     let only = covers_only w r k within covers in
     let same : t ≡ k = elim (cases_eq t k)
     [ inl e ↦ e | inr other ↦ absurd (omega (arith, only t other, lowest.1)) ] in
@@ -120,10 +120,10 @@ covered_none w r k one within some small many =
 from_bool-zero : (b : Bool) → from_bool b ≡ 0 → b ≡ false
 from_bool-zero b is = search rules
 
-pub covers_no_half : (w r : WordValue) (k : ℕ) (one : Bool) → IsTrue (covers_of r w)
+pub covers_no_half : (w r : WordValue) (k : ℕ) (one : Bool) → IsTrue (word_covers_of r w)
     → 0 < beyond w r → beyond w r < 2 ^ 128
-    → (beyond w r ≡ 2 ^ trailing_zeros w128 (beyond w r) → ⊥) → covers_of w (fix_of r k one) ≡ false
-covers_no_half w r k one within some small many = from_bool-zero (covers_of w (fix_of r k one))
+    → (beyond w r ≡ 2 ^ trailing_zeros w128 (beyond w r) → ⊥) → word_covers_of w (word_fix_of r k one) ≡ false
+covers_no_half w r k one within some small many = from_bool-zero (word_covers_of w (word_fix_of r k one))
     (sym (covered_none w r k one within some small many) ∙ bit_at-zero k)
 
 pub one_shifted : (t : ℕ) → t < 128 → 1 * 2 ^ t % 2 ^ 128 ≡ 2 ^ t
@@ -155,10 +155,10 @@ from_bool-lt b = search rules
 
 -- a half keeps the rule where this meets it, and those after it where it does not cover it
 kept_count : (half : WordValue) (rule : Rule) (rules : List Rule)
-    → from_bool (meets rule.word half) + (1 - from_bool (covers_of rule.word half)) * length
+    → from_bool (meets rule.word half) + (1 - from_bool (word_covers_of rule.word half)) * length
     (narrow rules half) ≡ length (narrow (rule ∷ rules) half)
 kept_count half rule rules = elim (cases_Bool (meets rule.word half)) [
-  | inl meet ↦ elim (cases_Bool (covers_of rule.word half)) [
+  | inl meet ↦ elim (cases_Bool (word_covers_of rule.word half)) [
     | inl covers ↦ rw (meet, covers, narrow_covered half rule rules meet covers) (omega arith)
     | inr past ↦ rw (meet, past, narrow_more half rule rules meet past) (omega arith)
   ]
@@ -169,13 +169,13 @@ kept_count half rule rules = elim (cases_Bool (meets rule.word half)) [
 
 -- what one more rule does to a side, at one bit
 pub side_step : (region : WordValue) (rule : Rule) (rules : List Rule) (bit : ℕ) (one : Bool)
-    (was met covered : ℕ) → IsTrue (covers_of region rule.word) → IsFreeBit region bit → was < 2
+    (was met covered : ℕ) → IsTrue (word_covers_of region rule.word) → IsCuttableBit region bit → was < 2
     → met ≡ from_bool (word_admits rule.word bit one)
-    → covered ≡ from_bool (covers_of rule.word (fix_of region bit one))
+    → covered ≡ from_bool (word_covers_of rule.word (word_fix_of region bit one))
     → min was met + min was (1 - covered) * length (side_of_cut rules region bit one) ≡ was * length
     (side_of_cut (rule ∷ rules) region bit one)
 side_step region rule rules bit one was met covered within free digit is_met is_covered =
-    let half = fix_of region bit one in
+    let half = word_fix_of region bit one in
     let meet : meets rule.word half ≡ word_admits rule.word bit one = meets_half rule.word region bit one
     free.free ∙ ap (λ t. t && word_admits rule.word bit one) (meets_cover region rule.word within) in
     side_sum was met covered _ _ digit (rw is_met (from_bool-lt _))
@@ -183,7 +183,7 @@ side_step region rule rules bit one was met covered within free digit is_met is_
 
 -- the same for a rule that covers no half
 pub met_step : (region : WordValue) (rule : Rule) (rules : List Rule) (bit : ℕ) (one : Bool)
-    (left met : ℕ) → IsNarrowIn region rule → IsFreeBit region bit
+    (left met : ℕ) → IsNarrowInCutRegion region rule → IsCuttableBit region bit
     → bit_at met bit ≡ from_bool (word_admits rule.word bit one)
     → bit_at (bit_and left met) bit + bit_at left bit * length (side_of_cut rules region bit one)
     ≡ bit_at left bit * length (side_of_cut (rule ∷ rules) region bit one)
@@ -201,7 +201,7 @@ pub counted_all : (side : CutSide) (one : Bool) (rules : List Rule) (region : Wo
     → IsSideCounting side one rules region place → length rules ≤ place
     → HaveSidesCounted side one rules region
 counted_all side one rules region place counting past = λ bit free.
-    let half = fix_of region bit side.one in
+    let half = word_fix_of region bit side.one in
     let nothing : bit_at side.«open» bit * length (narrow (drop place rules) half)
     ≡ bit_at side.«open» bit * 0 =
     ap (λ n. bit_at side.«open» bit * n) (ap length (narrow_end rules place half past)) in

@@ -1,12 +1,12 @@
 -- The tree as a function of the rules, and as a test.
 use Rattle.std.proofs.Common.{◌+◌, ◌<◌, ◌∙◌, ◌≡◌, ◌≤◌, Bool, List, None, Option, Some, ap, arith, false, get_or, inl, inr, le-leb, length, length-append, refl, subst, suc, sym, true, zero, ℕ, rules}
 use Rattle.base.proofs.Exports.{IfRefused-weaker, both_ways, cases_lt, lt-leb}
-use Rattle.ternary.specs.Exports.{WordValue, any_word, fix_of}
-use Rattle.ternary.proofs.CallerLemmas.{any_covers, any_unfixed, fix_word, free_bits_shorter}
+use Rattle.ternary.specs.Exports.{WordValue, any_word, word_fix_of}
+use Rattle.ternary.proofs.TernaryCallerLemmas.{any_covers, any_unfixed, fix_word, free_bits_shorter}
 use Rattle.base.specs.Exports.{IfRefused}
 use Rattle.base.specs.declared.error.Failure.{Failure}
 use Rattle.policy_rules.specs.declared.rules.Rule.{Rule}
-use Rattle.cut_tree.specs.Exports.{AreNodeRules, AreRuleWords, End, IsDefinedTree, IsLeastCut, IsOneHeader, IsTreeOf, Node, Shape, cut_tree_by, free_count, leaf_count, least_below, side_of_cut, tree_at, tree_of, tree_within}
+use Rattle.cut_tree.specs.Exports.{AreNodeRules, AreCutRuleWords, End, IsDefinedTree, IsLeastCut, IsCutRegionOneHeader, IsTreeOf, Node, Shape, cut_tree_by, free_cut_bit_count, leaf_count, least_below, side_of_cut, cut_tree_at, tree_of, cut_tree_within}
 use Rattle.cut_tree.specs.declared.choice.Cost.{Cost}
 use Rattle.cut_tree.proofs.CutLemmas.{least_cuts, least_only, least_missing}
 use Rattle.cut_tree.proofs.CutNarrowing.{narrow_node}
@@ -14,49 +14,49 @@ use Rattle.cut_tree.proofs.CutNarrowing.{narrow_node}
 -- ---- the function, node by node
 
 within_leaf : (depth most : ℕ) (rules : List Rule) (region : WordValue) → length rules ≤ most
-    → tree_within depth most rules region ≡ End region rules
-unfolding tree_within
+    → cut_tree_within depth most rules region ≡ End region rules
+unfolding cut_tree_within
 within_leaf zero most rules region few = refl
-within_leaf (suc depth) most rules region few = rw (le-leb (length rules) most few, tree_within)
+within_leaf (suc depth) most rules region few = rw (le-leb (length rules) most few, cut_tree_within)
 
 within_cut : (depth most : ℕ) (rules : List Rule) (region : WordValue) (cost : Cost)
     → most < length rules → least_below 104 rules region ≡ Some cost
-    → tree_within (suc depth) most rules region ≡ cut_tree_by (tree_within depth most) rules region
+    → cut_tree_within (suc depth) most rules region ≡ cut_tree_by (cut_tree_within depth most) rules region
     (Some cost)
-unfolding tree_within
+unfolding cut_tree_within
 within_cut depth most rules region cost many is =
-    rw (lt-leb (length rules) most many, tree_within, is)
+    rw (lt-leb (length rules) most many, cut_tree_within, is)
 
 pub tree_leaf : (most : ℕ) (rules : List Rule) (region : WordValue) → length rules ≤ most
-    → tree_at most rules region ≡ End region rules
-tree_leaf most rules region few = within_leaf (free_count region) most rules region few
+    → cut_tree_at most rules region ≡ End region rules
+tree_leaf most rules region few = within_leaf (free_cut_bit_count region) most rules region few
 
 half_count : (rules : List Rule) (region : WordValue) (bit : ℕ) (one : Bool)
-    → IsLeastCut rules region bit → free_count region ≡ suc (free_count (fix_of region bit one))
+    → IsLeastCut rules region bit → free_cut_bit_count region ≡ suc (free_cut_bit_count (word_fix_of region bit one))
 half_count rules region bit one least =
     omega (arith, free_bits_shorter region bit one least.cuts.bound least.cuts.free)
 
 pub tree_cut : (most : ℕ) (rules : List Rule) (region : WordValue) (cost : Cost)
     → most < length rules → least_below 104 rules region ≡ Some cost
-    → tree_at most rules region ≡ cut_tree_by (tree_at most) rules region (Some cost)
+    → cut_tree_at most rules region ≡ cut_tree_by (cut_tree_at most) rules region (Some cost)
 tree_cut most rules region cost many is =
     let least = least_cuts rules region cost is in
     let bit = cost.bit in
-    let low = free_count (fix_of region bit false) in
-    let same : low ≡ (free_count (fix_of region bit true)) = omega
+    let low = free_cut_bit_count (word_fix_of region bit false) in
+    let same : low ≡ (free_cut_bit_count (word_fix_of region bit true)) = omega
     (arith, half_count rules region bit false least, half_count rules region bit true least) in
-    let lower = tree_within low most (side_of_cut rules region bit false) (fix_of region bit false) in
-    (ap (λ n. tree_within n most rules region) (half_count rules region bit false least))
+    let lower = cut_tree_within low most (side_of_cut rules region bit false) (word_fix_of region bit false) in
+    (ap (λ n. cut_tree_within n most rules region) (half_count rules region bit false least))
     ∙ within_cut low most rules region cost many is
     ∙ ap (λ n. Node bit lower
-    (tree_within n most (side_of_cut rules region bit true) (fix_of region bit true))) same
+    (cut_tree_within n most (side_of_cut rules region bit true) (word_fix_of region bit true))) same
 
 -- ---- the rules of nodes
 
-any_free : IsOneHeader any_word → ⊥
+any_free : IsCutRegionOneHeader any_word → ⊥
 any_free one = both_ways _ (any_unfixed 0) (one 0 (omega arith))
 
-pub root_node : (rules : List Rule) → AreRuleWords rules → AreNodeRules rules any_word
+pub root_node : (rules : List Rule) → AreCutRuleWords rules → AreNodeRules rules any_word
 root_node rules words = record {
   whole = record { within = refl; bounded = omega arith };
   words = words;
@@ -66,7 +66,7 @@ root_node rules words = record {
 
 pub side_node : (rules : List Rule) (region : WordValue) (bit : ℕ) (one : Bool)
     → AreNodeRules rules region → bit < 104 → AreNodeRules (side_of_cut rules region bit one)
-    (fix_of region bit one)
+    (word_fix_of region bit one)
 side_node rules region bit one node within = search (rules, narrow_node, fix_word)
 
 -- more rules than one leave a bit to cut at
@@ -83,15 +83,15 @@ leaf_defined most rules region few = record { same_region = refl; same_rules = r
 
 cut_defined : (most : ℕ) (rules : List Rule) (region : WordValue) (cost : Cost) (low high : Shape)
     → most < length rules → least_below 104 rules region ≡ Some cost
-    → IsTreeOf (side_of_cut rules region cost.bit false) (fix_of region cost.bit false) most low
-    → IsTreeOf (side_of_cut rules region cost.bit true) (fix_of region cost.bit true) most high
+    → IsTreeOf (side_of_cut rules region cost.bit false) (word_fix_of region cost.bit false) most low
+    → IsTreeOf (side_of_cut rules region cost.bit true) (word_fix_of region cost.bit true) most high
     → IsTreeOf rules region most (Node cost.bit low high)
 cut_defined most rules region cost low high many is lower higher = search (rules, least_cuts)
 
 -- down from a region with so many free bits
 defined_from : (n most : ℕ) (rules : List Rule) (region : WordValue) (found : Option Cost)
-    → 0 < most → AreNodeRules rules region → free_count region ≡ n → least_below 104 rules region
-    ≡ found → IsTreeOf rules region most (tree_at most rules region)
+    → 0 < most → AreNodeRules rules region → free_cut_bit_count region ≡ n → least_below 104 rules region
+    ≡ found → IsTreeOf rules region most (cut_tree_at most rules region)
 defined_from n most rules region None some node count none = elim (cases_lt most (length rules)) [
   | inr few ↦ rw (tree_leaf most rules region few) (leaf_defined most rules region few)
   | inl many ↦ absurd (never_stuck most rules region some many node none)
@@ -108,14 +108,14 @@ defined_from (suc n) most rules region (Some cost) some node count is =
           let bit = cost.bit in
           let low = side_of_cut rules region bit false in
           let high = side_of_cut rules region bit true in
-          let high_count : free_count (fix_of region bit true) ≡ n =
+          let high_count : free_cut_bit_count (word_fix_of region bit true) ≡ n =
           omega (arith, count, half_count rules region bit true least) in
-          let lower = defined_from n most low (fix_of region bit false)
-          (least_below 104 low (fix_of region bit false)) some
+          let lower = defined_from n most low (word_fix_of region bit false)
+          (least_below 104 low (word_fix_of region bit false)) some
           (side_node rules region bit false node least.cuts.bound)
           (omega (arith, count, half_count rules region bit false least)) refl in
-          let higher = defined_from n most high (fix_of region bit true)
-          (least_below 104 high (fix_of region bit true)) some
+          let higher = defined_from n most high (word_fix_of region bit true)
+          (least_below 104 high (word_fix_of region bit true)) some
           (side_node rules region bit true node least.cuts.bound) high_count refl in
           rw (tree_cut most rules region cost many is)
           (cut_defined most rules region cost _ _ many is lower higher)
@@ -132,19 +132,19 @@ one_tree (Node bit low high) (End r rs) rules region most p q =
     absurd (omega (arith, p.0.many, q.few))
 one_tree (Node bit low high) (Node other lower higher) rules region most p q =
     let same : other ≡ bit = least_only rules region other bit q.0.least p.0.least in
-    let Low : ℕ → Type 0 = λ k. IsTreeOf (side_of_cut rules region k false) (fix_of region k false) most
+    let Low : ℕ → Type 0 = λ k. IsTreeOf (side_of_cut rules region k false) (word_fix_of region k false) most
     lower in
-    let High : ℕ → Type 0 = λ k. IsTreeOf (side_of_cut rules region k true) (fix_of region k true) most
+    let High : ℕ → Type 0 = λ k. IsTreeOf (side_of_cut rules region k true) (word_fix_of region k true) most
     higher in
     let h : high ≡ higher = one_tree high higher _ _ most p.2 (subst High same q.2) in
     λ i. Node (sym same i) ((one_tree low lower _ _ most p.1 (subst Low same q.1)) i) (h i)
 
 -- ---- the root
 
-pub tree_defined : (rules : List Rule) (most : ℕ) → 0 < most → AreRuleWords rules
+pub tree_defined : (rules : List Rule) (most : ℕ) → 0 < most → AreCutRuleWords rules
     → IsDefinedTree rules most (tree_of rules most)
 unfolding tree_of
-tree_defined rules most some words = defined_from (free_count any_word) most rules any_word
+tree_defined rules most some words = defined_from (free_cut_bit_count any_word) most rules any_word
     (least_below 104 rules any_word) some (root_node rules words) refl refl
 
 -- ---- a node that is cut, by the rules and regions of its halves
@@ -152,17 +152,17 @@ tree_defined rules most some words = defined_from (free_count any_word) most rul
 pub cut_at : (most : ℕ) (rules : List Rule) (region : WordValue) (cost : Cost)
     (low high : List Rule) (lower higher : WordValue) → most < length rules
     → least_below 104 rules region ≡ Some cost → low ≡ side_of_cut rules region cost.bit false
-    → lower ≡ fix_of region cost.bit false → high ≡ side_of_cut rules region cost.bit true
-    → higher ≡ fix_of region cost.bit true → tree_at most rules region ≡ Node cost.bit
-    (tree_at most low lower) (tree_at most high higher)
+    → lower ≡ word_fix_of region cost.bit false → high ≡ side_of_cut rules region cost.bit true
+    → higher ≡ word_fix_of region cost.bit true → cut_tree_at most rules region ≡ Node cost.bit
+    (cut_tree_at most low lower) (cut_tree_at most high higher)
 cut_at most rules region cost low high lower higher many is l lr h hr = rw (l, lr, h, hr)
     (tree_cut most rules region cost many is)
 
 pub defined_at : (most : ℕ) (rules : List Rule) (region : WordValue) (cost : Cost)
     (low high : List Rule) (lower higher : WordValue) (a b : Shape) → most < length rules
     → least_below 104 rules region ≡ Some cost → low ≡ side_of_cut rules region cost.bit false
-    → lower ≡ fix_of region cost.bit false → high ≡ side_of_cut rules region cost.bit true
-    → higher ≡ fix_of region cost.bit true → IsTreeOf low lower most a → IsTreeOf high higher most b
+    → lower ≡ word_fix_of region cost.bit false → high ≡ side_of_cut rules region cost.bit true
+    → higher ≡ word_fix_of region cost.bit true → IsTreeOf low lower most a → IsTreeOf high higher most b
     → IsTreeOf rules region most (Node cost.bit a b)
 defined_at most rules region cost low high lower higher a b many is l lr h hr p q =
     let P : List Rule → WordValue → Type 0 = λ rs r. IsTreeOf rs r most a in
@@ -172,8 +172,8 @@ defined_at most rules region cost low high lower higher a b many is l lr h hr p 
     (subst (Q (side_of_cut rules region cost.bit true)) hr (subst (λ rs. Q rs higher) h q))
 
 pub half_smaller : (rules : List Rule) (region : WordValue) (cost : Cost) (half : WordValue)
-    (one : Bool) → least_below 104 rules region ≡ Some cost → half ≡ fix_of region cost.bit one
-    → free_count half < free_count region
+    (one : Bool) → least_below 104 rules region ≡ Some cost → half ≡ word_fix_of region cost.bit one
+    → free_cut_bit_count half < free_cut_bit_count region
 half_smaller rules region cost half one is same =
     rw same (omega (arith, half_count rules region cost.bit one (least_cuts rules region cost is)))
 

@@ -1,4 +1,4 @@
-pub mod CallerLemmas
+pub mod CutTreeCallerLemmas
 pub mod CutCounting
 pub mod CutLemmas
 pub mod CutHalves

@@ -1,10 +1,10 @@
 -- Counters for many bits at once.
 use Rattle.std.specs.Prelude.{[], if◌then◌else◌, ◌*◌, ◌+◌, ◌==◌, ◌∷◌, ◌≡◌, ◌≤◌, Bool, IsFalse, List, drop, length, ℕ}
 use Rattle.base.specs.Exports.{bit_at}
-use Rattle.ternary.specs.Exports.{WordValue, covers_of, fix_of}
+use Rattle.ternary.specs.Exports.{WordValue, word_covers_of, word_fix_of}
 use Rattle.policy_rules.specs.declared.rules.Rule.{Rule}
-use Rattle.cut_tree.specs.Cuts.{IsFreeBit, cut_cost_from, side_of_cut}
-use Rattle.cut_tree.specs.Nodes.{LiesInRegion}
+use Rattle.cut_tree.specs.Cuts.{IsCuttableBit, cut_cost_from, side_of_cut}
+use Rattle.cut_tree.specs.Nodes.{LiesInCutRegion}
 use Rattle.cut_tree.specs.declared.choice.Cost.{Cost}
 use Rattle.cut_tree.specs.declared.choice.CutSide.{CutSide}
 
@@ -14,7 +14,7 @@ count_at [] bit = 0
 count_at (plane ∷ planes) bit = bit_at plane bit + 2 * count_at planes bit
 
 -- of the 32 planes this many, from the first, contain all the counts
-pub record IsPlaneHeight (planes : List ℕ) (height : ℕ) : Type 0 where
+pub record IsCutPlaneHeight (planes : List ℕ) (height : ℕ) : Type 0 where
   pub bound : height ≤ 32
   pub above : (bit : ℕ) → count_at (drop height planes) bit ≡ 0
 
@@ -24,7 +24,7 @@ count_by first second which bit =
     if bit_at which bit == 1 then count_at second bit else count_at first bit
 
 -- of a set of bits, none has a lower count than this one
-pub record IsLeastOf (bits : ℕ) (count : ℕ → ℕ) (bit : ℕ) : Type 0 where
+pub record IsCutBitOfLeastCount (bits : ℕ) (count : ℕ → ℕ) (bit : ℕ) : Type 0 where
   pub member : bit_at bits bit ≡ 1
   pub least : (other : ℕ) → bit_at bits other ≡ 1 → count bit ≤ count other
 
@@ -46,23 +46,23 @@ pub record IsSideCounting (side : CutSide) (upper : Bool) (rules : List Rule)
     (region : WordValue) (place : ℕ) : Type 0 where
   pub one : side.one ≡ upper
   pub few : (bit : ℕ) → count_on_side side bit ≤ place
-  pub rest : (bit : ℕ) → IsFreeBit region bit →
+  pub rest : (bit : ℕ) → IsCuttableBit region bit →
       expected_side_count side region bit (drop place rules) ≡ length (side_of_cut rules region bit upper)
 
 -- the side has counted the rules of each half
 abbrev pub HaveSidesCounted : CutSide → Bool → List Rule → WordValue → Type 0
 HaveSidesCounted side one rules region =
-    (bit : ℕ) → IsFreeBit region bit → count_on_side side bit ≡ length (side_of_cut rules region bit one)
+    (bit : ℕ) → IsCuttableBit region bit → count_on_side side bit ≡ length (side_of_cut rules region bit one)
 
 -- the rule lies in the region and covers no half of it
-pub record IsNarrowIn (region : WordValue) (rule : Rule) : Type 0 where
-  pub within : LiesInRegion region rule
-  pub covers : (bit : ℕ) (one : Bool) → IsFreeBit region bit →
-      IsFalse (covers_of rule.word (fix_of region bit one))
+pub record IsNarrowInCutRegion (region : WordValue) (rule : Rule) : Type 0 where
+  pub within : LiesInCutRegion region rule
+  pub covers : (bit : ℕ) (one : Bool) → IsCuttableBit region bit →
+      IsFalse (word_covers_of rule.word (word_fix_of region bit one))
 
 -- each of four rules lies in the region and covers no half of it
 pub record AreNarrowIn (region : WordValue) (a b c d : Rule) : Type 0 where
-  pub first : IsNarrowIn region a
-  pub second : IsNarrowIn region b
-  pub third : IsNarrowIn region c
-  pub fourth : IsNarrowIn region d
+  pub first : IsNarrowInCutRegion region a
+  pub second : IsNarrowInCutRegion region b
+  pub third : IsNarrowInCutRegion region c
+  pub fourth : IsNarrowInCutRegion region d

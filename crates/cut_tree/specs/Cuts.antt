@@ -1,14 +1,14 @@
 -- Which bit a region is cut at. The order of costs is this project's own; the cuts are those of
 -- Yu, Rexford, Freedman and Wang, "Scalable Flow-Based Networking with DIFANE", SIGCOMM 2010.
 use Rattle.std.specs.Prelude.{if◌then◌else◌, ◌&&◌, ◌+◌, ◌<◌, ◌==◌, ◌||◌, ◌≡◌, ◌≤◌, Bool, IsFalse, List, None, Option, Some, false, length, max, nat_lt, suc, true, zero, ℕ}
-use Rattle.ternary.specs.Exports.{WordValue, fix_of, is_fixed_of}
+use Rattle.ternary.specs.Exports.{WordValue, word_fix_of, is_fixed_of}
 use Rattle.policy_rules.specs.declared.rules.Rule.{Rule}
 use Rattle.cut_tree.specs.Narrow.{narrow}
 use Rattle.cut_tree.specs.declared.choice.Cost.{Cost}
 
 -- the rules of the half in which the bit is 1 if `one` is true, otherwise 0
 abbrev pub side_of_cut : List Rule → WordValue → ℕ → Bool → List Rule
-side_of_cut rules region bit one = narrow rules (fix_of region bit one)
+side_of_cut rules region bit one = narrow rules (word_fix_of region bit one)
 
 -- the cost of a cut at this bit into sides of these sizes
 abbrev pub cut_cost_from : ℕ → ℕ → ℕ → Cost
@@ -28,14 +28,14 @@ pub record CostsAtMost (a b : Cost) : Type 0 where
   pub bit : a.larger ≡ b.larger → a.sum ≡ b.sum → a.bit ≤ b.bit
 
 -- a bit of a header that the region leaves free
-pub record IsFreeBit (region : WordValue) (bit : ℕ) : Type 0 where
+pub record IsCuttableBit (region : WordValue) (bit : ℕ) : Type 0 where
   pub bound : bit < 104
   pub free : IsFalse (is_fixed_of region bit)
 
 -- of the cuts of the region, the one at this bit costs least
 pub record IsLeastCut (rules : List Rule) (region : WordValue) (bit : ℕ) : Type 0 where
-  pub cuts : IsFreeBit region bit
-  pub least : (other : ℕ) → IsFreeBit region other →
+  pub cuts : IsCuttableBit region bit
+  pub least : (other : ℕ) → IsCuttableBit region other →
       CostsAtMost (cut_cost_of rules region bit) (cut_cost_of rules region other)
 
 -- the larger side of a is smaller than that of b, or these are equal and the sum of a is smaller

@@ -1,6 +1,6 @@
 -- The tree of a list of rules: a test of a given tree, and the tree as a function.
 use Rattle.std.specs.Prelude.{◌<◌, ◌≡◌, ◌≤◌, List, None, Option, Some, false, length, nat_le, suc, true, zero, ℕ}
-use Rattle.ternary.specs.Exports.{WordValue, any_word, fix_of, free_bits}
+use Rattle.ternary.specs.Exports.{WordValue, any_word, word_fix_of, free_bits}
 use Rattle.policy_rules.specs.declared.rules.Rule.{Rule}
 use Rattle.cut_tree.specs.Cuts.{IsLeastCut, least_below, side_of_cut}
 use Rattle.cut_tree.specs.Shape.{Shape, End, Node}
@@ -27,8 +27,8 @@ IsTreeOf rules region most (End leaf_region leaf_rules) =
     IsLeafOf rules region most leaf_region leaf_rules
 IsTreeOf rules region most (Node bit low high) =
     IsCutOf rules region most bit
-    × IsTreeOf (side_of_cut rules region bit false) (fix_of region bit false) most low
-    × IsTreeOf (side_of_cut rules region bit true) (fix_of region bit true) most high
+    × IsTreeOf (side_of_cut rules region bit false) (word_fix_of region bit false) most low
+    × IsTreeOf (side_of_cut rules region bit true) (word_fix_of region bit true) most high
 
 -- the defined tree of a list, which is not narrowed at the root
 abbrev pub IsDefinedTree : List Rule → ℕ → Shape → Type 0
@@ -36,29 +36,29 @@ IsDefinedTree rules most tree = IsTreeOf rules any_word most tree
 
 -- ---- the function
 
-abbrev pub free_count : WordValue → ℕ
-free_count region = length (free_bits region)
+abbrev pub free_cut_bit_count : WordValue → ℕ
+free_cut_bit_count region = length (free_bits region)
 
 -- both sides of a cut, if there is one, built by this function
 abbrev pub cut_tree_by : (List Rule → WordValue → Shape) → List Rule → WordValue → Option Cost → Shape
 cut_tree_by grow rules region None = End region rules
 cut_tree_by grow rules region (Some cost) =
     Node cost.bit
-    (grow (side_of_cut rules region cost.bit false) (fix_of region cost.bit false))
-    (grow (side_of_cut rules region cost.bit true) (fix_of region cost.bit true))
+    (grow (side_of_cut rules region cost.bit false) (word_fix_of region cost.bit false))
+    (grow (side_of_cut rules region cost.bit true) (word_fix_of region cost.bit true))
 
 -- the tree, with at most this many cuts on a path from its root
-unfoldable pub tree_within : ℕ → ℕ → List Rule → WordValue → Shape
-tree_within zero most rules region = End region rules
-tree_within (suc depth) most rules region = elim (nat_le (length rules) most) [
+unfoldable pub cut_tree_within : ℕ → ℕ → List Rule → WordValue → Shape
+cut_tree_within zero most rules region = End region rules
+cut_tree_within (suc depth) most rules region = elim (nat_le (length rules) most) [
   | true ↦ End region rules
-  | false ↦ cut_tree_by (tree_within depth most) rules region (least_below 104 rules region)
+  | false ↦ cut_tree_by (cut_tree_within depth most) rules region (least_below 104 rules region)
 ]
 
 -- the tree of these rules in this region
-abbrev pub tree_at : ℕ → List Rule → WordValue → Shape
-tree_at most rules region = tree_within (free_count region) most rules region
+abbrev pub cut_tree_at : ℕ → List Rule → WordValue → Shape
+cut_tree_at most rules region = cut_tree_within (free_cut_bit_count region) most rules region
 
 -- the defined tree of a list with this cap
 unfoldable pub tree_of : List Rule → ℕ → Shape
-tree_of rules most = tree_at most rules any_word
+tree_of rules most = cut_tree_at most rules any_word

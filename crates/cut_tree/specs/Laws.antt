@@ -1,25 +1,25 @@
 -- The laws of narrowing and of trees: `x_laws` of the crate ensures the record of each.
 use Rattle.std.specs.Prelude.{◌<◌, ◌≡◌, IsTrue, List, find, option_map, ℕ}
-use Rattle.ternary.specs.Exports.{WordValue, covers_of, holds}
+use Rattle.ternary.specs.Exports.{WordValue, word_covers_of, holds}
 use Rattle.policy_rules.specs.Exports.{is_held}
 use Rattle.policy_rules.specs.declared.rules.Rule.{Rule}
 use Rattle.cut_tree.specs.DefinedTree.{IsDefinedTree, tree_of}
-use Rattle.cut_tree.specs.Narrow.{narrow, narrowed_rule}
-use Rattle.cut_tree.specs.Nodes.{AreRuleWords}
+use Rattle.cut_tree.specs.Narrow.{narrow, cut_narrowed_rule}
+use Rattle.cut_tree.specs.Nodes.{AreCutRuleWords}
 use Rattle.cut_tree.specs.Shape.{Shape}
 
-pub record NarrowLaws : Type 0 where
+pub record CutNarrowingLaws : Type 0 where
   -- narrowing to a region, and then to one within it, is narrowing to the latter
-  pub twice : (rules : List Rule) (outer inner : WordValue) → IsTrue (covers_of outer inner) →
+  pub twice : (rules : List Rule) (outer inner : WordValue) → IsTrue (word_covers_of outer inner) →
       narrow (narrow rules outer) inner ≡ narrow rules inner
   -- the first rule that holds a header of the region is that of the whole list, narrowed
   pub first : (rules : List Rule) (region : WordValue) (header : ℕ) → IsTrue (holds region header) →
       find (is_held header) (narrow rules region)
-      ≡ option_map (narrowed_rule region) (find (is_held header) rules)
+      ≡ option_map (cut_narrowed_rule region) (find (is_held header) rules)
 
-pub record TreeLaws : Type 0 where
+pub record CutTreeLaws : Type 0 where
   -- a list of rules has a tree for each cap of one or more
-  pub exists : (rules : List Rule) (cap : ℕ) → 0 < cap → AreRuleWords rules →
+  pub exists : (rules : List Rule) (cap : ℕ) → 0 < cap → AreCutRuleWords rules →
       IsDefinedTree rules cap (tree_of rules cap)
   -- and only one
   pub only : (rules : List Rule) (cap : ℕ) (a b : Shape) →

@@ -1,26 +1,26 @@
 -- Narrowing a list of rules to a part of the header space, as Yu, Rexford, Freedman and Wang,
 -- "Scalable Flow-Based Networking with DIFANE", SIGCOMM 2010, cut the rules for their switches.
 use Rattle.std.specs.Prelude.{[], if◌then◌else◌, ◌∷◌, Bool, List, filter, map}
-use Rattle.ternary.specs.Exports.{WordValue, covers_of, meeting_word, meets}
+use Rattle.ternary.specs.Exports.{WordValue, word_covers_of, meeting_word, meets}
 use Rattle.policy_rules.specs.declared.rules.Rule.{Rule}
 
 -- the list up to and including the first that passes
-abbrev pub up_to_first : {X : Type 0} → (X → Bool) → List X → List X
-up_to_first passes [] = []
-up_to_first passes (x ∷ xs) = x ∷ (if passes x then [] else up_to_first passes xs)
+abbrev pub cut_narrowed_up_to_first : {X : Type 0} → (X → Bool) → List X → List X
+cut_narrowed_up_to_first passes [] = []
+cut_narrowed_up_to_first passes (x ∷ xs) = x ∷ (if passes x then [] else cut_narrowed_up_to_first passes xs)
 
-abbrev pub narrow_meets_region : WordValue → Rule → Bool
-narrow_meets_region region rule = meets rule.word region
+abbrev pub cut_rule_meets_region : WordValue → Rule → Bool
+cut_rule_meets_region region rule = meets rule.word region
 
-abbrev pub narrow_covers_region : WordValue → Rule → Bool
-narrow_covers_region region rule = covers_of rule.word region
+abbrev pub cut_rule_covers_region : WordValue → Rule → Bool
+cut_rule_covers_region region rule = word_covers_of rule.word region
 
 -- the rule for only those of its headers that are in the region
-unfoldable pub narrowed_rule : WordValue → Rule → Rule
-narrowed_rule region rule = record rule { word = meeting_word rule.word region }
+unfoldable pub cut_narrowed_rule : WordValue → Rule → Rule
+cut_narrowed_rule region rule = record rule { word = meeting_word rule.word region }
 
 -- the rules that meet the region, each cut down to it, up to and including the first that covers it
 unfoldable pub narrow : List Rule → WordValue → List Rule
 narrow rules region =
-    map (narrowed_rule region) (up_to_first (narrow_covers_region region)
-    (filter (narrow_meets_region region) rules))
+    map (cut_narrowed_rule region) (cut_narrowed_up_to_first (cut_rule_covers_region region)
+    (filter (cut_rule_meets_region region) rules))

@@ -1,23 +1,23 @@
 -- What is true of the rules at a node of a tree.
 use Rattle.std.specs.Prelude.{◌<◌, ◌≤◌, All, IsTrue, List, length, ℕ}
-use Rattle.ternary.specs.Exports.{IsWord, WordValue, covers_of, is_fixed_of}
+use Rattle.ternary.specs.Exports.{IsWord, WordValue, word_covers_of, is_fixed_of}
 use Rattle.policy_rules.specs.declared.rules.Rule.{Rule}
 
 -- the region leaves no bit free: it is one header
-abbrev pub IsOneHeader : WordValue → Type 0
-IsOneHeader region = (bit : ℕ) → bit < 104 → IsTrue (is_fixed_of region bit)
+abbrev pub IsCutRegionOneHeader : WordValue → Type 0
+IsCutRegionOneHeader region = (bit : ℕ) → bit < 104 → IsTrue (is_fixed_of region bit)
 
 -- the region holds each header of the rule
-abbrev pub LiesInRegion : WordValue → Rule → Type 0
-LiesInRegion region rule = IsTrue (covers_of region rule.word)
+abbrev pub LiesInCutRegion : WordValue → Rule → Type 0
+LiesInCutRegion region rule = IsTrue (word_covers_of region rule.word)
 
 -- the words of the rules satisfy `IsWord`
-abbrev pub AreRuleWords : List Rule → Type 0
-AreRuleWords rules = All (λ rule. IsWord rule.word) rules
+abbrev pub AreCutRuleWords : List Rule → Type 0
+AreCutRuleWords rules = All (λ rule. IsWord rule.word) rules
 
 -- each rule lies within the region, and one header has at most one rule
 pub record AreNodeRules (rules : List Rule) (region : WordValue) : Type 0 where
   pub whole : IsWord region
-  pub words : AreRuleWords rules
-  pub within : All (LiesInRegion region) rules
-  pub ended : IsOneHeader region → length rules ≤ 1
+  pub words : AreCutRuleWords rules
+  pub within : All (LiesInCutRegion region) rules
+  pub ended : IsCutRegionOneHeader region → length rules ≤ 1

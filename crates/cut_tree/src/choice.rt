@@ -1,11 +1,11 @@
 ghost use Rattle.std.specs.Prelude.{ℕ, ◌≡◌, ◌≢◌, ◌+◌, ◌*◌, ◌<◌, ◌≤◌, ◌^◌, ◌↔◌, Bool, true, false, List, ◌∷◌, length, All, IsFalse, IsTrue};
 ghost use Rattle.std.specs.Int.{bit_at, from_bool, trailing_zeros, w128};
 ghost use Rattle.ternary.specs.Word.{WordValue};
-ghost use Rattle.ternary.specs.Meets.{word_admits, covers_of, fix_of};
+ghost use Rattle.ternary.specs.Meets.{word_admits, word_covers_of, word_fix_of};
 ghost use Rattle.policy_rules.specs.declared.rules.Rule.{Rule};
-ghost use Rattle.cut_tree.specs.Counts.{IsPlaneHeight, count_on_side, counted_cut_cost, expected_side_count, AreNarrowIn, HaveSidesCounted, IsSideCounting, IsNarrowIn};
-ghost use Rattle.cut_tree.specs.Cuts.{CostsAtMost, IsFreeBit, cut_cost_from, least_below, side_of_cut};
-ghost use Rattle.cut_tree.specs.Nodes.{LiesInRegion};
+ghost use Rattle.cut_tree.specs.Counts.{IsCutPlaneHeight, count_on_side, counted_cut_cost, expected_side_count, AreNarrowIn, HaveSidesCounted, IsSideCounting, IsNarrowInCutRegion};
+ghost use Rattle.cut_tree.specs.Cuts.{CostsAtMost, IsCuttableBit, cut_cost_from, least_below, side_of_cut};
+ghost use Rattle.cut_tree.specs.Nodes.{LiesInCutRegion};
 
 use crate::counters::CutCounters;
 use policy_rules::Rule;
@@ -36,7 +36,7 @@ impl Cost {
 /// The cost of the least cut of the region; `None` if no bit is free.
 pub fn least_cut(rules: &[Rule], region: &Word) -> Option<Cost>
     requires few { length rules.now < 2 ^ 32 }
-    requires within { All (LiesInRegion region.now) rules.now }
+    requires within { All (LiesInCutRegion region.now) rules.now }
     ensures { result ≡ least_below 104 rules.now region.now }
 {
     let free = free_bits_to_cut(region);
@@ -55,7 +55,7 @@ pub fn least_cut(rules: &[Rule], region: &Word) -> Option<Cost>
 
 /// The bits that the region leaves free, of the 104 of a header number.
 pub fn free_bits_to_cut(region: &Word) -> u128
-    ensures { (bit : ℕ) → (bit_at result bit ≡ 1) ↔ IsFreeBit region.now bit }
+    ensures { (bit : ℕ) → (bit_at result bit ≡ 1) ↔ IsCuttableBit region.now bit }
 {
     ALL_BITS & !region.mask()
 }
@@ -63,8 +63,8 @@ pub fn free_bits_to_cut(region: &Word) -> u128
 // The first bit of the set whose cut costs least; the first `height` planes have all counts.
 fn least_cut_bit(low: &CutCounters, high: &CutCounters, bits: u128, height: usize) -> u32
     requires some { bits ≢ 0 }
-    requires low { IsPlaneHeight low.now.planes height }
-    requires high { IsPlaneHeight high.now.planes height }
+    requires low { IsCutPlaneHeight low.now.planes height }
+    requires high { IsCutPlaneHeight high.now.planes height }
     ensures member { bit_at bits result ≡ 1 }
     ensures least { (other : ℕ) → bit_at bits other ≡ 1 →
         CostsAtMost (counted_cut_cost low.now.planes high.now.planes result)
@@ -79,7 +79,7 @@ fn least_cut_bit(low: &CutCounters, high: &CutCounters, bits: u128, height: usiz
 // The rules of both halves at each bit, counted in one pass.
 fn count_cut_sides(rules: &[Rule], region: &Word) -> (CutSide, CutSide)
     requires few { length rules.now < 2 ^ 32 }
-    requires within { All (LiesInRegion region.now) rules.now }
+    requires within { All (LiesInCutRegion region.now) rules.now }
     ensures low { HaveSidesCounted result.0 false rules.now region.now }
     ensures high { HaveSidesCounted result.1 true rules.now region.now }
 {
@@ -102,7 +102,7 @@ fn count_next_rules(
     region: &Word,
 ) -> usize
     requires few { length rules.now < 2 ^ 32 }
-    requires within { All (LiesInRegion region.now) rules.now }
+    requires within { All (LiesInCutRegion region.now) rules.now }
     requires place { place < length rules.now }
     requires low { IsSideCounting low.old false rules.now region.now place }
     requires high { IsSideCounting high.old true rules.now region.now place }
@@ -131,10 +131,10 @@ fn count_next_rules(
 
 // Whether both rules fix two bits or more that the region doesn't, so that neither covers a half.
 fn rules_fix_many_bits(one: &Rule, other: &Rule, region: &Word) -> bool
-    requires one { LiesInRegion region.now one.now }
-    requires other { LiesInRegion region.now other.now }
-    ensures one { IsTrue result → IsNarrowIn region.now one.now }
-    ensures other { IsTrue result → IsNarrowIn region.now other.now }
+    requires one { LiesInCutRegion region.now one.now }
+    requires other { LiesInCutRegion region.now other.now }
+    ensures one { IsTrue result → IsNarrowInCutRegion region.now one.now }
+    ensures other { IsTrue result → IsNarrowInCutRegion region.now other.now }
 {
     !fixes_at_most_one_more(&one.word, region) && !fixes_at_most_one_more(&other.word, region)
 }
@@ -166,10 +166,10 @@ impl CutSide {
     // Counts the next rule in each half that keeps it.
     fn count(&mut self, rule: &Rule, region: &Word)
         requires room { (bit : ℕ) → count_on_side self.old bit + 1 < 2 ^ 32 }
-        requires within { LiesInRegion region.now rule.now }
+        requires within { LiesInCutRegion region.now rule.now }
         ensures one { self.new.one ≡ self.old.one }
         ensures few { (bit : ℕ) → count_on_side self.new bit ≤ count_on_side self.old bit + 1 }
-        ensures expected { (bit : ℕ) (rules : List Rule) → IsFreeBit region.now bit →
+        ensures expected { (bit : ℕ) (rules : List Rule) → IsCuttableBit region.now bit →
             expected_side_count self.new region.now bit rules
             ≡ expected_side_count self.old region.now bit (rule.now ∷ rules) }
     {
@@ -185,7 +185,7 @@ impl CutSide {
         ensures one { self.new.one ≡ self.old.one }
         ensures few { (bit : ℕ) → count_on_side self.new bit ≤ count_on_side self.old bit + 4 }
         ensures expected { (region : WordValue) (bit : ℕ) (rules : List Rule) →
-            AreNarrowIn region a.now b.now c.now d.now → IsFreeBit region bit →
+            AreNarrowIn region a.now b.now c.now d.now → IsCuttableBit region bit →
             expected_side_count self.new region bit rules
             ≡ expected_side_count self.old region bit (a.now ∷ b.now ∷ c.now ∷ d.now ∷ rules) }
     {
@@ -202,8 +202,8 @@ impl CutSide {
 // Of the bits that are left, those whose half keeps the next rule. Then only those bits are left
 // whose half the rule doesn't cover.
 fn pass(left: &mut u128, one: bool, rule: &Rule, region: &Word) -> u128
-    requires { LiesInRegion region.now rule.now }
-    ensures { (bit : ℕ) (rules : List Rule) → IsFreeBit region.now bit →
+    requires { LiesInCutRegion region.now rule.now }
+    ensures { (bit : ℕ) (rules : List Rule) → IsCuttableBit region.now bit →
         bit_at result bit + bit_at left.new bit * length (side_of_cut rules region.now bit one)
         ≡ bit_at left.old bit * length (side_of_cut (rule.now ∷ rules) region.now bit one) }
 {
@@ -220,9 +220,9 @@ fn pass(left: &mut u128, one: bool, rule: &Rule, region: &Word) -> u128
 
 // Whether the word fixes at most one bit more than the region; if not, it covers no half of it.
 fn fixes_at_most_one_more(word: &Word, region: &Word) -> bool
-    requires { IsTrue (covers_of region.now word.now) }
-    ensures { IsFalse result → (bit : ℕ) (one : Bool) → IsFreeBit region.now bit →
-        IsFalse (covers_of word.now (fix_of region.now bit one)) }
+    requires { IsTrue (word_covers_of region.now word.now) }
+    ensures { IsFalse result → (bit : ℕ) (one : Bool) → IsCuttableBit region.now bit →
+        IsFalse (word_covers_of word.now (word_fix_of region.now bit one)) }
 {
     let fixed = word.mask() ^ region.mask();
     if fixed == 0 {
@@ -251,9 +251,9 @@ fn halves_met(word: &Word, one: bool) -> u128
 
 // The bits whose half the word covers.
 fn cut_halves_covered(word: &Word, region: &Word, one: bool) -> u128
-    requires { IsTrue (covers_of region.now word.now) }
-    ensures { (bit : ℕ) → IsFreeBit region.now bit →
-        bit_at result bit ≡ from_bool (covers_of word.now (fix_of region.now bit one)) }
+    requires { IsTrue (word_covers_of region.now word.now) }
+    ensures { (bit : ℕ) → IsCuttableBit region.now bit →
+        bit_at result bit ≡ from_bool (word_covers_of word.now (word_fix_of region.now bit one)) }
 {
     let met = halves_met(word, one);
     let fixed = word.mask() ^ region.mask();

@@ -1,6 +1,6 @@
 ghost use Rattle.std.specs.Prelude.{ℕ, ◌≡◌, ◌≢◌, ◌+◌, ◌*◌, ◌<◌, ◌^◌, ◌↔◌};
 ghost use Rattle.std.specs.Int.{bit_at};
-ghost use Rattle.cut_tree.specs.Counts.{IsPlaneHeight, IsLeastOf, count_at, count_by};
+ghost use Rattle.cut_tree.specs.Counts.{IsCutPlaneHeight, IsCutBitOfLeastCount, count_at, count_by};
 
 /// How many bits a counter has.
 const PLANES: usize = 32;
@@ -65,8 +65,8 @@ impl CutCounters {
 
     /// How many planes, from the first, hold all counts of both: no counter has a bit beyond these.
     pub fn height(&self, other: &CutCounters) -> usize
-        ensures here { IsPlaneHeight self.now.planes result }
-        ensures there { IsPlaneHeight other.now.planes result }
+        ensures here { IsCutPlaneHeight self.now.planes result }
+        ensures there { IsCutPlaneHeight other.now.planes result }
     {
         let mut height = PLANES;
         while height > 0 {
@@ -81,7 +81,7 @@ impl CutCounters {
     /// How often this bit was counted; the first `height` planes have all counts.
     pub fn count(&self, bit: u32, height: usize) -> u32
         requires bit { bit < 128 }
-        requires here { IsPlaneHeight self.now.planes height }
+        requires here { IsCutPlaneHeight self.now.planes height }
         ensures { result ≡ count_at self.now.planes bit }
     {
         let mut count = 0;
@@ -96,8 +96,8 @@ impl CutCounters {
     /// The bits that were counted more often here than in `other`; the first `height` planes have
     /// all counts.
     pub fn more_than(&self, other: &CutCounters, height: usize) -> u128
-        requires here { IsPlaneHeight self.now.planes height }
-        requires there { IsPlaneHeight other.now.planes height }
+        requires here { IsCutPlaneHeight self.now.planes height }
+        requires there { IsCutPlaneHeight other.now.planes height }
         ensures { (bit : ℕ) → (bit_at result bit ≡ 1)
             ↔ (count_at other.now.planes bit < count_at self.now.planes bit) }
     {
@@ -119,10 +119,10 @@ impl CutCounters {
     /// any other bit the count of these counters.
     pub fn least(&self, other: &CutCounters, which: u128, bits: u128, height: usize) -> u128
         requires some { bits ≢ 0 }
-        requires here { IsPlaneHeight self.now.planes height }
-        requires there { IsPlaneHeight other.now.planes height }
+        requires here { IsCutPlaneHeight self.now.planes height }
+        requires there { IsCutPlaneHeight other.now.planes height }
         ensures least { (bit : ℕ) → (bit_at result bit ≡ 1)
-            ↔ IsLeastOf bits (count_by self.now.planes other.now.planes which) bit }
+            ↔ IsCutBitOfLeastCount bits (count_by self.now.planes other.now.planes which) bit }
         ensures some { result ≢ 0 }
     {
         let mut least = bits;

@@ -1,12 +1,12 @@
-ghost use Rattle.cut_tree.specs.Laws.{NarrowLaws, TreeLaws};
+ghost use Rattle.cut_tree.specs.Laws.{CutNarrowingLaws, CutTreeLaws};
 
 /// Narrowing a list to a region, and then to one within it, is narrowing it to the latter.
 /// Narrowing keeps the first rule of each header of the region.
 pub fn narrow_laws()
-    ensures { NarrowLaws }
+    ensures { CutNarrowingLaws }
 {}
 
 /// A list of rules has exactly one tree for each cap, and `tree_of` returns it.
 pub fn tree_laws()
-    ensures { TreeLaws }
+    ensures { CutTreeLaws }
 {}

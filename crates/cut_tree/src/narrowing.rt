@@ -1,10 +1,10 @@
 ghost use Rattle.std.specs.Prelude.{◌≡◌, ◌<◌, All, IfOk, IsTrue};
 ghost use Rattle.ternary.specs.Word.{WordValue};
 ghost use Rattle.ternary.specs.WordBits.{IsWord};
-ghost use Rattle.ternary.specs.Meets.{covers_of, fix_of, meet_of};
-ghost use Rattle.cut_tree.specs.Cuts.{IsFreeBit, side_of_cut};
+ghost use Rattle.ternary.specs.Meets.{word_covers_of, word_fix_of, meet_of};
+ghost use Rattle.cut_tree.specs.Cuts.{IsCuttableBit, side_of_cut};
 ghost use Rattle.cut_tree.specs.Narrow.{narrow};
-ghost use Rattle.cut_tree.specs.Nodes.{LiesInRegion};
+ghost use Rattle.cut_tree.specs.Nodes.{LiesInCutRegion};
 
 use policy_rules::Rule;
 use std::alloc::{AllocError, Global};
@@ -48,8 +48,8 @@ pub fn narrow_half(
     bit: u32,
     one: bool,
 ) -> Result<Vec<Rule>, AllocError>
-    requires free { IsFreeBit region.now bit }
-    requires within { All (LiesInRegion region.now) rules.now }
+    requires free { IsCuttableBit region.now bit }
+    requires within { All (LiesInCutRegion region.now) rules.now }
     ensures { IfOk result (λ kept. kept.items ≡ side_of_cut rules.now region.now bit one) }
 {
     // For the proof: reading the mask yields the invariant `IsWord`.
@@ -75,8 +75,8 @@ pub fn narrow_half(
 // contains it; `None` if there are no such headers.
 fn with_bit(word: &Word, bit: u32, one: bool) -> Option<Word>
     requires { bit < 104 }
-    ensures { (region : WordValue) → IsWord region → IsFreeBit region bit →
-        IsTrue (covers_of region word.now) → result ≡ meet_of word.now (fix_of region bit one) }
+    ensures { (region : WordValue) → IsWord region → IsCuttableBit region bit →
+        IsTrue (word_covers_of region word.now) → result ≡ meet_of word.now (word_fix_of region bit one) }
 {
     holds_laws();
     // For the proof: reading the mask yields the invariant `IsWord`.

@@ -1,8 +1,8 @@
 ghost use Rattle.std.specs.Prelude.{◌≡◌, ◌<◌, ◌^◌, IfOk, Some, length};
-ghost use Rattle.ternary.specs.Meets.{fix_of};
-ghost use Rattle.cut_tree.specs.Cuts.{IsFreeBit, least_below, side_of_cut};
+ghost use Rattle.ternary.specs.Meets.{word_fix_of};
+ghost use Rattle.cut_tree.specs.Cuts.{IsCuttableBit, least_below, side_of_cut};
 ghost use Rattle.cut_tree.specs.Narrow.{narrow};
-ghost use Rattle.cut_tree.specs.Nodes.{AreNodeRules, AreRuleWords};
+ghost use Rattle.cut_tree.specs.Nodes.{AreNodeRules, AreCutRuleWords};
 
 use crate::choice::{Cost, least_cut};
 use crate::narrowing::{narrow, narrow_half};
@@ -26,7 +26,7 @@ impl Node {
     /// Only out of memory.
     pub fn new(alloc: Global, rules: &[Rule], region: &Word) -> Result<Node, AllocError>
         requires few { length rules.now < 2 ^ 32 }
-        requires words { AreRuleWords rules.now }
+        requires words { AreCutRuleWords rules.now }
         ensures rules { IfOk result (λ node. node.rules.items ≡ narrow rules.now region.now) }
         ensures region { IfOk result (λ node. node.region ≡ region.now) }
     {
@@ -43,7 +43,7 @@ impl Node {
     pub fn least_cut(&self) -> Cost
         requires { 1 < length self.now.rules.items }
         ensures least { least_below 104 self.now.rules.items self.now.region ≡ Some result }
-        ensures free { IsFreeBit self.now.region result.bit }
+        ensures free { IsCuttableBit self.now.region result.bit }
     {
         match least_cut(&self.rules, &self.region) {
             Some(cost) => cost,
@@ -56,10 +56,10 @@ impl Node {
     /// # Errors
     /// Only out of memory.
     pub fn half(&self, alloc: Global, bit: u32, one: bool) -> Result<Node, AllocError>
-        requires { IsFreeBit self.now.region bit }
+        requires { IsCuttableBit self.now.region bit }
         ensures rules { IfOk result (λ half.
             half.rules.items ≡ side_of_cut self.now.rules.items self.now.region bit one) }
-        ensures region { IfOk result (λ half. half.region ≡ fix_of self.now.region bit one) }
+        ensures region { IfOk result (λ half. half.region ≡ word_fix_of self.now.region bit one) }
     {
         let rules = narrow_half(alloc, &self.rules, &self.region, bit, one)?;
         Ok(Node {

@@ -6,16 +6,16 @@ use Rattle.shelf.specs.declared.output.SinkError.{SinkError}
 use Rattle.shelf.specs.declared.output.SinkError.TheVariants as sink
 use Rattle.command_line.specs.Exports.{PrintCommand}
 use Rattle.command_line.specs.Commands as asked
-use Rattle.command_inputs.specs.Exports.{IsPrintingOf, Print, known_command_task, status_after, Printing}
-use Rattle.difane_cli.specs.Exports.{PrintOutcome, printing_text}
+use Rattle.command_inputs.specs.Exports.{IsCommandPrintingOf, Print, known_command_task, command_status_after, Printing}
+use Rattle.difane_cli.specs.Exports.{PrintOutcome, command_printing_text}
 
 pub printed : (command : PrintCommand) (files : Option Files) (printing : Printing)
     (takes_memory : Bool) (before now : SinkState) (result : Result (⊤) SinkError)
-    → IsPrintingOf command printing
+    → IsCommandPrintingOf command printing
     → ForSome (known_command_task files (Some (asked.Print command))) (λ read. read ≡ Ok (Print printing))
-    → IsAfterWrite (printing_text printing) takes_memory before now result
-    → (printing_text printing ≡ [] → now ≡ before)
-    → PrintOutcome command files (status_after result None) [] before now
+    → IsAfterWrite (command_printing_text printing) takes_memory before now result
+    → (command_printing_text printing ≡ [] → now ≡ before)
+    → PrintOutcome command files (command_status_after result None) [] before now
 printed command files printing takes_memory before now (Ok done) own read after untouched = record {
   printing = printing;
   accepted = read;

@@ -1,9 +1,9 @@
 -- What is asked for by arguments that begin with `flows`.
 use Rattle.base.proofs.Exports.{bytes_eq-Decides, ⊤}
 use Rattle.std.proofs.Common.{[], ◌∷◌, ◌≡◌, Bool, List, None, Option, Some, codes, cond, false, length, option_and_then, refl, subst, sym, true, ℕ}
-use Rattle.command_line.specs.Exports.{Command, Replay, StatedLine, command_by, command_of, line_of, may_be_policies, play_from}
+use Rattle.command_line.specs.Exports.{Command, Replay, StatedArgumentLine, command_by, command_of, line_of, may_be_policy_arguments, play_from_arguments}
 use Rattle.command_line.specs.declared.report.Report.TheVariants as report
-use Rattle.difane_cli.specs.Exports.{asks_flows}
+use Rattle.difane_cli.specs.Exports.{command_asks_flows}
 
 -- a command that there is tells flows
 abbrev pub TellsIfAny : Option Command → Type 0
@@ -11,10 +11,10 @@ TellsIfAny None = ⊤
 TellsIfAny (Some (Replay args)) = args.report ≡ report.Flows
 TellsIfAny (Some _) = ⊥
 
-play_tells : (line : StatedLine) (names : List (List ℕ))
-    → TellsIfAny (play_from report.Flows line names)
+play_tells : (line : StatedArgumentLine) (names : List (List ℕ))
+    → TellsIfAny (play_from_arguments report.Flows line names)
 play_tells line [] = tt
-play_tells line (schedule ∷ policies) = go (may_be_policies (length policies)) where
+play_tells line (schedule ∷ policies) = go (may_be_policy_arguments (length policies)) where
   go : (b : Bool) → TellsIfAny (cond b (Some (Replay (record {
     schedule = schedule;
     policies = policies;
@@ -24,15 +24,15 @@ play_tells line (schedule ∷ policies) = go (may_be_policies (length policies))
   go true = refl
   go false = tt
 
-line_tells : (found : Option StatedLine)
+line_tells : (found : Option StatedArgumentLine)
     → TellsIfAny (option_and_then (command_by (codes "flows")) found)
 line_tells None = tt
 line_tells (Some line) = go line.quiet where
-  go : (quiet : Bool) → TellsIfAny (cond quiet None (play_from report.Flows line line.names))
+  go : (quiet : Bool) → TellsIfAny (cond quiet None (play_from_arguments report.Flows line line.names))
   go true = tt
   go false = play_tells line line.names
 
-pub flows_tell : (texts : List (List ℕ)) → asks_flows texts ≡ true → TellsIfAny (command_of texts)
+pub flows_tell : (texts : List (List ℕ)) → command_asks_flows texts ≡ true → TellsIfAny (command_of texts)
 flows_tell [] asks = tt
 flows_tell (name ∷ args) asks =
     let is : name ≡ codes "flows" = (bytes_eq-Decides name (codes "flows")).0 asks in

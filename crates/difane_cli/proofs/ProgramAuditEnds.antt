@@ -6,21 +6,21 @@ use Rattle.update_machine.specs.Exports.{PolicyFile}
 use Rattle.shelf.specs.Exports.{Files, SinkGainedPart, IsAfterWrite, SinkState}
 use Rattle.shelf.specs.declared.output.SinkError.{SinkError}
 use Rattle.shelf.specs.declared.output.SinkError.TheVariants as sink
-use Rattle.trace_audit.specs.Exports.{AreJustified, AreTraceRun, IsAuditVerdict, IsFirstBad, lines_of, lines_of_parts, open_line}
+use Rattle.trace_audit.specs.Exports.{AreTraceEndsJustified, AreTraceRun, IsTraceAuditVerdict, IsFirstBad, lines_of, trace_lines_of_parts, open_trace_line}
 use Rattle.trace_audit.specs.declared.trace.Verdict.{Verdict}
 use Rattle.trace_audit.specs.declared.trace.Verdict.TheVariants.{Yes, No}
 use Rattle.command_line.specs.Exports.{AuditCommand}
 use Rattle.command_line.specs.Commands as asked
-use Rattle.command_inputs.specs.Exports.{Audit, Auditing, IsAuditingOf, known_command_task, most_trace_bytes, status_after}
-use Rattle.difane_cli.specs.Exports.{AuditOutcome, AuditEnded, IsAuditJudged, OutputWrote, audit_yes_line}
+use Rattle.command_inputs.specs.Exports.{Audit, CommandAuditInputs, IsCommandAuditingOf, known_command_task, program_most_trace_bytes, command_status_after}
+use Rattle.difane_cli.specs.Exports.{ProgramAuditOutcome, CommandAuditEnded, IsCommandAuditJudged, OutputWrote, command_audit_yes_line}
 
 -- ---- how many lines there are
 
-few_open : (rest : List ℕ) → length (open_line rest) ≤ 1
+few_open : (rest : List ℕ) → length (open_trace_line rest) ≤ 1
 few_open [] = omega arith
 few_open (byte ∷ bytes) = omega arith
 
-few_parts : (parts : List (List ℕ)) → length (lines_of_parts parts) ≤ length parts
+few_parts : (parts : List (List ℕ)) → length (trace_lines_of_parts parts) ≤ length parts
 few_parts [] = omega arith
 few_parts (rest ∷ []) = omega (arith, few_open rest)
 few_parts (text ∷ next ∷ parts) = omega (arith, few_parts (next ∷ parts))
@@ -37,8 +37,8 @@ few_lines trace = let feeds = length-slice_split (λ (b : ℕ). b == 10) trace i
     )
 
 -- so in a trace that isn't too long the verdict has the line's own number
-own_number : (files : List PolicyFile) (trace : List ℕ) (line : ℕ) → length trace ≤ most_trace_bytes
-    → IsAuditVerdict files (lines_of trace) (No line) → IsFirstBad files (lines_of trace) line
+own_number : (files : List PolicyFile) (trace : List ℕ) (line : ℕ) → length trace ≤ program_most_trace_bytes
+    → IsTraceAuditVerdict files (lines_of trace) (No line) → IsFirstBad files (lines_of trace) line
 own_number files trace line short is =
     let first = is.1 in
     let same : is.0 ≡ line = omega (arith, is.2, first.there, few_lines trace, short) in
@@ -48,30 +48,30 @@ own_number files trace line short is =
 
 -- a verdict on what was read is one on what the inputs are
 pub verdict_on : (trace owned : List ℕ) (files own : List PolicyFile) (found verdict : Verdict)
-    → length owned ≤ most_trace_bytes → IsAuditVerdict files (lines_of trace) found
+    → length owned ≤ program_most_trace_bytes → IsTraceAuditVerdict files (lines_of trace) found
     → (found ≡ Yes → AreTraceRun files (lines_of trace))
-    → (found ≡ Yes → AreJustified files (lines_of trace))
-    → trace ≡ owned → files ≡ own → found ≡ verdict → IsAuditJudged own (lines_of owned) verdict
+    → (found ≡ Yes → AreTraceEndsJustified files (lines_of trace))
+    → trace ≡ owned → files ≡ own → found ≡ verdict → IsCommandAuditJudged own (lines_of owned) verdict
 verdict_on trace owned files own found verdict short is run justified same all told =
-    let few : length trace ≤ most_trace_bytes =
-    subst (λ (bytes : List ℕ). length bytes ≤ most_trace_bytes) (sym same) short in
-    subst (λ (given : Verdict). IsAuditJudged own (lines_of owned) given) told
-    (subst (λ (bytes : List ℕ). IsAuditJudged own (lines_of bytes) found) same
-    (subst (λ (given : List PolicyFile). IsAuditJudged given (lines_of trace) found) all (record {
-      good = λ yes. subst (IsAuditVerdict files (lines_of trace)) yes is;
+    let few : length trace ≤ program_most_trace_bytes =
+    subst (λ (bytes : List ℕ). length bytes ≤ program_most_trace_bytes) (sym same) short in
+    subst (λ (given : Verdict). IsCommandAuditJudged own (lines_of owned) given) told
+    (subst (λ (bytes : List ℕ). IsCommandAuditJudged own (lines_of bytes) found) same
+    (subst (λ (given : List PolicyFile). IsCommandAuditJudged given (lines_of trace) found) all (record {
+      good = λ yes. subst (IsTraceAuditVerdict files (lines_of trace)) yes is;
       bad = λ line no. own_number files trace line few
-          (subst (IsAuditVerdict files (lines_of trace)) no is);
+          (subst (IsTraceAuditVerdict files (lines_of trace)) no is);
       run = run;
       justified = justified;
     })))
 
-module _ (command : AuditCommand) (files : Option Files) (auditing : Auditing)
-    (own : IsAuditingOf command auditing)
+module _ (command : AuditCommand) (files : Option Files) (auditing : CommandAuditInputs)
+    (own : IsCommandAuditingOf command auditing)
     (accepted : ForSome (known_command_task files (Some (asked.Audit command)))
     (λ read. read ≡ Ok (Audit auditing))) where
   pub audited : (verdict : Verdict) (IsWritten : List ℕ → Type 0)
-      → IsAuditJudged auditing.files (lines_of auditing.trace) verdict → IsWritten audit_yes_line
-      → AuditEnded command files verdict IsWritten []
+      → IsCommandAuditJudged auditing.files (lines_of auditing.trace) verdict → IsWritten command_audit_yes_line
+      → CommandAuditEnded command files verdict IsWritten []
   audited verdict IsWritten judged written = record {
     auditing = auditing;
     accepted = accepted;
@@ -82,9 +82,9 @@ module _ (command : AuditCommand) (files : Option Files) (auditing : Auditing)
   }
 
   pub yes_told : (takes_memory : Bool) (before now : SinkState) (result : Result (⊤) SinkError)
-      → IsAuditJudged auditing.files (lines_of auditing.trace) Yes
-      → IsAfterWrite audit_yes_line takes_memory before now result
-      → AuditOutcome command files (status_after result None) [] before now
+      → IsCommandAuditJudged auditing.files (lines_of auditing.trace) Yes
+      → IsAfterWrite command_audit_yes_line takes_memory before now result
+      → ProgramAuditOutcome command files (command_status_after result None) [] before now
   yes_told takes_memory before now (Ok done) judged after =
       audited Yes (λ text. OutputWrote text before now) judged
       (record { whole = after.whole; untouched = λ none. absurd (cc none) })

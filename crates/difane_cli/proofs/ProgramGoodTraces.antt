@@ -2,20 +2,20 @@
 use Rattle.std.proofs.Common.{[], ◌++◌, ◌∙◌, ◌∷◌, ◌≡◌, ◌≤◌, All, Bool, List, None, Option, Some, ap, append-nil, append_assoc, arith, codes, decimal, false, inl, inr, length, refl, subst, true, ℕ}
 use Rattle.base.proofs.Exports.{All-append, All-cons, All-nil, flat_map-append}
 use Rattle.control_laws.specs.Exports.{AreNetworkEvents}
-use Rattle.update_machine.specs.Exports.{Event, IsPlay, IsSetting, Item, Leaving, Setting}
+use Rattle.update_machine.specs.Exports.{Event, IsMachinePlay, IsSetting, Item, Leaving, Setting}
 use Rattle.journal_text.specs.Lines.{journal_text}
 use Rattle.meters.specs.Exports.{Seen}
 use Rattle.meters.specs.declared.flows.FlowRecord.{FlowRecord}
-use Rattle.steps.specs.Exports.{max_events, max_number}
-use Rattle.trace_audit.specs.Exports.{AreGood, lines_of}
-use Rattle.trace_texts.specs.Texts.{IsAnsweredTo, IsLastLine, TextsAreGood, with_line_feeds}
+use Rattle.steps.specs.Exports.{max_events, max_step_number}
+use Rattle.trace_audit.specs.Exports.{AreGoodTraceLines, lines_of}
+use Rattle.trace_texts.specs.Texts.{IsTraceTextAnswerTo, IsLastTraceTextLine, TextsAreGood, trace_text_with_feeds}
 use Rattle.trace_texts.proofs.TraceTextPieces.{IsOneLine, joined, number_line, tested}
 use Rattle.command_line.specs.Exports.{Command}
 use Rattle.command_line.specs.Commands as asked
 use Rattle.command_line.specs.declared.report.Report.{Report}
 use Rattle.command_line.specs.declared.report.Report.TheVariants as report
-use Rattle.command_inputs.specs.Exports.{Inputs, IsPlayOf, MayBePlayed}
-use Rattle.difane_cli.specs.Exports.{IsGoodTrace, AuditTellsLines, last_lines, line_by, meter_line, meter_lines, notes_line, play_text, quiet_line, replay_text}
+use Rattle.command_inputs.specs.Exports.{Inputs, IsPlayOfCommand, MayPlayCommandInputs}
+use Rattle.difane_cli.specs.Exports.{IsCommandTraceGood, CommandAuditTellsLines, command_last_lines, program_meter_line_by, command_meter_line, meter_lines, command_notes_line, play_text, command_quiet_line, replay_text}
 
 -- ---- the last lines, without their line feeds
 
@@ -37,34 +37,34 @@ quiet_texts (Some false) = codes "quiet no" ∷ []
 
 -- with them they are what is written
 
-notes_whole : (port notes : ℕ) → notes_text port notes ++ 10 ∷ [] ≡ notes_line port notes
+notes_whole : (port notes : ℕ) → notes_text port notes ++ 10 ∷ [] ≡ command_notes_line port notes
 notes_whole port notes =
     ap (λ text. codes "meter port " ++ text)
     (append_assoc (decimal port) (codes " notes " ++ decimal notes) (10 ∷ []))
 
 meter_whole : (port : ℕ) (held : List Leaving)
-    → with_line_feeds (meter_texts port held) ≡ line_by port held
+    → trace_text_with_feeds (meter_texts port held) ≡ program_meter_line_by port held
 meter_whole port [] = refl
 meter_whole port (one ∷ held) = append-nil (notes_text port (length (one ∷ held)) ++ 10 ∷ [])
     ∙ notes_whole port (length (one ∷ held))
 
-meters_whole : (meters : List Seen) → with_line_feeds (all_texts meters) ≡ meter_lines meters
+meters_whole : (meters : List Seen) → trace_text_with_feeds (all_texts meters) ≡ meter_lines meters
 meters_whole [] = refl
 meters_whole (meter ∷ meters) =
     flat_map-append (λ line. line ++ 10 ∷ []) (meter_texts meter.port meter.held) (all_texts meters)
-    ∙ ap (λ text. text ++ with_line_feeds (all_texts meters)) (meter_whole meter.port meter.held)
-    ∙ ap (λ text. meter_line meter ++ text) (meters_whole meters)
+    ∙ ap (λ text. text ++ trace_text_with_feeds (all_texts meters)) (meter_whole meter.port meter.held)
+    ∙ ap (λ text. command_meter_line meter ++ text) (meters_whole meters)
 
-quiet_whole : (answer : Option Bool) → with_line_feeds (quiet_texts answer) ≡ quiet_line answer
+quiet_whole : (answer : Option Bool) → trace_text_with_feeds (quiet_texts answer) ≡ command_quiet_line answer
 quiet_whole None = refl
 quiet_whole (Some true) = refl
 quiet_whole (Some false) = refl
 
 last_whole : (meters : List Seen) (answer : Option Bool)
-    → with_line_feeds (all_texts meters ++ quiet_texts answer) ≡ last_lines meters answer
+    → trace_text_with_feeds (all_texts meters ++ quiet_texts answer) ≡ command_last_lines meters answer
 last_whole meters answer =
     flat_map-append (λ line. line ++ 10 ∷ []) (all_texts meters) (quiet_texts answer)
-    ∙ ap (λ text. text ++ with_line_feeds (quiet_texts answer)) (meters_whole meters)
+    ∙ ap (λ text. text ++ trace_text_with_feeds (quiet_texts answer)) (meters_whole meters)
     ∙ ap (λ text. meter_lines meters ++ text) (quiet_whole answer)
 
 -- each is the line of a meter or of an answer
@@ -74,62 +74,62 @@ notes_one_line port notes =
     joined (tested (codes "meter port ") refl)
     (joined (number_line port) (joined (tested (codes " notes ") refl) (number_line notes)))
 
-meter_is_last : (port : ℕ) (held : List Leaving) → All IsLastLine (meter_texts port held)
-meter_is_last port [] = All-nil IsLastLine
+meter_is_last : (port : ℕ) (held : List Leaving) → All IsLastTraceTextLine (meter_texts port held)
+meter_is_last port [] = All-nil IsLastTraceTextLine
 meter_is_last port (one ∷ held) =
-    All-cons IsLastLine (notes_text port (length (one ∷ held))) [] (record {
+    All-cons IsLastTraceTextLine (notes_text port (length (one ∷ held))) [] (record {
       rest = codes "port "
           ++ (decimal port ++ (codes " notes " ++ decimal (length (one ∷ held))));
       begins = inl refl;
       one_line = (notes_one_line port (length (one ∷ held))).bytes;
-    }) (All-nil IsLastLine)
+    }) (All-nil IsLastTraceTextLine)
 
-meters_are_last : (meters : List Seen) → All IsLastLine (all_texts meters)
-meters_are_last [] = All-nil IsLastLine
-meters_are_last (meter ∷ meters) = All-append IsLastLine (meter_texts meter.port meter.held)
+meters_are_last : (meters : List Seen) → All IsLastTraceTextLine (all_texts meters)
+meters_are_last [] = All-nil IsLastTraceTextLine
+meters_are_last (meter ∷ meters) = All-append IsLastTraceTextLine (meter_texts meter.port meter.held)
     (all_texts meters) (meter_is_last meter.port meter.held) (meters_are_last meters)
 
 answer_is_last : (word : List ℕ) → IsOneLine (codes "quiet " ++ word)
-    → All IsLastLine ((codes "quiet " ++ word) ∷ [])
+    → All IsLastTraceTextLine ((codes "quiet " ++ word) ∷ [])
 answer_is_last word one_line =
-    All-cons IsLastLine (codes "quiet " ++ word) []
-    (record { rest = word; begins = inr refl; one_line = one_line.bytes }) (All-nil IsLastLine)
+    All-cons IsLastTraceTextLine (codes "quiet " ++ word) []
+    (record { rest = word; begins = inr refl; one_line = one_line.bytes }) (All-nil IsLastTraceTextLine)
 
-quiet_is_last : (answer : Option Bool) → All IsLastLine (quiet_texts answer)
-quiet_is_last None = All-nil IsLastLine
+quiet_is_last : (answer : Option Bool) → All IsLastTraceTextLine (quiet_texts answer)
+quiet_is_last None = All-nil IsLastTraceTextLine
 quiet_is_last (Some true) = answer_is_last (codes "yes") (tested (codes "quiet yes") refl)
 quiet_is_last (Some false) = answer_is_last (codes "no") (tested (codes "quiet no") refl)
 
 -- ---- the text of a play
 
 answered : (setting : Setting) (events : List Event) (journal : List Item) (full : Option ℕ)
-    → IsPlay setting events journal full → IsAnsweredTo setting events journal full
+    → IsMachinePlay setting events journal full → IsTraceTextAnswerTo setting events journal full
 answered setting events journal None play = play.answers
 answered setting events journal (Some row) play = play
 
 good_text : TextsAreGood → (setting : Setting) (events : List Event) (journal : List Item)
     (full : Option ℕ) (meters : List Seen) (answer : Option Bool) → IsSetting setting
-    → AreNetworkEvents setting events → IsPlay setting events journal full → length events ≤ max_events
-    → length setting.files ≤ max_number
-    → AreGood setting.files (lines_of (replay_text setting.net journal full meters answer))
+    → AreNetworkEvents setting events → IsMachinePlay setting events journal full → length events ≤ max_events
+    → length setting.files ≤ max_step_number
+    → AreGoodTraceLines setting.files (lines_of (replay_text setting.net journal full meters answer))
 good_text laws setting events journal None meters answer is own play few numbered =
-    subst (λ (text : List ℕ). AreGood setting.files
+    subst (λ (text : List ℕ). AreGoodTraceLines setting.files
     (lines_of (journal_text setting.net journal ++ text))) (last_whole meters answer)
     (laws setting events journal None (all_texts meters ++ quiet_texts answer) is own
-    (answered setting events journal None play) few numbered (All-append IsLastLine
+    (answered setting events journal None play) few numbered (All-append IsLastTraceTextLine
     (all_texts meters) (quiet_texts answer) (meters_are_last meters) (quiet_is_last answer)))
 good_text laws setting events journal (Some row) meters answer is own play few numbered =
-    subst (λ (text : List ℕ). AreGood setting.files (lines_of text))
+    subst (λ (text : List ℕ). AreGoodTraceLines setting.files (lines_of text))
     (append-nil (journal_text setting.net journal)) (laws setting events journal (Some row) [] is
-    own (answered setting events journal (Some row) play) few numbered (All-nil IsLastLine))
+    own (answered setting events journal (Some row) play) few numbered (All-nil IsLastTraceTextLine))
 
 -- ---- what a play tells
 
 module _ (laws : TextsAreGood) (inputs : Inputs) (journal : List Item) (full : Option ℕ)
-    (gone : List FlowRecord) (meters : List Seen) (answer : Option Bool) (sound : MayBePlayed inputs)
-    (play : IsPlay inputs.setting inputs.events journal full) where
+    (gone : List FlowRecord) (meters : List Seen) (answer : Option Bool) (sound : MayPlayCommandInputs inputs)
+    (play : IsMachinePlay inputs.setting inputs.events journal full) where
   good_lines : length inputs.events ≤ max_events → length inputs.setting.files ≤ 64
-      → (told : Report) → AuditTellsLines told → AreGood inputs.setting.files
+      → (told : Report) → CommandAuditTellsLines told → AreGoodTraceLines inputs.setting.files
       (lines_of (play_text told inputs.setting.net journal full gone meters answer))
   good_lines few some (report.Lines quiet) tells =
       let numbered : length inputs.setting.files ≤ 999_999_999 = omega (arith, some) in
@@ -139,10 +139,10 @@ module _ (laws : TextsAreGood) (inputs : Inputs) (journal : List Item) (full : O
   good_lines few some report.Placement tells = absurd tells
   good_lines few some report.Summary tells = absurd tells
 
-  pub good_trace : (command : Command) → IsPlayOf command inputs → IsGoodTrace inputs
+  pub good_trace : (command : Command) → IsPlayOfCommand command inputs → IsCommandTraceGood inputs
       (play_text inputs.report inputs.setting.net journal full gone meters answer)
   good_trace (asked.Replay args) own = good_lines own.limits.events own.limits.files inputs.report
   good_trace (asked.Load n) own = λ tells.
-      absurd (subst (λ (drawn : Inputs). AuditTellsLines drawn.report) own tells)
+      absurd (subst (λ (drawn : Inputs). CommandAuditTellsLines drawn.report) own tells)
   good_trace (asked.Print args) own = absurd own
   good_trace (asked.Audit args) own = absurd own

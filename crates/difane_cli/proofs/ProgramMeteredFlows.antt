@@ -4,49 +4,49 @@ use Rattle.base.proofs.Exports.{All-cons, All-nil, range_with_len}
 use Rattle.command_line.specs.Exports.{Command, Replay, ReplayCommand, command_of}
 use Rattle.command_line.specs.declared.report.Report.{Report}
 use Rattle.command_line.specs.declared.report.Report.TheVariants as report
-use Rattle.difane_cli.specs.Exports.{AreFlowsCounted, PlayedByReport, MeteredOutcome, Outcome, Played, CommandTellsFlows, WritesFlowCounts, OutputWrote, asks_flows, gone_records_by, most_headers, new_command_meter, new_meters, play_text}
+use Rattle.difane_cli.specs.Exports.{AreCommandFlowsCounted, PlayedByCommandReport, MeteredCommandOutcome, Outcome, Played, CommandTellsFlows, WritesFlowCounts, OutputWrote, command_asks_flows, command_gone_records_by, program_most_headers, new_command_meter, new_command_meters, play_text}
 use Rattle.command_inputs.specs.declared.status.Status.{Status}
 use Rattle.command_inputs.specs.declared.status.Status.TheVariants as status
-use Rattle.flow_export.specs.Counted.{IsNewMeter}
+use Rattle.flow_export.specs.Counted.{IsNewFlowMeter}
 use Rattle.update_machine.specs.Exports.{Item}
 use Rattle.meters.specs.Exports.{Seen}
 use Rattle.difane_cli.proofs.ProgramAsksFlows.{TellsIfAny, flows_tell}
 use Rattle.shelf.specs.Exports.{Files, SinkState}
 
-is_new : (port : ℕ) → IsNewMeter most_headers (new_command_meter true port)
+is_new : (port : ℕ) → IsNewFlowMeter program_most_headers (new_command_meter true port)
 is_new port = record {
   kind = record { at_port = refl; recorded = λ held. refl; is_ended = λ held. refl };
   empty = refl;
 }
 
-are_new : (ports : List ℕ) → All (IsNewMeter most_headers) (map (new_command_meter true) ports)
-are_new [] = All-nil (IsNewMeter most_headers)
-are_new (port ∷ ports) = All-cons (IsNewMeter most_headers) _ _ (is_new port) (are_new ports)
+are_new : (ports : List ℕ) → All (IsNewFlowMeter program_most_headers) (map (new_command_meter true) ports)
+are_new [] = All-nil (IsNewFlowMeter program_most_headers)
+are_new (port ∷ ports) = All-cons (IsNewFlowMeter program_most_headers) _ _ (is_new port) (are_new ports)
 
 plays : (told : Report) (proposes others : Type 0) → told ≡ report.Flows
-    → PlayedByReport told proposes others → others
-plays told proposes others is by = subst (λ r. PlayedByReport r proposes others) is by
+    → PlayedByCommandReport told proposes others → others
+plays told proposes others is by = subst (λ r. PlayedByCommandReport r proposes others) is by
 
 told_by : (args : ReplayCommand) (files : Option Files) (journal : List Item) (given : List Seen)
     (before now : SinkState) → args.report ≡ report.Flows
-    → (played : Played (Replay args) files None journal (new_meters true) given before now)
+    → (played : Played (Replay args) files None journal (new_command_meters true) given before now)
     → WritesFlowCounts played.inputs.setting.net journal before now
 told_by args files journal given before now is played =
     let net = played.inputs.setting.net in
-    let meters = new_meters true in
+    let meters = new_command_meters true in
     let told = played.played.asked.report ∙ is in record {
       written = subst (λ (all : List Seen). OutputWrote (play_text report.Flows net journal None
-          (gone_records_by net journal meters) all played.answer) before now) played.kept
-          (subst (λ (r : Report). OutputWrote (play_text r net journal None (gone_records_by net journal meters)
+          (command_gone_records_by net journal meters) all played.answer) before now) played.kept
+          (subst (λ (r : Report). OutputWrote (play_text r net journal None (command_gone_records_by net journal meters)
           given played.answer) before now) told played.written);
-      counted = subst (AreFlowsCounted journal) played.kept
-          (played.counted most_headers (are_new (range_with_len 0 64)));
+      counted = subst (AreCommandFlowsCounted journal) played.kept
+          (played.counted program_most_headers (are_new (range_with_len 0 64)));
     }
 
 told_of : (texts : List (List ℕ)) (command : Option Command) → command_of texts ≡ command
     → (files : Option Files) (takes_memory : Bool) (journal : List Item) (given : List Seen)
     (before now : SinkState) → TellsIfAny command → ¬ (command ≡ None)
-    → Outcome command files takes_memory status.Ok journal (new_meters true) given before now
+    → Outcome command files takes_memory status.Ok journal (new_command_meters true) given before now
     → CommandTellsFlows texts files journal before now
 told_of texts None is files takes_memory journal given before now tells known outcome =
     absurd (known refl)
@@ -64,9 +64,9 @@ told_of texts (Some _) is files takes_memory journal given before now tells know
 -- what `run` comes to with meters that are seen as the new ones
 pub come_to : (texts : List (List ℕ)) (files : Option Files) (takes_memory : Bool) (status : Status)
     (journal : List Item) (taken given : List Seen) (before now : SinkState)
-    → taken ≡ new_meters (asks_flows texts)
+    → taken ≡ new_command_meters (command_asks_flows texts)
     → Outcome (command_of texts) files takes_memory status journal taken given before now
-    → MeteredOutcome texts files takes_memory status journal before now
+    → MeteredCommandOutcome texts files takes_memory status journal before now
 come_to texts files takes_memory status journal taken given before now are outcome = (
   given,
   subst (λ (all : List Seen).
@@ -76,12 +76,12 @@ come_to texts files takes_memory status journal taken given before now are outco
 -- and what the records count, if `flows` is asked for and done
 pub flows_told : (texts : List (List ℕ)) (files : Option Files) (takes_memory : Bool)
     (ended : Status) (journal : List Item) (before now : SinkState)
-    → MeteredOutcome texts files takes_memory ended journal before now
+    → MeteredCommandOutcome texts files takes_memory ended journal before now
     → (ended ≡ status.Words) ↔ (command_of texts ≡ None)
-    → asks_flows texts ≡ true → ended ≡ status.Ok → CommandTellsFlows texts files journal before now
+    → command_asks_flows texts ≡ true → ended ≡ status.Ok → CommandTellsFlows texts files journal before now
 flows_told texts files takes_memory ended journal before now outcome words asks done = told_of texts
     (command_of texts) refl files takes_memory journal outcome.0 before now (flows_tell texts asks)
     (λ none. absurd (cc (sym done ∙ words.1 none))) (subst (λ (b : Bool). Outcome (command_of texts)
-    files takes_memory status.Ok journal (new_meters b) outcome.0 before now) asks
+    files takes_memory status.Ok journal (new_command_meters b) outcome.0 before now) asks
     (subst (λ (s : Status). Outcome (command_of texts) files takes_memory s journal
-    (new_meters (asks_flows texts)) outcome.0 before now) done outcome.1))
+    (new_command_meters (command_asks_flows texts)) outcome.0 before now) done outcome.1))

@@ -1,13 +1,13 @@
 -- What comes of a play, by what became of its text.
 use Rattle.base.proofs.Exports.{ForSome, ⊤}
 use Rattle.std.proofs.Common.{◌≡◌, ◌⊎◌, Bool, Err, IsTrue, List, None, Ok, Option, Result, Some, arith, inl, inr, is_some, length, refl, subst, sym, take_all, ℕ}
-use Rattle.update_machine.specs.Exports.{IsPlay, Item, Net, Setting}
-use Rattle.flow_export.specs.Counted.{FlowLaws}
+use Rattle.update_machine.specs.Exports.{IsMachinePlay, Item, Net, Setting}
+use Rattle.flow_export.specs.Counted.{FlowMeterLaws}
 use Rattle.meters.specs.Exports.{Seen}
 use Rattle.net_file.specs.Exports.{port_mask}
 use Rattle.packet_laws.specs.Exports.{HeldOnTheWay, HoldsSoFar}
-use Rattle.difane_cli.specs.Exports.{AnswerLaws, AreFlowsCounted, CountFlows, IsAfterText, IsAnswer, IsQuietVerdict, IsWhetherQuiet, PlayOutcome, Played, PlayedUnfinished, PlayWantsMemory, asks_quiet, gone_records_by, is_asked, is_output_made, play_text}
-use Rattle.command_inputs.specs.Exports.{Inputs, IsPlayOf, MayBePlayed, Play, known_command_task, status_after}
+use Rattle.difane_cli.specs.Exports.{ProgramAnswerLaws, AreCommandFlowsCounted, CommandCountsFlows, IsAfterCommandText, IsCommandAnswer, IsCommandQuietVerdict, IsCommandVerdict, CommandPlayOutcome, Played, CommandPlayedUnfinished, CommandPlayWantsMemory, command_asks_quiet, command_gone_records_by, is_command_verdict_asked, is_command_output_made, play_text}
+use Rattle.command_inputs.specs.Exports.{Inputs, IsPlayOfCommand, MayPlayCommandInputs, Play, known_command_task, command_status_after}
 use Rattle.shelf.specs.Exports.{Files, SinkState}
 use Rattle.shelf.specs.declared.output.SinkError.{SinkError}
 use Rattle.shelf.specs.declared.output.SinkError.TheVariants as sink
@@ -18,11 +18,11 @@ use Rattle.command_line.specs.Exports.{Command}
 use Rattle.replay.specs.Leavings.{kept_by, left_in}
 
 -- what the journal of a play is, and what follows
-pub played : AnswerLaws → (command : Command) (files : Option Files)
-    (inputs : Inputs) (journal : List Item) (full : Option ℕ) → IsPlayOf command inputs
+pub played : ProgramAnswerLaws → (command : Command) (files : Option Files)
+    (inputs : Inputs) (journal : List Item) (full : Option ℕ) → IsPlayOfCommand command inputs
     → ForSome (known_command_task files (Some command)) (λ read. read ≡ Ok (Play inputs))
-    → MayBePlayed inputs → IsPlay inputs.setting inputs.events journal full
-    → HeldOnTheWay inputs.setting journal → IsAnswer command files inputs journal full
+    → MayPlayCommandInputs inputs → IsMachinePlay inputs.setting inputs.events journal full
+    → HeldOnTheWay inputs.setting journal → IsCommandAnswer command files inputs journal full
 played laws command files inputs journal full asked accepted sound play held =
     let whole : HoldsSoFar inputs.setting journal = subst (HoldsSoFar inputs.setting)
     (take_all (length journal) journal (omega arith)) (held.so_far (length journal)) in record {
@@ -40,22 +40,22 @@ played laws command files inputs journal full asked accepted sound play held =
     }
 
 -- the verdict that was given is the one that is asked for
-pub judged : AnswerLaws → (command : Command) (files : Option Files) (inputs : Inputs)
+pub judged : ProgramAnswerLaws → (command : Command) (files : Option Files) (inputs : Inputs)
     (journal : List Item) (full : Option ℕ) (net : Net) (given : Option Bool)
-    → IsAnswer command files inputs journal full → inputs.setting.net ≡ net
-    → is_some given ≡ is_asked (asks_quiet inputs.report) full
-    → ((setting : Setting) → setting.net ≡ net → IsWhetherQuiet setting journal given)
-    → IsQuietVerdict (asks_quiet inputs.report) inputs.setting journal full given
+    → IsCommandAnswer command files inputs journal full → inputs.setting.net ≡ net
+    → is_some given ≡ is_command_verdict_asked (command_asks_quiet inputs.report) full
+    → ((setting : Setting) → setting.net ≡ net → IsCommandVerdict setting journal given)
+    → IsCommandQuietVerdict (command_asks_quiet inputs.report) inputs.setting journal full given
 judged laws command files inputs journal full net given answer own asked decides =
-    verdict laws.quiet (asks_quiet inputs.report) inputs.setting inputs.events journal full given
+    verdict laws.quiet (command_asks_quiet inputs.report) inputs.setting inputs.events journal full given
     answer.sound.setting answer.sound.events answer.play asked (decides inputs.setting own)
 
 -- memory ran out before an answer was given, and nothing was written
 pub unjudged : (command : Command) (files : Option Files) (takes_memory : Bool) (inputs : Inputs)
     (journal : List Item) (full : Option ℕ) (taken given : List Seen) (now : SinkState)
-    → IsAnswer command files inputs journal full → given ≡ kept_by inputs.setting.net journal taken
-    → IsTrue (is_asked (asks_quiet inputs.report) full)
-    → PlayedUnfinished command files takes_memory journal taken given now now
+    → IsCommandAnswer command files inputs journal full → given ≡ kept_by inputs.setting.net journal taken
+    → IsTrue (is_command_verdict_asked (command_asks_quiet inputs.report) full)
+    → CommandPlayedUnfinished command files takes_memory journal taken given now now
 unjudged command files takes_memory inputs journal full taken given now answer kept asked = record {
   inputs = inputs;
   full = full;
@@ -68,22 +68,22 @@ unjudged command files takes_memory inputs journal full taken given now answer k
 }
 
 -- flow meters that held nothing count so
-counted_so : FlowLaws → (net : Net) (journal : List Item) (taken given : List Seen)
-    → given ≡ kept_by net journal taken → CountFlows journal taken given
-counted_so laws net journal taken given kept = λ most new. subst (AreFlowsCounted journal) (sym kept)
+counted_so : FlowMeterLaws → (net : Net) (journal : List Item) (taken given : List Seen)
+    → given ≡ kept_by net journal taken → CommandCountsFlows journal taken given
+counted_so laws net journal taken given kept = λ most new. subst (AreCommandFlowsCounted journal) (sym kept)
     (laws.stayed most (port_mask net.switches) (left_in journal) taken new)
 
 -- a journal that was played, and what is to be printed about it, which was written or not
-pub told : AnswerLaws → (command : Command) (files : Option Files) (inputs : Inputs)
+pub told : ProgramAnswerLaws → (command : Command) (files : Option Files) (inputs : Inputs)
     (journal : List Item) (full : Option ℕ) (taken given : List Seen) (said : Option Bool) (before now : SinkState)
     (takes_memory : Bool) (written : Result (⊤) SinkError)
-    → IsAnswer command files inputs journal full
+    → IsCommandAnswer command files inputs journal full
     → given ≡ kept_by inputs.setting.net journal taken
-    → IsQuietVerdict (asks_quiet inputs.report) inputs.setting journal full said
-    → IsAfterText (play_text inputs.report inputs.setting.net journal full
-    (gone_records_by inputs.setting.net journal taken) given said)
-    (is_output_made inputs.report full) takes_memory before now written
-    → PlayOutcome command files takes_memory (status_after written full) journal taken given before now
+    → IsCommandQuietVerdict (command_asks_quiet inputs.report) inputs.setting journal full said
+    → IsAfterCommandText (play_text inputs.report inputs.setting.net journal full
+    (command_gone_records_by inputs.setting.net journal taken) given said)
+    (is_command_output_made inputs.report full) takes_memory before now written
+    → CommandPlayOutcome command files takes_memory (command_status_after written full) journal taken given before now
 told laws command files inputs journal full taken given said before now takes_memory (Ok done)
     answer kept judged after = ended full (record {
       inputs = inputs;
@@ -93,12 +93,12 @@ told laws command files inputs journal full taken given said before now takes_me
       answer = said;
       verdict = judged;
       written = record { whole = after.whole; untouched = after.untouched };
-      good = good_trace laws.texts inputs journal full (gone_records_by inputs.setting.net journal taken)
+      good = good_trace laws.texts inputs journal full (command_gone_records_by inputs.setting.net journal taken)
           given said answer.sound answer.play command answer.asked;
     })
   where
     ended : (full : Option ℕ) → Played command files full journal taken given before now
-        → PlayOutcome command files takes_memory (status_after (Ok done) full) journal taken given
+        → CommandPlayOutcome command files takes_memory (command_status_after (Ok done) full) journal taken given
         before now
     ended None played = played
     ended (Some row) played = played
@@ -124,7 +124,7 @@ told laws command files inputs journal full taken given said before now takes_me
       written = after.some;
     })
   where
-    wanted : IsTrue takes_memory ⊎ (IsTrue (is_output_made inputs.report full) × (now ≡ before))
-        → IsTrue takes_memory ⊎ PlayWantsMemory inputs.report full
+    wanted : IsTrue takes_memory ⊎ (IsTrue (is_command_output_made inputs.report full) × (now ≡ before))
+        → IsTrue takes_memory ⊎ CommandPlayWantsMemory inputs.report full
     wanted (inl takes) = inl takes
     wanted (inr (made, same)) = inr (inr made)

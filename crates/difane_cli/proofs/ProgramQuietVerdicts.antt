@@ -1,20 +1,20 @@
 -- What an answer to the question whether the network is quiet says.
 use Rattle.std.proofs.Common.{◌≡◌, Bool, List, None, Option, Some, false, is_some, refl, sym, true, true≢false, ℕ}
-use Rattle.update_machine.specs.Exports.{Event, IsPlay, IsQuiet, IsSetting, Item, Setting}
+use Rattle.update_machine.specs.Exports.{Event, IsMachinePlay, IsMachineQuiet, IsSetting, Item, Setting}
 use Rattle.control_laws.specs.Exports.{AreNetworkEvents}
 use Rattle.packet_laws.specs.Exports.{HoldsBetween}
-use Rattle.forwarding_laws.specs.Exports.{HasComeToRest}
-use Rattle.difane_cli.specs.Exports.{IsQuietVerdict, IsWhetherQuiet, QuietVerdictSays, is_asked}
+use Rattle.forwarding_laws.specs.Exports.{HasForwardingComeToRest}
+use Rattle.difane_cli.specs.Exports.{IsCommandQuietVerdict, IsCommandVerdict, CommandQuietVerdictSays, is_command_verdict_asked}
 
 -- what holds between steps, where the network is quiet
 abbrev pub QuietLaws : Type 0
 QuietLaws = HoldsBetween (λ setting journal.
-    IsSetting setting → IsQuiet setting journal → HasComeToRest setting journal)
+    IsSetting setting → IsMachineQuiet setting journal → HasForwardingComeToRest setting journal)
 
 says : QuietLaws → (quiet : Bool) (setting : Setting) (events : List Event) (journal : List Item)
     (full : Option ℕ) (answer : Option Bool) → IsSetting setting → AreNetworkEvents setting events
-    → IsPlay setting events journal full → is_some answer ≡ is_asked quiet full
-    → IsWhetherQuiet setting journal answer → QuietVerdictSays setting journal answer
+    → IsMachinePlay setting events journal full → is_some answer ≡ is_command_verdict_asked quiet full
+    → IsCommandVerdict setting journal answer → CommandQuietVerdictSays setting journal answer
 says laws quiet setting events journal full None is own play asked decides = tt
 says laws quiet setting events journal (Some row) (Some answer) is own play asked decides =
     absurd (true≢false asked)
@@ -26,8 +26,8 @@ says laws quiet setting events journal None (Some false) is own play asked decid
 -- the answer that decides it
 pub verdict : QuietLaws → (quiet : Bool) (setting : Setting) (events : List Event)
     (journal : List Item) (full : Option ℕ) (answer : Option Bool) → IsSetting setting
-    → AreNetworkEvents setting events → IsPlay setting events journal full → is_some answer ≡ is_asked quiet full
-    → IsWhetherQuiet setting journal answer → IsQuietVerdict quiet setting journal full answer
+    → AreNetworkEvents setting events → IsMachinePlay setting events journal full → is_some answer ≡ is_command_verdict_asked quiet full
+    → IsCommandVerdict setting journal answer → IsCommandQuietVerdict quiet setting journal full answer
 verdict laws quiet setting events journal full answer is own play given decides = record {
   asked = given;
   holds = says laws quiet setting events journal full answer is own play given decides;

@@ -5,8 +5,8 @@ use Rattle.update_machine.specs.Exports.{Item}
 use Rattle.shelf.specs.Exports.{SinkState}
 use Rattle.shelf.specs.declared.output.SinkError.{SinkError}
 use Rattle.shelf.specs.declared.output.SinkError.TheVariants as sink
-use Rattle.command_inputs.specs.Exports.{Inputs, IsPlayOf, status_after}
-use Rattle.difane_cli.specs.Exports.{IsAfterWork, MayWantMemory, CommandRanOut, asks_quiet, is_asked, is_output_made}
+use Rattle.command_inputs.specs.Exports.{Inputs, IsPlayOfCommand, command_status_after}
+use Rattle.difane_cli.specs.Exports.{IsCommandStatusAfterWork, MayWantMemory, CommandRanOut, command_asks_quiet, is_command_verdict_asked, is_command_output_made}
 use Rattle.command_line.specs.declared.report.Report.{Report}
 use Rattle.command_line.specs.declared.report.Report.TheVariants as told
 use Rattle.command_inputs.specs.declared.status.Status.TheVariants as status
@@ -14,7 +14,7 @@ use Rattle.command_line.specs.Exports.{Command}
 use Rattle.command_line.specs.Commands as asked
 
 pub after_work : (written : Result (⊤) SinkError) (full : Option ℕ)
-    → IsAfterWork (status_after written full)
+    → IsCommandStatusAfterWork (command_status_after written full)
 after_work (Ok done) None = tt
 after_work (Ok done) (Some row) = tt
 after_work (Err sink.Failed) full = tt
@@ -22,7 +22,7 @@ after_work (Err sink.NoMemory) full = tt
 
 -- a write fault comes of a failed write alone
 pub by_failed : (written : Result (⊤) SinkError) (full : Option ℕ)
-    → status_after written full ≡ status.WriteFault → IsErrOf written sink.Failed
+    → command_status_after written full ≡ status.WriteFault → IsErrOf written sink.Failed
 by_failed (Ok done) None is = absurd (cc is)
 by_failed (Ok done) (Some row) is = absurd (cc is)
 by_failed (Err sink.Failed) full is = refl
@@ -30,7 +30,7 @@ by_failed (Err sink.NoMemory) full is = absurd (cc is)
 
 -- and out of memory, of a write that ran out of it
 pub by_memory : (written : Result (⊤) SinkError) (full : Option ℕ)
-    → status_after written full ≡ status.NoMemory → IsErrOf written sink.NoMemory
+    → command_status_after written full ≡ status.NoMemory → IsErrOf written sink.NoMemory
 by_memory (Ok done) None is = absurd (cc is)
 by_memory (Ok done) (Some row) is = absurd (cc is)
 by_memory (Err sink.Failed) full is = absurd (cc is)
@@ -38,35 +38,35 @@ by_memory (Err sink.NoMemory) full is = refl
 
 -- and a failed write comes to a write fault
 pub of_failed : (written : Result (⊤) SinkError) (full : Option ℕ)
-    → IsErrOf written sink.Failed → status_after written full ≡ status.WriteFault
+    → IsErrOf written sink.Failed → command_status_after written full ≡ status.WriteFault
 of_failed (Ok done) full is = absurd (cc is)
 of_failed (Err sink.Failed) full is = refl
 of_failed (Err sink.NoMemory) full is = absurd (cc is)
 
 -- ---- where memory ran out
 
-wants_to_judge : (command : Command) (inputs : Inputs) (full : Option ℕ) → IsPlayOf command inputs
-    → IsTrue (is_asked (asks_quiet inputs.report) full) → MayWantMemory (Some command)
+wants_to_judge : (command : Command) (inputs : Inputs) (full : Option ℕ) → IsPlayOfCommand command inputs
+    → IsTrue (is_command_verdict_asked (command_asks_quiet inputs.report) full) → MayWantMemory (Some command)
 wants_to_judge (asked.Replay named) inputs None own is =
-    inl (subst (λ (report : Report). IsTrue (asks_quiet report)) own.report is)
+    inl (subst (λ (report : Report). IsTrue (command_asks_quiet report)) own.report is)
 wants_to_judge (asked.Replay named) inputs (Some row) own is = absurd (cc is)
 wants_to_judge (asked.Print named) inputs full own is = absurd own
 wants_to_judge (asked.Load n) inputs full own is = tt
 wants_to_judge (asked.Audit named) inputs full own is = absurd own
 
 -- what is made in memory is that of a play that didn't stop full
-made_whole : (report : Report) (full : Option ℕ) → IsTrue (is_output_made report full)
-    → IsTrue (is_output_made report None)
+made_whole : (report : Report) (full : Option ℕ) → IsTrue (is_command_output_made report full)
+    → IsTrue (is_command_output_made report None)
 made_whole report None is = is
 made_whole (told.Lines quiet) (Some row) is = is
 made_whole told.Flows (Some row) is = absurd (cc is)
 made_whole told.Placement (Some row) is = absurd (cc is)
 made_whole told.Summary (Some row) is = absurd (cc is)
 
-wants_to_make : (command : Command) (inputs : Inputs) (full : Option ℕ) → IsPlayOf command inputs
-    → IsTrue (is_output_made inputs.report full) → MayWantMemory (Some command)
+wants_to_make : (command : Command) (inputs : Inputs) (full : Option ℕ) → IsPlayOfCommand command inputs
+    → IsTrue (is_command_output_made inputs.report full) → MayWantMemory (Some command)
 wants_to_make (asked.Replay named) inputs full own is = inr (made_whole named.report full
-    (subst (λ (report : Report). IsTrue (is_output_made report full)) own.report is))
+    (subst (λ (report : Report). IsTrue (is_command_output_made report full)) own.report is))
 wants_to_make (asked.Print named) inputs full own is = absurd own
 wants_to_make (asked.Load n) inputs full own is = tt
 wants_to_make (asked.Audit named) inputs full own is = absurd own
@@ -78,16 +78,16 @@ on_err (Err e) P holds none = holds
 
 -- it ran out before the answer
 pub out_of_judging : (command : Command) (inputs : Inputs) (full : Option ℕ) (takes_memory : Bool)
-    (journal : List Item) (now : SinkState) → IsPlayOf command inputs
-    → IsTrue (is_asked (asks_quiet inputs.report) full)
+    (journal : List Item) (now : SinkState) → IsPlayOfCommand command inputs
+    → IsTrue (is_command_verdict_asked (command_asks_quiet inputs.report) full)
     → CommandRanOut (Some command) takes_memory journal now now
 out_of_judging command inputs full takes_memory journal now own is =
     inr (refl, inr (wants_to_judge command inputs full own is))
 
 -- it ran out in making or in writing the text
 pub out_of_writing : (command : Command) (inputs : Inputs) (full : Option ℕ) (takes_memory : Bool)
-    (journal : List Item) (before now : SinkState) → IsPlayOf command inputs
-    → IsTrue takes_memory ⊎ (IsTrue (is_output_made inputs.report full) × (now ≡ before))
+    (journal : List Item) (before now : SinkState) → IsPlayOfCommand command inputs
+    → IsTrue takes_memory ⊎ (IsTrue (is_command_output_made inputs.report full) × (now ≡ before))
     → CommandRanOut (Some command) takes_memory journal before now
 out_of_writing command inputs full takes_memory journal before now own (inl takes) = inl takes
 out_of_writing command inputs full takes_memory journal before now own (inr (made, same)) =

@@ -2,17 +2,17 @@
 use Rattle.std.proofs.Common.{[], ◌≡◌, ◌⊎◌, Bool, Err, IsTrue, List, None, Ok, Option, Result, Some, ap, arith, inl, inr, refl, subst, ℕ}
 use Rattle.base.proofs.Exports.{⊤}
 use Rattle.controller.specs.Exports.{PlanValue}
-use Rattle.update_machine.specs.Exports.{Item, Net, Row, Setting, current_mark, plan_at}
+use Rattle.update_machine.specs.Exports.{Item, Net, Row, Setting, journal_current_mark, journal_plan_at}
 use Rattle.partition.specs.Plan.{Hosted}
 use Rattle.rebalance.specs.Proposals.{ProposesFor}
-use Rattle.replay.specs.InForce.{IsPlanInForce}
+use Rattle.replay.specs.InForce.{IsReplayPlanInForce}
 use Rattle.shelf.specs.Exports.{Files, SinkGainedPart, IsAfterWrite, SinkState}
 use Rattle.shelf.specs.declared.output.SinkError.{SinkError}
 use Rattle.shelf.specs.declared.output.SinkError.TheVariants as sink
 use Rattle.command_line.specs.Exports.{ReplayCommand}
 use Rattle.command_line.specs.Commands as asked
-use Rattle.difane_cli.specs.Exports.{StatusEndsWork, IsAfterProposal, IsAfterProposing, IsAnswer, ProposalOutcome, CommandProposes, OutputWrote}
-use Rattle.command_inputs.specs.Exports.{Inputs, status_after}
+use Rattle.difane_cli.specs.Exports.{CommandStatusEndsWork, IsAfterCommandProposal, IsAfterCommandProposing, IsCommandAnswer, CommandProposalOutcome, CommandProposes, OutputWrote}
+use Rattle.command_inputs.specs.Exports.{Inputs, command_status_after}
 use Rattle.command_inputs.specs.declared.status.Status.TheVariants as status
 use Rattle.difane_cli.proofs.ProgramStatus.{after_work, by_failed, by_memory, of_failed}
 
@@ -20,7 +20,7 @@ use Rattle.difane_cli.proofs.ProgramStatus.{after_work, by_failed, by_memory, of
 
 module _ (rows : List Row) (plan : List Hosted) (net : Net) (journal : List Item) where
   pub no_proposal : (takes_memory : Bool) (before : SinkState)
-      → IsAfterProposal rows plan net journal takes_memory before before (Err sink.NoMemory)
+      → IsAfterCommandProposal rows plan net journal takes_memory before before (Err sink.NoMemory)
   no_proposal takes_memory before = record {
     whole = tt;
     part = λ is. absurd (cc is);
@@ -42,7 +42,7 @@ module _ (rows : List Row) (plan : List Hosted) (net : Net) (journal : List Item
   pub wrote_proposal : (text : List ℕ) (takes_memory : Bool) (before now : SinkState)
       (result : Result (⊤) SinkError) → ProposesFor rows plan net journal (λ whole. text ≡ whole)
       → IsAfterWrite text takes_memory before now result → (text ≡ [] → now ≡ before)
-      → IsAfterProposal rows plan net journal takes_memory before now result
+      → IsAfterCommandProposal rows plan net journal takes_memory before now result
   wrote_proposal text takes_memory before now (Ok done) is after untouched = record {
     whole = proposes text (λ text. OutputWrote text before now) is
         (record { whole = after.whole; untouched = untouched });
@@ -72,16 +72,16 @@ module _ (rows : List Row) (plan : List Hosted) (net : Net) (journal : List Item
 
   pub out_of_proposing : (full : Option ℕ) (takes_memory : Bool) (before now : SinkState)
       (result : Result (⊤) SinkError)
-      → IsAfterProposing full rows plan net journal takes_memory before now result
-      → status_after result full ≡ status.NoMemory → IsTrue takes_memory ⊎ (now ≡ before)
+      → IsAfterCommandProposing full rows plan net journal takes_memory before now result
+      → command_status_after result full ≡ status.NoMemory → IsTrue takes_memory ⊎ (now ≡ before)
   out_of_proposing None takes_memory before now result after is =
       out_of_room (after.some (by_memory result None is))
   out_of_proposing (Some row) takes_memory before now result after is = inr after.1
 
   pub proposing_ends : (full : Option ℕ) (takes_memory : Bool) (before now : SinkState)
       (result : Result (⊤) SinkError)
-      → IsAfterProposing full rows plan net journal takes_memory before now result
-      → StatusEndsWork (status_after result full) before now
+      → IsAfterCommandProposing full rows plan net journal takes_memory before now result
+      → CommandStatusEndsWork (command_status_after result full) before now
   proposing_ends None takes_memory before now result after = record {
     worked = after_work result None;
     failed = λ is. after.failed (by_failed result None is);
@@ -99,22 +99,22 @@ module _ (rows : List Row) (plan : List Hosted) (net : Net) (journal : List Item
 -- ---- what comes of the play
 
 in_force : (setting : Setting) (journal : List Item) (plan : PlanValue)
-    (IsWritten : List ℕ → Type 0) → IsPlanInForce setting journal plan
+    (IsWritten : List ℕ → Type 0) → IsReplayPlanInForce setting journal plan
     → ProposesFor plan.policy plan.hosted setting.net journal IsWritten
     → CommandProposes setting journal IsWritten
 in_force setting journal plan IsWritten is proposes = subst (λ rows. ProposesFor rows
-    (plan_at setting journal (current_mark journal)) setting.net journal IsWritten) is.policy
+    (journal_plan_at setting journal (journal_current_mark journal)) setting.net journal IsWritten) is.policy
     (subst (λ hosted. ProposesFor plan.policy hosted setting.net journal IsWritten) is.hosted
     proposes)
 
 pub whole_told : (command : ReplayCommand) (files : Option Files) (inputs : Inputs)
     (journal : List Item) (full : Option ℕ) (plan : PlanValue) (takes_memory : Bool)
     (before now : SinkState) (written : Result (⊤) SinkError)
-    → IsAnswer (asked.Replay command) files inputs journal full
-    → IsPlanInForce inputs.setting journal plan → IsAfterProposing full plan.policy plan.hosted
+    → IsCommandAnswer (asked.Replay command) files inputs journal full
+    → IsReplayPlanInForce inputs.setting journal plan → IsAfterCommandProposing full plan.policy plan.hosted
     inputs.setting.net journal takes_memory before now written
-    → ProposalOutcome (IsAnswer (asked.Replay command) files) takes_memory
-    (status_after written full) journal before now
+    → CommandProposalOutcome (IsCommandAnswer (asked.Replay command) files) takes_memory
+    (command_status_after written full) journal before now
 whole_told command files inputs journal (Some row) plan takes_memory before now (Ok done) answer is
     after = record { inputs = inputs; played = answer; untouched = after.1 }
 whole_told command files inputs journal (Some row) plan takes_memory before now (Err error) answer
@@ -137,7 +137,7 @@ whole_told command files inputs journal None plan takes_memory before now (Err s
   where
     by_some : (now ≡ before) ⊎ (IsTrue takes_memory × ProposesFor plan.policy plan.hosted
         inputs.setting.net journal (λ text. SinkGainedPart before.bytes text now.bytes))
-        → ProposalOutcome (IsAnswer (asked.Replay command) files) takes_memory status.NoMemory
+        → CommandProposalOutcome (IsCommandAnswer (asked.Replay command) files) takes_memory status.NoMemory
         journal before now
     by_some (inl same) = inr (inl (record { inputs = inputs; played = answer; untouched = same }))
     by_some (inr (takes, part)) = inr (inr (

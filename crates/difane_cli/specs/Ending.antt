@@ -8,21 +8,21 @@ use Rattle.command_line.specs.Commands as asked
 use Rattle.command_line.specs.declared.report.Report.TheVariants as report
 use Rattle.command_inputs.specs.declared.status.Status.{Status}
 use Rattle.command_inputs.specs.declared.status.Status.TheVariants as status
-use Rattle.difane_cli.specs.Run.{PlayWantsMemory}
+use Rattle.difane_cli.specs.Run.{CommandPlayWantsMemory}
 
 -- the status of a command that began its work
-abbrev pub IsAfterWork : Status → Type 0
-IsAfterWork status.Ok = ⊤
-IsAfterWork (status.No line) = ⊤
-IsAfterWork status.WriteFault = ⊤
-IsAfterWork (status.Full row) = ⊤
-IsAfterWork status.NoMemory = ⊤
-IsAfterWork _ = ⊥
+abbrev pub IsCommandStatusAfterWork : Status → Type 0
+IsCommandStatusAfterWork status.Ok = ⊤
+IsCommandStatusAfterWork (status.No line) = ⊤
+IsCommandStatusAfterWork status.WriteFault = ⊤
+IsCommandStatusAfterWork (status.Full row) = ⊤
+IsCommandStatusAfterWork status.NoMemory = ⊤
+IsCommandStatusAfterWork _ = ⊥
 
 -- the status is of a command that began its work, and reports a fault of the output exactly if
 -- there was one
-pub record StatusEndsWork (ended : Status) (before now : SinkState) : Type 0 where
-  pub worked : IsAfterWork ended
+pub record CommandStatusEndsWork (ended : Status) (before now : SinkState) : Type 0 where
+  pub worked : IsCommandStatusAfterWork ended
   pub failed : ended ≡ status.WriteFault → FaultsRose before.faults now.faults
   pub calm : ended ≢ status.WriteFault → now.faults ≡ before.faults
   pub faults : before.faults ≤ now.faults
@@ -31,7 +31,7 @@ pub record StatusEndsWork (ended : Status) (before now : SinkState) : Type 0 whe
 
 -- the command may need memory after its play; only to write the lines of a journal it needs none
 abbrev pub MayWantMemory : Option Command → Type 0
-MayWantMemory (Some (asked.Replay args)) = PlayWantsMemory args.report None
+MayWantMemory (Some (asked.Replay args)) = CommandPlayWantsMemory args.report None
 MayWantMemory (Some (asked.Load n)) = ⊤
 MayWantMemory _ = ⊥
 

@@ -5,20 +5,20 @@ use Rattle.flow_export.specs.Flows.{flows, headers_of}
 use Rattle.meters.specs.Exports.{Seen}
 
 -- the first argument is the word `flows`
-abbrev pub asks_flows : List (List ℕ) → Bool
-asks_flows [] = false
-asks_flows (word ∷ more) = bytes_eq word (codes "flows")
+abbrev pub command_asks_flows : List (List ℕ) → Bool
+command_asks_flows [] = false
+command_asks_flows (word ∷ more) = bytes_eq word (codes "flows")
 
 -- with this many different headers a flow meter of the program is complete
-abbrev pub most_headers : ℕ
-most_headers = 4096
+abbrev pub program_most_headers : ℕ
+program_most_headers = 4096
 
 -- an empty meter of this port: one that counts flows, or one that always stays, without records
 abbrev pub new_command_meter : (counts_flows : Bool) → ℕ → Seen
 new_command_meter true port = record {
   port = port;
   held = [];
-  is_ended = λ held. nat_le most_headers (length (headers_of held));
+  is_ended = λ held. nat_le program_most_headers (length (headers_of held));
   recorded = flows port;
 }
 new_command_meter false port = record {
@@ -29,5 +29,5 @@ new_command_meter false port = record {
 }
 
 -- a new meter at each port that a network may have
-abbrev pub new_meters : (counts_flows : Bool) → List Seen
-new_meters counts_flows = map (new_command_meter counts_flows) (range_with_len 0 64)
+abbrev pub new_command_meters : (counts_flows : Bool) → List Seen
+new_command_meters counts_flows = map (new_command_meter counts_flows) (range_with_len 0 64)

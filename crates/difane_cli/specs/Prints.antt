@@ -8,20 +8,20 @@ use Rattle.switch_table.specs.Exports.{tables_of}
 use Rattle.shelf.specs.Exports.{Files, SinkGainedPart, FaultsRose, SinkState, sink_with_gained}
 use Rattle.shelf.specs.declared.output.SinkError.{SinkError}
 use Rattle.shelf.specs.declared.output.SinkError.TheVariants.{Failed, NoMemory}
-use Rattle.command_inputs.specs.Exports.{IsPrintingOf, known_command_task, Print, Printing}
+use Rattle.command_inputs.specs.Exports.{IsCommandPrintingOf, known_command_task, Print, Printing}
 use Rattle.command_inputs.specs.declared.status.Status.{Status}
-use Rattle.difane_cli.specs.Writes.{OutputWrote, CommandUnplayed, OutputWrotePart}
+use Rattle.difane_cli.specs.Writes.{OutputWrote, CommandUnplayed, CommandOutputWrotePart}
 use Rattle.command_line.specs.Exports.{PrintCommand}
 use Rattle.command_line.specs.Commands as asked
 use Rattle.command_inputs.specs.declared.status.Status.TheVariants as status
 
 -- the plan, or the tables that it gives the switch for version 1
-abbrev pub printed_text_by : Option ℕ → Printing → List ℕ
-printed_text_by None printing = compile_text printing.policy printing.hosted printing.net
-printed_text_by (Some s) printing = table_text s (tables_of printing.hosted 1 s) printing.net
+abbrev pub command_printed_text_by : Option ℕ → Printing → List ℕ
+command_printed_text_by None printing = compile_text printing.policy printing.hosted printing.net
+command_printed_text_by (Some s) printing = table_text s (tables_of printing.hosted 1 s) printing.net
 
-abbrev pub printing_text : Printing → List ℕ
-printing_text printing = printed_text_by printing.switch printing
+abbrev pub command_printing_text : Printing → List ℕ
+command_printing_text printing = command_printed_text_by printing.switch printing
 
 -- there is a plan as the command names it, which is the known one if the task is known; the output
 -- has this relation to its text
@@ -30,9 +30,9 @@ pub record CommandPrinted (command : PrintCommand) (files : Option Files)
   pub printing : Printing
   pub accepted : ForSome (known_command_task files (Some (asked.Print command)))
       (λ read. read ≡ Ok (Print printing))
-  pub planned : IsPrintingOf command printing
+  pub planned : IsCommandPrintingOf command printing
   pub nothing_played : journal ≡ []
-  pub written : IsWritten (printing_text printing)
+  pub written : IsWritten (command_printing_text printing)
 
 -- the output that each status of a printing command ensures; the journal is empty, so never full
 abbrev pub PrintOutcome : PrintCommand → Option Files → Status → List Item
@@ -51,11 +51,11 @@ PrintOutcome command files _ journal before now = CommandUnplayed journal before
 -- the output after writing a text: it gained all of the text if the write succeeded, otherwise a
 -- part of it, or it wasn't touched. No fault is counted unless it failed. Memory ran out only in
 -- the output's own writes, if they allocate; or before them, if the text is made in memory
-pub record IsAfterText (text : List ℕ) (in_memory takes_memory : Bool) (before now : SinkState)
+pub record IsAfterCommandText (text : List ℕ) (in_memory takes_memory : Bool) (before now : SinkState)
     (result : Result (⊤) SinkError) : Type 0 where
   pub whole : OnOk result (now.bytes ≡ sink_with_gained before.bytes text)
   pub part : IsErrOf result Failed → SinkGainedPart before.bytes text now.bytes
-  pub some : OnErr result (OutputWrotePart text before now)
+  pub some : OnErr result (CommandOutputWrotePart text before now)
   pub untouched : text ≡ [] → now ≡ before
   pub calm : result ≢ Err Failed → now.faults ≡ before.faults
   pub failed : IsErrOf result Failed → FaultsRose before.faults now.faults

@@ -1,6 +1,6 @@
 -- The outcome of a replay that proposes a placement, by its status.
 use Rattle.std.specs.Prelude.{◌≡◌, ◌≢◌, ◌≤◌, ◌⊎◌, Bool, Err, IsErrOf, IsOk, IsTrue, List, None, OnOk, Option, Result, Some, ℕ, ⊤}
-use Rattle.update_machine.specs.Exports.{Item, Net, Row, Setting, current_mark, plan_at, policy_at}
+use Rattle.update_machine.specs.Exports.{Item, Net, Row, Setting, journal_current_mark, journal_plan_at, policy_at}
 use Rattle.partition.specs.Plan.{Hosted}
 use Rattle.rebalance.specs.Proposals.{ProposesFor}
 use Rattle.shelf.specs.Exports.{SinkGainedPart, FaultsRose, SinkState}
@@ -16,12 +16,12 @@ use Rattle.command_inputs.specs.declared.status.Status.TheVariants as status
 -- there is a proposal for the plan that is in force after the journal, and this is true of its text
 abbrev pub CommandProposes : Setting → List Item → (List ℕ → Type 0) → Type 0
 CommandProposes setting journal IsWritten =
-    ProposesFor (policy_at setting journal (current_mark journal))
-    (plan_at setting journal (current_mark journal)) setting.net journal IsWritten
+    ProposesFor (policy_at setting journal (journal_current_mark journal))
+    (journal_plan_at setting journal (journal_current_mark journal)) setting.net journal IsWritten
 
 -- the output after writing a proposal: it gained all of its text, or a part of it; or memory ran
 -- out before the output was touched
-pub record IsAfterProposal (rows : List Row) (plan : List Hosted) (net : Net)
+pub record IsAfterCommandProposal (rows : List Row) (plan : List Hosted) (net : Net)
     (journal : List Item) (takes_memory : Bool) (before now : SinkState)
     (result : Result (⊤) SinkError) : Type 0 where
   pub whole : OnOk result (ProposesFor rows plan net journal (λ text. OutputWrote text before now))
@@ -35,42 +35,42 @@ pub record IsAfterProposal (rows : List Row) (plan : List Hosted) (net : Net)
   pub faults : before.faults ≤ now.faults
 
 -- the output after a play that may propose a placement: if it stopped full, nothing was written
-abbrev pub IsAfterProposing : (full : Option ℕ) → List Row → List Hosted → Net → List Item
+abbrev pub IsAfterCommandProposing : (full : Option ℕ) → List Row → List Hosted → Net → List Item
     → (takes_memory : Bool) → (before now : SinkState) → Result (⊤) SinkError → Type 0
-IsAfterProposing None rows plan net journal takes_memory before now result =
-    IsAfterProposal rows plan net journal takes_memory before now result
-IsAfterProposing (Some row) rows plan net journal takes_memory before now result =
+IsAfterCommandProposing None rows plan net journal takes_memory before now result =
+    IsAfterCommandProposal rows plan net journal takes_memory before now result
+IsAfterCommandProposing (Some row) rows plan net journal takes_memory before now result =
     IsOk result × (now ≡ before)
 
 -- ---- by the status
 
 -- a play to its end, after which a placement is proposed
-pub record Rebalanced (IsAnswer : Inputs → List Item → Option ℕ → Type 0) (journal : List Item)
+pub record CommandRebalances (IsCommandAnswer : Inputs → List Item → Option ℕ → Type 0) (journal : List Item)
     (IsWritten : List ℕ → Type 0) : Type 0 where
   pub inputs : Inputs
-  pub played : IsAnswer inputs journal None
+  pub played : IsCommandAnswer inputs journal None
   pub proposes : CommandProposes inputs.setting journal IsWritten
 
 -- a play of which nothing was written
-pub record PlayedUnwritten (IsAnswer : Inputs → List Item → Option ℕ → Type 0) (full : Option ℕ)
+pub record CommandPlayedUnwritten (IsCommandAnswer : Inputs → List Item → Option ℕ → Type 0) (full : Option ℕ)
     (journal : List Item) (before now : SinkState) : Type 0 where
   pub inputs : Inputs
-  pub played : IsAnswer inputs journal full
+  pub played : IsCommandAnswer inputs journal full
   pub untouched : now ≡ before
 
--- the journal and the output that each status ensures, where `IsAnswer` says which journals answer
+-- the journal and the output that each status ensures, where `IsCommandAnswer` says which journals answer
 -- which inputs of the command, to their end or to a row at which they are full
-abbrev pub ProposalOutcome : (IsAnswer : Inputs → List Item → Option ℕ → Type 0)
+abbrev pub CommandProposalOutcome : (IsCommandAnswer : Inputs → List Item → Option ℕ → Type 0)
     → (takes_memory : Bool) → Status → List Item → (before now : SinkState) → Type 0
-ProposalOutcome IsAnswer takes_memory status.Ok journal before now =
-    Rebalanced IsAnswer journal (λ text. OutputWrote text before now)
-ProposalOutcome IsAnswer takes_memory (status.Full row) journal before now =
-    PlayedUnwritten IsAnswer (Some row) journal before now
-ProposalOutcome IsAnswer takes_memory status.WriteFault journal before now =
-    Rebalanced IsAnswer journal (λ text. SinkGainedPart before.bytes text now.bytes)
-ProposalOutcome IsAnswer takes_memory status.NoMemory journal before now =
-    CommandUnplayed journal before now ⊎ PlayedUnwritten IsAnswer None journal before now
+CommandProposalOutcome IsCommandAnswer takes_memory status.Ok journal before now =
+    CommandRebalances IsCommandAnswer journal (λ text. OutputWrote text before now)
+CommandProposalOutcome IsCommandAnswer takes_memory (status.Full row) journal before now =
+    CommandPlayedUnwritten IsCommandAnswer (Some row) journal before now
+CommandProposalOutcome IsCommandAnswer takes_memory status.WriteFault journal before now =
+    CommandRebalances IsCommandAnswer journal (λ text. SinkGainedPart before.bytes text now.bytes)
+CommandProposalOutcome IsCommandAnswer takes_memory status.NoMemory journal before now =
+    CommandUnplayed journal before now ⊎ CommandPlayedUnwritten IsCommandAnswer None journal before now
     ⊎ (IsTrue takes_memory
-    × Rebalanced IsAnswer journal (λ text. SinkGainedPart before.bytes text now.bytes))
-ProposalOutcome IsAnswer takes_memory (status.No line) journal before now = ⊥
-ProposalOutcome IsAnswer takes_memory _ journal before now = CommandUnplayed journal before now
+    × CommandRebalances IsCommandAnswer journal (λ text. SinkGainedPart before.bytes text now.bytes))
+CommandProposalOutcome IsCommandAnswer takes_memory (status.No line) journal before now = ⊥
+CommandProposalOutcome IsCommandAnswer takes_memory _ journal before now = CommandUnplayed journal before now

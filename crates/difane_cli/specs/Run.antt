@@ -5,63 +5,63 @@ use Rattle.net_file.specs.Exports.{net_of}
 use Rattle.policy_file.specs.Exports.{policy_file_of}
 use Rattle.schedule.specs.Reading.{schedule_of}
 use Rattle.shelf.specs.Exports.{Files, SinkGainedPart, SinkState, file_named}
-use Rattle.update_machine.specs.Exports.{HasCause, HaveCauses, IsPlay, IsRun, Item}
+use Rattle.update_machine.specs.Exports.{HasCause, JournalItemsHaveCauses, IsMachinePlay, IsRun, Item}
 use Rattle.meters.specs.Exports.{Seen}
 use Rattle.packet_laws.specs.Exports.{AreEntered, HeldOnTheWay, StrongCause, rows_played}
-use Rattle.forwarding_laws.specs.Exports.{KeepsWorking}
-use Rattle.command_inputs.specs.Exports.{Inputs, IsPlayOf, known_command_task, MayBePlayed, Play}
-use Rattle.difane_cli.specs.FlowLines.{CountFlows, gone_records_by}
+use Rattle.forwarding_laws.specs.Exports.{KeepsForwarding}
+use Rattle.command_inputs.specs.Exports.{Inputs, IsPlayOfCommand, known_command_task, MayPlayCommandInputs, Play}
+use Rattle.difane_cli.specs.FlowLines.{CommandCountsFlows, command_gone_records_by}
 use Rattle.difane_cli.specs.Texts.{play_text}
-use Rattle.difane_cli.specs.Verdict.{IsQuietVerdict, asks_quiet, is_asked}
+use Rattle.difane_cli.specs.Verdict.{IsCommandQuietVerdict, command_asks_quiet, is_command_verdict_asked}
 use Rattle.command_line.specs.Exports.{Command, ReplayCommand}
 use Rattle.command_line.specs.Commands as asked
 use Rattle.command_line.specs.declared.report.Report.{Report}
 use Rattle.command_line.specs.declared.report.Report.TheVariants as report
 use Rattle.command_inputs.specs.declared.status.Status.{Status}
-use Rattle.difane_cli.specs.Writes.{OutputWrote, OutputWrotePart, CommandUnplayed}
-use Rattle.difane_cli.specs.Audits.{AuditOutcome, IsGoodTrace}
+use Rattle.difane_cli.specs.Writes.{OutputWrote, CommandOutputWrotePart, CommandUnplayed}
+use Rattle.difane_cli.specs.Audits.{ProgramAuditOutcome, IsCommandTraceGood}
 use Rattle.difane_cli.specs.Prints.{PrintOutcome}
-use Rattle.difane_cli.specs.Proposed.{ProposalOutcome}
+use Rattle.difane_cli.specs.Proposed.{CommandProposalOutcome}
 use Rattle.replay.specs.Leavings.{kept_by}
 use Rattle.command_inputs.specs.declared.status.Status.TheVariants as status
 
 -- ---- plays
 
 -- the bytes of the file of this name are read as this value
-abbrev pub ShelfStates : {V E : Type 0} → Files → (List ℕ → Result V E) → List ℕ → V → Type 0
-ShelfStates files read name value =
+abbrev pub CommandFileStates : {V E : Type 0} → Files → (List ℕ → Result V E) → List ℕ → V → Type 0
+CommandFileStates files read name value =
     (bytes : List ℕ) × (file_named files name ≡ Some bytes) × (read bytes ≡ Ok value)
 
 -- the inputs are what the files state that a replay names: the network, if it names one; the
 -- events, on this network and with this many files; and the policies and changes, in their order
 pub record AreInputsStated (files : Files) (command : ReplayCommand) (inputs : Inputs) : Type 0 where
-  pub net : ForSome command.net (λ name. ShelfStates files net_of name inputs.setting.net)
-  pub events : ShelfStates files (schedule_of inputs.setting.net (length command.policies))
+  pub net : ForSome command.net (λ name. CommandFileStates files net_of name inputs.setting.net)
+  pub events : CommandFileStates files (schedule_of inputs.setting.net (length command.policies))
       command.schedule inputs.events
-  pub policies : AllZip (ShelfStates files policy_file_of) command.policies inputs.setting.files
+  pub policies : AllZip (CommandFileStates files policy_file_of) command.policies inputs.setting.files
 
 -- the inputs of a replay are what its files state, if these are known
-abbrev pub AreStatedBy : Option Files → Command → Inputs → Type 0
-AreStatedBy files (asked.Replay args) inputs = ForSome files (λ all. AreInputsStated all args inputs)
-AreStatedBy files _ inputs = ⊤
+abbrev pub AreCommandInputsStated : Option Files → Command → Inputs → Type 0
+AreCommandInputsStated files (asked.Replay args) inputs = ForSome files (λ all. AreInputsStated all args inputs)
+AreCommandInputsStated files _ inputs = ⊤
 
 -- the journal is that of the play of these inputs, to its end or to a row at which it stopped full;
 -- the inputs are those of the files and of the task, if these are known. So the journal is a run of
 -- the machine, its ends and items have their causes, and its rows and entries are the schedule's.
 -- The invariants were true on the way; and the network recovers, and drops nothing in a rollout
-pub record IsAnswer (command : Command) (files : Option Files) (inputs : Inputs)
+pub record IsCommandAnswer (command : Command) (files : Option Files) (inputs : Inputs)
     (journal : List Item) (full : Option ℕ) : Type 0 where
-  pub asked : IsPlayOf command inputs
-  pub stated : AreStatedBy files command inputs
+  pub asked : IsPlayOfCommand command inputs
+  pub stated : AreCommandInputsStated files command inputs
   pub accepted : ForSome (known_command_task files (Some command)) (λ read. read ≡ Ok (Play inputs))
-  pub sound : MayBePlayed inputs
-  pub play : IsPlay inputs.setting inputs.events journal full
+  pub sound : MayPlayCommandInputs inputs
+  pub play : IsMachinePlay inputs.setting inputs.events journal full
   pub run : IsRun inputs.setting journal
-  pub causes : HaveCauses (HasCause inputs.setting) [] journal
-  pub strong : HaveCauses (StrongCause inputs.setting) [] journal
+  pub causes : JournalItemsHaveCauses (HasCause inputs.setting) [] journal
+  pub strong : JournalItemsHaveCauses (StrongCause inputs.setting) [] journal
   pub entered : AreEntered (rows_played full inputs.events) journal
   pub held : HeldOnTheWay inputs.setting journal
-  pub works : KeepsWorking inputs.setting inputs.events journal full
+  pub works : KeepsForwarding inputs.setting inputs.events journal full
 
 -- there are inputs such that the journal is that of their play, to its end or to a row at which it
 -- stopped full. The meters that were given back are those that stayed of the ones that were taken,
@@ -73,78 +73,78 @@ pub record IsAnswer (command : Command) (files : Option Files) (inputs : Inputs)
 pub record Played (command : Command) (files : Option Files) (full : Option ℕ)
     (journal : List Item) (taken given : List Seen) (before now : SinkState) : Type 0 where
   pub inputs : Inputs
-  pub played : IsAnswer command files inputs journal full
+  pub played : IsCommandAnswer command files inputs journal full
   pub kept : given ≡ kept_by inputs.setting.net journal taken
-  pub counted : CountFlows journal taken given
+  pub counted : CommandCountsFlows journal taken given
   pub answer : Option Bool
-  pub verdict : IsQuietVerdict (asks_quiet inputs.report) inputs.setting journal full answer
+  pub verdict : IsCommandQuietVerdict (command_asks_quiet inputs.report) inputs.setting journal full answer
   pub written : OutputWrote (play_text inputs.report inputs.setting.net journal full
-      (gone_records_by inputs.setting.net journal taken) given answer) before now
-  pub good : IsGoodTrace inputs (play_text inputs.report inputs.setting.net journal full
-      (gone_records_by inputs.setting.net journal taken) given answer)
+      (command_gone_records_by inputs.setting.net journal taken) given answer) before now
+  pub good : IsCommandTraceGood inputs (play_text inputs.report inputs.setting.net journal full
+      (command_gone_records_by inputs.setting.net journal taken) given answer)
 
 -- the same for a play to its end or stopped full, but a write failed after a part of the text
-pub record PlayedCutShort (command : Command) (files : Option Files) (journal : List Item)
+pub record CommandPlayedCutShort (command : Command) (files : Option Files) (journal : List Item)
     (taken given : List Seen) (before now : SinkState) : Type 0 where
   pub inputs : Inputs
   pub full : Option ℕ
-  pub played : IsAnswer command files inputs journal full
+  pub played : IsCommandAnswer command files inputs journal full
   pub kept : given ≡ kept_by inputs.setting.net journal taken
   pub answer : Option Bool
-  pub verdict : IsQuietVerdict (asks_quiet inputs.report) inputs.setting journal full answer
+  pub verdict : IsCommandQuietVerdict (command_asks_quiet inputs.report) inputs.setting journal full answer
   pub written : SinkGainedPart before.bytes (play_text inputs.report inputs.setting.net journal full
-      (gone_records_by inputs.setting.net journal taken) given answer) now.bytes
+      (command_gone_records_by inputs.setting.net journal taken) given answer) now.bytes
 
 -- the summary and the flows, which a play that stopped full doesn't have, are made in memory
 -- before they are written; the journal's lines aren't
-abbrev pub is_output_made : Report → Option ℕ → Bool
-is_output_made (report.Lines quiet) full = false
-is_output_made _ None = true
-is_output_made _ (Some row) = false
+abbrev pub is_command_output_made : Report → Option ℕ → Bool
+is_command_output_made (report.Lines quiet) full = false
+is_command_output_made _ None = true
+is_command_output_made _ (Some row) = false
 
 -- a play that didn't stop full needs memory after it: to see whether the network is quiet, with
 -- `--quiet`, and for what is made in memory
-abbrev pub PlayWantsMemory : Report → Option ℕ → Type 0
-PlayWantsMemory asked full = IsTrue (is_asked (asks_quiet asked) full) ⊎ IsTrue (is_output_made asked full)
+abbrev pub CommandPlayWantsMemory : Report → Option ℕ → Type 0
+CommandPlayWantsMemory asked full = IsTrue (is_command_verdict_asked (command_asks_quiet asked) full) ⊎ IsTrue (is_command_output_made asked full)
 
 -- the same for a play to its end or one that stopped full, but memory ran out after it, if it
 -- needs any or the output's writes allocate; a part of the text was written, or none of it
-pub record PlayedUnfinished (command : Command) (files : Option Files) (takes_memory : Bool)
+pub record CommandPlayedUnfinished (command : Command) (files : Option Files) (takes_memory : Bool)
     (journal : List Item) (taken given : List Seen) (before now : SinkState) : Type 0 where
   pub inputs : Inputs
   pub full : Option ℕ
-  pub wanted : IsTrue takes_memory ⊎ PlayWantsMemory inputs.report full
-  pub played : IsAnswer command files inputs journal full
+  pub wanted : IsTrue takes_memory ⊎ CommandPlayWantsMemory inputs.report full
+  pub played : IsCommandAnswer command files inputs journal full
   pub kept : given ≡ kept_by inputs.setting.net journal taken
   pub answer : Option Bool
   pub verdict : (answer ≡ None)
-      ⊎ IsQuietVerdict (asks_quiet inputs.report) inputs.setting journal full answer
-  pub written : OutputWrotePart (play_text inputs.report inputs.setting.net journal full
-      (gone_records_by inputs.setting.net journal taken) given answer) before now
+      ⊎ IsCommandQuietVerdict (command_asks_quiet inputs.report) inputs.setting journal full answer
+  pub written : CommandOutputWrotePart (play_text inputs.report inputs.setting.net journal full
+      (command_gone_records_by inputs.setting.net journal taken) given answer) before now
 
 -- the journal, the meters and the output that each status of a play ensures; if nothing was played,
 -- no meter remains or, if memory ran out before the command was read, all do
-abbrev pub PlayOutcome : Command → Option Files → (takes_memory : Bool) → Status → List Item
+abbrev pub CommandPlayOutcome : Command → Option Files → (takes_memory : Bool) → Status → List Item
     → (taken given : List Seen) → (before now : SinkState) → Type 0
-PlayOutcome command files takes_memory status.Ok journal taken given before now =
+CommandPlayOutcome command files takes_memory status.Ok journal taken given before now =
     Played command files None journal taken given before now
-PlayOutcome command files takes_memory (status.Full row) journal taken given before now =
+CommandPlayOutcome command files takes_memory (status.Full row) journal taken given before now =
     Played command files (Some row) journal taken given before now
-PlayOutcome command files takes_memory status.WriteFault journal taken given before now =
-    PlayedCutShort command files journal taken given before now
-PlayOutcome command files takes_memory status.NoMemory journal taken given before now =
+CommandPlayOutcome command files takes_memory status.WriteFault journal taken given before now =
+    CommandPlayedCutShort command files journal taken given before now
+CommandPlayOutcome command files takes_memory status.NoMemory journal taken given before now =
     (CommandUnplayed journal before now × ((given ≡ []) ⊎ (given ≡ taken)))
-    ⊎ PlayedUnfinished command files takes_memory journal taken given before now
-PlayOutcome command files takes_memory (status.No line) journal taken given before now = ⊥
-PlayOutcome command files takes_memory _ journal taken given before now =
+    ⊎ CommandPlayedUnfinished command files takes_memory journal taken given before now
+CommandPlayOutcome command files takes_memory (status.No line) journal taken given before now = ⊥
+CommandPlayOutcome command files takes_memory _ journal taken given before now =
     CommandUnplayed journal before now × (given ≡ [])
 
 -- ---- all commands
 
 -- the outcome of a play by what it prints: a proposal, or anything else
-abbrev pub PlayedByReport : Report → (proposes plays : Type 0) → Type 0
-PlayedByReport report.Placement proposes plays = proposes
-PlayedByReport _ proposes plays = plays
+abbrev pub PlayedByCommandReport : Report → (proposes plays : Type 0) → Type 0
+PlayedByCommandReport report.Placement proposes plays = proposes
+PlayedByCommandReport _ proposes plays = plays
 
 -- the journal, the meters that were taken and given back, and the output that each status of a
 -- command ensures
@@ -154,10 +154,10 @@ Outcome None files takes_memory status journal taken given before now = CommandU
 Outcome (Some (asked.Print args)) files takes_memory status journal taken given before now =
     PrintOutcome args files status journal before now
 Outcome (Some (asked.Audit args)) files takes_memory status journal taken given before now =
-    AuditOutcome args files status journal before now
+    ProgramAuditOutcome args files status journal before now
 Outcome (Some (asked.Replay args)) files takes_memory status journal taken given before now =
-    PlayedByReport args.report
-    (ProposalOutcome (IsAnswer (asked.Replay args) files) takes_memory status journal before now)
-    (PlayOutcome (asked.Replay args) files takes_memory status journal taken given before now)
+    PlayedByCommandReport args.report
+    (CommandProposalOutcome (IsCommandAnswer (asked.Replay args) files) takes_memory status journal before now)
+    (CommandPlayOutcome (asked.Replay args) files takes_memory status journal taken given before now)
 Outcome (Some command) files takes_memory status journal taken given before now =
-    PlayOutcome command files takes_memory status journal taken given before now
+    CommandPlayOutcome command files takes_memory status journal taken given before now

@@ -9,8 +9,8 @@ pub record OutputWrote (text : List ℕ) (before now : SinkState) : Type 0 where
   pub untouched : text ≡ [] → now ≡ before
 
 -- the output wasn't touched, or gained a part of the text, and not all
-abbrev pub OutputWrotePart : List ℕ → (before now : SinkState) → Type 0
-OutputWrotePart text before now = (now ≡ before) ⊎ SinkGainedPart before.bytes text now.bytes
+abbrev pub CommandOutputWrotePart : List ℕ → (before now : SinkState) → Type 0
+CommandOutputWrotePart text before now = (now ≡ before) ⊎ SinkGainedPart before.bytes text now.bytes
 
 -- nothing was played, and the output's state is the same
 pub record CommandUnplayed (journal : List Item) (before now : SinkState) : Type 0 where

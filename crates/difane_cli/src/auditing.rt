@@ -2,8 +2,8 @@
 ghost use Rattle.std.specs.Prelude.{◌≡◌, ◌⊎◌, [], Ok, Option, Some, IsTrue};
 ghost use Rattle.std.specs.Option.{ForSome};
 ghost use Rattle.shelf.specs.Shelf.{Files};
-ghost use Rattle.command_inputs.specs.Exports.{Audit, IsAuditingOf, auditing_stated, known_command_task};
-ghost use Rattle.difane_cli.specs.Exports.{AuditOutcome, StatusEndsWork};
+ghost use Rattle.command_inputs.specs.Exports.{Audit, IsCommandAuditingOf, auditing_stated, known_command_task};
+ghost use Rattle.difane_cli.specs.Exports.{ProgramAuditOutcome, CommandStatusEndsWork};
 ghost use Rattle.command_inputs.specs.declared.status.Status.TheVariants as status;
 ghost use Rattle.command_line.specs.Commands as grammar;
 ghost use Rattle.command_line.specs.Commands.{AuditCommand};
@@ -18,13 +18,13 @@ use trace_audit::{Verdict, audit};
 #[inline(never)]
 pub fn check_trace<K: Sink>(alloc: Global, inputs: &AuditInputs, out: &mut K) -> Status
     ensures outcome { (command : AuditCommand) (files : Option Files)
-        → IsAuditingOf command (auditing_stated inputs.now)
+        → IsCommandAuditingOf command (auditing_stated inputs.now)
         → ForSome (known_command_task files (Some (grammar.Audit command)))
         (λ read. read ≡ Ok (Audit (auditing_stated inputs.now)))
-        → AuditOutcome command files result [] (K.state out.old) (K.state out.new) }
+        → ProgramAuditOutcome command files result [] (K.state out.old) (K.state out.new) }
     ensures no_memory { result ≡ status.NoMemory
         → IsTrue K.takes_memory ⊎ (K.state out.new ≡ K.state out.old) }
-    ensures ended { StatusEndsWork result (K.state out.old) (K.state out.new) }
+    ensures ended { CommandStatusEndsWork result (K.state out.old) (K.state out.new) }
 {
     match audit(alloc, &inputs.trace, &inputs.files) {
         Err(AllocError) => Status::NoMemory,

@@ -1,6 +1,6 @@
 //! How a call of the program ended, and what it gives back.
 ghost use Rattle.std.specs.Prelude.{◌≡◌};
-ghost use Rattle.command_inputs.specs.Exports.{OutputWritesLine, status_line};
+ghost use Rattle.command_inputs.specs.Exports.{OutputWritesLine, command_status_line};
 ghost use Rattle.command_inputs.specs.declared.status.Status.TheVariants.{Ok as DoneStatus};
 
 use command_inputs::{Status, write_status};
@@ -30,7 +30,7 @@ pub fn end<M: Meter, E: Sink>(
     ensures status { result.status ≡ status }
     ensures journal { result.journal ≡ journal }
     ensures meters { result.meters ≡ meters }
-    ensures line { OutputWritesLine (status_line status) E.takes_memory
+    ensures line { OutputWritesLine (command_status_line status) E.takes_memory
         (E.state errs.old) (E.state errs.new) }
     ensures silent { status ≡ DoneStatus → errs.new ≡ errs.old }
 {

@@ -1,6 +1,6 @@
 //! The text of flow records.
 ghost use Rattle.std.specs.Prelude.{◌≡◌, IfOk, map};
-ghost use Rattle.difane_cli.specs.FlowLines.{flow_text};
+ghost use Rattle.difane_cli.specs.FlowLines.{command_flow_text};
 
 use flow_export::push_flows;
 use meters::{Flows, Meter};
@@ -10,8 +10,12 @@ use std::alloc::{AllocError, Global};
 ///
 /// # Errors
 /// Only out of memory.
-pub fn flow_text<M: Meter>(alloc: Global, gone: &Flows, meters: &[M]) -> Result<Vec<u8>, AllocError>
-    ensures { IfOk result (λ text. text.items ≡ flow_text gone.now (map M.seen meters.now)) }
+pub fn command_flow_text<M: Meter>(
+    alloc: Global,
+    gone: &Flows,
+    meters: &[M],
+) -> Result<Vec<u8>, AllocError>
+    ensures { IfOk result (λ text. text.items ≡ command_flow_text gone.now (map M.seen meters.now)) }
 {
     let mut text = String::new(alloc);
     push_flows(&mut text, gone.items())?;

@@ -1,7 +1,7 @@
 //! The lines of meters.
 ghost use Rattle.std.specs.Prelude.{◌≡◌, [], map};
 ghost use Rattle.shelf.specs.SinkWrites.{IsAfterWrite};
-ghost use Rattle.difane_cli.specs.Texts.{meter_line, meter_lines, notes_line};
+ghost use Rattle.difane_cli.specs.Texts.{command_meter_line, meter_lines, command_notes_line};
 
 use itoa::Buffer;
 use meters::Meter;
@@ -21,9 +21,9 @@ pub fn write_meters<M: Meter, K: Sink>(meters: &[M], out: &mut K) -> Result<(), 
 
 /// Writes the line of a meter, if it has a note.
 fn write_meter<M: Meter, K: Sink>(meter: &M, out: &mut K) -> Result<(), SinkError>
-    ensures after { IsAfterWrite (meter_line (M.seen meter.now)) K.takes_memory
+    ensures after { IsAfterWrite (command_meter_line (M.seen meter.now)) K.takes_memory
         (K.state out.old) (K.state out.new) result }
-    ensures no_line { meter_line (M.seen meter.now) ≡ [] → out.new ≡ out.old }
+    ensures no_line { command_meter_line (M.seen meter.now) ≡ [] → out.new ≡ out.old }
 {
     let notes = meter.notes();
     match notes > 0 {
@@ -33,7 +33,7 @@ fn write_meter<M: Meter, K: Sink>(meter: &M, out: &mut K) -> Result<(), SinkErro
 }
 
 fn write_meter_notes<K: Sink>(port: u32, notes: u64, out: &mut K) -> Result<(), SinkError>
-    ensures { IsAfterWrite (notes_line port notes) K.takes_memory
+    ensures { IsAfterWrite (command_notes_line port notes) K.takes_memory
         (K.state out.old) (K.state out.new) result }
 {
     let mut port_digits = Buffer::new();

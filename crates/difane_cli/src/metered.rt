@@ -6,11 +6,11 @@ ghost use Rattle.shelf.specs.Sink.{FaultsRose};
 ghost use Rattle.shelf.specs.Shelf.{IsAfterReads};
 ghost use Rattle.command_line.specs.Grammar.{command_of};
 ghost use Rattle.command_line.specs.Commands.{argument_texts};
-ghost use Rattle.command_inputs.specs.Exports.{StatusAccounts, IsTaskAccepted, MayFollowFault, NamesOneOf, NeedsReadFault, CommandReadsNothing, OutputWritesLine, known_command_task, most_reads, names_in, status_line};
+ghost use Rattle.command_inputs.specs.Exports.{CommandStatusAccounts, IsTaskAccepted, CommandMayFollowFault, CommandStatusNamesOneOf, NeedsReadFault, CommandReadsNothing, OutputWritesLine, known_command_task, command_most_reads, names_in, command_status_line};
 ghost use Rattle.difane_cli.specs.Exports.{CommandRanOut};
 ghost use Rattle.command_inputs.specs.declared.status.Status.TheVariants as status;
-ghost use Rattle.difane_cli.specs.Metered.{MeteredOutcome, CommandTellsFlows};
-ghost use Rattle.difane_cli.specs.NewMeters.{asks_flows, new_command_meter};
+ghost use Rattle.difane_cli.specs.Metered.{MeteredCommandOutcome, CommandTellsFlows};
+ghost use Rattle.difane_cli.specs.NewMeters.{command_asks_flows, new_command_meter};
 
 use crate::top_call::run;
 use command_inputs::Status;
@@ -31,8 +31,8 @@ pub struct CommandEnd {
 const MAX_HEADERS: u32 = 4096;
 
 /// Whether the first argument asks for records of flows.
-fn asks_flows(words: &Vec<String>) -> bool
-    ensures { result ≡ asks_flows (argument_texts words.now) }
+fn command_asks_flows(words: &Vec<String>) -> bool
+    ensures { result ≡ command_asks_flows (argument_texts words.now) }
 {
     match words.first() {
         Some(word) => word.as_str() == "flows",
@@ -70,29 +70,29 @@ pub fn run_metered<F: Shelf, K: Sink, E: Sink>(
 ) -> Result<CommandEnd, AllocError>
     // If `flows` succeeds, it wrote the records of the packets that left in the journal, and the
     // counts of each meter that stayed are right (if no meter left, all are: `flow_laws`).
-    ensures flows { IfOk result (λ ending. IsTrue (asks_flows (argument_texts words.now))
+    ensures flows { IfOk result (λ ending. IsTrue (command_asks_flows (argument_texts words.now))
         → ending.status ≡ status.Ok
         → CommandTellsFlows (argument_texts words.now) (F.state shelf.old).files ending.journal
         (K.state out.old) (K.state out.new)) }
 
     // Everything else is as `run` says for these meters.
     ensures outcome { IfOk result (λ ending.
-        MeteredOutcome (argument_texts words.now) (F.state shelf.old).files K.takes_memory
+        MeteredCommandOutcome (argument_texts words.now) (F.state shelf.old).files K.takes_memory
         ending.status ending.journal (K.state out.old) (K.state out.new)) }
     ensures words { IfOk result (λ ending. (ending.status ≡ status.Words)
         ↔ (command_of (argument_texts words.now) ≡ None)) }
     ensures accounts { IfOk result (λ ending. ForSome
         (known_command_task (F.state shelf.old).files (command_of (argument_texts words.now)))
-        (λ read. StatusAccounts read ending.status)) }
+        (λ read. CommandStatusAccounts read ending.status)) }
     ensures names { IfOk result (λ ending.
-        NamesOneOf (names_in (command_of (argument_texts words.now))) ending.status) }
+        CommandStatusNamesOneOf (names_in (command_of (argument_texts words.now))) ending.status) }
     ensures read_fault { IfOk result (λ ending.
         NeedsReadFault (F.state shelf.old).files ending.status
         → FaultsRose (F.state shelf.old).faults (F.state shelf.new).faults) }
     ensures write_fault { IfOk result (λ ending. ending.status ≡ status.WriteFault
         → FaultsRose (K.state out.old).faults (K.state out.new).faults) }
     ensures no_read_fault { IfOk result (λ ending.
-        ¬ MayFollowFault (F.state shelf.old).files ending.status
+        ¬ CommandMayFollowFault (F.state shelf.old).files ending.status
         → (F.state shelf.new).faults ≡ (F.state shelf.old).faults) }
     ensures no_write_fault { IfOk result (λ ending. ending.status ≢ status.WriteFault
         → (K.state out.new).faults ≡ (K.state out.old).faults) }
@@ -106,18 +106,18 @@ pub fn run_metered<F: Shelf, K: Sink, E: Sink>(
         ⊎ (ending.status ≡ status.Ok) ⊎ ((row : ℕ) × (ending.status ≡ status.Full row))
         ⊎ ((line : ℕ) × (ending.status ≡ status.No line))
         ⊎ (ending.status ≡ status.NoMemory)) }
-    ensures line { IfOk result (λ ending. OutputWritesLine (status_line ending.status) E.takes_memory
+    ensures line { IfOk result (λ ending. OutputWritesLine (command_status_line ending.status) E.takes_memory
         (E.state errs.old) (E.state errs.new)) }
     ensures silent { IfOk result (λ ending. ending.status ≡ status.Ok → errs.new ≡ errs.old) }
     ensures shelf { IfOk result (λ ending. IsAfterReads
-        (most_reads (F.state shelf.old).files (command_of (argument_texts words.now)))
+        (command_most_reads (F.state shelf.old).files (command_of (argument_texts words.now)))
         (F.state shelf.old) (F.state shelf.new)) }
     ensures unread { IfOk result (λ ending. CommandReadsNothing (command_of (argument_texts words.now))
         → F.state shelf.new ≡ F.state shelf.old) }
     ensures untouched { OnErr result
         ((shelf.new ≡ shelf.old) × (out.new ≡ out.old) × (errs.new ≡ errs.old)) }
 {
-    let counts_flows = asks_flows(words);
+    let counts_flows = command_asks_flows(words);
     let meters: Vec<Box<dyn Meter>> = meter_at_each_port(
         alloc,
         |port: u32| -> Result<Box<dyn Meter>, AllocError>

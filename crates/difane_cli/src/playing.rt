@@ -4,17 +4,17 @@ ghost use Rattle.std.specs.Option.{ForSome};
 ghost use Rattle.net_file.specs.Net.{IsNet};
 ghost use Rattle.shelf.specs.Shelf.{Files};
 ghost use Rattle.shelf.specs.SinkWrites.{IsAfterWrite};
-ghost use Rattle.difane_cli.specs.Exports.{AnswerLaws, StatusEndsWork, IsAfterText, PlayOutcome, CommandRanOut, flows_text, is_output_made, last_lines, play_text, replay_text};
-ghost use Rattle.command_inputs.specs.Exports.{AreReadyToPlay, IsPlayOf, Play, task_inputs_stated, known_command_task};
+ghost use Rattle.difane_cli.specs.Exports.{ProgramAnswerLaws, CommandStatusEndsWork, IsAfterCommandText, CommandPlayOutcome, CommandRanOut, command_flow_text_unless_full, is_command_output_made, command_last_lines, play_text, replay_text};
+ghost use Rattle.command_inputs.specs.Exports.{AreCommandInputsReady, IsPlayOfCommand, Play, task_inputs_stated, known_command_task};
 ghost use Rattle.command_line.specs.Commands.{Command};
 ghost use Rattle.command_line.specs.declared.report.Report.TheVariants.{Flows, Placement, Summary};
 ghost use Rattle.journal_reports.specs.Summary.{summary_counts_text};
 ghost use Rattle.command_inputs.specs.declared.status.Status.TheVariants as status;
 
 use crate::ended::Ended;
-use crate::flow_lines::flow_text;
+use crate::flow_lines::command_flow_text;
 use crate::meter_lines::write_meters;
-use crate::verdict::{asks_quiet, judge, write_quiet_verdict};
+use crate::verdict::{command_asks_quiet, judge, write_quiet_verdict};
 use command_inputs::{PlayInputs, Status};
 use command_line::Report;
 use flow_export::flow_laws;
@@ -40,20 +40,20 @@ pub fn play<M: Meter, K: Sink>(
     meters: Vec<M>,
     out: &mut K,
 ) -> Ended<M>
-    requires ready { AreReadyToPlay inputs }
+    requires ready { AreCommandInputsReady inputs }
     requires tells { inputs.report ≢ Placement }
     ensures outcome { (command : Command) (files : Option Files)
-        → IsPlayOf command (task_inputs_stated inputs)
+        → IsPlayOfCommand command (task_inputs_stated inputs)
         → ForSome (known_command_task files (Some command))
         (λ read. read ≡ Ok (Play (task_inputs_stated inputs)))
-        → PlayOutcome command files K.takes_memory result.status result.journal
+        → CommandPlayOutcome command files K.takes_memory result.status result.journal
         (map M.seen meters.items) (map M.seen result.meters.items)
         (K.state out.old) (K.state out.new) }
-    ensures no_memory { (command : Command) → IsPlayOf command (task_inputs_stated inputs)
+    ensures no_memory { (command : Command) → IsPlayOfCommand command (task_inputs_stated inputs)
         → result.status ≡ status.NoMemory
         → CommandRanOut (Some command) K.takes_memory result.journal
         (K.state out.old) (K.state out.new) }
-    ensures ended { StatusEndsWork result.status (K.state out.old) (K.state out.new) }
+    ensures ended { CommandStatusEndsWork result.status (K.state out.old) (K.state out.new) }
 {
     let PlayInputs {
         events,
@@ -69,7 +69,7 @@ pub fn play<M: Meter, K: Sink>(
             meters: Vec::new(alloc),
         };
     };
-    let Ok(answer) = judge(alloc, asks_quiet(report), &played, &net) else {
+    let Ok(answer) = judge(alloc, command_asks_quiet(report), &played, &net) else {
         return Ended {
             status: Status::NoMemory,
             journal: played.journal,
@@ -86,7 +86,7 @@ pub fn play<M: Meter, K: Sink>(
 
 /// The laws of plays, and of the network after any steps, that the top call uses.
 pub fn answer_laws()
-    ensures { AnswerLaws }
+    ensures { ProgramAnswerLaws }
 {
     packet_rows_are_entered();
     quiet_networks_have_come_to_rest();
@@ -106,9 +106,9 @@ fn write_report<M: Meter, K: Sink>(
 ) -> Result<(), SinkError>
     requires net { IsNet net.now }
     requires tells { report ≢ Placement }
-    ensures { IsAfterText (play_text report net.now played.now.journal played.now.full
+    ensures { IsAfterCommandText (play_text report net.now played.now.journal played.now.full
         played.now.gone (map M.seen played.now.meters.items) answer)
-        (is_output_made report played.now.full) K.takes_memory
+        (is_command_output_made report played.now.full) K.takes_memory
         (K.state out.old) (K.state out.new) result }
 {
     match report {
@@ -125,13 +125,13 @@ fn write_flows<M: Meter, K: Sink>(
     played: &Played<M>,
     out: &mut K,
 ) -> Result<(), SinkError>
-    ensures { IsAfterText (flows_text played.now.full played.now.gone
-        (map M.seen played.now.meters.items)) (is_output_made Flows played.now.full) K.takes_memory
+    ensures { IsAfterCommandText (command_flow_text_unless_full played.now.full played.now.gone
+        (map M.seen played.now.meters.items)) (is_command_output_made Flows played.now.full) K.takes_memory
         (K.state out.old) (K.state out.new) result }
 {
     match played.full {
         Some(_) => Ok(()),
-        None => match flow_text(alloc, &played.gone, &played.meters) {
+        None => match command_flow_text(alloc, &played.gone, &played.meters) {
             Ok(text) => write_whole(out, &text),
             Err(_) => Err(SinkError::NoMemory),
         },
@@ -144,8 +144,8 @@ fn write_summary<M: Meter, K: Sink>(
     played: &Played<M>,
     out: &mut K,
 ) -> Result<(), SinkError>
-    ensures { IsAfterText (summary_counts_text played.now.journal played.now.full)
-        (is_output_made Summary played.now.full) K.takes_memory
+    ensures { IsAfterCommandText (summary_counts_text played.now.journal played.now.full)
+        (is_command_output_made Summary played.now.full) K.takes_memory
         (K.state out.old) (K.state out.new) result }
 {
     match played.full {
@@ -185,9 +185,9 @@ fn write_last_lines<M: Meter, K: Sink>(
     answer: Option<bool>,
     out: &mut K,
 ) -> Result<(), SinkError>
-    ensures after { IsAfterWrite (last_lines (map M.seen meters.now) answer) K.takes_memory
+    ensures after { IsAfterWrite (command_last_lines (map M.seen meters.now) answer) K.takes_memory
         (K.state out.old) (K.state out.new) result }
-    ensures no_lines { last_lines (map M.seen meters.now) answer ≡ [] → out.new ≡ out.old }
+    ensures no_lines { command_last_lines (map M.seen meters.now) answer ≡ [] → out.new ≡ out.old }
 {
     write_meters(meters, out)?;
     write_quiet_verdict(answer, out)

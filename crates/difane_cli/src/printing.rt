@@ -4,8 +4,8 @@ ghost use Rattle.std.specs.Option.{ForSome};
 ghost use Rattle.net_file.specs.Net.{IsNet};
 ghost use Rattle.shelf.specs.Sink.{FaultsRose};
 ghost use Rattle.shelf.specs.Shelf.{Files};
-ghost use Rattle.command_inputs.specs.Exports.{IsPrintingOf, Print, known_command_task, printing_stated, status_after};
-ghost use Rattle.difane_cli.specs.Exports.{PrintOutcome, printing_text};
+ghost use Rattle.command_inputs.specs.Exports.{IsCommandPrintingOf, Print, known_command_task, printing_stated, command_status_after};
+ghost use Rattle.difane_cli.specs.Exports.{PrintOutcome, command_printing_text};
 ghost use Rattle.command_line.specs.Commands as grammar;
 ghost use Rattle.command_line.specs.Commands.{PrintCommand};
 
@@ -17,7 +17,7 @@ use std::alloc::{AllocError, Global};
 /// The text of the plan, or of the tables that it gives to the switch.
 fn text_of(alloc: Global, inputs: &PrintInputs) -> Result<Vec<u8>, AllocError>
     requires { IsNet inputs.now.net }
-    ensures { IfOk result (λ text. text.items ≡ printing_text (printing_stated inputs.now)) }
+    ensures { IfOk result (λ text. text.items ≡ command_printing_text (printing_stated inputs.now)) }
 {
     match inputs.switch {
         None => compile_text(alloc, &inputs.plan, &inputs.net),
@@ -29,10 +29,10 @@ fn text_of(alloc: Global, inputs: &PrintInputs) -> Result<Vec<u8>, AllocError>
 pub fn print<K: Sink>(alloc: Global, inputs: &PrintInputs, out: &mut K) -> Result<(), SinkError>
     requires { IsNet inputs.now.net }
     ensures outcome { (command : PrintCommand) (files : Option Files)
-        → IsPrintingOf command (printing_stated inputs.now)
+        → IsCommandPrintingOf command (printing_stated inputs.now)
         → ForSome (known_command_task files (Some (grammar.Print command)))
         (λ read. read ≡ Ok (Print (printing_stated inputs.now)))
-        → PrintOutcome command files (status_after result None) []
+        → PrintOutcome command files (command_status_after result None) []
         (K.state out.old) (K.state out.new) }
     ensures no_memory { IsErrOf result SinkError.NoMemory
         → IsTrue K.takes_memory ⊎ (K.state out.new ≡ K.state out.old) }

@@ -6,8 +6,8 @@ ghost use Rattle.partition.specs.Plan.{IsPartitionPlan};
 ghost use Rattle.shelf.specs.Shelf.{Files};
 ghost use Rattle.command_line.specs.Commands as grammar;
 ghost use Rattle.command_line.specs.Commands.{ReplayCommand};
-ghost use Rattle.command_inputs.specs.Exports.{AreReadyToPlay, IsPlayOf, Play, task_inputs_stated, known_command_task};
-ghost use Rattle.difane_cli.specs.Exports.{StatusEndsWork, IsAfterProposing, IsAnswer, ProposalOutcome};
+ghost use Rattle.command_inputs.specs.Exports.{AreCommandInputsReady, IsPlayOfCommand, Play, task_inputs_stated, known_command_task};
+ghost use Rattle.difane_cli.specs.Exports.{CommandStatusEndsWork, IsAfterCommandProposing, IsCommandAnswer, CommandProposalOutcome};
 ghost use Rattle.command_inputs.specs.declared.status.Status.TheVariants as status;
 
 use crate::ended::Ended;
@@ -30,17 +30,17 @@ pub fn propose<M: Meter, K: Sink>(
     meters: Vec<M>,
     out: &mut K,
 ) -> Ended<M>
-    requires { AreReadyToPlay inputs }
+    requires { AreCommandInputsReady inputs }
     ensures outcome { (command : ReplayCommand) (files : Option Files)
-        → IsPlayOf (grammar.Replay command) (task_inputs_stated inputs)
+        → IsPlayOfCommand (grammar.Replay command) (task_inputs_stated inputs)
         → ForSome (known_command_task files (Some (grammar.Replay command)))
         (λ read. read ≡ Ok (Play (task_inputs_stated inputs)))
-        → ProposalOutcome (IsAnswer (grammar.Replay command) files) K.takes_memory result.status
+        → CommandProposalOutcome (IsCommandAnswer (grammar.Replay command) files) K.takes_memory result.status
         result.journal (K.state out.old) (K.state out.new) }
     ensures meters { result.meters ≡ meters }
     ensures no_memory { result.status ≡ status.NoMemory
         → IsTrue K.takes_memory ⊎ (K.state out.new ≡ K.state out.old) }
-    ensures ended { StatusEndsWork result.status (K.state out.old) (K.state out.new) }
+    ensures ended { CommandStatusEndsWork result.status (K.state out.old) (K.state out.new) }
 {
     answer_laws();
     let none: Vec<M> = Vec::new(alloc);
@@ -80,7 +80,7 @@ fn write_proposal<K: Sink>(
 ) -> Result<(), SinkError>
     requires net { IsNet net.now }
     requires plan { IsPartitionPlan plan.now.policy net.now plan.now.hosted }
-    ensures { IsAfterProposing full plan.now.policy plan.now.hosted net.now journal.now
+    ensures { IsAfterCommandProposing full plan.now.policy plan.now.hosted net.now journal.now
         K.takes_memory (K.state out.old) (K.state out.new) result }
 {
     match full {

@@ -3,7 +3,7 @@ ghost use Rattle.std.specs.Prelude.{◌≡◌, ◌≢◌, ◌≤◌, ◌⊎◌, 
 ghost use Rattle.std.specs.Option.{ForSome};
 ghost use Rattle.shelf.specs.Sink.{FaultsRose};
 ghost use Rattle.shelf.specs.Shelf.{IsAfterReads};
-ghost use Rattle.command_inputs.specs.Exports.{CommandReadsNothing, IsTaskAccepted, MayFollowFault, NamesOneOf, NeedsReadFault, OutputWritesLine, StatusAccounts, known_command_task, most_reads, names_in, status_line};
+ghost use Rattle.command_inputs.specs.Exports.{CommandReadsNothing, IsTaskAccepted, CommandMayFollowFault, CommandStatusNamesOneOf, NeedsReadFault, OutputWritesLine, CommandStatusAccounts, known_command_task, command_most_reads, names_in, command_status_line};
 ghost use Rattle.command_inputs.specs.declared.status.Status.TheVariants as status;
 ghost use Rattle.difane_cli.specs.Exports.{CommandGivesBackMeters, CommandRanOut, Outcome};
 ghost use Rattle.command_line.specs.Grammar.{command_of};
@@ -63,18 +63,18 @@ pub fn run<F: Shelf, K: Sink, E: Sink>(
         ↔ (command_of (argument_texts words.now) ≡ None) }
     ensures accounts { ForSome
         (known_command_task (F.state shelf.old).files (command_of (argument_texts words.now)))
-        (λ read. StatusAccounts read result.status) }
+        (λ read. CommandStatusAccounts read result.status) }
     ensures read_fault { NeedsReadFault (F.state shelf.old).files result.status
         → FaultsRose (F.state shelf.old).faults (F.state shelf.new).faults }
     ensures write_fault { result.status ≡ status.WriteFault
         → FaultsRose (K.state out.old).faults (K.state out.new).faults }
 
     // Whether or not files are known, a refusal names what the arguments name.
-    ensures names { NamesOneOf (names_in (command_of (argument_texts words.now))) result.status }
+    ensures names { CommandStatusNamesOneOf (names_in (command_of (argument_texts words.now))) result.status }
 
     // A fault of reading is counted only with status 4 or, if the files aren't known, with 7, or
     // with 3 by the codes 0 and 20: no read that failed is repeated with success.
-    ensures no_read_fault { ¬ MayFollowFault (F.state shelf.old).files result.status
+    ensures no_read_fault { ¬ CommandMayFollowFault (F.state shelf.old).files result.status
         → (F.state shelf.new).faults ≡ (F.state shelf.old).faults }
     ensures no_write_fault { result.status ≢ status.WriteFault
         → (K.state out.new).faults ≡ (K.state out.old).faults }
@@ -97,13 +97,13 @@ pub fn run<F: Shelf, K: Sink, E: Sink>(
 
     // The line of the status is written, whole unless the sink of errors fails or its writes
     // allocate; for work that was done nothing is.
-    ensures line { OutputWritesLine (status_line result.status) E.takes_memory
+    ensures line { OutputWritesLine (command_status_line result.status) E.takes_memory
         (E.state errs.old) (E.state errs.new) }
     ensures silent { result.status ≡ status.Ok → errs.new ≡ errs.old }
 
     // Files are read in order, none after the first that is refused, and stay unchanged.
     ensures shelf { IsAfterReads
-        (most_reads (F.state shelf.old).files (command_of (argument_texts words.now)))
+        (command_most_reads (F.state shelf.old).files (command_of (argument_texts words.now)))
         (F.state shelf.old) (F.state shelf.new) }
     // If no file is read, as for a load case, the shelf is unchanged, whatever the status.
     ensures unread { CommandReadsNothing (command_of (argument_texts words.now))

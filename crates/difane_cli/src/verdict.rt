@@ -3,7 +3,7 @@ ghost use Rattle.std.specs.Prelude.{◌≡◌, [], IfOk, IfErr, IsTrue, is_some}
 ghost use Rattle.net_file.specs.Net.{IsNet};
 ghost use Rattle.shelf.specs.SinkWrites.{IsAfterWrite};
 ghost use Rattle.update_machine.specs.Setting.{Setting};
-ghost use Rattle.difane_cli.specs.Exports.{IsWhetherQuiet, asks_quiet, is_asked, quiet_line};
+ghost use Rattle.difane_cli.specs.Exports.{IsCommandVerdict, command_asks_quiet, is_command_verdict_asked, command_quiet_line};
 
 use command_line::Report;
 use meters::Meter;
@@ -13,8 +13,8 @@ use shelf::{Sink, SinkError, write_whole};
 use std::alloc::{AllocError, Global};
 
 /// Whether a report says whether the network is quiet.
-pub fn asks_quiet(report: Report) -> bool
-    ensures { result ≡ asks_quiet report }
+pub fn command_asks_quiet(report: Report) -> bool
+    ensures { result ≡ command_asks_quiet report }
 {
     match report {
         Report::Lines { quiet } => quiet,
@@ -33,10 +33,10 @@ pub fn judge<M: Meter>(
     net: &Net,
 ) -> Result<Option<bool>, AllocError>
     requires { IsNet net.now }
-    ensures asked { IfOk result (λ answer. is_some answer ≡ is_asked asked played.now.full) }
-    ensures wants { IfErr result (λ _. IsTrue (is_asked asked played.now.full)) }
+    ensures asked { IfOk result (λ answer. is_some answer ≡ is_command_verdict_asked asked played.now.full) }
+    ensures wants { IfErr result (λ _. IsTrue (is_command_verdict_asked asked played.now.full)) }
     ensures decides { IfOk result (λ answer. (setting : Setting) → setting.net ≡ net.now
-        → IsWhetherQuiet setting played.now.journal answer) }
+        → IsCommandVerdict setting played.now.journal answer) }
 {
     if !asked || played.full.is_some() {
         return Ok(None);
@@ -47,9 +47,9 @@ pub fn judge<M: Meter>(
 
 /// Writes the line of a verdict, if there is one. Allocates nothing itself.
 pub fn write_quiet_verdict<K: Sink>(answer: Option<bool>, out: &mut K) -> Result<(), SinkError>
-    ensures after { IsAfterWrite (quiet_line answer) K.takes_memory
+    ensures after { IsAfterWrite (command_quiet_line answer) K.takes_memory
         (K.state out.old) (K.state out.new) result }
-    ensures no_line { quiet_line answer ≡ [] → out.new ≡ out.old }
+    ensures no_line { command_quiet_line answer ≡ [] → out.new ≡ out.old }
 {
     match answer {
         None => Ok(()),

@@ -2,10 +2,10 @@
 ghost use Rattle.std.specs.Prelude.{◌≡◌, Ok, Option, Some, Result, [], map};
 ghost use Rattle.std.specs.Option.{ForSome};
 ghost use Rattle.shelf.specs.Shelf.{Files};
-ghost use Rattle.command_inputs.specs.Exports.{IsReadyTask, IsTaskOf, StatusAccounts, Task as Stated, known_command_task, task_stated};
+ghost use Rattle.command_inputs.specs.Exports.{IsReadyTask, IsTaskOfCommand, CommandStatusAccounts, Task as Stated, known_command_task, task_stated};
 ghost use Rattle.command_inputs.specs.declared.status.Refusal.{Refusal};
 ghost use Rattle.command_inputs.specs.declared.status.Status.TheVariants as status;
-ghost use Rattle.difane_cli.specs.Exports.{CommandGivesBackMeters, CommandRanOut, Outcome, StatusEndsWork};
+ghost use Rattle.difane_cli.specs.Exports.{CommandGivesBackMeters, CommandRanOut, Outcome, CommandStatusEndsWork};
 ghost use Rattle.command_line.specs.Named.{command_named};
 ghost use Rattle.command_line.specs.Commands as grammar;
 
@@ -25,20 +25,20 @@ use std::alloc::Global;
 pub fn work<M: Meter, K: Sink>(alloc: Global, task: Task, meters: Vec<M>, out: &mut K) -> Ended<M>
     requires { IsReadyTask task }
     ensures outcome { (command : grammar.Command) (files : Option Files)
-        → IsTaskOf command (task_stated task)
+        → IsTaskOfCommand command (task_stated task)
         → ForSome (known_command_task files (Some command)) (λ read. read ≡ Ok (task_stated task))
         → Outcome (Some command) files K.takes_memory result.status result.journal
         (map M.seen meters.items) (map M.seen result.meters.items)
         (K.state out.old) (K.state out.new) }
-    ensures meters { (command : grammar.Command) → IsTaskOf command (task_stated task)
+    ensures meters { (command : grammar.Command) → IsTaskOfCommand command (task_stated task)
         → CommandGivesBackMeters (Some command) → result.meters ≡ meters }
     ensures accounts { (read : Result Stated Refusal) → read ≡ Ok (task_stated task)
-        → StatusAccounts read result.status }
-    ensures no_memory { (command : grammar.Command) → IsTaskOf command (task_stated task)
+        → CommandStatusAccounts read result.status }
+    ensures no_memory { (command : grammar.Command) → IsTaskOfCommand command (task_stated task)
         → result.status ≡ status.NoMemory
         → CommandRanOut (Some command) K.takes_memory result.journal
         (K.state out.old) (K.state out.new) }
-    ensures ended { StatusEndsWork result.status (K.state out.old) (K.state out.new) }
+    ensures ended { CommandStatusEndsWork result.status (K.state out.old) (K.state out.new) }
 {
     match task {
         Task::Play(inputs) => match inputs.report {

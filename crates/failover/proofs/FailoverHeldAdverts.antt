@@ -3,21 +3,21 @@ use Rattle.std.proofs.Common.{◌&&◌, ◌<◌, ◌∙◌, ◌≡◌, ◌≢◌
 use Rattle.base.proofs.Exports.{cases_eq, cases_lt, get_or-map-range_with_len, get_or-replicate, get_or_past, length-map-range_with_len, length-replicate, nat_tests}
 use Rattle.failover.specs.declared.advert.Advert.{Advert}
 use Rattle.base.specs.Exports.{switches}
-use Rattle.failover.specs.Exports.{AreByOrigin, adverts_after_hearing, first_adverts, first_of, held_advert, is_news, no_adverts}
+use Rattle.failover.specs.Exports.{AreAdvertsByOrigin, adverts_after_hearing, first_adverts, first_of, held_advert, is_news, no_adverts}
 
 -- an advert at the place of its origin
-set_by_origin : (adverts : List (Option Advert)) (advert : Advert) → AreByOrigin adverts →
+set_by_origin : (adverts : List (Option Advert)) (advert : Advert) → AreAdvertsByOrigin adverts →
     advert.origin < 64 → (origin : ℕ) (found : Advert) →
     held_advert (set adverts advert.origin (Some advert)) origin ≡ Some found → found.origin
     ≡ origin
 set_by_origin adverts advert by fits origin found e =
     search (rules, cases_eq, get_or-set_same, get_or-set_other)
 
-pub by_origin-set : (adverts : List (Option Advert)) (advert : Advert) → AreByOrigin adverts →
-    advert.origin < 64 → AreByOrigin (set adverts advert.origin (Some advert))
+pub by_origin-set : (adverts : List (Option Advert)) (advert : Advert) → AreAdvertsByOrigin adverts →
+    advert.origin < 64 → AreAdvertsByOrigin (set adverts advert.origin (Some advert))
 by_origin-set adverts advert by fits = search (rules, length-set, set_by_origin)
 
-pub by_origin-none : AreByOrigin no_adverts
+pub by_origin-none : AreAdvertsByOrigin no_adverts
 by_origin-none = record {
   places = length-replicate {A = Option Advert} 64 None;
   origins = λ origin found e. elim (cases_lt origin 64) [
@@ -39,7 +39,7 @@ unfolding first_adverts switches
 held-first near count origin below =
     get_or-map-range_with_len (first_of near count) 0 64 origin origin None below (omega arith)
 
-pub by_origin-first : (near : List ℕ) (count : ℕ) → AreByOrigin (first_adverts near count)
+pub by_origin-first : (near : List ℕ) (count : ℕ) → AreAdvertsByOrigin (first_adverts near count)
 unfolding first_adverts switches
 by_origin-first near count = record {
   places = length-map-range_with_len (first_of near count) 0 64;
@@ -78,14 +78,14 @@ news_below : (adverts : List (Option Advert)) (advert : Advert) → is_news adve
 unfolding is_news
 news_below adverts advert h = below_test advert.origin _ h
 
-pub by_origin-hearing : (adverts : List (Option Advert)) (advert : Advert) → AreByOrigin adverts →
-    AreByOrigin (adverts_after_hearing adverts advert)
+pub by_origin-hearing : (adverts : List (Option Advert)) (advert : Advert) → AreAdvertsByOrigin adverts →
+    AreAdvertsByOrigin (adverts_after_hearing adverts advert)
 by_origin-hearing adverts advert by = elim (hearing adverts advert) [
   | inl news ↦ rw news.1 (by_origin-set adverts advert by (news_below adverts advert news.0))
-  | inr old ↦ subst AreByOrigin (sym old.1) by
+  | inr old ↦ subst AreAdvertsByOrigin (sym old.1) by
 ]
 
-pub held_heard : (adverts : List (Option Advert)) (advert : Advert) → AreByOrigin adverts →
+pub held_heard : (adverts : List (Option Advert)) (advert : Advert) → AreAdvertsByOrigin adverts →
     is_news adverts advert ≡ true → held_advert (adverts_after_hearing adverts advert) advert.origin
     ≡ Some advert
 held_heard adverts advert by news = search (rules, after_news, get_or-set_same, news_below)

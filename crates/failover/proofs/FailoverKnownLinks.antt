@@ -2,15 +2,15 @@
 use Rattle.std.proofs.Common.{[], ◌&&◌, ◌+◌, ◌<◌, ◌==◌, ◌↔◌, ◌∙◌, ◌∷◌, ◌≡◌, ◌≢◌, ◌≤◌, ◌⊎◌, Bool, IsTrue, List, None, Option, ap, arith, eq-eqb, eqb-true, false, get_or, get_or-set_other, get_or-set_same, inl, inr, length, length-set, map, nat_le, not, refl, set, sym, true, ℕ, rules}
 use Rattle.base.proofs.Exports.{and_parts, cases_lt, get_or-map, get_or-switches, get_or_past, has-zero, has_mask, has_mask_past, length-map, length-switches, nat_tests, same_sets}
 use Rattle.failover.specs.declared.advert.Advert.{Advert}
-use Rattle.base.specs.Exports.{has, mask_of, mask_where, switches}
-use Rattle.failover.specs.Exports.{IsDatabase, IsIsolated, has_link, is_isolated, is_link, known_links, links_at, links_of_each, named_links, names_neighbour, neighbours_named}
+use Rattle.base.specs.Exports.{has, small_number_mask, number_set_where, switches}
+use Rattle.failover.specs.Exports.{IsAdvertDatabase, IsIsolated, has_link, is_isolated, is_link, known_links, route_links_at, advertised_links_of_each, neighbours_by_adverts, names_neighbour, neighbours_named}
 use Rattle.failover.proofs.RouteLinkBalls.{and_both, false_of}
 use Rattle.failover.proofs.FailoverLinkSets.{has_link-turned}
 use Rattle.failover.proofs.RouteWiderLoop.{AreBothWays}
 
 mask_where_none : {X : Type 0} (test : X → Bool) (k : ℕ) (xs : List X)
-    → ((x : X) → test x ≡ false) → mask_where test k xs ≡ 0
-unfolding mask_where
+    → ((x : X) → test x ≡ false) → number_set_where test k xs ≡ 0
+unfolding number_set_where
 mask_where_none test k [] none = refl
 mask_where_none test k (x ∷ xs) none = rw (none x, mask_where_none test (k + 1) xs none) refl
 
@@ -31,35 +31,35 @@ at_least : (n : ℕ) → 64 ≤ n → nat_le 64 n ≡ true
 at_least n past = grind (arith, nat_tests)
 
 pub no_row_past : (neighbours down : List ℕ) (one : ℕ) → length neighbours ≡ 64 → 64 ≤ one →
-    nat_le 64 one ≡ (links_at neighbours down one == 0)
-unfolding mask_of
+    nat_le 64 one ≡ (route_links_at neighbours down one == 0)
+unfolding small_number_mask
 no_row_past neighbours down one rows past = search (rules, mask_where_none, strange)
 
 -- ---- rows of links
 
-pub length-link_rows : (neighbours down : List ℕ) → length (links_of_each neighbours down) ≡ 64
-unfolding links_of_each
-length-link_rows neighbours down = length-map switches (links_at neighbours down) ∙ length-switches
+pub length-link_rows : (neighbours down : List ℕ) → length (advertised_links_of_each neighbours down) ≡ 64
+unfolding advertised_links_of_each
+length-link_rows neighbours down = length-map switches (route_links_at neighbours down) ∙ length-switches
 
 pub row_of : (neighbours down : List ℕ) (one : ℕ) → one < 64 →
-    get_or (links_of_each neighbours down) one 0 ≡ links_at neighbours down one
-unfolding links_of_each
+    get_or (advertised_links_of_each neighbours down) one 0 ≡ route_links_at neighbours down one
+unfolding advertised_links_of_each
 row_of neighbours down one below =
-    get_or-map (links_at neighbours down) switches one 0 0 (omega (arith, length-switches))
-    ∙ ap (links_at neighbours down) (get_or-switches one below)
+    get_or-map (route_links_at neighbours down) switches one 0 0 (omega (arith, length-switches))
+    ∙ ap (route_links_at neighbours down) (get_or-switches one below)
 
 has_row : (neighbours down : List ℕ) (one other : ℕ) → one < 64 → other < 64 →
-    has (get_or (links_of_each neighbours down) one 0) other ≡ is_link neighbours down one other
+    has (get_or (advertised_links_of_each neighbours down) one 0) other ≡ is_link neighbours down one other
 has_row neighbours down one other one_fits other_fits = cc
     (row_of neighbours down one one_fits, has_mask (is_link neighbours down one) other other_fits)
 
 row_past : (neighbours down : List ℕ) (one other : ℕ) → (one < 64 → other < 64 → ⊥) →
-    has (get_or (links_of_each neighbours down) one 0) other ≡ false
+    has (get_or (advertised_links_of_each neighbours down) one 0) other ≡ false
 row_past neighbours down one other past = elim (cases_lt one 64) [
   | inl below ↦ ap (λ row. has row other) (row_of neighbours down one below)
       ∙ has_mask_past (is_link neighbours down one) other
       (elim (cases_lt other 64) [ inl fits ↦ absurd (past below fits) | inr more ↦ more ])
-  | inr more ↦ ap (λ row. has row other) (get_or_past (links_of_each neighbours down) one 0
+  | inr more ↦ ap (λ row. has row other) (get_or_past (advertised_links_of_each neighbours down) one 0
       (omega (arith, length-link_rows neighbours down))) ∙ has-zero other
 ]
 
@@ -74,7 +74,7 @@ link_turned : (neighbours down : List ℕ) (one other : ℕ) →
 unfolding is_link
 link_turned neighbours down one other = search (rules, turned_number, has_link-turned)
 
-pub row_turned : (neighbours down : List ℕ) → AreBothWays (links_of_each neighbours down)
+pub row_turned : (neighbours down : List ℕ) → AreBothWays (advertised_links_of_each neighbours down)
 row_turned neighbours down one other = elim (both_or_not one other) [
   | inl fit ↦ has_row neighbours down one other fit.0 fit.1
       ∙ link_turned neighbours down one other ∙ sym (has_row neighbours down other one fit.1 fit.0)
@@ -92,34 +92,34 @@ row_turned neighbours down one other = elim (both_or_not one other) [
 
 pub has_known : (adverts : List (Option Advert)) (at near : ℕ) (down : List ℕ) (one other : ℕ) →
     one < 64 → other < 64 → has (get_or (known_links adverts at near down) one 0) other ≡
-    is_link (named_links adverts at near) down one other
-unfolding known_links links_of_each
-has_known adverts at near down one other = has_row (named_links adverts at near) down one other
+    is_link (neighbours_by_adverts adverts at near) down one other
+unfolding known_links advertised_links_of_each
+has_known adverts at near down one other = has_row (neighbours_by_adverts adverts at near) down one other
 
 known_past : (adverts : List (Option Advert)) (at near : ℕ) (down : List ℕ) (one other : ℕ) →
     (one < 64 → other < 64 → ⊥) →
     has (get_or (known_links adverts at near down) one 0) other ≡ false
-unfolding known_links links_of_each
-known_past adverts at near down one other = row_past (named_links adverts at near) down one other
+unfolding known_links advertised_links_of_each
+known_past adverts at near down one other = row_past (neighbours_by_adverts adverts at near) down one other
 
 pub known_turned : (adverts : List (Option Advert)) (at near : ℕ) (down : List ℕ) (one other : ℕ) →
     has (get_or (known_links adverts at near down) one 0) other ≡
     has (get_or (known_links adverts at near down) other 0) one
-unfolding known_links links_of_each
-known_turned adverts at near down = row_turned (named_links adverts at near) down
+unfolding known_links advertised_links_of_each
+known_turned adverts at near down = row_turned (neighbours_by_adverts adverts at near) down
 
 -- what is held, with the neighbours that a switch sees itself
 pub named_links_held : (adverts : List (Option Advert)) (named : List ℕ) (at near : ℕ)
-    (neighbours : List ℕ) → IsDatabase adverts named → neighbours ≡ set named at near →
-    neighbours ≡ named_links adverts at near
-unfolding named_links
+    (neighbours : List ℕ) → IsAdvertDatabase adverts named → neighbours ≡ set named at near →
+    neighbours ≡ neighbours_by_adverts adverts at near
+unfolding neighbours_by_adverts
 named_links_held adverts named at near neighbours held e = cc (e, held.neighbours)
 
 -- ---- isolated targets
 
 length-told_links : (adverts : List (Option Advert)) (at near : ℕ) →
-    length (named_links adverts at near) ≡ length adverts
-unfolding named_links
+    length (neighbours_by_adverts adverts at near) ≡ length adverts
+unfolding neighbours_by_adverts
 length-told_links adverts at near =
     length-set (map neighbours_named adverts) at near ∙ length-map adverts neighbours_named
 
@@ -127,27 +127,27 @@ length-told_links adverts at near =
 bare_row : (adverts : List (Option Advert)) (at near : ℕ) (down : List ℕ) (target : ℕ) →
     length adverts ≡ 64 → ((one : ℕ) →
     has (get_or (known_links adverts at near down) one 0) target ≡ true → ⊥) → (other : ℕ) →
-    has (links_at (named_links adverts at near) down target) other ≡ false
+    has (route_links_at (neighbours_by_adverts adverts at near) down target) other ≡ false
 bare_row adverts at near down target rows linkless other = elim (cases_lt other 64) [
-  | inl below ↦ has_mask (is_link (named_links adverts at near) down target) other below
+  | inl below ↦ has_mask (is_link (neighbours_by_adverts adverts at near) down target) other below
       ∙ elim (cases_lt target 64) [
         | inl fits ↦ sym (has_known adverts at near down target other fits below)
             ∙ known_turned adverts at near down target other ∙ false_of _ (linkless other)
-        | inr past ↦ strange (named_links adverts at near) down target
+        | inr past ↦ strange (neighbours_by_adverts adverts at near) down target
             (omega (arith, length-told_links adverts at near)) other
       ]
-  | inr past ↦ has_mask_past (is_link (named_links adverts at near) down target) other past
+  | inr past ↦ has_mask_past (is_link (neighbours_by_adverts adverts at near) down target) other past
 ]
 
 bare_known : (adverts : List (Option Advert)) (at near : ℕ) (down : List ℕ) (target one : ℕ) →
-    target < 64 → links_at (named_links adverts at near) down target ≡ 0 →
+    target < 64 → route_links_at (neighbours_by_adverts adverts at near) down target ≡ 0 →
     has (get_or (known_links adverts at near down) target 0) one ≡ false
-unfolding known_links links_of_each
+unfolding known_links advertised_links_of_each
 bare_known adverts at near down target one fits bare =
-    cc (row_of (named_links adverts at near) down target fits, bare, has-zero one)
+    cc (row_of (neighbours_by_adverts adverts at near) down target fits, bare, has-zero one)
 
 joined_row : (adverts : List (Option Advert)) (at near : ℕ) (down : List ℕ) (target : ℕ) →
-    links_at (named_links adverts at near) down target ≡ 0 → (one : ℕ) →
+    route_links_at (neighbours_by_adverts adverts at near) down target ≡ 0 → (one : ℕ) →
     has (get_or (known_links adverts at near down) one 0) target ≡ true → ⊥
 joined_row adverts at near down target bare one joined =
     search (rules, known_turned, bare_known, known_past)
@@ -173,12 +173,12 @@ isolated_tells adverts at target near down rows = (
 )
 
 pub isolated_is : (adverts : List (Option Advert)) (at target near : ℕ)
-    (down neighbours : List ℕ) (answer : Bool) → neighbours ≡ named_links adverts at near →
-    answer ≡ (links_at neighbours down target == 0) → target ≢ at →
+    (down neighbours : List ℕ) (answer : Bool) → neighbours ≡ neighbours_by_adverts adverts at near →
+    answer ≡ (route_links_at neighbours down target == 0) → target ≢ at →
     answer ≡ is_isolated adverts at target near down
 unfolding is_isolated
 isolated_is adverts at target near down neighbours answer e linkless apart =
-    rw (not_test target at apart) (linkless ∙ ap (λ t. links_at t down target == 0) e)
+    rw (not_test target at apart) (linkless ∙ ap (λ t. route_links_at t down target == 0) e)
 
 pub isolated_answer : (adverts : List (Option Advert)) (at target near : ℕ) (down : List ℕ)
     (answer : Bool) → length adverts ≡ 64 → answer ≡ is_isolated adverts at target near down →
@@ -189,15 +189,15 @@ isolated_answer adverts at target near down answer rows same = rw same
 -- ---- what each switch names
 
 told_own : (adverts : List (Option Advert)) (at near : ℕ) → length adverts ≡ 64 → at < 64 →
-    get_or (named_links adverts at near) at 0 ≡ near
-unfolding named_links
+    get_or (neighbours_by_adverts adverts at near) at 0 ≡ near
+unfolding neighbours_by_adverts
 told_own adverts at near rows fits = get_or-set_same (map neighbours_named adverts) at near 0
     (omega (arith, length-map adverts neighbours_named, rows))
 
 told_other : (adverts : List (Option Advert)) (at near origin other : ℕ) → length adverts ≡ 64 →
-    origin < 64 → origin ≢ at → has (get_or (named_links adverts at near) origin 0) other ≡
+    origin < 64 → origin ≢ at → has (get_or (neighbours_by_adverts adverts at near) origin 0) other ≡
     names_neighbour adverts origin other
-unfolding named_links names_neighbour
+unfolding neighbours_by_adverts names_neighbour
 told_other adverts at near origin other rows fits apart =
     ap (λ row. has row other) (get_or-set_other (map neighbours_named adverts) at origin near 0 apart
     ∙ get_or-map neighbours_named adverts origin None 0 (omega (arith, rows)))

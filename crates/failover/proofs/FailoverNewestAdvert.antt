@@ -2,7 +2,7 @@
 use Rattle.std.proofs.Common.{[], ◌&&◌, ◌++◌, ◌<◌, ◌==◌, ◌||◌, ◌∷◌, ◌≡◌, ◌≢◌, All, Bool, List, None, Option, Some, append-nil, append_assoc, arith, false, nat_lt, option_to_list, refl, true, ℕ, rules}
 use Rattle.base.proofs.Exports.{All-append, All-cons, All-nil, All-push, All-same, All-weaker, cases_eq, nat_tests, option_map_or}
 use Rattle.failover.specs.declared.advert.Advert.{Advert}
-use Rattle.failover.specs.Exports.{AreByOrigin, IsNewestAdvert, adverts_after_hearing, after_hearing_all, held_advert, is_newer, is_news}
+use Rattle.failover.specs.Exports.{AreAdvertsByOrigin, IsNewestAdvert, adverts_after_hearing, after_hearing_all, held_advert, is_newer, is_news}
 use Rattle.failover.proofs.FailoverHeldAdverts.{hearing, held_heard, held_others, by_origin-hearing}
 
 pub not_newer : (boot seq : ℕ) → (nat_lt boot boot || ((boot == boot) && nat_lt seq seq)) ≡ false
@@ -82,7 +82,7 @@ unfolding is_news
 news_test adverts advert below = within advert.origin _ below
 
 newest_same : (adverts : List (Option Advert)) (seen : List Advert) (advert : Advert) →
-    AreByOrigin adverts → advert.origin < 64 →
+    AreAdvertsByOrigin adverts → advert.origin < 64 →
     IsNewestAdvert advert.origin seen (held_advert adverts advert.origin) →
     IsNewestAdvert advert.origin (seen ++ advert ∷ [])
     (held_advert (adverts_after_hearing adverts advert) advert.origin)
@@ -90,14 +90,14 @@ newest_same adverts seen advert by below newest =
     search (rules, hearing, held_heard, push_news, news_test, push_old)
 
 newest_hearing : (adverts : List (Option Advert)) (seen : List Advert) (advert : Advert)
-    (origin : ℕ) → AreByOrigin adverts → origin < 64
+    (origin : ℕ) → AreAdvertsByOrigin adverts → origin < 64
     → IsNewestAdvert origin seen (held_advert adverts origin) →
     IsNewestAdvert origin (seen ++ advert ∷ []) (held_advert (adverts_after_hearing adverts advert) origin)
 newest_hearing adverts seen advert origin by below newest =
     search (rules, cases_eq, newest_same, held_others, push_other)
 
 newest_after : (adverts : List (Option Advert)) (seen heard : List Advert) (origin : ℕ) →
-    AreByOrigin adverts → origin < 64 → IsNewestAdvert origin seen (held_advert adverts origin) →
+    AreAdvertsByOrigin adverts → origin < 64 → IsNewestAdvert origin seen (held_advert adverts origin) →
     IsNewestAdvert origin (seen ++ heard) (held_advert (after_hearing_all adverts heard) origin)
 newest_after adverts seen [] origin by below newest = rw (append-nil seen) newest
 newest_after adverts seen (advert ∷ heard) origin by below newest =
@@ -119,7 +119,7 @@ newest_held origin (Some advert) by = (
 )
 
 pub held_newest : (adverts : List (Option Advert)) (heard : List Advert) (origin : ℕ) →
-    AreByOrigin adverts → origin < 64 →
+    AreAdvertsByOrigin adverts → origin < 64 →
     IsNewestAdvert origin (option_to_list (held_advert adverts origin) ++ heard)
     (held_advert (after_hearing_all adverts heard) origin)
 held_newest adverts heard origin by below = search (rules, newest_after, newest_held)

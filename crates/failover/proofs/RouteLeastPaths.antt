@@ -2,7 +2,7 @@
 use Rattle.std.proofs.Common.{[], ◌<◌, ◌∙◌, ◌∷◌, ◌≡◌, ◌≤◌, List, ap, arith, eqb-true, false, length, nat_eq, refl, subst, suc, sym, true, zero, ℕ, rules}
 use Rattle.base.proofs.Exports.{AllByRecursion, IsDistinct}
 use Rattle.base.specs.Exports.{has}
-use Rattle.failover.specs.Exports.{IsAtMost, IsLinksAway, LinksLeadTo, ball, route_path_after}
+use Rattle.failover.specs.Exports.{IsPathAtMost, IsLinksAway, LinksLeadTo, ball, route_path_after}
 use Rattle.failover.proofs.RouteLinkBalls.{false_of, apart_tests, ball_grows, ball_gains, at_target, has_target, next_step}
 
 -- ---- the route leads to the target
@@ -60,13 +60,13 @@ reaches links target at (next ∷ rest) zero rows fits leads short = absurd (ome
 reaches links target at (next ∷ rest) (suc k) rows fits leads short = ball_gains links target k at
     next (omega arith) leads.1 (reaches links target next rest k rows leads.0 leads.2 (omega arith))
 
-at_most_next : (x y : ℕ) (xs ys : List ℕ) → x ≤ y → (x ≡ y → IsAtMost xs ys) →
-    IsAtMost (x ∷ xs) (y ∷ ys)
+at_most_next : (x y : ℕ) (xs ys : List ℕ) → x ≤ y → (x ≡ y → IsPathAtMost xs ys) →
+    IsPathAtMost (x ∷ xs) (y ∷ ys)
 at_most_next x y xs ys less rest = search rules
 
 pub onward_least : (links : List ℕ) (target k at : ℕ) (rest : List ℕ) → length links ≡ 64 →
     target < 64 → at < 64 → IsLinksAway links target k at → LinksLeadTo links target at rest →
-    length rest ≡ k → IsAtMost (route_path_after links target k at) rest
+    length rest ≡ k → IsPathAtMost (route_path_after links target k at) rest
 unfolding route_path_after
 onward_least links target zero at rest rows target_fits at_fits away leads long = tt
 onward_least links target (suc k) at [] rows target_fits at_fits away leads long =

@@ -2,7 +2,7 @@
 use Rattle.std.proofs.Common.{◌%◌, ◌&&◌, ◌+◌, ◌-◌, ◌<◌, ◌==◌, ◌^◌, ◌||◌, ◌∙◌, ◌≡◌, Bool, List, ap, arith, bit_and, bit_or, bit_xor, eq-eqb, false, get_or, inl, inr, not, pow_pos, sym, true, w64, ℕ, rules}
 use Rattle.base.proofs.Exports.{and-true, and_le_l, and_le_r, and_parts, and_pow, bit_at, bit_at-lt, bit_at-pow_same, bit_at_not, bit_at_ones, bit_at_xor, bit_not, cases_eq, has-and, has-or, has-xor_other, has-zero, has_least, has_mask, has_only_other, has_only_same, nat_tests, only_if_lt, or_lt, pow_below, same_masks, xor_add_and, xor_lt}
 use Rattle.base.specs.Exports.{has, least_in, only_if}
-use Rattle.failover.specs.Exports.{is_link, links_at}
+use Rattle.failover.specs.Exports.{is_link, route_links_at}
 use Rattle.failover.proofs.RouteLinkBalls.{apart_tests}
 
 -- the row has the links to the switches within a set that are not left
@@ -40,11 +40,11 @@ row_begins neighbours down one within fits = record {
 
 pub row_ends : (neighbours down : List ℕ) (one within row rest : ℕ) → within < 2 ^ 64 →
     IsRowSoFar neighbours down one within row rest →
-    rest ≡ 0 → row ≡ bit_and (links_at neighbours down one) within
+    rest ≡ 0 → row ≡ bit_and (route_links_at neighbours down one) within
 row_ends neighbours down one within row rest fits so_far none = same_masks row _ so_far.row_fits
     (omega (arith, and_le_r))
     (λ k below. at_end (has row k) (has rest k) _ _ (ap (λ n. has n k) none ∙ has-zero k)
-    (so_far.found k below) ∙ sym (has-and (links_at neighbours down one) within k
+    (so_far.found k below) ∙ sym (has-and (route_links_at neighbours down one) within k
     ∙ ap (λ b. b && has within k) (has_mask (is_link neighbours down one) k below)))
   where
     at_end : (row rest link wanted : Bool) → rest ≡ false → (row || (rest && link)) ≡ wanted →

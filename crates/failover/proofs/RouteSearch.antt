@@ -3,7 +3,7 @@ use Rattle.std.proofs.Common.{[], ◌&&◌, ◌+◌, ◌-◌, ◌<◌, ◌==◌,
 use Rattle.base.proofs.Exports.{All-cons, All-nil, cases_lt, length-le_from_distinct_below, list_any, nat_tests}
 use Rattle.failover.specs.declared.advert.Advert.{Advert}
 use Rattle.base.specs.Exports.{has, switches}
-use Rattle.failover.specs.Exports.{IsAtMost, IsLinksAway, IsLeastPath, IsOutOfReach, IsPath, IsReachable, IsRoute, IsRouteList, LinksLeadTo, ball, first_route, grown_ball, known_links, ball_links_away, route_path_after, route_of, route_to}
+use Rattle.failover.specs.Exports.{IsPathAtMost, IsLinksAway, IsLeastPath, IsOutOfReach, IsPath, IsReachable, IsRoute, IsRouteList, LinksLeadTo, ball, first_route, grown_ball, known_links, ball_links_away, route_path_after, route_of, route_to}
 use Rattle.failover.proofs.RouteLinkBalls.{false_of, apart_tests, or_cases}
 use Rattle.failover.proofs.RouteLeastPaths.{length-onward, onward_leads, onward_distinct, onward_least, reaches}
 
@@ -63,7 +63,7 @@ fewest_of links target k from rows fits away (first ∷ rest) path =
 
 least_of_all : (links : List ℕ) (target k from : ℕ) → length links ≡ 64 → target < 64 → from < 64 →
     IsLinksAway links target k from → (other : List ℕ) → IsPath links from target other →
-    length other ≡ suc k → IsAtMost (from ∷ route_path_after links target k from) other
+    length other ≡ suc k → IsPathAtMost (from ∷ route_path_after links target k from) other
 unfolding IsPath
 least_of_all links target k from rows target_fits fits away other path long =
     search (rules, onward_least)
@@ -328,7 +328,7 @@ first_route_is_route links from (target ∷ targets) rows =
 
 -- ---- there is one route
 
-same_lists : (xs ys : List ℕ) → length xs ≡ length ys → IsAtMost xs ys → IsAtMost ys xs → xs ≡ ys
+same_lists : (xs ys : List ℕ) → length xs ≡ length ys → IsPathAtMost xs ys → IsPathAtMost ys xs → xs ≡ ys
 same_lists [] [] long less more = refl
 same_lists [] (y ∷ ys) long less more = absurd (omega arith)
 same_lists (x ∷ xs) [] long less more = absurd (omega arith)

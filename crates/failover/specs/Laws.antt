@@ -4,24 +4,24 @@ use Rattle.std.specs.Prelude.{◌&&◌, ◌++◌, ◌<◌, ◌||◌, ◌↔◌, 
 use Rattle.failover.specs.declared.advert.Advert.{Advert}
 use Rattle.base.specs.Exports.{has}
 use Rattle.failover.specs.Adverts.{held_advert, is_news, adverts_after_hearing, after_hearing_all, no_adverts, first_of, first_adverts}
-use Rattle.failover.specs.DownSet.{is_link_of, IsLinkSet}
-use Rattle.failover.specs.Links.{named_links, is_link, known_links, has_link, no_links, with_link, LinksLeadTo, IsPath, IsReachable}
+use Rattle.failover.specs.DownSet.{is_failover_link_of, IsDownLinkSet}
+use Rattle.failover.specs.Links.{neighbours_by_adverts, is_link, known_links, has_link, no_links, with_link, LinksLeadTo, IsPath, IsReachable}
 use Rattle.failover.specs.Paths.{IsIsolated, IsRoute}
 use Rattle.failover.specs.RouteList.{IsRouteList}
 use Rattle.failover.specs.Routes.{route_of}
-use Rattle.failover.specs.Newest.{AreByOrigin, IsNewestAdvert}
+use Rattle.failover.specs.Newest.{AreAdvertsByOrigin, IsNewestAdvert}
 use Rattle.failover.specs.Isolated.{names_neighbour, is_isolated}
 
-pub record AdvertLaws : Type 0 where
-  pub none : AreByOrigin no_adverts
-  pub first : (near : List ℕ) (count : ℕ) → AreByOrigin (first_adverts near count)
+pub record AdvertDatabaseLaws : Type 0 where
+  pub none : AreAdvertsByOrigin no_adverts
+  pub first : (near : List ℕ) (count : ℕ) → AreAdvertsByOrigin (first_adverts near count)
   -- at first the database has the advert of each switch, and no other
   pub begun : (near : List ℕ) (count origin : ℕ) → origin < 64 →
       held_advert (first_adverts near count) origin ≡ first_of near count origin
-  pub kept : (adverts : List (Option Advert)) (advert : Advert) → AreByOrigin adverts →
-      AreByOrigin (adverts_after_hearing adverts advert)
+  pub kept : (adverts : List (Option Advert)) (advert : Advert) → AreAdvertsByOrigin adverts →
+      AreAdvertsByOrigin (adverts_after_hearing adverts advert)
   -- an advert that is news is kept, and those of other origins stay
-  pub heard : (adverts : List (Option Advert)) (advert : Advert) → AreByOrigin adverts →
+  pub heard : (adverts : List (Option Advert)) (advert : Advert) → AreAdvertsByOrigin adverts →
       IsTrue (is_news adverts advert) →
       held_advert (adverts_after_hearing adverts advert) advert.origin ≡ Some advert
   pub others : (adverts : List (Option Advert)) (advert : Advert) (origin : ℕ) →
@@ -30,20 +30,20 @@ pub record AdvertLaws : Type 0 where
   -- after any adverts the database has the newest of each origin, and the one that it had at first
   -- counts before them
   pub newest : (adverts : List (Option Advert)) (heard : List Advert) (origin : ℕ) →
-      AreByOrigin adverts → origin < 64 →
+      AreAdvertsByOrigin adverts → origin < 64 →
       IsNewestAdvert origin (option_to_list (held_advert adverts origin) ++ heard)
       (held_advert (after_hearing_all adverts heard) origin)
 
-pub record LinkSetLaws : Type 0 where
-  pub none : IsLinkSet no_links
+pub record FailoverLinkSetLaws : Type 0 where
+  pub none : IsDownLinkSet no_links
   pub no_link : (x y : ℕ) → has_link no_links x y ≡ false
-  pub kept : (links : List ℕ) (one other : ℕ) → IsLinkSet links → one ≢ other → one < 64 →
-      other < 64 → IsLinkSet (with_link links one other)
-  pub added : (links : List ℕ) (one other x y : ℕ) → IsLinkSet links → one < 64 → other < 64 →
-      has_link (with_link links one other) x y ≡ (has_link links x y || is_link_of one other x y)
+  pub kept : (links : List ℕ) (one other : ℕ) → IsDownLinkSet links → one ≢ other → one < 64 →
+      other < 64 → IsDownLinkSet (with_link links one other)
+  pub added : (links : List ℕ) (one other x y : ℕ) → IsDownLinkSet links → one < 64 → other < 64 →
+      has_link (with_link links one other) x y ≡ (has_link links x y || is_failover_link_of one other x y)
   pub either_order : (links : List ℕ) (x y : ℕ) → has_link links x y ≡ has_link links y x
   -- sets of the same links are equal
-  pub same : (a b : List ℕ) → IsLinkSet a → IsLinkSet b →
+  pub same : (a b : List ℕ) → IsDownLinkSet a → IsDownLinkSet b →
       ((x y : ℕ) → has_link a x y ≡ has_link b x y) → a ≡ b
 
 pub record LinksAtLaws : Type 0 where
@@ -51,7 +51,7 @@ pub record LinksAtLaws : Type 0 where
   pub known : (adverts : List (Option Advert)) (at near : ℕ) (down : List ℕ) (one other : ℕ) →
       one < 64 → other < 64 →
       has (slice_index (known_links adverts at near down) one) other ≡
-      is_link (named_links adverts at near) down one other
+      is_link (neighbours_by_adverts adverts at near) down one other
   -- a link of the switch itself, by its own mask and the other's advert
   pub own : (adverts : List (Option Advert)) (at near : ℕ) (down : List ℕ) (other : ℕ) →
       length adverts ≡ 64 → at < 64 → other < 64 → at ≢ other →

@@ -1,7 +1,7 @@
 -- The links that a switch knows: those that both ends name (RFC 2328, section 16.1). Its own
 -- neighbours are those that it sees itself.
 use Rattle.std.specs.Prelude.{[], ◌&&◌, ◌<◌, ◌==◌, ◌^◌, ◌∷◌, ◌≡◌, Bool, IsTrue, List, None, Option, Some, bit_or, map, max, min, nat_eq, not, replicate, slice_index, slice_set, ℕ}
-use Rattle.base.specs.Exports.{IsDistinct, has, mask_of, switches}
+use Rattle.base.specs.Exports.{IsDistinct, has, small_number_mask, switches}
 use Rattle.failover.specs.declared.advert.Advert.{Advert}
 
 -- the link of two switches, in either order, is in the set
@@ -21,8 +21,8 @@ neighbours_named None = 0
 neighbours_named (Some advert) = advert.up
 
 -- the neighbours that each switch names: `at` those that it sees, every other those of its advert
-unfoldable pub named_links : List (Option Advert) → ℕ → ℕ → List ℕ
-named_links adverts at near = slice_set (map neighbours_named adverts) at near
+unfoldable pub neighbours_by_adverts : List (Option Advert) → ℕ → ℕ → List ℕ
+neighbours_by_adverts adverts at near = slice_set (map neighbours_named adverts) at near
 
 -- two different switches name each other, and their link isn't in the set of those found down
 unfoldable pub is_link : List ℕ → List ℕ → ℕ → ℕ → Bool
@@ -31,13 +31,13 @@ is_link neighbours down one other =
     (slice_index neighbours other) one && not (has_link down one other)
 
 -- the switches to which this one has a link
-abbrev pub links_at : List ℕ → List ℕ → ℕ → ℕ
-links_at neighbours down one = mask_of (is_link neighbours down one)
+abbrev pub route_links_at : List ℕ → List ℕ → ℕ → ℕ
+route_links_at neighbours down one = small_number_mask (is_link neighbours down one)
 
 -- the links that `at` knows: for each switch the switches to which it has a link
 unfoldable pub known_links : List (Option Advert) → ℕ → ℕ → List ℕ → List ℕ
 known_links adverts at near down = let neighbours =
-    named_links adverts at near in map (links_at neighbours down) switches
+    neighbours_by_adverts adverts at near in map (route_links_at neighbours down) switches
 
 -- mask `one` of the links has the other switch
 abbrev pub AreJoinedByLinks : List ℕ → ℕ → ℕ → Type 0

@@ -4,7 +4,7 @@ use Rattle.failover.specs.declared.advert.Advert.{Advert}
 use Rattle.failover.specs.Adverts.{is_newer, held_advert}
 
 -- each advert is at the place of its origin, of 64
-pub record AreByOrigin (adverts : List (Option Advert)) : Type 0 where
+pub record AreAdvertsByOrigin (adverts : List (Option Advert)) : Type 0 where
   pub places : length adverts ≡ 64
   pub origins : (origin : ℕ) (advert : Advert) → held_advert adverts origin ≡ Some advert →
       advert.origin ≡ origin

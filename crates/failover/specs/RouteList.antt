@@ -1,6 +1,6 @@
 -- One to 64 distinct switches, in 64 places.
 use Rattle.std.specs.Prelude.{◌-◌, ◌<◌, ◌≡◌, ◌≤◌, All, List, drop, length, nat_eq, replicate, take, ℕ}
-use Rattle.base.specs.Exports.{IsDistinct, filled-take, filled_places}
+use Rattle.base.specs.Exports.{IsDistinct, filled-take, zero_filled_list}
 use Rattle.failover.specs.declared.path.Route.TheInside.{Inside}
 
 -- one or more distinct switches
@@ -15,17 +15,17 @@ abbrev pub first_route_switches : Inside → List ℕ
 first_route_switches r = take r.len r.switches
 
 -- of the 64 places, those beyond the list are 0
-pub record IsFilledRoute (r : Inside) : Type 0 where
+pub record IsFilledRouteList (r : Inside) : Type 0 where
   pub places : length r.switches ≡ 64
   pub few : r.len ≤ 64
   pub rest : drop r.len r.switches ≡ replicate (64 - r.len) 0
   pub list : IsRouteList (first_route_switches r)
 
 -- this list, in 64 places
-abbrev pub filled_route : List ℕ → Inside
-filled_route xs = record { switches = filled_places 64 xs; len = length xs }
+abbrev pub filled_route_list : List ℕ → Inside
+filled_route_list xs = record { switches = zero_filled_list 64 xs; len = length xs }
 
 -- the list of 64 places, put in 64 places, gives the same places
-pub filled-first_route_switches : (r : Inside) → IsFilledRoute r → filled_route (first_route_switches r) ≡ r
+pub filled-first_route_switches : (r : Inside) → IsFilledRouteList r → filled_route_list (first_route_switches r) ≡ r
 filled-first_route_switches r h =
     let held = filled-take 64 r.len r.switches h.places h.few h.rest in rw (held.1, held.0)

@@ -2,12 +2,12 @@
 -- Through a Maze", 1959), then each time to the least switch that is one link nearer.
 use Rattle.std.specs.Prelude.{[], ◌&&◌, ◌==◌, ◌^◌, ◌∷◌, List, None, Option, Some, bit_and, bit_or, false, nat_lt, not, option_map, slice_index, suc, true, zero, ℕ}
 use Rattle.failover.specs.declared.advert.Advert.{Advert}
-use Rattle.base.specs.Exports.{has, least_in, mask_where}
+use Rattle.base.specs.Exports.{has, least_in, number_set_where}
 use Rattle.failover.specs.Links.{known_links}
 
 -- a set of switches, and those that have a link into it
 unfoldable pub grown_ball : List ℕ → ℕ → ℕ
-grown_ball links ball = bit_or ball (mask_where (λ mask. not (bit_and mask ball == 0)) 0 links)
+grown_ball links ball = bit_or ball (number_set_where (λ mask. not (bit_and mask ball == 0)) 0 links)
 
 -- the switches that are at most k links away from the target
 unfoldable pub ball : List ℕ → ℕ → ℕ → ℕ

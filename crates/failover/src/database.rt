@@ -23,17 +23,17 @@ pub struct Database {
 impl Model for Database {
     ghost use Rattle.std.specs.Prelude.{List, Option};
     ghost use Rattle.failover.specs.declared.advert.Advert.{Advert};
-    ghost use Rattle.failover.specs.Isolated.{IsDatabase};
+    ghost use Rattle.failover.specs.Isolated.{IsAdvertDatabase};
 
     ghost Value = { List (Option Advert) };
 
     ghost view = { λ d. d.adverts };
 
-    ghost invariant = { λ d. IsDatabase d.adverts d.named };
+    ghost invariant = { λ d. IsAdvertDatabase d.adverts d.named };
 }
 
 impl Database {
-    ghost use Rattle.failover.specs.Newest.{AreByOrigin};
+    ghost use Rattle.failover.specs.Newest.{AreAdvertsByOrigin};
 
     /// The first adverts, of boot 1 and seq 1: bit k of a switch's mask in `near` says that it has
     /// a link to switch k.
@@ -58,7 +58,7 @@ impl Database {
 
     // The database of these adverts, each at the place of its origin.
     fn of(adverts: [Option<Advert>; 64]) -> Database
-        requires { AreByOrigin adverts }
+        requires { AreAdvertsByOrigin adverts }
         ensures { result ≡ adverts }
     {
         let named = all_neighbours_named(&adverts);
@@ -96,7 +96,7 @@ impl Database {
     pub fn get(&self, origin: u32) -> Option<Advert>
         ensures held { result ≡ held_advert self.now origin }
         ensures origin { IfSome result (λ advert. advert.origin ≡ origin) }
-        ensures by_origin { AreByOrigin self.now }
+        ensures by_origin { AreAdvertsByOrigin self.now }
     {
         if origin < MAX_SWITCHES {
             self.adverts[origin as usize]

@@ -1,5 +1,5 @@
 ghost use Rattle.std.specs.Prelude.{◌≡◌, ◌≢◌, ◌<◌, ◌||◌, ℕ, false};
-ghost use Rattle.failover.specs.Exports.{has_link, is_link_of, no_links, with_link};
+ghost use Rattle.failover.specs.Exports.{has_link, is_failover_link_of, no_links, with_link};
 
 use base::{MAX_SWITCHES, has, only_if};
 use std::marker::Model;
@@ -17,19 +17,19 @@ const _: () = prove!(size_of::<DownSet>() <= 512);
 
 impl Model for DownSet {
     ghost use Rattle.std.specs.Prelude.{List, ℕ};
-    ghost use Rattle.failover.specs.DownSet.{IsLinkSet};
+    ghost use Rattle.failover.specs.DownSet.{IsDownLinkSet};
 
     ghost Value = { List ℕ };
 
     ghost view = { λ d. d.masks };
 
-    ghost invariant = { λ d. IsLinkSet d.masks };
+    ghost invariant = { λ d. IsDownLinkSet d.masks };
 
     ghost inverse = { λ masks. record { masks = masks } };
 }
 
 impl DownSet {
-    ghost use Rattle.failover.specs.DownSet.{IsLinkSet};
+    ghost use Rattle.failover.specs.DownSet.{IsDownLinkSet};
 
     /// The empty set.
     pub fn empty() -> DownSet
@@ -46,7 +46,7 @@ impl DownSet {
         requires second { two < 64 }
         ensures value { self.new ≡ with_link self.old one two }
         ensures links { (x y : ℕ) →
-            has_link self.new x y ≡ (has_link self.old x y || is_link_of one two x y) }
+            has_link self.new x y ≡ (has_link self.old x y || is_failover_link_of one two x y) }
     {
         let low = one.min(two);
         let high = one.max(two);
@@ -56,7 +56,7 @@ impl DownSet {
     /// Whether the link of these two switches, in either order, is in the set.
     pub fn has(&self, one: u32, two: u32) -> bool
         ensures link { result ≡ has_link self.now one two }
-        ensures set { IsLinkSet self.now }
+        ensures set { IsDownLinkSet self.now }
     {
         let masks = &self.masks;
         if one >= MAX_SWITCHES || two >= MAX_SWITCHES {

@@ -1,14 +1,14 @@
-ghost use Rattle.failover.specs.Laws.{AdvertLaws, LinksAtLaws, LinkSetLaws, RouteLaws};
+ghost use Rattle.failover.specs.Laws.{AdvertDatabaseLaws, LinksAtLaws, FailoverLinkSetLaws, RouteLaws};
 
 /// What a database has at first, and what it has after a list of adverts: of each origin the
 /// newest, of equally new ones the first.
 pub fn advert_laws()
-    ensures { AdvertLaws }
+    ensures { AdvertDatabaseLaws }
 {}
 
 /// A set of links has exactly those that were added, in either order; equal sets are equal values.
 pub fn link_set_laws()
-    ensures { LinkSetLaws }
+    ensures { FailoverLinkSetLaws }
 {}
 
 /// A link is known exactly if both ends name each other and it isn't down; a target is isolated

@@ -1,6 +1,6 @@
 ghost use Rattle.std.specs.Prelude.{◌≡◌, ◌<◌, ◌==◌, bit_and, slice_index, true};
 ghost use Rattle.base.specs.Masks.{has};
-ghost use Rattle.failover.specs.Links.{is_link, links_at};
+ghost use Rattle.failover.specs.Links.{is_link, route_links_at};
 
 use crate::down_set::DownSet;
 use base::{MAX_SWITCHES, has, only_if};
@@ -9,7 +9,7 @@ use base::{MAX_SWITCHES, has, only_if};
 /// link isn't down. Only the links to these switches are checked.
 pub fn links_within(neighbours: &[u64; 64], down: &DownSet, one: u32, within: u64) -> u64
     requires { one < 64 }
-    ensures { result ≡ bit_and (links_at neighbours.now down.now one) within }
+    ensures { result ≡ bit_and (route_links_at neighbours.now down.now one) within }
 {
     let mut mask = 0;
     let mut rest = neighbours[one as usize] & within;
@@ -34,7 +34,7 @@ fn is_link_to(neighbours: &[u64; 64], down: &DownSet, one: u32, other: u32) -> b
 
 /// Whether no link ends at this switch.
 pub fn is_linkless(neighbours: &[u64; 64], down: &DownSet, one: u32) -> bool
-    ensures { result ≡ (links_at neighbours.now down.now one == 0) }
+    ensures { result ≡ (route_links_at neighbours.now down.now one == 0) }
 {
     one >= MAX_SWITCHES || links_within(neighbours, down, one, u64::MAX) == 0
 }

@@ -16,15 +16,15 @@ const _: () = prove!(size_of::<Route>() <= 264);
 
 impl Model for Route {
     ghost use Rattle.std.specs.Prelude.{List, ℕ};
-    ghost use Rattle.failover.specs.RouteList.{first_route_switches, IsFilledRoute, filled_route, filled-first_route_switches};
+    ghost use Rattle.failover.specs.RouteList.{first_route_switches, IsFilledRouteList, filled_route_list, filled-first_route_switches};
 
     ghost Value = { List ℕ };
 
     ghost view = { first_route_switches };
 
-    ghost invariant = { IsFilledRoute };
+    ghost invariant = { IsFilledRouteList };
 
-    ghost inverse = { filled_route };
+    ghost inverse = { filled_route_list };
 
     ghost inverse_ok = { filled-first_route_switches };
 }

@@ -1,5 +1,5 @@
 ghost use Rattle.std.specs.Prelude.{◌≡◌, ◌<◌, ◌∷◌, IfSome, IfNone};
-ghost use Rattle.failover.specs.Exports.{AreBalls, IsLinksAway, IsBallEdge, IsOutOfReach, IsRouteList, path_by_balls, first_route, links_of_each, route_to, grown_ball};
+ghost use Rattle.failover.specs.Exports.{AreBalls, IsLinksAway, IsBallEdge, IsOutOfReach, IsRouteList, path_by_balls, first_route, advertised_links_of_each, route_to, grown_ball};
 
 use crate::down_set::DownSet;
 use crate::links::links_within;
@@ -16,7 +16,7 @@ pub fn first_route(
     from: u32,
     targets: &[u32],
 ) -> Option<Route>
-    ensures { result ≡ first_route (links_of_each neighbours.now down.now) from targets.now }
+    ensures { result ≡ first_route (advertised_links_of_each neighbours.now down.now) from targets.now }
 {
     for target in targets {
         if let Some(route) = route_to(neighbours, down, from, *target) {
@@ -28,7 +28,7 @@ pub fn first_route(
 
 // The least path to the target.
 fn route_to(neighbours: &[u64; 64], down: &DownSet, from: u32, target: u32) -> Option<Route>
-    ensures { result ≡ route_to (links_of_each neighbours.now down.now) from target }
+    ensures { result ≡ route_to (advertised_links_of_each neighbours.now down.now) from target }
 {
     if from >= MAX_SWITCHES || target >= MAX_SWITCHES {
         return None;
@@ -49,9 +49,9 @@ fn distance(
 ) -> Option<usize>
     requires from { from < 64 }
     requires target { target < 64 }
-    ensures away { IfSome result (λ k. IsLinksAway (links_of_each neighbours.now down.now) target k from) }
-    ensures balls { IfSome result (AreBalls (links_of_each neighbours.now down.now) target balls.new) }
-    ensures none { IfNone result (IsOutOfReach (links_of_each neighbours.now down.now) target from) }
+    ensures away { IfSome result (λ k. IsLinksAway (advertised_links_of_each neighbours.now down.now) target k from) }
+    ensures balls { IfSome result (AreBalls (advertised_links_of_each neighbours.now down.now) target balls.new) }
+    ensures none { IfNone result (IsOutOfReach (advertised_links_of_each neighbours.now down.now) target from) }
 {
     let mut ball = only_if(true, target);
     let mut edge = ball;
@@ -78,8 +78,8 @@ fn distance(
 // The ball, and the switches to which a switch of it has a link. Only the edge is searched, because
 // the links of all others stay within the ball.
 fn wider(neighbours: &[u64; 64], down: &DownSet, ball: u64, edge: u64) -> u64
-    requires { IsBallEdge (links_of_each neighbours.now down.now) ball edge }
-    ensures { result ≡ grown_ball (links_of_each neighbours.now down.now) ball }
+    requires { IsBallEdge (advertised_links_of_each neighbours.now down.now) ball edge }
+    ensures { result ≡ grown_ball (advertised_links_of_each neighbours.now down.now) ball }
 {
     let mut wide = ball;
     let mut rest = edge;
@@ -100,8 +100,8 @@ fn walk(
     from: u32,
 ) -> Route
     requires { IsRouteList
-        (from ∷ path_by_balls (links_of_each neighbours.now down.now) balls.now distance from) }
-    ensures { result ≡ from ∷ path_by_balls (links_of_each neighbours.now down.now) balls.now
+        (from ∷ path_by_balls (advertised_links_of_each neighbours.now down.now) balls.now distance from) }
+    ensures { result ≡ from ∷ path_by_balls (advertised_links_of_each neighbours.now down.now) balls.now
         distance from }
 {
     let mut switches = [0; 64];

@@ -1,6 +1,6 @@
 -- What a reader of parts finds that takes them off one at a time and reads the last as a number.
 use Rattle.std.proofs.Common.{◌∷◌, ◌≡◌, List, None, Option, inl, inr, refl, sym, ℕ, rules}
-use Rattle.five_tuple.specs.Exports.{address_from, address_of, block_from, block_of_parts, number_up_to, text_parts_round_byte, range_from, range_of_parts}
+use Rattle.five_tuple.specs.Exports.{address_from, address_of, block_from, address_block_of_parts, number_up_to, text_parts_round_byte, range_from, range_of_parts}
 use Rattle.five_tuple.proofs.HeaderSplitParts.{last_part}
 
 no_last : (x y z : Option ℕ) → address_from x y z None ≡ None
@@ -21,7 +21,7 @@ no_len : (x : Option ℕ) → block_from x None ≡ None
 no_len x = search rules
 
 pub block_reads : (text a len : List ℕ) → text_parts_round_byte 47 text ≡ a ∷ text_parts_round_byte 47 len
-    → block_of_parts (text_parts_round_byte 47 text) ≡ block_from (address_of a) (number_up_to 32 len)
+    → address_block_of_parts (text_parts_round_byte 47 text) ≡ block_from (address_of a) (number_up_to 32 len)
 block_reads text a len e = rw e (elim (last_part 47 32 len refl)
     [ inl one ↦ rw one | inr w ↦ rw (w.3, w.4) (sym (no_len (address_of a))) ])
 

@@ -7,4 +7,4 @@ mod PortCovers
 mod HeaderDottedParts
 mod PortCoverBlocks
 mod HeaderTextsPlain
-pub mod CallerLemmas
+pub mod FiveTupleCallerLemmas

@@ -6,7 +6,7 @@ use Rattle.std.proofs.lemmas.Bool.{cases_lt}
 use Rattle.std.proofs.lemmas.Nat.{mod-pow-add}
 use Rattle.std.proofs.lemmas.Nat.Bits.{bit_at-trailing_zeros}
 use lib.Count.{count_trailing_zeros}
-use Rattle.five_tuple.specs.Exports.{Block, IsAlignedPortBlock, IsPortCover, IsCoverOf, IsLargestBlock, IsPortRange, PortRangeValue, blocks_from, cover_of, port_block_fits_at, largest_up_to}
+use Rattle.five_tuple.specs.Exports.{Block, IsAlignedPortBlock, IsPortCover, IsPortRangeCover, IsLargestPortBlock, IsPortRange, PortRangeValue, blocks_from, cover_of, port_block_fits_at, largest_port_exponent}
 use Rattle.five_tuple.proofs.PortCovers.{exponent_small, aligned_down, exact, disjoint, ascending, masked, few, same_cover}
 
 -- ---- the function and the relation
@@ -27,12 +27,12 @@ larger : (k first high e : ℕ) (b : Bool) → port_block_fits_at first high (su
 larger k first high e b is l = search (rules, block_test)
 
 largest_is : (k first high : ℕ) → first ≤ high
-    → IsLargestUpTo k first high (largest_up_to k first high)
+    → IsLargestUpTo k first high (largest_port_exponent k first high)
 largest_is zero first high h = search (rules, mod-one)
 largest_is (suc k) first high h = search (rules, largest_is k first high h)
 
 largest_of_all : (first high : ℕ) → first ≤ high → high < 2 ^ 16
-    → IsLargestBlock first high (largest_up_to 16 first high)
+    → IsLargestPortBlock first high (largest_port_exponent 16 first high)
 largest_of_all first high h bound = let l = largest_is 16 first high h in record {
   block = l.block;
   largest = λ other block. l.largest other (exponent_small first high other block bound) block;
@@ -41,7 +41,7 @@ largest_of_all first high h bound = let l = largest_is 16 first high h in record
 covers_from : (most low high : ℕ) → high < 2 ^ 16 → high + 1 ≤ low + most
     → IsPortCover low high (blocks_from most low high)
 covers_from zero low high bound enough = omega arith
-covers_from (suc most) low high bound enough = let e = largest_up_to 16 low high in
+covers_from (suc most) low high bound enough = let e = largest_port_exponent 16 low high in
     elim (cases_lt high low) [
       | inl past ↦ rw (lt-ltb high low past) past
       | inr within ↦ rw (le-ltb high low within) (
@@ -72,7 +72,7 @@ some_block : (low high : ℕ) (blocks : List Block) → IsPortCover low high blo
 some_block low high [] c h = absurd (omega arith)
 some_block low high (b ∷ bs) c h = omega arith
 
-pub is_cover_of : (range : PortRangeValue) → IsPortRange range → IsCoverOf range (cover_of range)
+pub is_cover_of : (range : PortRangeValue) → IsPortRange range → IsPortRangeCover range (cover_of range)
 is_cover_of range sound = let c = greedy range sound in record {
   exact = exact range.low range.high (cover_of range) c sound.bound;
   disjoint = disjoint range.low range.high (cover_of range) c sound.bound;
@@ -88,7 +88,7 @@ pub cover_of-past : (low high : ℕ) → high < low → cover_of (record { low =
 unfolding cover_of
 cover_of-past low high past = search rules
 
-pub cover_of-step : (low high e size : ℕ) → IsLargestBlock low high e → size ≡ 2 ^ e → high < 2 ^ 16
+pub cover_of-step : (low high e size : ℕ) → IsLargestPortBlock low high e → size ≡ 2 ^ e → high < 2 ^ 16
     → cover_of (record { low = low; high = high }) ≡ (low, 2 ^ 16 - size) ∷ cover_of
     (record { low = low + size; high = high })
 cover_of-step low high e size l is bound =
@@ -117,7 +117,7 @@ bit_of_aligned n e aligned set =
 -- at most so many of the low bits are 0, and so the block is at most so large
 largest_of_two : (first high zeros log e : ℕ) → first % 2 ^ zeros ≡ 0
     → ((other : ℕ) → IsAlignedPortBlock first high other → other ≤ zeros) → 2 ^ log ≤ high + 1 - first
-    → high + 1 - first < 2 * 2 ^ log → e ≡ min zeros log → IsLargestBlock first high e
+    → high + 1 - first < 2 * 2 ^ log → e ≡ min zeros log → IsLargestPortBlock first high e
 largest_of_two first high zeros log e aligned most fits next is =
     let smaller : 2 ^ e ≤ 2 ^ log = pow-le-pow_right (omega arith) {i = e} {j = log}
     (omega arith) in record {
@@ -146,7 +146,7 @@ below_lowest n zeros other set aligned = elim (cases_lt zeros other) [
 -- what the code computes
 pub largest_from_code : (first high log e : ℕ) → first ≤ high → high < 2 ^ 16
     → 2 ^ log ≤ high + 1 - first → high + 1 - first < 2 * 2 ^ log
-    → e ≡ min (trailing_zeros w32 first) log → IsLargestBlock first high e
+    → e ≡ min (trailing_zeros w32 first) log → IsLargestPortBlock first high e
 unfolding count_trailing_zeros
 largest_from_code first high log e within bound fits next is = elim (cases_lt 0 first) [
   | inr zero_port ↦ let none : first ≡ 0 = omega arith in

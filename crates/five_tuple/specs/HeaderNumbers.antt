@@ -18,8 +18,8 @@ header_numbered n = header_of (record {
 })
 
 -- five numbers at the places that the fields have in a header's number
-abbrev pub packed_number : ℕ → ℕ → ℕ → ℕ → ℕ → ℕ
-packed_number src dst sport dport proto = number_of (header_of (record {
+abbrev pub packed_header_number : ℕ → ℕ → ℕ → ℕ → ℕ → ℕ
+packed_header_number src dst sport dport proto = number_of (header_of (record {
   src = src;
   dst = dst;
   sport = sport;

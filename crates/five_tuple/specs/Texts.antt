@@ -65,16 +65,16 @@ block_from (Some address) (Some len) = Some (address_block_round address len)
 block_from _ _ = None
 
 -- an address without a length has length 32
-abbrev pub block_of_parts : List (List ℕ) → Option AddressBlock
-block_of_parts (address ∷ []) = block_from (address_of address) (Some 32)
-block_of_parts (address ∷ len ∷ []) = block_from (address_of address) (number_up_to 32 len)
-block_of_parts _ = None
+abbrev pub address_block_of_parts : List (List ℕ) → Option AddressBlock
+address_block_of_parts (address ∷ []) = block_from (address_of address) (Some 32)
+address_block_of_parts (address ∷ len ∷ []) = block_from (address_of address) (number_up_to 32 len)
+address_block_of_parts _ = None
 
 -- reads `any`; an address, which is a block by itself; or an address, a slash and the block's length
 unfoldable pub prefix_of : List ℕ → Option AddressBlock
 prefix_of text =
     if bytes_eq text (codes "any") then Some (address_block_round 0 0) else
-    block_of_parts (text_parts_round_byte 47 text)
+    address_block_of_parts (text_parts_round_byte 47 text)
 
 -- a range, if both ends can be read and are in order
 abbrev pub range_from : Option ℕ → Option ℕ → Option PortRangeValue
@@ -102,15 +102,15 @@ proto_number_of text =
     (if bytes_eq text (codes "udp") then Some 17 else number_up_to 255 text))
 
 -- the fields of a packet, if each can be read
-abbrev pub header_fields_from : Option ℕ → Option ℕ → Option ℕ → Option ℕ → Option ℕ → Option Fields
-header_fields_from (Some src) (Some dst) (Some sport) (Some dport) (Some proto) =
+abbrev pub tuple_fields_from : Option ℕ → Option ℕ → Option ℕ → Option ℕ → Option ℕ → Option Fields
+tuple_fields_from (Some src) (Some dst) (Some sport) (Some dport) (Some proto) =
     Some (record { src = src; dst = dst; sport = sport; dport = dport; proto = proto })
-header_fields_from _ _ _ _ _ = None
+tuple_fields_from _ _ _ _ _ = None
 
 -- two addresses, two ports and a protocol's number
-abbrev pub packet_fields_of : List ℕ → List ℕ → List ℕ → List ℕ → List ℕ → Option Fields
-packet_fields_of src dst sport dport proto =
-    header_fields_from (address_of src) (address_of dst)
+abbrev pub tuple_fields_of : List ℕ → List ℕ → List ℕ → List ℕ → List ℕ → Option Fields
+tuple_fields_of src dst sport dport proto =
+    tuple_fields_from (address_of src) (address_of dst)
     (number_up_to 65535 sport) (number_up_to 65535 dport) (proto_number_of proto)
 
 -- `any`, or a protocol

@@ -1,5 +1,5 @@
 ghost use Rattle.std.specs.Prelude.{◌≡◌, ◌+◌, ◌≤◌, ◌<◌, ◌^◌, IfOk, length};
-ghost use Rattle.five_tuple.specs.Exports.{CoverLaws, IsCoverOf, IsLargestBlock, IsPortRange, cover_of};
+ghost use Rattle.five_tuple.specs.Exports.{PortCoverLaws, IsPortRangeCover, IsLargestPortBlock, IsPortRange, cover_of};
 
 use crate::matching::PortRange;
 use std::alloc::{AllocError, Global};
@@ -13,7 +13,7 @@ pub type PortBlock = (u16, u16);
 fn largest_port_block(first: u32, high: u32) -> u32
     requires ordered { first ≤ high }
     requires high { high < 2 ^ 16 }
-    ensures largest { IsLargestBlock first high result }
+    ensures largest { IsLargestPortBlock first high result }
     ensures bound { result ≤ 16 }
 {
     let aligned = first.trailing_zeros();
@@ -75,7 +75,7 @@ impl PortRange {
 /// Only out of memory.
 pub fn cover(alloc: Global, range: &PortRange) -> Result<Vec<PortBlock>, AllocError>
     ensures cover { IfOk result (λ v. v.items ≡ cover_of range.now) }
-    ensures blocks { IfOk result (λ v. IsCoverOf range.now v.items) }
+    ensures blocks { IfOk result (λ v. IsPortRangeCover range.now v.items) }
 {
     collect_port_blocks(alloc, range)
 }
@@ -98,5 +98,5 @@ pub fn count_port_blocks(range: &PortRange) -> u32
 /// The blocks of a range are exactly its ports, and each is the largest that begins at the first
 /// port not yet covered.
 pub fn cover_laws()
-    ensures { CoverLaws }
+    ensures { PortCoverLaws }
 {}

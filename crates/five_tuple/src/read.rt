@@ -1,5 +1,5 @@
 ghost use Rattle.std.specs.Prelude.{◌≡◌, ◌≤◌, ◌<◌, ◌^◌, ◌∷◌, [], ◌==◌, ◌&&◌, nat_lt, not, length, IfSome, MatchOption, position};
-ghost use Rattle.five_tuple.specs.Exports.{IsAddressBlock, IsByteBefore, IsPortRange, IsProtocol, LacksAddressByte, address_of, header_fields_from, has_leading_zero, number_up_to, packet_fields_of, text_parts_round_byte, prefix_of, proto_number_of, proto_of, range_from, range_of};
+ghost use Rattle.five_tuple.specs.Exports.{IsAddressBlock, IsByteBefore, IsPortRange, IsProtocol, LacksAddressByte, address_of, tuple_fields_from, has_leading_zero, number_up_to, tuple_fields_of, text_parts_round_byte, prefix_of, proto_number_of, proto_of, range_from, range_of};
 
 use crate::header::Fields;
 use crate::matching::{PortRange, Prefix, Proto};
@@ -216,9 +216,9 @@ pub fn read_fields(
     dport: &[u8],
     proto: &[u8],
 ) -> Option<Fields>
-    ensures { result ≡ packet_fields_of src.now dst.now sport.now dport.now proto.now }
+    ensures { result ≡ tuple_fields_of src.now dst.now sport.now dport.now proto.now }
 {
-    header_fields_from(
+    tuple_fields_from(
         read_address(src),
         read_address(dst),
         read_port(sport),
@@ -227,14 +227,14 @@ pub fn read_fields(
     )
 }
 
-fn header_fields_from(
+fn tuple_fields_from(
     src: Option<u32>,
     dst: Option<u32>,
     sport: Option<u16>,
     dport: Option<u16>,
     proto: Option<u8>,
 ) -> Option<Fields>
-    ensures { result ≡ header_fields_from src dst sport dport proto }
+    ensures { result ≡ tuple_fields_from src dst sport dport proto }
 {
     Some(Fields {
         src: src?,

@@ -2,7 +2,7 @@
 
 ghost use Rattle.std.specs.Prelude.{ℕ, ◌≡◌, ◌≤◌, ◌<◌, ◌^◌, Some, decimal, IfOk};
 ghost use Rattle.five_tuple.specs.declared.matching.Proto.{Proto};
-ghost use Rattle.five_tuple.specs.Exports.{AddressBlock, IsAddressBlock, IsPortRange, IsProtocol, PlainTextLaws, PortRangeValue, address_of, address_text, fields_text, number_up_to, prefix_of, prefix_text, proto_number_of, proto_number_text, proto_of, proto_text, range_of, range_text};
+ghost use Rattle.five_tuple.specs.Exports.{AddressBlock, IsAddressBlock, IsPortRange, IsProtocol, PlainFieldTextLaws, PortRangeValue, address_of, address_text, fields_text, number_up_to, prefix_of, prefix_text, proto_number_of, proto_number_text, proto_of, proto_text, range_of, range_text};
 
 use crate::header::Fields;
 use crate::matching::{PortRange, Prefix, Proto};
@@ -160,5 +160,5 @@ pub fn printed_fields_are_read_back()
 /// Each printed form has only digits, lower-case letters, dots, slashes and dashes: a field of a
 /// CSV file that needs no quotes.
 pub fn printed_fields_are_plain()
-    ensures { PlainTextLaws }
+    ensures { PlainFieldTextLaws }
 {}

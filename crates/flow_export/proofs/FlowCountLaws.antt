@@ -5,10 +5,10 @@ use Rattle.base.proofs.Exports.{All-append, All-cons, All-filter, All-head, All-
 use Rattle.five_tuple.specs.Exports.{header_eq}
 use Rattle.five_tuple.specs.declared.header.Header.{Header}
 use Rattle.base.specs.Exports.{has}
-use Rattle.meters.specs.Exports.{PortLeavings, Seen, flow_records_of, meters_gone_after, gone_records, has_ended, is_ended_within, kept_meters, meter_leaves_with, leaving_records, leavings_of, meter_with, meters_after}
+use Rattle.meters.specs.Exports.{PortLeavings, Seen, meter_flow_records_of, meters_gone_after, gone_records, has_ended, is_meter_ended_within, kept_meters, meter_leaves_with, leaving_records, meter_port_leavings, meter_with_leavings, meters_after}
 use Rattle.meters.proofs.MetersKept.{kept-append, kept-nothing, kept-one, kept_on}
 use Rattle.policy_rules.specs.declared.packet.Leaving.{Leaving}
-use Rattle.flow_export.specs.Counted.{FlowLaws, IsFlowCounted, IsNewMeter, NoFlowMeterLeaves, flow_left_with}
+use Rattle.flow_export.specs.Counted.{FlowMeterLaws, IsFlowCounted, IsNewFlowMeter, NoFlowMeterLeaves, flow_left_with}
 use Rattle.flow_export.specs.Flows.{headers_of, flow_packets_of}
 
 -- ---- a meter that stays
@@ -23,7 +23,7 @@ one_more port h one rest count true is =
 one_more port h one rest count false is = omega (arith, is)
 
 packets_are : (port : ℕ) (h : Header) (left : PortLeavings)
-    → flow_packets_of (leavings_of port left) h ≡ flow_left_with left port h
+    → flow_packets_of (meter_port_leavings port left) h ≡ flow_left_with left port h
 packets_are port h [] = refl
 packets_are port h (one ∷ left) = one_more port h one (filter (λ o. o.0 == port) left)
     (flow_left_with left port h) (one.0 == port) (packets_are port h left) ∙ sym (sum_by-cons
@@ -31,39 +31,39 @@ packets_are port h (one ∷ left) = one_more port h one (filter (λ o. o.0 == po
 
 all_counted : (port : ℕ) (left : PortLeavings) (headers : List Header)
     → All (IsFlowCounted left) (map (λ h.
-    record { port = port; header = h; packets = flow_packets_of (leavings_of port left) h }) headers)
+    record { port = port; header = h; packets = flow_packets_of (meter_port_leavings port left) h }) headers)
 all_counted port left [] = All-nil (IsFlowCounted left)
 all_counted port left (h ∷ headers) =
     All-cons (IsFlowCounted left) _ _ (packets_are port h left) (all_counted port left headers)
 
-told_counted : (most : ℕ) (left : PortLeavings) (meter : Seen) → IsNewMeter most meter
-    → All (IsFlowCounted left) (flow_records_of (meter_with (leavings_of meter.port left) meter))
-told_counted most left meter new = let more = leavings_of meter.port left in
+told_counted : (most : ℕ) (left : PortLeavings) (meter : Seen) → IsNewFlowMeter most meter
+    → All (IsFlowCounted left) (meter_flow_records_of (meter_with_leavings (meter_port_leavings meter.port left) meter))
+told_counted most left meter new = let more = meter_port_leavings meter.port left in
     subst (All (IsFlowCounted left))
     (sym (ap (λ held. meter.recorded (held ++ more)) new.empty ∙ new.kind.recorded more))
     (all_counted meter.port left (headers_of more))
 
-one_counted : (most : ℕ) (left : PortLeavings) (meter : Seen) (over : Bool) → IsNewMeter most meter
+one_counted : (most : ℕ) (left : PortLeavings) (meter : Seen) (over : Bool) → IsNewFlowMeter most meter
     → All (IsFlowCounted left)
-    (flat_map flow_records_of (cond over [] (meter_with (leavings_of meter.port left) meter ∷ [])))
+    (flat_map meter_flow_records_of (cond over [] (meter_with_leavings (meter_port_leavings meter.port left) meter ∷ [])))
 one_counted most left meter true new = All-nil (IsFlowCounted left)
 one_counted most left meter false new =
-    rw (append-nil (flow_records_of (meter_with (leavings_of meter.port left) meter)))
+    rw (append-nil (meter_flow_records_of (meter_with_leavings (meter_port_leavings meter.port left) meter)))
     (told_counted most left meter new)
 
-kept_counted : (most : ℕ) (left : PortLeavings) (meters : List Seen) → All (IsNewMeter most) meters
-    → All (IsFlowCounted left) (flat_map flow_records_of (meters_after left meters))
+kept_counted : (most : ℕ) (left : PortLeavings) (meters : List Seen) → All (IsNewFlowMeter most) meters
+    → All (IsFlowCounted left) (flat_map meter_flow_records_of (meters_after left meters))
 unfolding meters_after
 kept_counted most left [] new = All-nil (IsFlowCounted left)
 kept_counted most left (meter ∷ meters) new =
-    let over = is_ended_within (leavings_of meter.port left) meter in
-    subst (λ (all : List Seen). All (IsFlowCounted left) (flat_map flow_records_of all))
+    let over = is_meter_ended_within (meter_port_leavings meter.port left) meter in
+    subst (λ (all : List Seen). All (IsFlowCounted left) (flat_map meter_flow_records_of all))
     (sym (kept-append left (meter ∷ []) meters))
-    (subst (All (IsFlowCounted left)) (sym (flat_map-append flow_records_of
+    (subst (All (IsFlowCounted left)) (sym (flat_map-append meter_flow_records_of
     (meters_after left (meter ∷ [])) (meters_after left meters))) (All-append (IsFlowCounted left) _ _
-    (subst (λ (all : List Seen). All (IsFlowCounted left) (flat_map flow_records_of all)) (sym (kept-one
-    left meter)) (one_counted most left meter over (All-head (IsNewMeter most) meter meters new)))
-    (kept_counted most left meters (All-tail (IsNewMeter most) meter meters new))))
+    (subst (λ (all : List Seen). All (IsFlowCounted left) (flat_map meter_flow_records_of all)) (sym (kept-one
+    left meter)) (one_counted most left meter over (All-head (IsNewFlowMeter most) meter meters new)))
+    (kept_counted most left meters (All-tail (IsNewFlowMeter most) meter meters new))))
 
 -- ---- where none leaves
 
@@ -71,31 +71,31 @@ few_after : (left : PortLeavings) (meters : List Seen)
     → length (meters_after left meters) ≤ length meters
 unfolding meters_after
 few_after left meters =
-    let test = λ (meter : Seen). not (is_ended_within (leavings_of meter.port left) meter) in
+    let test = λ (meter : Seen). not (is_meter_ended_within (meter_port_leavings meter.port left) meter) in
     omega (
       arith,
-      length-map (filter test meters) (λ (m : Seen). meter_with (leavings_of m.port left) m),
+      length-map (filter test meters) (λ (m : Seen). meter_with_leavings (meter_port_leavings m.port left) m),
       length-filter test meters,
       count_by-le-length test meters,
     )
 
 over_is : (one : ℕ × Leaving) (meter : Seen) (here : Bool)
-    → (here && has_ended (meter_with (one.1 ∷ []) meter))
-    ≡ is_ended_within (map (λ (o : ℕ × Leaving). o.1) (cond here (one ∷ []) [])) meter
+    → (here && has_ended (meter_with_leavings (one.1 ∷ []) meter))
+    ≡ is_meter_ended_within (map (λ (o : ℕ × Leaving). o.1) (cond here (one ∷ []) [])) meter
 over_is one meter false = refl
-over_is one meter true = sym (or_false (has_ended (meter_with (one.1 ∷ []) meter))) where
+over_is one meter true = sym (or_false (has_ended (meter_with_leavings (one.1 ∷ []) meter))) where
   or_false : (b : Bool) → (b || false) ≡ b
   or_false true = refl
   or_false false = refl
 
 module _ (one : ℕ × Leaving) where
   silent : (meter : Seen) (meters : List Seen) (leaves : Bool) → meter_leaves_with one meter ≡ leaves
-      → length (cond leaves [] (meter_with (leavings_of meter.port (one ∷ [])) meter ∷ [])
+      → length (cond leaves [] (meter_with_leavings (meter_port_leavings meter.port (one ∷ [])) meter ∷ [])
       ++ meters_after (one ∷ []) meters) ≡ suc (length meters)
       → (leaving_records one meter ≡ []) × (length (meters_after (one ∷ []) meters) ≡ length meters)
   silent meter meters true is long = absurd (omega (arith, few_after))
   silent meter meters false is long = (
-    ap (λ leaves. cond leaves (flow_records_of (meter_with (one.1 ∷ []) meter)) []) is,
+    ap (λ leaves. cond leaves (meter_flow_records_of (meter_with_leavings (one.1 ∷ []) meter)) []) is,
     omega (arith, long),
   )
 
@@ -106,7 +106,7 @@ module _ (one : ℕ × Leaving) where
       let now = silent meter meters (meter_leaves_with one meter) refl
       (ap length (sym (kept-append (one ∷ []) (meter ∷ []) meters
       ∙ ap (λ some. some ++ meters_after (one ∷ []) meters) (kept-one (one ∷ []) meter
-      ∙ (ap (λ over. cond over [] (meter_with (leavings_of meter.port (one ∷ [])) meter ∷ []))
+      ∙ (ap (λ over. cond over [] (meter_with_leavings (meter_port_leavings meter.port (one ∷ [])) meter ∷ []))
       (sym (over_is one meter (one.0 == meter.port))))))) ∙ long) in
       ap (λ told. told ++ flat_map (leaving_records one) meters) now.0 ∙ none_told meters now.1
 
@@ -127,14 +127,14 @@ module _ (most ports : ℕ) (left : PortLeavings) (meters : List Seen) where
   abbrev own : List Seen
   own = filter (λ meter. has ports meter.port) meters
 
-  stayed : All (IsNewMeter most) meters
-      → All (IsFlowCounted left) (flat_map flow_records_of (kept_meters ports left meters))
+  stayed : All (IsNewFlowMeter most) meters
+      → All (IsFlowCounted left) (flat_map meter_flow_records_of (kept_meters ports left meters))
   stayed new = kept_counted most left own
-      (All-filter (λ meter. has ports meter.port) (IsNewMeter most) meters new)
+      (All-filter (λ meter. has ports meter.port) (IsNewFlowMeter most) meters new)
 
-  counted : All (IsNewMeter most) meters → NoFlowMeterLeaves ports left meters → All (IsFlowCounted left)
-      (gone_records ports left meters ++ flat_map flow_records_of (kept_meters ports left meters))
+  counted : All (IsNewFlowMeter most) meters → NoFlowMeterLeaves ports left meters → All (IsFlowCounted left)
+      (gone_records ports left meters ++ flat_map meter_flow_records_of (kept_meters ports left meters))
   counted new none = rw (none_gone left own (none ∙ ap length (kept-nothing own))) (stayed new)
 
-pub laws_hold : FlowLaws
+pub laws_hold : FlowMeterLaws
 laws_hold = record { stayed = stayed; counted = counted }

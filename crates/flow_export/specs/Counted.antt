@@ -2,12 +2,12 @@
 use Rattle.std.specs.Prelude.{[], ◌&&◌, ◌++◌, ◌==◌, ◌≡◌, All, List, count_by, flat_map, length, ℕ}
 use Rattle.five_tuple.specs.Exports.{header_eq}
 use Rattle.five_tuple.specs.declared.header.Header.{Header}
-use Rattle.meters.specs.Exports.{PortLeavings, Seen, flow_records_of, gone_records, kept_meters}
+use Rattle.meters.specs.Exports.{PortLeavings, Seen, meter_flow_records_of, gone_records, kept_meters}
 use Rattle.meters.specs.declared.flows.FlowRecord.{FlowRecord}
 use Rattle.flow_export.specs.Flows.{IsFlowMeter}
 
 -- an empty flow meter that is complete with this many headers
-pub record IsNewMeter (most : ℕ) (meter : Seen) : Type 0 where
+pub record IsNewFlowMeter (most : ℕ) (meter : Seen) : Type 0 where
   pub kind : IsFlowMeter meter.port most meter
   pub empty : meter.held ≡ []
 
@@ -25,10 +25,10 @@ NoFlowMeterLeaves ports left meters =
     length (kept_meters ports left meters) ≡ length (kept_meters ports [] meters)
 
 -- each record of a meter that stays counts all these packets; if none leaves, each record does
-pub record FlowLaws : Type 0 where
+pub record FlowMeterLaws : Type 0 where
   pub stayed : (most ports : ℕ) (left : PortLeavings) (meters : List Seen)
-      → All (IsNewMeter most) meters
-      → All (IsFlowCounted left) (flat_map flow_records_of (kept_meters ports left meters))
+      → All (IsNewFlowMeter most) meters
+      → All (IsFlowCounted left) (flat_map meter_flow_records_of (kept_meters ports left meters))
   pub counted : (most ports : ℕ) (left : PortLeavings) (meters : List Seen)
-      → All (IsNewMeter most) meters → NoFlowMeterLeaves ports left meters → All (IsFlowCounted left)
-      (gone_records ports left meters ++ flat_map flow_records_of (kept_meters ports left meters))
+      → All (IsNewFlowMeter most) meters → NoFlowMeterLeaves ports left meters → All (IsFlowCounted left)
+      (gone_records ports left meters ++ flat_map meter_flow_records_of (kept_meters ports left meters))

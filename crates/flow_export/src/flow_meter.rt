@@ -23,13 +23,13 @@ pub struct FlowMeter {
 impl Model for FlowMeter {
     ghost use Rattle.std.specs.Prelude.{◌≡◌};
     ghost use Rattle.flow_export.specs.Flows.{FlowMeterValue};
-    ghost use Rattle.flow_export.specs.Counts.{packet_counts};
+    ghost use Rattle.flow_export.specs.Counts.{flow_packet_counts};
 
     ghost Value = { FlowMeterValue };
 
     ghost view = { λ m. record { port = m.port; held = m.held.items; most = m.most } };
 
-    ghost invariant = { λ m. m.counts.entries ≡ packet_counts m.held.items };
+    ghost invariant = { λ m. m.counts.entries ≡ flow_packet_counts m.held.items };
 }
 
 impl FlowMeter {

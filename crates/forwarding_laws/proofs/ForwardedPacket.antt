@@ -3,16 +3,16 @@
 use Rattle.std.proofs.Common.{[], ◌++◌, ◌+◌, ◌-◌, ◌<◌, ◌==◌, ◌∙◌, ◌∷◌, ◌≡◌, ◌≤◌, ◌⊎◌, Contains, IsTrue, List, None, Option, Some, ap, append_assoc, arith, eq-eqb, false, find, inl, inr, length, option_map, refl, subst, sym, take, true, ℕ}
 use Rattle.base.proofs.Exports.{All-contains, find_none, get_or-range_with_len, length-range_with_len, range_with_len}
 use Rattle.five_tuple.specs.Exports.{IsHeader}
-use Rattle.update_machine.specs.Exports.{AreAllEventSteps, Decision, HaveCauses, Header, Hop, IsQuiet, IsSetting, Item, Packet, Row, Setting, Step, StepOfRow, journal_after_steps, count_of, decision_of, gives_header, header_in, is_packet, is_up, journal_items_then, lookup_items, next_hop, next_packet, next_travelling, packet_items, packets_in, piece, policy_at, serves, switches_of, travels, version_count}
+use Rattle.update_machine.specs.Exports.{AreAllMachineEventSteps, Decision, JournalItemsHaveCauses, Header, Hop, IsMachineQuiet, IsSetting, Item, Packet, Row, Setting, Step, StepOfRow, journal_after_steps, count_of, journal_decision_of, item_gives_header, journal_packet_header, is_packet, is_up, journal_items_then, lookup_items, journal_next_hop, journal_next_packet, next_travelling, packet_items, journal_packets, piece, policy_at, serves, switches_of, travels, journal_version_count}
 use Rattle.policy_rules.specs.Exports.{IsFirstMatch, scan}
-use Rattle.policy_rules.proofs.CallerLemmas.{first_match-scan}
+use Rattle.policy_rules.proofs.PolicyRulesCallerLemmas.{first_match-scan}
 use Rattle.steps.specs.Exports.{HasSwitch}
 use Rattle.update_machine.proofs.Exports.{count_of_append, last_given_append, switch_keeps}
 use Rattle.convergence_laws.proofs.Exports.{Behind, Both, HoldsAtEnds, NamesOwn, fact_on, have_both, have_rest, moves, stays_itself, stays_on}
-use Rattle.convergence_laws.specs.Exports.{GetStuckApart, HasConverged, IsNetworkUpdated}
-use Rattle.packet_laws.specs.Exports.{AllKept, HoldsBetween, IsUnknownPacket, StrongCause, hit_in, packet_steps_played, what_is_known}
+use Rattle.convergence_laws.specs.Exports.{GetStuckApart, HasConverged, HasConvergedOnVersion}
+use Rattle.packet_laws.specs.Exports.{AllPacketFactsKept, HoldsBetween, IsUnknownPacket, StrongCause, hit_in, packet_steps_played, packet_facts_of}
 use Rattle.packet_laws.proofs.Exports.{IsSettled, IsWayItem, Past, all_kept, all_right, between, decision_out, found_in, kept_before, numbered, packet_more, piece_settled, standing_more, strongly_caused, travels_more, ways_of_all}
-use Rattle.forwarding_laws.specs.Exports.{FindsNoTarget, HasComeToRest, IsForwarded, QuietForwards}
+use Rattle.forwarding_laws.specs.Exports.{ForwardingFindsNoTarget, HasForwardingComeToRest, IsForwardedByNewest, QuietForwards}
 use Rattle.forwarding_laws.proofs.ForwardingFollowed.{Fate, Follows, IsEnded, IsFollowed, follows_on, mark_more, step_more, undecided_by}
 use Rattle.forwarding_laws.proofs.RecoverySecondRounds.{MarksStay, Passes, hop_passes, marks_stay, packet_passes}
 use Rattle.net_file.specs.Exports.{IsNet}
@@ -22,13 +22,13 @@ use Rattle.net_file.specs.Exports.{IsNet}
 module _ (setting : Setting) (is : IsSetting setting) where
   -- the last items of a settled journal are followed, if they are those of packets
   are_followed : (before items : List Item) → IsSettled setting (before ++ items)
-      → HaveCauses (Passes setting) before items
-      → HaveCauses (IsFollowed setting) before items
+      → JournalItemsHaveCauses (Passes setting) before items
+      → JournalItemsHaveCauses (IsFollowed setting) before items
   are_followed before items settled passes = have_both (Passes setting)
-      (Both (Behind (Past (IsWayItem setting)) (AllKept setting)) (StrongCause setting)) before
+      (Both (Behind (Past (IsWayItem setting)) (AllPacketFactsKept setting)) (StrongCause setting)) before
       items passes
-      (have_both (Behind (Past (IsWayItem setting)) (AllKept setting)) (StrongCause setting) before
-      items (have_rest (Behind (Past (IsWayItem setting)) (AllKept setting)) [] before items
+      (have_both (Behind (Past (IsWayItem setting)) (AllPacketFactsKept setting)) (StrongCause setting) before
+      items (have_rest (Behind (Past (IsWayItem setting)) (AllPacketFactsKept setting)) [] before items
       (kept_before setting (before ++ items) is settled.causes)) (have_rest (StrongCause setting) []
       before items (strongly_caused setting (before ++ items) is settled.causes)))
 
@@ -46,26 +46,26 @@ unmapped None none = refl
 unmapped (Some k) none = absurd cc
 
 -- behind all hops of a drain no packet travels
-none_travels : (now : List Item) (i : ℕ) → next_hop now ≡ None → 1 ≤ i → i < next_packet now
+none_travels : (now : List Item) (i : ℕ) → journal_next_hop now ≡ None → 1 ≤ i → i < journal_next_packet now
     → travels now i ≡ false
-unfolding next_packet next_travelling
-none_travels now i none above below = All-contains (λ k. travels now k ≡ false) (packets_in now) i
-    (find_none (travels now) (packets_in now) (unmapped (find (travels now) (packets_in now)) none))
+unfolding journal_next_packet next_travelling
+none_travels now i none above below = All-contains (λ k. travels now k ≡ false) (journal_packets now) i
+    (find_none (travels now) (journal_packets now) (unmapped (find (travels now) (journal_packets now)) none))
     (in_range 1 (count_of is_packet now) i above (omega (arith, below)))
 
 header_by : (before : List Item) (next : Item) (i : ℕ) (header : Header)
-    → gives_header i next ≡ Some header → header_in (before ++ next ∷ []) i ≡ Some header
-unfolding header_in
+    → item_gives_header i next ≡ Some header → journal_packet_header (before ++ next ∷ []) i ≡ Some header
+unfolding journal_packet_header
 header_by before next i header gives =
-    cc (last_given_append (gives_header i) before (next ∷ []), gives)
+    cc (last_given_append (item_gives_header i) before (next ∷ []), gives)
 
 number_more : (before : List Item) (i s : ℕ) (header : Header)
-    → next_packet (before ++ Item.Entered i s header ∷ []) ≡ next_packet before + 1
-unfolding next_packet
+    → journal_next_packet (before ++ Item.Entered i s header ∷ []) ≡ journal_next_packet before + 1
+unfolding journal_next_packet
 number_more before i s header =
     rw (count_of_append is_packet before (Item.Entered i s header ∷ [])) (omega arith)
 
-serves_there : (setting : Setting) (journal : List Item) (s : ℕ) → IsNetworkUpdated setting journal
+serves_there : (setting : Setting) (journal : List Item) (s : ℕ) → HasConvergedOnVersion setting journal
     → HasSwitch setting.net s → IsTrue (is_up journal s) → IsTrue (serves journal s)
 serves_there setting journal s updated there up =
     All-contains (λ k. IsTrue (is_up journal k) → IsTrue (serves journal k)) (switches_of setting) s
@@ -75,7 +75,7 @@ serves_there setting journal s updated there up =
 
 module _ (setting : Setting) (journal : List Item) (row s : ℕ) (header : Header) where
   abbrev i : ℕ
-  i = next_packet journal
+  i = journal_next_packet journal
 
   abbrev coming : Item
   coming = Item.Row row (Packet s header)
@@ -106,7 +106,7 @@ module _ (setting : Setting) (journal : List Item) (row s : ℕ) (header : Heade
 
   started : IsSetting setting → IsSettled setting journal → Follows setting journal s i header begun
   started is settled =
-      let new : IsUnknownPacket (what_is_known journal i) =
+      let new : IsUnknownPacket (packet_facts_of journal i) =
       (all_kept setting journal is settled.causes).unknown i (omega arith) in record {
         stays = stays_on setting journal is.net i here entering tt (stays_on setting journal is.net
             i journal coming tt (stays_itself setting journal i (found_in journal i ∙ new.found)));
@@ -122,7 +122,7 @@ module _ (setting : Setting) (journal : List Item) (row s : ℕ) (header : Heade
             sym (standing_more here entering i ∙ rw own refl) ∙ stands in
             let at_once : s ≡ t = cc in record { rest = []; leads = at_once };
         version = λ decision decided.
-            let none : decision_of journal i ≡ None = decision_out journal i None new.decision in
+            let none : journal_decision_of journal i ≡ None = decision_out journal i None new.decision in
             let same : None ≡ Some decision =
             sym (undecided_by here entering i refl ∙ undecided_by journal coming i refl ∙ none)
             ∙ decided in
@@ -146,7 +146,7 @@ module _ (setting : Setting) (journal : List Item) (row s : ℕ) (header : Heade
       ∙ append_assoc journal (coming ∷ []) (entering ∷ lookups)
 
   -- behind its step
-  followed_in : IsSetting setting → HasConverged setting journal → IsNetworkUpdated setting journal
+  followed_in : IsSetting setting → HasConverged setting journal → HasConvergedOnVersion setting journal
       → IsSettled setting journal → HasSwitch setting.net s → IsHeader header
       → IsTrue (is_up journal s)
       → Follows setting journal s i header (journal ++ piece setting journal row (Packet s header))
@@ -175,12 +175,12 @@ record IsDrained (setting : Setting) (journal : List Item) (s i : ℕ) (header :
     (after : List Item) : Type 0 where
   follows : Follows setting journal s i header after
   settled : IsSettled setting after
-  none : next_hop after ≡ None
+  none : journal_next_hop after ≡ None
 
 drained : (setting : Setting) (journal : List Item) (s i : ℕ) (header : Header) (later : ℕ)
     (before : List Item) (hops : List StepOfRow) → IsSetting setting
-    → HasConverged setting journal → IsNetworkUpdated setting journal
-    → AreAllEventSteps setting next_hop later before hops → IsSettled setting before
+    → HasConverged setting journal → HasConvergedOnVersion setting journal
+    → AreAllMachineEventSteps setting journal_next_hop later before hops → IsSettled setting before
     → Follows setting journal s i header before
     → IsDrained setting journal s i header (journal_after_steps setting before hops)
 drained setting journal s i header later before [] is converged updated none settled follows =
@@ -201,13 +201,13 @@ drained setting journal s i header later before (first ∷ hops) is converged up
 
 ended_so : (setting : Setting) (journal : List Item) (s i : ℕ) (header : Header)
     (after : List Item) → IsSetting setting → IsDrained setting journal s i header after
-    → IsForwarded setting journal after i s header ⊎ FindsNoTarget setting journal after i s header
+    → IsForwardedByNewest setting journal after i s header ⊎ ForwardingFindsNoTarget setting journal after i s header
 ended_so setting journal s i header after is drained = by drained.follows.fate where
-  forwarded : IsEnded setting journal s i after → IsForwarded setting journal after i s header
+  forwarded : IsEnded setting journal s i after → IsForwardedByNewest setting journal after i s header
   forwarded ended =
       let decision : Decision = ended.decision in
       let newest = drained.follows.version decision ended.decided in
-      let rows : List Row = policy_at setting journal (version_count journal) in
+      let rows : List Row = policy_at setting journal (journal_version_count journal) in
       let first : scan rows header ≡ hit_in decision =
       ap (λ v. scan (policy_at setting journal v) header) (sym newest)
       ∙ ap (λ these. scan these header) (sym (drained.follows.marks.policy decision.version))
@@ -226,20 +226,20 @@ ended_so setting journal s i header after is drained = by drained.follows.fate w
         ends = ended.ends;
       }
 
-  by : Fate setting journal s i header after → IsForwarded setting journal after i s header
-      ⊎ FindsNoTarget setting journal after i s header
+  by : Fate setting journal s i header after → IsForwardedByNewest setting journal after i s header
+      ⊎ ForwardingFindsNoTarget setting journal after i s header
   by (inl on) =
       let own = numbered setting after (ways_of_all setting [] after drained.settled.causes) i on in
       absurd (cc (none_travels after i drained.none own.0 own.1))
   by (inr ended) = elim ended.how [ inl decided ↦ inl (forwarded decided) | inr finds ↦ inr finds ]
 
 pub forwards : (setting : Setting) (journal : List Item) → IsSetting setting
-    → IsSettled setting journal → HasConverged setting journal → IsNetworkUpdated setting journal
+    → IsSettled setting journal → HasConverged setting journal → HasConvergedOnVersion setting journal
     → QuietForwards setting journal
 forwards setting journal is settled converged updated row later s header hops there sound up all =
     let entered : List Item = journal ++ piece setting journal row (Packet s header) in
-    ended_so setting journal s (next_packet journal) header (journal_after_steps setting entered hops) is
-    (drained setting journal s (next_packet journal) header later entered hops is converged updated
+    ended_so setting journal s (journal_next_packet journal) header (journal_after_steps setting entered hops) is
+    (drained setting journal s (journal_next_packet journal) header later entered hops is converged updated
     all (piece_settled setting journal row (Packet s header) is (there, sound) settled)
     (followed_in setting journal row s header is converged updated settled there sound up))
 
@@ -277,30 +277,30 @@ both_between One Other Holds follow one other = record {
 
 abbrev ForwardsBy : Setting → List Item → Type 0
 ForwardsBy setting journal = IsSetting setting → HasConverged setting journal
-    → IsNetworkUpdated setting journal → QuietForwards setting journal
+    → HasConvergedOnVersion setting journal → QuietForwards setting journal
 
 pub converged_forward : HoldsBetween ForwardsBy
 converged_forward = between (λ setting journal. HasConverged setting journal
-    → IsNetworkUpdated setting journal → QuietForwards setting journal) (λ setting journal is settled
+    → HasConvergedOnVersion setting journal → QuietForwards setting journal) (λ setting journal is settled
     converged updated. forwards setting journal is settled converged updated)
 
 -- ---- quiet journals
 
 abbrev Converges : Setting → List Item → Type 0
 Converges setting journal =
-    IsNet setting.net → IsQuiet setting journal → HasConverged setting journal
+    IsNet setting.net → IsMachineQuiet setting journal → HasConverged setting journal
 
 abbrev Updates : Setting → List Item → Type 0
-Updates setting journal = IsQuiet setting journal → IsNetworkUpdated setting journal
+Updates setting journal = IsMachineQuiet setting journal → HasConvergedOnVersion setting journal
 
 abbrev Parts : Setting → List Item → Type 0
-Parts setting journal = IsNet setting.net → IsQuiet setting journal → GetStuckApart setting journal
+Parts setting journal = IsNet setting.net → IsMachineQuiet setting journal → GetStuckApart setting journal
 
 abbrev Forwards : Setting → List Item → Type 0
-Forwards setting journal = IsSetting setting → IsQuiet setting journal → QuietForwards setting journal
+Forwards setting journal = IsSetting setting → IsMachineQuiet setting journal → QuietForwards setting journal
 
 abbrev Rests : Setting → List Item → Type 0
-Rests setting journal = IsSetting setting → IsQuiet setting journal → HasComeToRest setting journal
+Rests setting journal = IsSetting setting → IsMachineQuiet setting journal → HasForwardingComeToRest setting journal
 
 abbrev Known : Setting → List Item → Type 0
 Known setting journal = Converges setting journal × Updates setting journal

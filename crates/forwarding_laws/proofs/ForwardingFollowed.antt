@@ -2,48 +2,48 @@
 use Rattle.std.proofs.Common.{[], if◌then◌else◌, ◌++◌, ◌<◌, ◌==◌, ◌∙◌, ◌∷◌, ◌≡◌, ◌⊎◌, All, Bool, IsFalse, IsTrue, List, None, Some, ap, arith, eq-eqb, eqb-true, false, find, inl, inr, ne_eqb, option_map, refl, subst, sym, true, unwrap_or, ℕ}
 use Rattle.base.proofs.Exports.{Contains-append_left, Contains-push, option_or, some_same}
 use Rattle.base.specs.Exports.{has}
-use Rattle.update_machine.specs.Exports.{Action, Cause, Crash, Decision, Exit, Header, IsSetting, Item, Leaving, Leg, Lose, Seek, Setting, Step, decision_of, gives_decision, gives_header, gives_standing, gives_step, gives_travelling, header_in, next_packet, plan_at, present_step, retired_mark, route_from, standing, targets_of, travels, version_count}
+use Rattle.update_machine.specs.Exports.{Action, Cause, Crash, Decision, Exit, Header, IsSetting, Item, Leaving, Leg, Lose, Seek, Setting, Step, journal_decision_of, item_gives_decision, item_gives_header, item_gives_standing, item_gives_step, item_gives_travelling, journal_packet_header, journal_next_packet, journal_plan_at, journal_present_step, journal_retired_mark, journal_route_from, standing, targets_of, travels, journal_version_count}
 use Rattle.net_file.specs.Exports.{IsNet}
-use Rattle.policy_rules.specs.Exports.{Hosted, is_in}
+use Rattle.policy_rules.specs.Exports.{Hosted, is_in_policy_partition}
 use Rattle.update_machine.proofs.Exports.{folded_append, last_given_append}
 use Rattle.convergence_laws.proofs.Exports.{AreKept, Behind, Both, StaysSo, moves, reach_more, stays_on}
-use Rattle.convergence_laws.specs.Exports.{AreUnusableLinks, HasConverged, IsNetworkUpdated, Reaches}
-use Rattle.packet_laws.specs.Exports.{AllKept, FurtherCause, PacketCause, PacketSeeksRightly, StrongCause, changes_packet_mark, entry_mark}
+use Rattle.convergence_laws.specs.Exports.{AreUnusableLinks, HasConverged, HasConvergedOnVersion, Reaches}
+use Rattle.packet_laws.specs.Exports.{AllPacketFactsKept, FurtherCause, HasPacketItemCause, PacketSeeksRightly, StrongCause, changes_packet_entry_mark, entry_mark}
 use Rattle.packet_laws.proofs.Exports.{Before, IsWayItem, Past, here_known, known_before, knows, packet_more, standing_more, stands_known, travels_more}
-use Rattle.forwarding_laws.specs.Exports.{ForwardedEndsBy, FindsNoTarget, IsStuckApart}
+use Rattle.forwarding_laws.specs.Exports.{ForwardedEndsBy, ForwardingFindsNoTarget, IsStuckApart}
 use Rattle.forwarding_laws.proofs.RecoverySecondRounds.{MarksStay, Passes, apart_from, marks_stay, passes_walks}
 
 -- ---- what one more item says about it
 
 -- an item that doesn't decide it
-pub undecided_by : (before : List Item) (next : Item) (i : ℕ) → gives_decision i next ≡ None
-    → decision_of (before ++ next ∷ []) i ≡ decision_of before i
-unfolding decision_of
+pub undecided_by : (before : List Item) (next : Item) (i : ℕ) → item_gives_decision i next ≡ None
+    → journal_decision_of (before ++ next ∷ []) i ≡ journal_decision_of before i
+unfolding journal_decision_of
 undecided_by before next i decides =
-    cc (last_given_append (gives_decision i) before (next ∷ []), decides)
+    cc (last_given_append (item_gives_decision i) before (next ∷ []), decides)
 
 pub step_more : (before : List Item) (next : Item)
-    → present_step (before ++ next ∷ []) ≡ option_or (gives_step next) (present_step before)
-unfolding present_step
-step_more before next = last_given_append gives_step before (next ∷ [])
+    → journal_present_step (before ++ next ∷ []) ≡ option_or (item_gives_step next) (journal_present_step before)
+unfolding journal_present_step
+step_more before next = last_given_append item_gives_step before (next ∷ [])
 
 pub mark_more : (before : List Item) (next : Item) (i : ℕ)
-    → entry_mark (before ++ next ∷ []) i ≡ changes_packet_mark i before (entry_mark before i) next
+    → entry_mark (before ++ next ∷ []) i ≡ changes_packet_entry_mark i before (entry_mark before i) next
 unfolding entry_mark
-mark_more before next i = folded_append (changes_packet_mark i) 0 before (next ∷ [])
+mark_more before next i = folded_append (changes_packet_entry_mark i) 0 before (next ∷ [])
 
 -- ---- what is true of it
 
 -- the packet was decided and ended by that
 pub record IsEnded (setting : Setting) (journal : List Item) (s i : ℕ) (now : List Item) : Type 0 where
   pub decision : Decision
-  pub decided : decision_of now i ≡ Some decision
+  pub decided : journal_decision_of now i ≡ Some decision
   pub ends : ForwardedEndsBy setting journal now i s decision.action
 
 pub record HasEnded (setting : Setting) (journal : List Item) (s i : ℕ) (header : Header)
     (now : List Item) : Type 0 where
   pub ended : IsFalse (travels now i)
-  pub how : IsEnded setting journal s i now ⊎ FindsNoTarget setting journal now i s header
+  pub how : IsEnded setting journal s i now ⊎ ForwardingFindsNoTarget setting journal now i s header
 
 abbrev pub Fate : Setting → List Item → ℕ → ℕ → Header → List Item → Type 0
 Fate setting journal s i header now =
@@ -53,19 +53,19 @@ pub record Follows (setting : Setting) (journal : List Item) (s i : ℕ) (header
     (now : List Item) : Type 0 where
   pub stays : StaysSo setting journal now i
   pub marks : MarksStay setting journal now
-  pub step : (step : Step) → present_step now ≡ Some step → IsTrue (moves step)
-  pub number : i < next_packet now
-  pub entered : header_in now i ≡ Some header
-  pub mark : entry_mark now i ≡ retired_mark journal
+  pub step : (step : Step) → journal_present_step now ≡ Some step → IsTrue (moves step)
+  pub number : i < journal_next_packet now
+  pub entered : journal_packet_header now i ≡ Some header
+  pub mark : entry_mark now i ≡ journal_retired_mark journal
   pub at : (t : ℕ) → standing now i ≡ Some t → Reaches setting journal s t
-  pub version : (decision : Decision) → decision_of now i ≡ Some decision
-      → decision.version ≡ version_count journal
+  pub version : (decision : Decision) → journal_decision_of now i ≡ Some decision
+      → decision.version ≡ journal_version_count journal
   pub fate : Fate setting journal s i header now
 
 -- an item of packets, with its causes behind a journal of which all is known
 abbrev pub IsFollowed : Setting → List Item → Item → Type 0
 IsFollowed setting = Both (Passes setting)
-    (Both (Behind (Past (IsWayItem setting)) (AllKept setting)) (StrongCause setting))
+    (Both (Behind (Past (IsWayItem setting)) (AllPacketFactsKept setting)) (StrongCause setting))
 
 -- ---- another packet enters
 
@@ -74,44 +74,44 @@ comes_other packet i next number below = ne_eqb packet i (λ same. omega (arith,
 
 module _ (setting : Setting) (journal : List Item) (s i : ℕ) (header : Header)
     (before : List Item) (follows : Follows setting journal s i header before) where
-  header_on : (next : Item) → PacketCause setting before next
-      → header_in (before ++ next ∷ []) i ≡ Some header
-  unfolding header_in
-  header_on next way = last_given_append (gives_header i) before (next ∷ []) ∙ by next way where
-    by : (next : Item) → PacketCause setting before next
-        → option_or (gives_header i next) (header_in before i) ≡ Some header
+  header_on : (next : Item) → HasPacketItemCause setting before next
+      → journal_packet_header (before ++ next ∷ []) i ≡ Some header
+  unfolding journal_packet_header
+  header_on next way = last_given_append (item_gives_header i) before (next ∷ []) ∙ by next way where
+    by : (next : Item) → HasPacketItemCause setting before next
+        → option_or (item_gives_header i next) (journal_packet_header before i) ≡ Some header
     by (Item.Entered packet t other) way = cc
-        (comes_other packet i (next_packet before) way.0.number follows.number, follows.entered)
+        (comes_other packet i (journal_next_packet before) way.0.number follows.number, follows.entered)
     by next way = follows.entered
 
-  mark_on : (next : Item) → PacketCause setting before next
-      → entry_mark (before ++ next ∷ []) i ≡ retired_mark journal
+  mark_on : (next : Item) → HasPacketItemCause setting before next
+      → entry_mark (before ++ next ∷ []) i ≡ journal_retired_mark journal
   mark_on next way = mark_more before next i ∙ by next way where
-    by : (next : Item) → PacketCause setting before next
-        → changes_packet_mark i before (entry_mark before i) next ≡ retired_mark journal
+    by : (next : Item) → HasPacketItemCause setting before next
+        → changes_packet_entry_mark i before (entry_mark before i) next ≡ journal_retired_mark journal
     by (Item.Entered packet t other) way =
-        cc (comes_other packet i (next_packet before) way.0.number follows.number, follows.mark)
+        cc (comes_other packet i (journal_next_packet before) way.0.number follows.number, follows.mark)
     by next way = follows.mark
 
   step_on : (next : Item) → Passes setting before next → (step : Step)
-      → present_step (before ++ next ∷ []) ≡ Some step → IsTrue (moves step)
+      → journal_present_step (before ++ next ∷ []) ≡ Some step → IsTrue (moves step)
   step_on next passes step present = by next passes (sym (step_more before next) ∙ present) where
     by : (next : Item) → Passes setting before next
-        → option_or (gives_step next) (present_step before) ≡ Some step → IsTrue (moves step)
+        → option_or (item_gives_step next) (journal_present_step before) ≡ Some step → IsTrue (moves step)
     by (Item.Row row taken) passes is = subst (λ x. IsTrue (moves x)) (cc is) passes
     by next passes is = follows.step step is
 
   -- ---- where it is
 
-  at_on : Before setting before → (next : Item) → PacketCause setting before next → (t : ℕ)
+  at_on : Before setting before → (next : Item) → HasPacketItemCause setting before next → (t : ℕ)
       → standing (before ++ next ∷ []) i ≡ Some t → Reaches setting journal s t
   at_on known next way t stands = by next way (sym (standing_more before next i) ∙ stands) where
-    by : (next : Item) → PacketCause setting before next
-        → option_or (gives_standing i next) (standing before i) ≡ Some t
+    by : (next : Item) → HasPacketItemCause setting before next
+        → option_or (item_gives_standing i next) (standing before i) ≡ Some t
         → Reaches setting journal s t
     by (Item.Entered packet u other) way is = follows.at t
         (sym (ap (λ b. option_or (if b then Some u else None) (standing before i))
-        (comes_other packet i (next_packet before) way.0.number follows.number)) ∙ is)
+        (comes_other packet i (journal_next_packet before) way.0.number follows.number)) ∙ is)
     by (Item.Hopped packet u) way is = by_name (packet == i) refl is where
       by_name : (b : Bool) → (packet == i) ≡ b
           → option_or (if b then Some u else None) (standing before i) ≡ Some t
@@ -128,8 +128,8 @@ module _ (setting : Setting) (journal : List Item) (s i : ℕ) (header : Header)
 
   -- ---- its version
 
-  newest : IsNetworkUpdated setting journal → (version : ℕ) → PacketSeeksRightly before i version
-      → version ≡ version_count journal
+  newest : HasConvergedOnVersion setting journal → (version : ℕ) → PacketSeeksRightly before i version
+      → version ≡ journal_version_count journal
   newest updated version rightly = omega (
     arith,
     rightly.not_retired,
@@ -140,23 +140,23 @@ module _ (setting : Setting) (journal : List Item) (s i : ℕ) (header : Header)
     updated.retired,
   )
 
-  version_on : IsNetworkUpdated setting journal → (next : Item) → FurtherCause setting before next
-      → (decision : Decision) → decision_of (before ++ next ∷ []) i ≡ Some decision
-      → decision.version ≡ version_count journal
-  unfolding decision_of
+  version_on : HasConvergedOnVersion setting journal → (next : Item) → FurtherCause setting before next
+      → (decision : Decision) → journal_decision_of (before ++ next ∷ []) i ≡ Some decision
+      → decision.version ≡ journal_version_count journal
+  unfolding journal_decision_of
   version_on updated next further decision decided =
-      by next further (sym (last_given_append (gives_decision i) before (next ∷ [])) ∙ decided)
+      by next further (sym (last_given_append (item_gives_decision i) before (next ∷ [])) ∙ decided)
     where
       by : (next : Item) → FurtherCause setting before next
-          → option_or (gives_decision i next) (decision_of before i) ≡ Some decision
-          → decision.version ≡ version_count journal
+          → option_or (item_gives_decision i next) (journal_decision_of before i) ≡ Some decision
+          → decision.version ≡ journal_version_count journal
       by (Item.Decided packet version rule act how) further is = by_name (packet == i) refl is where
         new : Decision
         new = record { version = version; rule = rule; action = act }
 
         by_name : (b : Bool) → (packet == i) ≡ b
-            → option_or (if b then Some new else None) (decision_of before i) ≡ Some decision
-            → decision.version ≡ version_count journal
+            → option_or (if b then Some new else None) (journal_decision_of before i) ≡ Some decision
+            → decision.version ≡ journal_version_count journal
         by_name false other is = follows.version decision is
         by_name true same is = let made : new ≡ decision = cc is in
             sym (ap (λ (d : Decision). d.version) made)
@@ -167,7 +167,7 @@ module _ (setting : Setting) (journal : List Item) (s i : ℕ) (header : Header)
 
   -- what an item leaves that doesn't decide or end it
   fate_on : (next : Item) → travels (before ++ next ∷ []) i ≡ travels before i
-      → decision_of (before ++ next ∷ []) i ≡ decision_of before i
+      → journal_decision_of (before ++ next ∷ []) i ≡ journal_decision_of before i
       → Fate setting journal s i header (before ++ next ∷ [])
   fate_on next same_travels same_decision = by follows.fate where
     after : List Item
@@ -192,8 +192,8 @@ module _ (setting : Setting) (journal : List Item) (s i : ℕ) (header : Header)
       apart = stuck.apart;
     })
 
-    how_on : IsEnded setting journal s i before ⊎ FindsNoTarget setting journal before i s header
-        → IsEnded setting journal s i after ⊎ FindsNoTarget setting journal after i s header
+    how_on : IsEnded setting journal s i before ⊎ ForwardingFindsNoTarget setting journal before i s header
+        → IsEnded setting journal s i after ⊎ ForwardingFindsNoTarget setting journal after i s header
     how_on (inl ended) = inl (record {
       decision = ended.decision;
       decided = same_decision ∙ ended.decided;
@@ -217,16 +217,16 @@ module _ (setting : Setting) (journal : List Item) (s i : ℕ) (header : Header)
     by (inr ended) = inr (record { ended = same_travels ∙ ended.ended; how = how_on ended.how })
 
   -- the decision and the travelling of the packet, as most items leave them
-  pass_on : (next : Item) → gives_travelling i next ≡ None → gives_decision i next ≡ None
+  pass_on : (next : Item) → item_gives_travelling i next ≡ None → item_gives_decision i next ≡ None
       → Fate setting journal s i header (before ++ next ∷ [])
   pass_on next travelling decides = fate_on next
       (travels_more before next i ∙ ap (λ o. unwrap_or o (travels before i)) travelling)
       (undecided_by before next i decides)
 
   -- the packet doesn't travel behind an item that ends it, which decides nothing
-  ended_by : (next : Item) → gives_travelling i next ≡ Some false → gives_decision i next ≡ None
+  ended_by : (next : Item) → item_gives_travelling i next ≡ Some false → item_gives_decision i next ≡ None
       → IsFalse (travels (before ++ next ∷ []) i)
-      × (decision_of (before ++ next ∷ []) i ≡ decision_of before i)
+      × (journal_decision_of (before ++ next ∷ []) i ≡ journal_decision_of before i)
   ended_by next ends decides = (
     travels_more before next i ∙ ap (λ o. unwrap_or o (travels before i)) ends,
     undecided_by before next i decides,
@@ -235,7 +235,7 @@ module _ (setting : Setting) (journal : List Item) (s i : ℕ) (header : Header)
   own : (i == i) ≡ true
   own = eq-eqb i i refl
 
-  dropped : PacketCause setting before (Item.Dropped i)
+  dropped : HasPacketItemCause setting before (Item.Dropped i)
       → Fate setting journal s i header (before ++ Item.Dropped i ∷ [])
   dropped way = let now = ended_by (Item.Dropped i) (rw own refl) refl in
       inr (record {
@@ -270,7 +270,7 @@ module _ (setting : Setting) (journal : List Item) (s i : ℕ) (header : Header)
       })
 
   -- a packet is lost only by rows of its own or of a crash
-  not_lost : PacketCause setting before (Item.Lost i) → ⊥
+  not_lost : HasPacketItemCause setting before (Item.Lost i) → ⊥
   not_lost way = elim way.how [
     | inl row ↦ let moved : moves (Lose i) ≡ true = follows.step (Lose i) row in cc
     | inr crash ↦ let moved = follows.step (Crash crash.switch) crash.crashes in
@@ -288,10 +288,10 @@ module _ (setting : Setting) (journal : List Item) (s i : ℕ) (header : Header)
       apart_from setting journal net s t targets (follows.at t strong.1.stuck.stands)
       (converged.stuck t targets down (omega (arith, here.at, here.under.now))
       (subst (AreUnusableLinks setting journal) (sym strong.1.found) follows.stays.found)
-      (sym (follows.stays.routes t targets down) ∙ ap (λ all. route_from setting before t all down)
+      (sym (follows.stays.routes t targets down) ∙ ap (λ all. journal_route_from setting before t all down)
       (sym (follows.stays.targets leg)) ∙ strong.1.no_route))
 
-  stuck : IsNet setting.net → HasConverged setting journal → IsNetworkUpdated setting journal
+  stuck : IsNet setting.net → HasConverged setting journal → HasConvergedOnVersion setting journal
       → Before setting before → (t : ℕ) (cause : Cause) (leg : Leg) (down : List ℕ)
       → StrongCause setting before (Item.Stuck i t cause leg down)
       → Fate setting journal s i header (before ++ Item.Stuck i t cause leg down ∷ [])
@@ -304,9 +304,9 @@ module _ (setting : Setting) (journal : List Item) (s i : ℕ) (header : Header)
     where
       by_leg : (leg : Leg) → StrongCause setting before (Item.Stuck i t cause leg down)
           → (let after = before ++ Item.Stuck i t cause leg down ∷ [] in
-          decision_of after i ≡ decision_of before i
+          journal_decision_of after i ≡ journal_decision_of before i
           → All (λ target. Reaches setting journal s target → ⊥) (targets_of setting journal leg)
-          → IsEnded setting journal s i after ⊎ FindsNoTarget setting journal after i s header)
+          → IsEnded setting journal s i after ⊎ ForwardingFindsNoTarget setting journal after i s header)
       by_leg (Exit port) strong same apart =
           let decision : Decision = strong.1.stuck.own_leg.0 in
           let next : Item = Item.Stuck i t cause (Exit port) down in
@@ -324,18 +324,18 @@ module _ (setting : Setting) (journal : List Item) (s i : ℕ) (header : Header)
           })
       by_leg (Seek version partition) strong same apart =
           let next : Item = Item.Stuck i t cause (Seek version partition) down in
-          let current : version ≡ version_count journal = newest updated version strong.1.rightly in
+          let current : version ≡ journal_version_count journal = newest updated version strong.1.rightly in
           let found = strong.1.stuck.own_leg in
           inr (record {
             undecided = same ∙ strong.1.rightly.undecided;
             partition = partition;
             own = ap (λ v. option_map (λ (p : Hosted). p.0.number)
-                (find (λ (p : Hosted). is_in header p.0) (plan_at setting journal v))) (sym current)
+                (find (λ (p : Hosted). is_in_policy_partition header p.0) (journal_plan_at setting journal v))) (sym current)
                 ∙ ap (λ plan. option_map (λ (p : Hosted). p.0.number)
-                (find (λ (p : Hosted). is_in header p.0) plan)) (sym (follows.marks.plan version))
+                (find (λ (p : Hosted). is_in_policy_partition header p.0) plan)) (sym (follows.marks.plan version))
                 ∙ ap (λ h. option_map (λ (p : Hosted). p.0.number)
-                (find (λ (p : Hosted). is_in h p.0) (plan_at setting before version)))
-                (sym (some_same (header_in before i) found.0 header found.1 follows.entered))
+                (find (λ (p : Hosted). is_in_policy_partition h p.0) (journal_plan_at setting before version)))
+                (sym (some_same (journal_packet_header before i) found.0 header found.1 follows.entered))
                 ∙ found.2;
             stuck = subst (λ v. IsStuckApart setting journal (before ++ next ∷ []) i s
                 (Seek v partition)) current (record {
@@ -359,22 +359,22 @@ module _ (setting : Setting) (journal : List Item) (s i : ℕ) (header : Header)
     by true same = let is : packet ≡ i = eqb-true packet i same in
         subst (λ k. Fate setting journal s i header (before ++ next k ∷ [])) (sym is) (own is)
 
-  fate_next : IsNet setting.net → HasConverged setting journal → IsNetworkUpdated setting journal
+  fate_next : IsNet setting.net → HasConverged setting journal → HasConvergedOnVersion setting journal
       → Before setting before → (next : Item) → StrongCause setting before next
       → Fate setting journal s i header (before ++ next ∷ [])
   fate_next net converged updated known (Item.Entered packet t other) strong =
-      let apart = comes_other packet i (next_packet before) strong.0.0.number follows.number in
+      let apart = comes_other packet i (journal_next_packet before) strong.0.0.number follows.number in
       pass_on (Item.Entered packet t other) (rw apart refl) refl
   fate_next net converged updated known (Item.Dropped packet) strong =
       of_packet Item.Dropped packet (λ apart. pass_on (Item.Dropped packet) (rw apart refl) refl)
-      (λ is. dropped (subst (λ k. PacketCause setting before (Item.Dropped k)) is strong.0))
+      (λ is. dropped (subst (λ k. HasPacketItemCause setting before (Item.Dropped k)) is strong.0))
   fate_next net converged updated known (Item.Left packet port leaving) strong =
       of_packet (λ k. Item.Left k port leaving) packet
       (λ apart. pass_on (Item.Left packet port leaving) (rw apart refl) refl)
       (λ is. left port leaving (rw is at strong.1))
   fate_next net converged updated known (Item.Lost packet) strong =
       of_packet Item.Lost packet (λ apart. pass_on (Item.Lost packet) (rw apart refl) refl)
-      (λ is. absurd (not_lost (subst (λ k. PacketCause setting before (Item.Lost k)) is strong.0)))
+      (λ is. absurd (not_lost (subst (λ k. HasPacketItemCause setting before (Item.Lost k)) is strong.0)))
   fate_next net converged updated known (Item.Stuck packet t cause leg down) strong =
       of_packet (λ k. Item.Stuck k t cause leg down) packet
       (λ apart. pass_on (Item.Stuck packet t cause leg down) (rw apart refl) refl)
@@ -388,7 +388,7 @@ module _ (setting : Setting) (journal : List Item) (s i : ℕ) (header : Header)
 
 -- each item of packets keeps it
 pub follows_on : (setting : Setting) (journal : List Item) (s i : ℕ) (header : Header)
-    → IsSetting setting → HasConverged setting journal → IsNetworkUpdated setting journal
+    → IsSetting setting → HasConverged setting journal → HasConvergedOnVersion setting journal
     → AreKept (IsFollowed setting) (Follows setting journal s i header)
 follows_on setting journal s i header is converged updated before next cause follows =
     let known = known_before setting is before next cause.second.first in

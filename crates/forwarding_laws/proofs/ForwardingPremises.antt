@@ -3,11 +3,11 @@
 use Rattle.std.proofs.Common.{[], ◌&&◌, ◌++◌, ◌+◌, ◌==◌, ◌||◌, ◌∙◌, ◌∷◌, ◌≡◌, ◌⊎◌, Bool, Contains, IsTrue, List, None, Ok, Option, Some, ap, append-nil, arith, codes, drop, false, inl, inr, map, not, option_map, refl, suc, sym, take, true, true≢false, zero, ℕ}
 use Rattle.base.proofs.Exports.{All-cons, All-from_recursion, All-nil, and_parts}
 use Rattle.failover.specs.Exports.{no_links, with_link}
-use Rattle.update_machine.specs.Exports.{Advertise, Answers, AreAllEventSteps, AreMessagesReceived, AreSteps, Body, Confirm, Crash, Deliver, Event, Flush, Forget, HaveCauses, Hop, Installed, IsQuiet, IsMessageReceived, IsMessageReplaced, Item, LinkDown, LinkUp, Lose, Message, NoAuthority, One, Packet, Place, MessageReplaces, Resend, Restart, Seek, Setting, Step, StepOfRow, Update, journal_after_steps, is_later_body, is_up, is_waited_for, next_delivery, next_waiting, piece, was_delivered}
+use Rattle.update_machine.specs.Exports.{Advertise, Answers, AreAllMachineEventSteps, AreJournalMessagesReceived, AreMachineSteps, Body, Confirm, Crash, Deliver, Event, Flush, Forget, JournalItemsHaveCauses, Hop, Installed, IsMachineQuiet, IsJournalMessageReceived, IsJournalMessageReplaced, Item, LinkDown, LinkUp, Lose, Message, NoAuthority, One, Packet, Place, MachineMessageReplaces, Resend, Restart, Seek, Setting, Step, StepOfRow, Update, journal_after_steps, is_machine_later_body, is_up, is_waited_for, journal_next_delivery, next_waiting, piece, was_delivered}
 use Rattle.steps.specs.Exports.{HasSwitch}
 use Rattle.update_machine.proofs.Exports.{advert, at, by_action, left_by, network, one, open_net, out_or_drop, plan_p, plan_q, switch, to, to_controller}
-use Rattle.convergence_laws.specs.Exports.{IsNetworkUpdated}
-use Rattle.forwarding_laws.specs.Exports.{RolloutAccountsForAll, RecoveryAsksEach, DropsNothing, EndsInRecovery, RolloutEndsRightly, FailsNothing, RolloutHasItem, HoldNewestAlone, NoneIsStuck, NothingFailsInRollout}
+use Rattle.convergence_laws.specs.Exports.{HasConvergedOnVersion}
+use Rattle.forwarding_laws.specs.Exports.{RolloutAccountsForAll, RecoveryAsksEach, DropsNothing, EndsInRecovery, RolloutEndsRightly, RolloutFailsNothing, RolloutHasItem, HoldNewestAlone, NoneIsStuck, NothingFailsInRollout}
 use Rattle.forwarding_laws.proofs.RecoveredNetworks.{recovered_updated}
 
 -- ---- schedules of single steps, and such that end in a flush
@@ -17,7 +17,7 @@ numbered row [] = []
 numbered row (step ∷ steps) = at row step ∷ numbered (row + 1) steps
 
 single : (setting : Setting) (row : ℕ) (steps : List Step) (before : List Item)
-    → AreSteps setting row (map One steps) before (numbered row steps)
+    → AreMachineSteps setting row (map One steps) before (numbered row steps)
 single setting row [] before = refl
 single setting row (step ∷ steps) before = (
   at row step ∷ [],
@@ -32,9 +32,9 @@ row_behind row [] = row
 row_behind row (step ∷ steps) = row_behind (row + 1) steps
 
 flushed : (setting : Setting) (row : ℕ) (steps : List Step) (before : List Item)
-    (deliveries : List StepOfRow) → AreAllEventSteps setting next_delivery (row_behind row steps)
+    (deliveries : List StepOfRow) → AreAllMachineEventSteps setting journal_next_delivery (row_behind row steps)
     (journal_after_steps setting before (numbered row steps)) deliveries
-    → AreSteps setting row (map One steps ++ Flush ∷ []) before (numbered row steps ++ deliveries)
+    → AreMachineSteps setting row (map One steps ++ Flush ∷ []) before (numbered row steps ++ deliveries)
 flushed setting row [] before deliveries all =
     (deliveries, [], record { split = sym (append-nil deliveries) }, all, refl)
 flushed setting row (step ∷ steps) before deliveries all = (
@@ -56,8 +56,8 @@ flush (suc n) setting row before = elim (next_waiting before) [
 ]
 
 all_flushed : (n : ℕ) (setting : Setting) (row : ℕ) (before : List Item)
-    → next_delivery (journal_after_steps setting before (flush n setting row before)) ≡ None
-    → AreAllEventSteps setting next_delivery row before (flush n setting row before)
+    → journal_next_delivery (journal_after_steps setting before (flush n setting row before)) ≡ None
+    → AreAllMachineEventSteps setting journal_next_delivery row before (flush n setting row before)
 all_flushed zero setting row before none = none
 all_flushed (suc n) setting row before none =
     by_next (next_waiting before) refl (all_flushed n setting row) none
@@ -70,10 +70,10 @@ all_flushed (suc n) setting row before none =
     ]
 
     by_next : (o : Option ℕ) → next_waiting before ≡ o → ((behind : List Item)
-        → next_delivery (journal_after_steps setting behind (flush n setting row behind)) ≡ None
-        → AreAllEventSteps setting next_delivery row behind (flush n setting row behind))
-        → next_delivery (journal_after_steps setting before (steps_of o)) ≡ None
-        → AreAllEventSteps setting next_delivery row before (steps_of o)
+        → journal_next_delivery (journal_after_steps setting behind (flush n setting row behind)) ≡ None
+        → AreAllMachineEventSteps setting journal_next_delivery row behind (flush n setting row behind))
+        → journal_next_delivery (journal_after_steps setting before (steps_of o)) ≡ None
+        → AreAllMachineEventSteps setting journal_next_delivery row before (steps_of o)
     by_next None e rest none = none
     by_next (Some i) e rest none = (
       refl,
@@ -101,7 +101,7 @@ without_resends = record {
   written = refl;
 }
 
-not_without_resends : IsNetworkUpdated open_net tables_lost_journal → ⊥
+not_without_resends : HasConvergedOnVersion open_net tables_lost_journal → ⊥
 unfolding left_by
 not_without_resends updated = not_current updated.current
 
@@ -119,7 +119,7 @@ without_flush = record {
   written = refl;
 }
 
-not_without_flush : IsNetworkUpdated open_net undelivered_journal → ⊥
+not_without_flush : HasConvergedOnVersion open_net undelivered_journal → ⊥
 unfolding left_by
 not_without_flush updated = not_current updated.current
 
@@ -145,7 +145,7 @@ without_confirms = record {
   written = refl;
 }
 
-not_without_confirms : IsNetworkUpdated open_net unconfirmed_journal → ⊥
+not_without_confirms : HasConvergedOnVersion open_net unconfirmed_journal → ⊥
 unfolding left_by
 not_without_confirms updated = not_current updated.current
 
@@ -198,8 +198,8 @@ not_both false is isn't = true≢false (sym is)
 
 -- so nothing of it replaces a message, where whatever does so passes
 unreplaced : (test : Message → Bool) (message : Message)
-    → ((later : Message) → MessageReplaces later message → IsTrue (test later))
-    → (after : List Item) → IsTrue (none_pass test after) → IsMessageReplaced message after → ⊥
+    → ((later : Message) → MachineMessageReplaces later message → IsTrue (test later))
+    → (after : List Item) → IsTrue (none_pass test after) → IsJournalMessageReplaced message after → ⊥
 unreplaced test message passes [] none replaced = replaced
 unreplaced test message passes (Item.Sent number later ∷ after) none (inl here) =
     not_both (test later) (passes later here.0) (and_parts (not (test later)) _ none).0
@@ -210,9 +210,9 @@ unreplaced test message passes (_ ∷ after) none replaced =
 
 -- and where it wasn't delivered, it wasn't received
 unreceived : (test : Message → Bool) (number : ℕ) (message : Message)
-    → ((later : Message) → MessageReplaces later message → IsTrue (test later))
+    → ((later : Message) → MachineMessageReplaces later message → IsTrue (test later))
     → (after : List Item) → IsTrue (none_pass test after) → was_delivered after number ≡ false
-    → IsMessageReceived number message after → ⊥
+    → IsJournalMessageReceived number message after → ⊥
 unreceived test number message passes after none lacks (inl came) = true≢false (sym came ∙ lacks)
 unreceived test number message passes after none lacks (inr replaced) =
     unreplaced test message passes after none replaced
@@ -239,7 +239,7 @@ with_advert_lost = record {
   written = refl;
 }
 
-recovered_without_advert : IsNetworkUpdated open_net advert_lost_journal
+recovered_without_advert : HasConvergedOnVersion open_net advert_lost_journal
 recovered_without_advert =
     recovered_updated open_net (map One advert_lost ++ Flush ∷ []) advert_lost_journal
     (in_recovery (take 4 advert_lost)) with_advert_lost
@@ -256,18 +256,18 @@ abbrev is_advert_of_a : Body → Bool
 is_advert_of_a (Advertise advert) = advert.origin == 0
 is_advert_of_a _ = false
 
-advert_passes : (boot seq up : ℕ) (later : Message) → MessageReplaces later (to 1 (advert 0 boot seq up))
+advert_passes : (boot seq up : ℕ) (later : Message) → MachineMessageReplaces later (to 1 (advert 0 boot seq up))
     → IsTrue (is_to_b later.to && is_advert_of_a later.body)
 advert_passes boot seq up later replaces = both (is_to_b later.to) (is_advert_of_a later.body)
     (ap is_to_b replaces.receiver) (by_body later.body replaces.says)
   where
     by_body : (body : Body) → (body ≡ advert 0 boot seq up)
-        ⊎ IsTrue (is_later_body body (advert 0 boot seq up)) → IsTrue (is_advert_of_a body)
+        ⊎ IsTrue (is_machine_later_body body (advert 0 boot seq up)) → IsTrue (is_advert_of_a body)
     by_body body (inl same) = ap is_advert_of_a same
     by_body (Advertise advert) (inr later) = (and_parts (advert.origin == 0) _ later).0
     by_body _ (inr later) = absurd (true≢false (sym later))
 
-not_quiet_without_advert : IsQuiet open_net advert_lost_journal → ⊥
+not_quiet_without_advert : IsMachineQuiet open_net advert_lost_journal → ⊥
 unfolding left_by
 not_quiet_without_advert quiet = unreceived (λ later. is_to_b later.to && is_advert_of_a later.body)
     1 (to 1 (advert 0 1 3 2)) (advert_passes 1 3 2) (drop 5 advert_lost_journal) refl refl
@@ -295,12 +295,12 @@ with_origin_gone = record {
   written = refl;
 }
 
-recovered_without_origin : IsNetworkUpdated open_net origin_gone_journal
+recovered_without_origin : HasConvergedOnVersion open_net origin_gone_journal
 recovered_without_origin =
     recovered_updated open_net (map One origin_gone ++ Flush ∷ []) origin_gone_journal
     (in_recovery (take 4 origin_gone)) with_origin_gone
 
-not_quiet_without_origin : IsQuiet open_net origin_gone_journal → ⊥
+not_quiet_without_origin : IsMachineQuiet open_net origin_gone_journal → ⊥
 unfolding left_by
 not_quiet_without_origin quiet = unreceived (λ later. is_to_b later.to && is_advert_of_a later.body)
     1 (to 1 (advert 0 1 3 2)) (advert_passes 1 3 2) (drop 5 origin_gone_journal) refl refl
@@ -328,7 +328,7 @@ with_answer_lost = record {
   written = refl;
 }
 
-recovered_without_answer : IsNetworkUpdated open_net answer_lost_journal
+recovered_without_answer : HasConvergedOnVersion open_net answer_lost_journal
 recovered_without_answer =
     recovered_updated open_net (map One answer_lost ++ Flush ∷ []) answer_lost_journal
     (in_recovery (take 5 answer_lost)) with_answer_lost
@@ -342,19 +342,19 @@ is_answer_of_a (Installed s boot version) = s == 0
 is_answer_of_a _ = false
 
 answer_passes : (boot version : ℕ) (later : Message)
-    → MessageReplaces later (to_controller (Installed 0 boot version))
+    → MachineMessageReplaces later (to_controller (Installed 0 boot version))
     → IsTrue (is_to_controller later.to && is_answer_of_a later.body)
 answer_passes boot version later replaces =
     both (is_to_controller later.to) (is_answer_of_a later.body)
     (ap is_to_controller replaces.receiver) (by_body later.body replaces.says)
   where
     by_body : (body : Body) → (body ≡ Installed 0 boot version)
-        ⊎ IsTrue (is_later_body body (Installed 0 boot version)) → IsTrue (is_answer_of_a body)
+        ⊎ IsTrue (is_machine_later_body body (Installed 0 boot version)) → IsTrue (is_answer_of_a body)
     by_body body (inl same) = ap is_answer_of_a same
     by_body (Installed s of earlier) (inr later) = absurd (true≢false (sym later))
     by_body _ (inr later) = absurd (true≢false (sym later))
 
-not_quiet_without_answer : IsQuiet open_net answer_lost_journal → ⊥
+not_quiet_without_answer : IsMachineQuiet open_net answer_lost_journal → ⊥
 unfolding left_by
 not_quiet_without_answer quiet =
     unreceived (λ later. is_to_controller later.to && is_answer_of_a later.body) 4
@@ -404,7 +404,7 @@ all_delivered (Item.Sent number message ∷ after) = was_delivered after number 
 all_delivered (_ ∷ after) = all_delivered after
 
 all_received : (setting : Setting) (journal items : List Item) → IsTrue (all_delivered items)
-    → AreMessagesReceived setting journal items
+    → AreJournalMessagesReceived setting journal items
 all_received setting journal [] all = tt
 all_received setting journal (Item.Sent number message ∷ after) all = (
   λ s there m. inl (and_parts (was_delivered after number) _ all).0,
@@ -412,7 +412,7 @@ all_received setting journal (Item.Sent number message ∷ after) all = (
 )
 all_received setting journal (_ ∷ after) all = all_received setting journal after all
 
-quiet_after_one_round : IsQuiet open_net joining_journal
+quiet_after_one_round : IsMachineQuiet open_net joining_journal
 unfolding left_by
 quiet_after_one_round = record {
   switches = All-from_recursion
@@ -440,7 +440,7 @@ with_crash = record {
   written = refl;
 }
 
-not_with_crash : HaveCauses (DropsNothing open_net) [] crashed_journal → ⊥
+not_with_crash : JournalItemsHaveCauses (DropsNothing open_net) [] crashed_journal → ⊥
 unfolding left_by
 not_with_crash have = not_lost have.1.1.1.1.1.0
 
@@ -475,7 +475,7 @@ abbrev one_packet : List Step
 one_packet = Packet 0 one ∷ []
 
 nothing_failed : NothingFailsInRollout (map One one_packet)
-nothing_failed = All-cons FailsNothing (One (Packet 0 one)) [] refl (All-nil FailsNothing)
+nothing_failed = All-cons RolloutFailsNothing (One (Packet 0 one)) [] refl (All-nil RolloutFailsNothing)
 
 abbrev cut_off_journal : List Item
 cut_off_journal = journal_after_steps apart_net [] (numbered 1 one_packet)

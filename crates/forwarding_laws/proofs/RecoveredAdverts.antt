@@ -2,7 +2,7 @@
 -- it learnt then, and all of that was delivered.
 use Rattle.std.proofs.Common.{[], ◌++◌, ◌+◌, ◌-◌, ◌<◌, ◌==◌, ◌∙◌, ◌∷◌, ◌≡◌, ◌≢◌, ◌≤◌, Bool, IsFalse, IsTrue, List, None, Some, ap, append-nil, append_assoc, arith, false, filter, flat_map, if◌then◌else◌, inl, inr, length, map, nat_lt, not, refl, subst, sym, true, ℕ}
 use Rattle.base.proofs.Exports.{nat_tests}
-use Rattle.update_machine.specs.Exports.{Advert, Advertise, HaveCauses, Item, Message, Resend, Setting, StepOfRow, acked_stamp, advert_to, journal_after_steps, boot_of, collect_for, current_mark, has_acked, heard, held_adverts, hello_of, install_for, is_member, is_over, is_up, near, next_message, open_for, open_version, other_advert, own_advert, piece, resend_items, resent_by_controller, resent_by_switch, resent_to_member, retired_mark, sends_or_nothing, stamp_for, switches_in, switches_of, journal_unacked_installs, version_count, versions_from_current}
+use Rattle.update_machine.specs.Exports.{Advert, Advertise, JournalItemsHaveCauses, Item, Message, Resend, Setting, StepOfRow, acked_stamp, advert_to, journal_after_steps, journal_boot_of, machine_collect_for, journal_current_mark, has_acked, heard, journal_held_adverts, machine_hello_of, journal_install_for, is_member, is_over, is_up, near, journal_next_message, journal_open_for, open_version, journal_other_advert, own_advert, piece, resend_items, journal_resent_by_controller, journal_resent_by_switch, journal_resent_to_member, journal_retired_mark, machine_sends_or_nothing, journal_stamp_for, setting_switches_in, switches_of, journal_unacked_installs, journal_version_count, journal_versions_from_current}
 use Rattle.control_laws.proofs.Exports.{behind_piece, ends_serve, later_versions, resends_any, same_seq}
 use Rattle.convergence_laws.proofs.Exports.{AreSpread, HasNews, IsGivenNew, IsHad, IsIn, IsStill, IsToldTo, Leaves, Spread, TellsOwn, as_new_itself, ends_there, had_back, heard_in_boot, held_in, in_filter, in_filter_map, in_flat_map, in_left, in_map, in_range, in_right, newest_held, next_grows, own_held, sends_tell, spread_agree, stills_leave, told_stills}
 use Rattle.forwarding_laws.proofs.RecoveryDeliveries.{IsFlushed, IsSince, sends_since, since_delivered}
@@ -19,29 +19,29 @@ use Rattle.forwarding_laws.proofs.RecoveryRows.{AreEach, IsAmong}
 
 -- what it sends where it is up
 abbrev sent_by : Setting → List Item → ℕ → List Message
-sent_by setting here s = hello_of here s
-    ∷ flat_map (λ neighbour. map (advert_to neighbour) (held_adverts setting here s))
-    (switches_in setting (near setting here s))
+sent_by setting here s = machine_hello_of here s
+    ∷ flat_map (λ neighbour. map (advert_to neighbour) (journal_held_adverts setting here s))
+    (setting_switches_in setting (near setting here s))
 
 pub hello_resent : (setting : Setting) (here : List Item) (s : ℕ) → IsTrue (is_up here s)
-    → IsIn (hello_of here s) (resent_by_switch setting here s)
-hello_resent setting here s up = subst (λ b. IsIn (hello_of here s) (elim b [
+    → IsIn (machine_hello_of here s) (journal_resent_by_switch setting here s)
+hello_resent setting here s up = subst (λ b. IsIn (machine_hello_of here s) (elim b [
   | false ↦ []
   | true ↦ sent_by setting here s
 ])) (sym up) (inl refl)
 
 pub advert_resent : (setting : Setting) (here : List Item) (s neighbour : ℕ) (advert : Advert)
-    → IsTrue (is_up here s) → IsIn neighbour (switches_in setting (near setting here s))
-    → IsIn advert (held_adverts setting here s)
-    → IsIn (advert_to neighbour advert) (resent_by_switch setting here s)
+    → IsTrue (is_up here s) → IsIn neighbour (setting_switches_in setting (near setting here s))
+    → IsIn advert (journal_held_adverts setting here s)
+    → IsIn (advert_to neighbour advert) (journal_resent_by_switch setting here s)
 advert_resent setting here s neighbour advert up linked held =
     subst (λ b. IsIn (advert_to neighbour advert) (elim b [
       | false ↦ []
       | true ↦ sent_by setting here s
     ])) (sym up)
-    (inr (in_flat_map (λ to. map (advert_to to) (held_adverts setting here s)) neighbour
-    (advert_to neighbour advert) (switches_in setting (near setting here s)) linked
-    (in_map (advert_to neighbour) advert (held_adverts setting here s) held)))
+    (inr (in_flat_map (λ to. map (advert_to to) (journal_held_adverts setting here s)) neighbour
+    (advert_to neighbour advert) (setting_switches_in setting (near setting here s)) linked
+    (in_map (advert_to neighbour) advert (journal_held_adverts setting here s) held)))
 
 -- ---- by the controller
 
@@ -50,116 +50,116 @@ abbrev sent_where : Setting → List Item → ℕ → Bool → Bool → List Mes
 sent_where setting here s over member = elim over [
   | true ↦ []
   | false ↦ elim member [
-    | true ↦ resent_to_member setting here s
-    | false ↦ journal_unacked_installs setting here s (versions_from_current here)
+    | true ↦ journal_resent_to_member setting here s
+    | false ↦ journal_unacked_installs setting here s (journal_versions_from_current here)
   ]
 ]
 
 to_member : (setting : Setting) (here : List Item) (s : ℕ) (message : Message)
     → IsFalse (is_over here s) → IsTrue (is_member here s)
-    → IsIn message (resent_to_member setting here s)
-    → IsIn message (resent_by_controller setting here s)
-unfolding resent_by_controller
+    → IsIn message (journal_resent_to_member setting here s)
+    → IsIn message (journal_resent_by_controller setting here s)
+unfolding journal_resent_by_controller
 to_member setting here s message over member is =
     subst (λ o. IsIn message (sent_where setting here s o (is_member here s))) (sym over)
     (subst (λ m. IsIn message (sent_where setting here s false m)) (sym member) is)
 
 to_other : (setting : Setting) (here : List Item) (s : ℕ) (message : Message)
     → IsFalse (is_over here s) → IsFalse (is_member here s)
-    → IsIn message (journal_unacked_installs setting here s (versions_from_current here))
-    → IsIn message (resent_by_controller setting here s)
-unfolding resent_by_controller
+    → IsIn message (journal_unacked_installs setting here s (journal_versions_from_current here))
+    → IsIn message (journal_resent_by_controller setting here s)
+unfolding journal_resent_by_controller
 to_other setting here s message over member is =
     subst (λ o. IsIn message (sent_where setting here s o (is_member here s))) (sym over)
     (subst (λ m. IsIn message (sent_where setting here s false m)) (sym member) is)
 
 unacked : (setting : Setting) (here : List Item) (s version : ℕ) (versions : List ℕ)
     → IsIn version versions → IsFalse (has_acked here s version)
-    → IsIn (install_for setting here version s) (journal_unacked_installs setting here s versions)
-unacked setting here s version versions is acked = in_map (λ v. install_for setting here v s)
+    → IsIn (journal_install_for setting here version s) (journal_unacked_installs setting here s versions)
+unacked setting here s version versions is acked = in_map (λ v. journal_install_for setting here v s)
     version (filter (λ v. not (has_acked here s v)) versions)
     (in_filter (λ v. not (has_acked here s v)) version versions is (ap not acked))
 
 -- the tables of each version that it didn't acknowledge: of a member above the current one
 pub table_resent : (setting : Setting) (here : List Item) (s version : ℕ) → IsFalse (is_over here s)
-    → current_mark here ≤ version → version ≤ version_count here
-    → IsFalse (has_acked here s version) → (IsTrue (is_member here s) → current_mark here < version)
-    → IsIn (install_for setting here version s) (resent_by_controller setting here s)
+    → journal_current_mark here ≤ version → version ≤ journal_version_count here
+    → IsFalse (has_acked here s version) → (IsTrue (is_member here s) → journal_current_mark here < version)
+    → IsIn (journal_install_for setting here version s) (journal_resent_by_controller setting here s)
 table_resent setting here s version over above below acked later = by_member (is_member here s) refl
   where
     stamps : List Message
-    stamps = if nat_lt (acked_stamp here s) (current_mark here)
-        then stamp_for setting here (current_mark here) s ∷ [] else []
+    stamps = if nat_lt (acked_stamp here s) (journal_current_mark here)
+        then journal_stamp_for setting here (journal_current_mark here) s ∷ [] else []
 
     by_member : (b : Bool) → is_member here s ≡ b
-        → IsIn (install_for setting here version s) (resent_by_controller setting here s)
+        → IsIn (journal_install_for setting here version s) (journal_resent_by_controller setting here s)
     by_member true e = let more = later e in
         to_member setting here s _ over e
         (inr (in_left _ (journal_unacked_installs setting here s (later_versions here) ++ stamps) _ (in_left
         _ (journal_unacked_installs setting here s (later_versions here)) stamps (unacked setting here s
-        version (later_versions here) (in_range version (current_mark here + 1) (version_count here
-        - current_mark here) (omega (arith, more)) (omega (arith, more, below))) acked))))
+        version (later_versions here) (in_range version (journal_current_mark here + 1) (journal_version_count here
+        - journal_current_mark here) (omega (arith, more)) (omega (arith, more, below))) acked))))
     by_member false e = to_other setting here s _ over e (unacked setting here s version
-        (versions_from_current here) (in_range version (current_mark here)
-        (version_count here + 1 - current_mark here) above (omega (arith, above, below))) acked)
+        (journal_versions_from_current here) (in_range version (journal_current_mark here)
+        (journal_version_count here + 1 - journal_current_mark here) above (omega (arith, above, below))) acked)
 
 -- to a member its opening
 pub opening_resent : (setting : Setting) (here : List Item) (s : ℕ) → IsFalse (is_over here s)
     → IsTrue (is_member here s)
-    → IsIn (open_for here (open_version here s) s) (resent_by_controller setting here s)
+    → IsIn (journal_open_for here (open_version here s) s) (journal_resent_by_controller setting here s)
 opening_resent setting here s over member = to_member setting here s _ over member (inl refl)
 
 -- and the current stamp, where it isn't known to stamp with that
 pub stamp_resent : (setting : Setting) (here : List Item) (s : ℕ) → IsFalse (is_over here s)
-    → IsTrue (is_member here s) → acked_stamp here s < current_mark here
-    → IsIn (stamp_for setting here (current_mark here) s) (resent_by_controller setting here s)
+    → IsTrue (is_member here s) → acked_stamp here s < journal_current_mark here
+    → IsIn (journal_stamp_for setting here (journal_current_mark here) s) (journal_resent_by_controller setting here s)
 stamp_resent setting here s over member behind = to_member setting here s _ over member
     (inr (in_left _ (journal_unacked_installs setting here s (later_versions here) ++ stamps) _
     (in_right _ (journal_unacked_installs setting here s (later_versions here)) stamps (rw is (inl refl)))))
   where
-    is : nat_lt (acked_stamp here s) (current_mark here) ≡ true
+    is : nat_lt (acked_stamp here s) (journal_current_mark here) ≡ true
     is = grind (arith, nat_tests)
 
     stamps : List Message
-    stamps = if nat_lt (acked_stamp here s) (current_mark here)
-        then stamp_for setting here (current_mark here) s ∷ [] else []
+    stamps = if nat_lt (acked_stamp here s) (journal_current_mark here)
+        then journal_stamp_for setting here (journal_current_mark here) s ∷ [] else []
 
 -- and what is retired, if anything is
 pub collect_resent : (setting : Setting) (here : List Item) (s : ℕ) → IsFalse (is_over here s)
-    → IsTrue (is_member here s) → (retired_mark here == 0) ≡ false
-    → IsIn (collect_for here (retired_mark here) s) (resent_by_controller setting here s)
+    → IsTrue (is_member here s) → (journal_retired_mark here == 0) ≡ false
+    → IsIn (machine_collect_for here (journal_retired_mark here) s) (journal_resent_by_controller setting here s)
 collect_resent setting here s over member some = to_member setting here s _ over member
     (inr (in_right _ (journal_unacked_installs setting here s (later_versions here) ++ stamps) collects
     (rw some (inl refl))))
   where
     stamps : List Message
-    stamps = if nat_lt (acked_stamp here s) (current_mark here)
-        then stamp_for setting here (current_mark here) s ∷ [] else []
+    stamps = if nat_lt (acked_stamp here s) (journal_current_mark here)
+        then journal_stamp_for setting here (journal_current_mark here) s ∷ [] else []
 
     collects : List Message
-    collects = if retired_mark here == 0 then [] else collect_for here (retired_mark here) s ∷ []
+    collects = if journal_retired_mark here == 0 then [] else machine_collect_for here (journal_retired_mark here) s ∷ []
 
 -- ---- all of it is sent
 
 -- what is sent again by the row of the switch
 abbrev pub resent : Setting → List Item → ℕ → List Message
-resent setting here s = resent_by_switch setting here s ++ resent_by_controller setting here s
+resent setting here s = journal_resent_by_switch setting here s ++ journal_resent_by_controller setting here s
 
 resend_sends : (since : ℕ) (setting : Setting) (here : List Item) (s : ℕ) (message : Message)
-    → since ≤ next_message here → IsIn message (resent setting here s)
+    → since ≤ journal_next_message here → IsIn message (resent setting here s)
     → IsSince since (here ++ resend_items setting s here) message
 unfolding resend_items
 resend_sends since setting here s message late is =
-    by_messages (resent_by_switch setting here s ++ resent_by_controller setting here s) is
+    by_messages (journal_resent_by_switch setting here s ++ journal_resent_by_controller setting here s) is
   where
     by_messages : (messages : List Message) → IsIn message messages
-        → IsSince since (here ++ sends_or_nothing here messages) message
+        → IsSince since (here ++ machine_sends_or_nothing here messages) message
     by_messages [] is = absurd is
     by_messages (first ∷ messages) is = sends_since since here (first ∷ messages) message late is
 
 pub piece_resends : (since : ℕ) (setting : Setting) (at : List Item) (row s : ℕ)
     (message : Message) → let here = at ++ Item.Row row (Resend s) ∷ [] in
-    since ≤ next_message here → IsIn message (resent setting here s)
+    since ≤ journal_next_message here → IsIn message (resent setting here s)
     → IsSince since (at ++ piece setting at row (Resend s)) message
 piece_resends since setting at row s message late is =
     behind_piece setting at row (Resend s) (λ j. IsSince since j message)
@@ -173,7 +173,7 @@ piece_resends since setting at row s message late is =
 record Stilly (before after : List Item) : Type 0 where
   items : List Item
   is : after ≡ before ++ items
-  have : HaveCauses IsStill before items
+  have : JournalItemsHaveCauses IsStill before items
 
 still_through : (one two three : List Item) → Stilly one two → Stilly two three → Stilly one three
 still_through one two three first later = record {
@@ -211,7 +211,7 @@ still_steps setting before (next ∷ steps) are =
 record AskedStill (setting : Setting) (before after : List Item) (s : ℕ) : Type 0 where
   at : List Item
   row : ℕ
-  late : next_message before ≤ next_message at
+  late : journal_next_message before ≤ journal_next_message at
   rest : Stilly (at ++ piece setting at row (Resend s)) after
 
 asked_still : (setting : Setting) (s : ℕ) (before : List Item) (steps : List StepOfRow)
@@ -239,15 +239,15 @@ asked_still setting s before (next ∷ steps) are is = elim is [
 -- ---- behind the resends each neighbour was told what a switch holds
 
 resend_tells : {since : ℕ} (setting : Setting) (here : List Item) (s neighbour : ℕ)
-    (advert : Advert) → since ≤ next_message here
+    (advert : Advert) → since ≤ journal_next_message here
     → IsIn (advert_to neighbour advert) (resent setting here s)
     → IsToldTo since (here ++ resend_items setting s here) neighbour advert
 unfolding resend_items
 resend_tells {since = since} setting here s neighbour advert late is =
-    by_messages (resent_by_switch setting here s ++ resent_by_controller setting here s) is
+    by_messages (journal_resent_by_switch setting here s ++ journal_resent_by_controller setting here s) is
   where
     by_messages : (messages : List Message) → IsIn (advert_to neighbour advert) messages
-        → IsToldTo since (here ++ sends_or_nothing here messages) neighbour advert
+        → IsToldTo since (here ++ machine_sends_or_nothing here messages) neighbour advert
     by_messages [] is = absurd is
     by_messages (first ∷ messages) is = sends_tell here (first ∷ messages) neighbour advert late is
 
@@ -255,13 +255,13 @@ resend_tells {since = since} setting here s neighbour advert late is =
 record IsHeldAsNew (setting : Setting) (here : List Item) (s : ℕ) (than : Advert) : Type 0 where
   advert : Advert
   as_new : IsAsNew advert than
-  held : IsIn advert (held_adverts setting here s)
+  held : IsIn advert (journal_held_adverts setting here s)
 
 pub resends_spread : (setting : Setting) (before : List Item) (steps : List StepOfRow)
     → IsNet setting.net → AreEach Resend steps
     → ((s : ℕ) → HasSwitch setting.net s → IsAmong (Resend s) steps)
     → TellsOwn setting (journal_after_steps setting before steps)
-    → Spread setting (next_message before) (journal_after_steps setting before steps)
+    → Spread setting (journal_next_message before) (journal_after_steps setting before steps)
 resends_spread setting before steps net are each tells =
     record { each = λ s neighbour a linked had other. inr (news s neighbour a linked had) }
   where
@@ -269,11 +269,11 @@ resends_spread setting before steps net are each tells =
     after = journal_after_steps setting before steps
 
     news : (s neighbour : ℕ) (a : Advert) → IsTrue (has (near setting after s) neighbour)
-        → IsHad setting after s a → HasNews setting (next_message before) after neighbour a
+        → IsHad setting after s a → HasNews setting (journal_next_message before) after neighbour a
     news s neighbour a linked had_after = record {
       advert = best.advert;
       as_new = best.as_new;
-      had = inr (subst (λ j. IsToldTo (next_message before) j neighbour best.advert)
+      had = inr (subst (λ j. IsToldTo (journal_next_message before) j neighbour best.advert)
           (sym asked.rest.is)
           (told_stills setting behind asked.rest.items neighbour best.advert asked.rest.have told));
     } where
@@ -324,14 +324,14 @@ resends_spread setting before steps net are each tells =
           let near_here : IsTrue (has (near setting here s) neighbour) =
           subst (λ mask. IsTrue (has mask neighbour)) (left.links s) linked in
           let fits = (ends_there setting after s neighbour net linked).other in
-          in_left _ (resent_by_switch setting here s) (resent_by_controller setting here s)
+          in_left _ (journal_resent_by_switch setting here s) (journal_resent_by_controller setting here s)
           (advert_resent setting here s neighbour best.advert up
           (in_filter (has (near setting here s)) neighbour (switches_of setting) (in_range neighbour
           0 (length setting.net.switches) (omega arith) (omega (arith, fits))) near_here) best.held)
 
-      told : IsToldTo (next_message before) behind neighbour best.advert
+      told : IsToldTo (journal_next_message before) behind neighbour best.advert
       told = behind_piece setting asked.at asked.row (Resend s)
-          (λ j. IsToldTo (next_message before) j neighbour best.advert)
+          (λ j. IsToldTo (journal_next_message before) j neighbour best.advert)
           (resend_tells setting here s neighbour best.advert (omega
           (arith, asked.late, next_grows asked.at (Item.Row asked.row (Resend s) ∷ []))) sent)
 
@@ -339,20 +339,20 @@ resends_spread setting before steps net are each tells =
 
 told_given : (setting : Setting) (before journal : List Item) → IsFlushed setting before journal
     → (s : ℕ) (b : Advert) → IsTrue (is_up journal s) → b.origin ≢ s
-    → IsToldTo (next_message before) journal s b → IsGivenNew setting journal s b
+    → IsToldTo (journal_next_message before) journal s b → IsGivenNew setting journal s b
 told_given setting before journal are s b up other told = record {
   advert = b;
   as_new = as_new_itself b;
-  given = inr (in_filter_map (other_advert s) (Advertise b) b (heard journal s)
-      (heard_in_boot journal s told.number (boot_of journal s) (Advertise b) are.traced told.is up
-      refl refl (since_delivered setting before journal are told.number (boot_of journal s)
+  given = inr (in_filter_map (journal_other_advert s) (Advertise b) b (heard journal s)
+      (heard_in_boot journal s told.number (journal_boot_of journal s) (Advertise b) are.traced told.is up
+      refl refl (since_delivered setting before journal are told.number (journal_boot_of journal s)
       (advert_to s b) told.late told.is)) (ap (λ c. if c then None else Some b) apart));
 } where
   apart : (b.origin == s) ≡ false
   apart = grind (arith, nat_tests)
 
 pub recovered_agree : (setting : Setting) (before journal : List Item)
-    → IsFlushed setting before journal → AreSpread setting (next_message before) journal
+    → IsFlushed setting before journal → AreSpread setting (journal_next_message before) journal
     → NeighboursAgree setting journal
 recovered_agree setting before journal are spread = spread_agree setting journal spread
     (λ s b there up other told. told_given setting before journal are s b up other told)

@@ -1,12 +1,12 @@
 -- Recovery, of each journal that answers a schedule that ends in it.
 use Rattle.std.proofs.Common.{[], ◌++◌, ◌∙◌, ◌∷◌, ◌≡◌, ◌≤◌, ◌⊎◌, Bool, IsTrue, List, None, Option, Some, arith, false, inl, inr, option_map, refl, subst, suc, sym, true, zero, ℕ}
-use Rattle.update_machine.specs.Exports.{Answers, AreAllEventSteps, Deliver, Event, Flush, HaveCauses, IsSetting, Item, Message, Resend, Setting, Step, StepOfRow, TakesNextNumber, journal_after_steps, is_forgotten, message_of, next_delivery, next_message, next_waiting, piece, was_delivered}
+use Rattle.update_machine.specs.Exports.{Answers, AreAllMachineEventSteps, Deliver, Event, Flush, JournalItemsHaveCauses, IsSetting, Item, Message, Resend, Setting, Step, StepOfRow, MachineTakesNextNumber, journal_after_steps, is_forgotten_in_journal, message_of, journal_next_delivery, journal_next_message, next_waiting, piece, was_delivered}
 use Rattle.net_file.specs.Exports.{IsNet}
 use Rattle.steps.specs.Exports.{HasSwitch}
 use Rattle.update_machine.proofs.Exports.{AreOf, after_append, start_laws}
 use Rattle.control_laws.specs.Exports.{AreNetworkEvents, HoldsAtEnds}
 use Rattle.control_laws.proofs.Exports.{AreKept, by_number, fact_on, steps_have}
-use Rattle.convergence_laws.specs.Exports.{GetStuckApart, HasConverged, IsNetworkUpdated, NeighboursAgree}
+use Rattle.convergence_laws.specs.Exports.{GetStuckApart, HasConverged, HasConvergedOnVersion, NeighboursAgree}
 use Rattle.convergence_laws.proofs.Exports.{AreReady, AreTraced, IsInOrder, all_end, caught_updated, caused_traced, ends_spread, ends_tell, flush_ends, next_first, next_grows, none_waits, pieces_in_order, sent_delivered, steps_ready, steps_spread}
 use Rattle.packet_laws.specs.Exports.{HoldsBetween}
 use Rattle.forwarding_laws.specs.Exports.{RecoveryDeliversAll, EndsInRecovery, HasRecovered, QuietForwards}
@@ -19,7 +19,7 @@ use Rattle.forwarding_laws.proofs.RecoveryRows.{EndsCalmly, IsTakenIn, among_tak
 -- ---- deliveries are calm
 
 all_calm : (setting : Setting) (row : ℕ) (before : List Item) (steps : List StepOfRow)
-    → AreAllEventSteps setting next_delivery row before steps → AreOf IsCalmStep steps
+    → AreAllMachineEventSteps setting journal_next_delivery row before steps → AreOf IsCalmStep steps
 all_calm setting row before [] all = tt
 all_calm setting row before (first ∷ steps) all = (
   by_next (next_waiting before) first.step all.1,
@@ -66,20 +66,20 @@ module _ (setting : Setting) (journal : List Item) (ends : EndsCalmly setting jo
   pub ends_calm : Calmly setting confirmed journal
   ends_calm = rw by_last (calm_steps setting confirmed last last_calm)
 
-  first_causes : HaveCauses (IsInOrder setting) [] confirmed
+  first_causes : JournalItemsHaveCauses (IsInOrder setting) [] confirmed
   first_causes = steps_have (IsInOrder setting) setting (pieces_in_order setting) [] ends.first tt
 
-  resent_causes : HaveCauses (IsInOrder setting) [] resent
+  resent_causes : JournalItemsHaveCauses (IsInOrder setting) [] resent
   resent_causes = steps_have (IsInOrder setting) setting (pieces_in_order setting) confirmed
       ends.resends first_causes
 
-  causes : HaveCauses (IsInOrder setting) [] journal
-  causes = subst (HaveCauses (IsInOrder setting) []) (sym by_all)
+  causes : JournalItemsHaveCauses (IsInOrder setting) [] journal
+  causes = subst (JournalItemsHaveCauses (IsInOrder setting) []) (sym by_all)
       (steps_have (IsInOrder setting) setting (pieces_in_order setting) [] (ends.first ++ last) tt)
 
   waiting : next_waiting journal ≡ None
-  waiting = none_waits journal (subst (λ j. next_delivery j ≡ None) (sym ends.written)
-      (all_end setting next_delivery ends.row resent ends.flush ends.all))
+  waiting = none_waits journal (subst (λ j. journal_next_delivery j ≡ None) (sym ends.written)
+      (all_end setting journal_next_delivery ends.row resent ends.flush ends.all))
 
   flushed : IsFlushed setting confirmed journal
   flushed = record {
@@ -98,7 +98,7 @@ module _ (setting : Setting) (journal : List Item) (ends : EndsCalmly setting jo
       confirmed ends.resends net ends.asked ends.each (rw (after_append setting [] ends.first
       ends.resends) at (ends_tell setting (ends.first ++ ends.resends))))))))
     where
-      late : next_message confirmed ≤ next_message resent
+      late : journal_next_message confirmed ≤ journal_next_message resent
       late = (stays setting confirmed resent
           (calm_steps setting confirmed ends.resends resends_calm)).numbers
 
@@ -111,8 +111,8 @@ module _ (setting : Setting) (journal : List Item) (ends : EndsCalmly setting jo
         (calm_row setting taken.at taken.row (Resend s) tt);
     rest = calm_through setting here then journal (calm_rest setting taken.at taken.row (Resend s) tt)
         rest;
-    sends = λ message is. since_calm setting (next_message confirmed) then journal message rest
-        (piece_resends (next_message confirmed) setting taken.at taken.row s message late is);
+    sends = λ message is. since_calm setting (journal_next_message confirmed) then journal message rest
+        (piece_resends (journal_next_message confirmed) setting taken.at taken.row s message late is);
   } where
     taken : IsTakenIn setting (Resend s) confirmed ends.resends
     taken = among_taken setting (Resend s) confirmed ends.resends resends_calm (ends.each s there)
@@ -127,10 +127,10 @@ module _ (setting : Setting) (journal : List Item) (ends : EndsCalmly setting jo
     rest = calm_through setting then resent journal taken.rest (subst (Calmly setting resent)
         (sym ends.written) (calm_steps setting resent ends.flush flush_calm))
 
-    late : next_message confirmed ≤ next_message here
+    late : journal_next_message confirmed ≤ journal_next_message here
     late = omega (arith, (stays setting confirmed taken.at taken.first).numbers, next_grows)
 
-  delivers : (n : ℕ) → next_message confirmed ≤ n → IsTrue (was_delivered journal n)
+  delivers : (n : ℕ) → journal_next_message confirmed ≤ n → IsTrue (was_delivered journal n)
       → IsDeliveredIn setting confirmed journal n
   delivers n late is = rw by_last (find_delivery setting confirmed last n last_calm
       (by_first (was_delivered confirmed n) refl) (rw by_last at is))
@@ -149,7 +149,7 @@ module _ (setting : Setting) (journal : List Item) (ends : EndsCalmly setting jo
     delivers = delivers;
   }
 
-  pub ends_updated : IsNetworkUpdated setting journal
+  pub ends_updated : HasConvergedOnVersion setting journal
   ends_updated = caught_updated setting journal ends_recovered.ready
       (recovered_caught setting confirmed journal ends_recovered ends.switches)
 
@@ -162,7 +162,7 @@ recovered_neighbours setting events journal net ends answers =
     ends_agree setting journal (ends_calmly setting events journal ends answers) net
 
 pub recovered_updated : (setting : Setting) (events : List Event) (journal : List Item)
-    → EndsInRecovery setting.net events → Answers setting events journal → IsNetworkUpdated setting journal
+    → EndsInRecovery setting.net events → Answers setting events journal → HasConvergedOnVersion setting journal
 recovered_updated setting events journal ends answers =
     ends_updated setting journal (ends_calmly setting events journal ends answers)
 
@@ -174,7 +174,7 @@ Agrees Holds setting journal =
 
 abbrev pub ForwardsBy : Setting → List Item → Type 0
 ForwardsBy setting journal = IsSetting setting → HasConverged setting journal
-    → IsNetworkUpdated setting journal → QuietForwards setting journal
+    → HasConvergedOnVersion setting journal → QuietForwards setting journal
 
 pub recovered_converged : HoldsAtEnds (Agrees HasConverged)
     → ((setting : Setting) (events : List Event) (journal : List Item) → IsNet setting.net
@@ -216,7 +216,7 @@ recovers converge part forward setting events journal is own ends answers =
 
 -- messages are numbered from 1
 first_numbers : (setting : Setting) (journal : List Item)
-    → HaveCauses (IsInOrder setting) [] journal → (n : ℕ) (message : Message)
+    → JournalItemsHaveCauses (IsInOrder setting) [] journal → (n : ℕ) (message : Message)
     → message_of journal n ≡ Some message → 1 ≤ n
 first_numbers setting journal causes zero message sent =
     absurd (cc (sym (fact_on (IsInOrder setting) (λ now. message_of now 0 ≡ None) next_none []
@@ -226,7 +226,7 @@ first_numbers setting journal causes zero message sent =
     next_none now next both none = elim (cases_none (message_of (now ++ next ∷ []) 0) refl) [
       | inl is ↦ is
       | inr found ↦ elim (by_number now next 0 found.0 found.1) [
-        | inl new ↦ absurd (omega (arith, subst (TakesNextNumber now) new both.second.first, next_first))
+        | inl new ↦ absurd (omega (arith, subst (MachineTakesNextNumber now) new both.second.first, next_first))
         | inr old ↦ let clash : None ≡ Some found.0 = sym none ∙ old in absurd cc
       ]
     ] where
@@ -239,11 +239,11 @@ first_numbers setting journal causes (suc n) message sent = omega arith
 
 one_of : (journal : List Item) (n : ℕ) (message : Message) → AreTraced journal
     → next_waiting journal ≡ None → 1 ≤ n → message_of journal n ≡ Some message
-    → IsTrue (was_delivered journal n) ⊎ IsTrue (is_forgotten journal n)
-one_of journal n message traced waiting first sent = by_forgotten (is_forgotten journal n) refl
+    → IsTrue (was_delivered journal n) ⊎ IsTrue (is_forgotten_in_journal journal n)
+one_of journal n message traced waiting first sent = by_forgotten (is_forgotten_in_journal journal n) refl
   where
-    by_forgotten : (b : Bool) → is_forgotten journal n ≡ b
-        → IsTrue (was_delivered journal n) ⊎ IsTrue (is_forgotten journal n)
+    by_forgotten : (b : Bool) → is_forgotten_in_journal journal n ≡ b
+        → IsTrue (was_delivered journal n) ⊎ IsTrue (is_forgotten_in_journal journal n)
     by_forgotten true e = inr e
     by_forgotten false e = inl (sent_delivered journal n message waiting e sent first
         (traced.sent n message sent))
@@ -254,10 +254,10 @@ flushed_all setting events journal answers n message sent =
     one_of journal n message (caused_traced setting journal causes) waiting
     (first_numbers setting journal causes n message sent) sent
   where
-    causes : HaveCauses (IsInOrder setting) [] journal
-    causes = subst (HaveCauses (IsInOrder setting) []) (sym answers.written)
+    causes : JournalItemsHaveCauses (IsInOrder setting) [] journal
+    causes = subst (JournalItemsHaveCauses (IsInOrder setting) []) (sym answers.written)
         (steps_have (IsInOrder setting) setting (pieces_in_order setting) [] answers.steps tt)
 
     waiting : next_waiting journal ≡ None
-    waiting = none_waits journal (subst (λ j. next_delivery j ≡ None) (sym answers.written)
+    waiting = none_waits journal (subst (λ j. journal_next_delivery j ≡ None) (sym answers.written)
         (flush_ends setting 1 events [] answers.steps answers.allowed))

@@ -3,7 +3,7 @@
 -- only grows.
 use Rattle.std.proofs.Common.{[], if◌then◌else◌, ◌++◌, ◌<◌, ◌==◌, ◌∙◌, ◌∷◌, ◌≡◌, ◌≤◌, Bool, IsFalse, IsTrue, List, None, Some, ap, append-nil, append_assoc, arith, false, refl, subst, sym, true, unwrap_or, ℕ}
 use Rattle.base.proofs.Exports.{nat_tests, option_or, ⊤}
-use Rattle.update_machine.specs.Exports.{Body, Confirm, Deliver, HaveCauses, Item, Message, Resend, Setting, Step, StepOfRow, TakesNextNumber, acked_stamp, journal_after_steps, boot_of, current_mark, first_open_number, gives_waited_for, has_acked, is_forgotten, is_up, is_waited_for, known_boot, link_changes, message_of, next_message, open_sent, opened_at, piece, retired_mark, send_items, serves, step_items, switch_items, version_count}
+use Rattle.update_machine.specs.Exports.{Body, Confirm, Deliver, JournalItemsHaveCauses, Item, Message, Resend, Setting, Step, StepOfRow, MachineTakesNextNumber, acked_stamp, journal_after_steps, journal_boot_of, journal_current_mark, machine_first_open, gives_waited_for, has_acked, is_forgotten_in_journal, is_up, is_waited_for, journal_known_boot, journal_link_changes, message_of, journal_next_message, machine_open_sent, opened_at, piece, journal_retired_mark, send_items, serves, step_items, journal_switch_items, journal_version_count}
 use Rattle.update_machine.proofs.Exports.{AreOf, have_append, have_first, next_rises}
 use Rattle.control_laws.proofs.Exports.{AreKept, Both, IsControl, acked_more, acked_stamp_rises, boot_more, confirm_control, controller_control, count_more, current_rises, deliver_has, fact_on, have_both, have_weaker, known_rises, last_more, message_more, opened_at_more, opened_in, opened_on, resends_any, retired_rises, sends_any, serving_more, switch_cases, up_more}
 use Rattle.convergence_laws.proofs.Exports.{IsInOrder, forgotten_more, pieces_in_order}
@@ -34,23 +34,23 @@ control_is_calm before (Item.Submitted file version) is = absurd is
 control_is_calm before _ is = tt
 
 sends_calm : (journal : List Item) (messages : List Message)
-    → HaveCauses IsCalm journal (send_items journal messages)
+    → JournalItemsHaveCauses IsCalm journal (send_items journal messages)
 sends_calm = sends_any IsCalm (λ before n message. tt)
 
 links_calm : (setting : Setting) (before journal : List Item)
-    → HaveCauses IsCalm journal (link_changes setting before journal)
-unfolding link_changes
+    → JournalItemsHaveCauses IsCalm journal (journal_link_changes setting before journal)
+unfolding journal_link_changes
 links_calm setting before journal = sends_calm journal _
 
 pub switch_calm : (setting : Setting) (before : List Item) (s : ℕ) (body : Body) (now : List Item)
-    → HaveCauses IsCalm now (switch_items setting before s body now)
-switch_calm setting before s body now = switch_cases (HaveCauses IsCalm now) setting before s body
+    → JournalItemsHaveCauses IsCalm now (journal_switch_items setting before s body now)
+switch_calm setting before s body now = switch_cases (JournalItemsHaveCauses IsCalm now) setting before s body
     now (λ boot version. sends_calm now _) (λ boot version. sends_calm now _)
     (λ boot version is. grind (arith, have_first, links_calm)) (λ advert is news. sends_calm now _)
     tt
 
 step_calm : (setting : Setting) (before : List Item) (step : Step) (here : List Item)
-    → IsCalmStep step → HaveCauses IsCalm here (step_items setting before step here)
+    → IsCalmStep step → JournalItemsHaveCauses IsCalm here (step_items setting before step here)
 step_calm setting before (Confirm s) here is =
     have_weaker IsControl IsCalm control_is_calm _ _ (confirm_control setting s here)
 step_calm setting before (Resend s) here is =
@@ -66,7 +66,7 @@ step_calm setting before _ here is = absurd is
 pub record Calmly (setting : Setting) (before after : List Item) : Type 0 where
   pub items : List Item
   pub is : after ≡ before ++ items
-  pub have : HaveCauses (Both IsCalm (IsInOrder setting)) before items
+  pub have : JournalItemsHaveCauses (Both IsCalm (IsInOrder setting)) before items
 
 pub calm_itself : (setting : Setting) (journal : List Item) → Calmly setting journal journal
 calm_itself setting journal = record { items = []; is = sym (append-nil journal); have = tt }
@@ -77,12 +77,12 @@ calm_through setting one two three first later = record {
   items = first.items ++ later.items;
   is = cc (later.is, first.is, append_assoc one first.items later.items);
   have = have_append (Both IsCalm (IsInOrder setting)) one first.items later.items first.have
-      (subst (λ j. HaveCauses (Both IsCalm (IsInOrder setting)) j later.items) first.is later.have);
+      (subst (λ j. JournalItemsHaveCauses (Both IsCalm (IsInOrder setting)) j later.items) first.is later.have);
 }
 
 pub calm_causes : (setting : Setting) (before after : List Item)
-    → HaveCauses (IsInOrder setting) [] before → Calmly setting before after
-    → HaveCauses (IsInOrder setting) [] after
+    → JournalItemsHaveCauses (IsInOrder setting) [] before → Calmly setting before after
+    → JournalItemsHaveCauses (IsInOrder setting) [] after
 calm_causes setting before after causes calm = rw calm.is (have_append (IsInOrder setting) [] before
     calm.items causes (have_weaker (Both IsCalm (IsInOrder setting)) (IsInOrder setting)
     (λ now next both. both.second) before calm.items calm.have))
@@ -127,18 +127,18 @@ calm_steps setting before (next ∷ steps) are =
 
 pub record Stays (before after : List Item) : Type 0 where
   pub up : (s : ℕ) → is_up after s ≡ is_up before s
-  pub boot : (s : ℕ) → boot_of after s ≡ boot_of before s
-  pub forgotten : (n : ℕ) → is_forgotten after n ≡ is_forgotten before n
-  pub count : version_count after ≡ version_count before
+  pub boot : (s : ℕ) → journal_boot_of after s ≡ journal_boot_of before s
+  pub forgotten : (n : ℕ) → is_forgotten_in_journal after n ≡ is_forgotten_in_journal before n
+  pub count : journal_version_count after ≡ journal_version_count before
   pub confirmed : (s : ℕ) → IsFalse (is_waited_for before s) → IsFalse (is_waited_for after s)
   pub serving : (s : ℕ) → IsTrue (serves before s) → IsTrue (serves after s)
-  pub current : current_mark before ≤ current_mark after
-  pub retired : retired_mark before ≤ retired_mark after
-  pub known : (s : ℕ) → known_boot before s ≤ known_boot after s
-  pub numbers : next_message before ≤ next_message after
+  pub current : journal_current_mark before ≤ journal_current_mark after
+  pub retired : journal_retired_mark before ≤ journal_retired_mark after
+  pub known : (s : ℕ) → journal_known_boot before s ≤ journal_known_boot after s
+  pub numbers : journal_next_message before ≤ journal_next_message after
   pub opened : (s boot version : ℕ) → opened_in before s boot ≡ Some version
       → opened_in after s boot ≡ Some version
-  pub messages : (n : ℕ) → n < next_message before → message_of after n ≡ message_of before n
+  pub messages : (n : ℕ) → n < journal_next_message before → message_of after n ≡ message_of before n
 
 pub next_confirmed : (before : List Item) (next : Item) (s : ℕ) → IsCalm before next
     → IsFalse (is_waited_for before s) → IsFalse (is_waited_for (before ++ next ∷ []) s)
@@ -165,8 +165,8 @@ next_serving before (Item.Opened t version) s calm serving =
     by_test false serving = serving
 next_serving before next s calm serving = rw (serving_more before next s) serving
 
-next_message_same : (before : List Item) (next : Item) (n : ℕ) → TakesNextNumber before next
-    → n < next_message before → message_of (before ++ next ∷ []) n ≡ message_of before n
+next_message_same : (before : List Item) (next : Item) (n : ℕ) → MachineTakesNextNumber before next
+    → n < journal_next_message before → message_of (before ++ next ∷ []) n ≡ message_of before n
 next_message_same before (Item.Sent number message) n takes below =
     let apart : (number == n) ≡ false = grind (arith, nat_tests) in
     rw (message_more before (Item.Sent number message) n, apart) refl
@@ -179,17 +179,17 @@ next_up before (Item.Booted t boot) s calm = absurd calm
 next_up before next s calm = up_more before next s
 
 next_boot : (before : List Item) (next : Item) (s : ℕ) → IsCalm before next
-    → boot_of (before ++ next ∷ []) s ≡ boot_of before s
+    → journal_boot_of (before ++ next ∷ []) s ≡ journal_boot_of before s
 next_boot before (Item.Booted t boot) s calm = absurd calm
 next_boot before next s calm = boot_more before next s
 
 next_forgotten : (before : List Item) (next : Item) (n : ℕ) → IsCalm before next
-    → is_forgotten (before ++ next ∷ []) n ≡ is_forgotten before n
+    → is_forgotten_in_journal (before ++ next ∷ []) n ≡ is_forgotten_in_journal before n
 next_forgotten before (Item.Forgotten number) n calm = absurd calm
 next_forgotten before next n calm = forgotten_more before next n
 
 next_count : (before : List Item) (next : Item) → IsCalm before next
-    → version_count (before ++ next ∷ []) ≡ version_count before
+    → journal_version_count (before ++ next ∷ []) ≡ journal_version_count before
 next_count before (Item.Submitted file version) calm = absurd calm
 next_count before next calm = count_more before next
 
@@ -253,14 +253,14 @@ stays setting before after calm = rw calm.is (fact_on (Both IsCalm (IsInOrder se
 
 record WhileKnown (first : List Item) (s : ℕ) (Holds : List Item → Type 0) (now : List Item)
     : Type 0 where
-  known : known_boot first s ≤ known_boot now s
-  holds : known_boot now s ≡ known_boot first s → Holds now
+  known : journal_known_boot first s ≤ journal_known_boot now s
+  holds : journal_known_boot now s ≡ journal_known_boot first s → Holds now
 
 -- what one more item keeps while the known boot stays holds where that is the same at the end
 while_known : (setting : Setting) (before after : List Item) (s : ℕ) (Holds : List Item → Type 0)
-    → ((now : List Item) (next : Item) → known_boot (now ++ next ∷ []) s ≡ known_boot now s
+    → ((now : List Item) (next : Item) → journal_known_boot (now ++ next ∷ []) s ≡ journal_known_boot now s
     → Holds now → Holds (now ++ next ∷ [])) → Calmly setting before after
-    → known_boot after s ≡ known_boot before s → Holds before → Holds after
+    → journal_known_boot after s ≡ journal_known_boot before s → Holds before → Holds after
 while_known setting before after s Holds keeps calm same holds = (subst (WhileKnown before s Holds)
     (sym calm.is) (fact_on (Both IsCalm (IsInOrder setting)) (WhileKnown before s Holds) on before
     calm.items calm.have (record { known = omega arith; holds = λ still. holds }))).holds same
@@ -268,14 +268,14 @@ while_known setting before after s Holds keeps calm same holds = (subst (WhileKn
     on : AreKept (Both IsCalm (IsInOrder setting)) (WhileKnown before s Holds)
     on now next both while = record {
       known = omega (arith, while.known, known_rises now next s);
-      holds = λ same. let still : known_boot (now ++ next ∷ []) s ≡ known_boot now s =
+      holds = λ same. let still : journal_known_boot (now ++ next ∷ []) s ≡ journal_known_boot now s =
           omega (arith, same, while.known, known_rises now next s) in
           keeps now next still (while.holds (omega (arith, same, still)));
     }
 
 -- what it acknowledged it has acknowledged
 pub acked_grows : (setting : Setting) (before after : List Item) (s version : ℕ)
-    → Calmly setting before after → known_boot after s ≡ known_boot before s
+    → Calmly setting before after → journal_known_boot after s ≡ journal_known_boot before s
     → IsTrue (has_acked before s version) → IsTrue (has_acked after s version)
 acked_grows setting before after s version = while_known setting before after s
     (λ now. IsTrue (has_acked now s version))
@@ -287,12 +287,12 @@ record StampsAbove (s bound version : ℕ) (now : List Item) : Type 0 where
   above : bound ≤ acked_stamp now s
 
 pub stamp_grows : (setting : Setting) (before after : List Item) (s bound version : ℕ)
-    → Calmly setting before after → known_boot after s ≡ known_boot before s
+    → Calmly setting before after → journal_known_boot after s ≡ journal_known_boot before s
     → opened_at before s ≡ Some version → bound ≤ acked_stamp before s → bound ≤ acked_stamp after s
 stamp_grows setting before after s bound version calm same opened above =
     (while_known setting before after s (StampsAbove s bound version)
     (λ now next still stamps. let now_opened = opened_at_more now next s still
-    ∙ ap (λ o. option_or o (first_open_number (open_sent s (known_boot now s) next))) stamps.opened in
+    ∙ ap (λ o. option_or o (machine_first_open (machine_open_sent s (journal_known_boot now s) next))) stamps.opened in
     record {
       opened = now_opened;
       above = omega (

@@ -1,7 +1,7 @@
 -- What was delivered within calm steps was delivered by one of them; so a switch answered it then.
 use Rattle.std.proofs.Common.{[], ◌++◌, ◌+◌, ◌<◌, ◌==◌, ◌||◌, ◌∙◌, ◌∷◌, ◌≡◌, ◌≤◌, ◌⊎◌, Bool, IfSome, IsFalse, IsTrue, List, None, Some, ap, append-nil, append_assoc, arith, eq-eqb, eqb-true, false, inl, inr, refl, subst, sym, true, ℕ}
 use Rattle.base.proofs.Exports.{IfSome_then, cases_lt}
-use Rattle.update_machine.specs.Exports.{Body, Confirm, Deliver, HaveCauses, Install, Installed, Item, Message, OpenAt, Resend, Setting, Stamp, Stamped, Step, StepOfRow, journal_after_steps, body_to_switch, receiver_boot_at, boot_of, controller_heard, deliver_items, delivery_items, is_deliverable, is_for_boot, is_forgotten, is_up, journal_items_then, message_of, next_message, next_waiting, nothing, piece, send_items, sendings, sent_from, serves, switch_items, to_switch, was_delivered}
+use Rattle.update_machine.specs.Exports.{Body, Confirm, Deliver, JournalItemsHaveCauses, Install, Installed, Item, Message, OpenAt, Resend, Setting, Stamp, Stamped, Step, StepOfRow, journal_after_steps, journal_body_to_switch, journal_receiver_boot_at, journal_boot_of, controller_heard, deliver_items, machine_delivery_items, is_deliverable, journal_body_for_boot, is_forgotten_in_journal, is_up, journal_items_then, message_of, journal_next_message, next_waiting, nothing, piece, send_items, sendings, machine_sent_items_from, serves, journal_switch_items, machine_message_to_switch, was_delivered}
 use Rattle.ctrl_msg.specs.Exports.{to_controller}
 use Rattle.convergence_laws.proofs.Exports.{AreTraced, IsIn, IsInOrder, IsPlain, IsSent, IsTraced, Plain, answer_of, caused_traced, deliverable_sent, delivered_more, delivery_is, delivery_plain, each_in, in_right, is_plain, next_grows, one_delivered, opens, sendings_more, sendings_on, sent_by, step_plain}
 use Rattle.forwarding_laws.proofs.RecoveryCalmItems.{Calmly, IsCalmStep, Stays, calm_causes, calm_piece, calm_steps, calm_through, stays}
@@ -31,19 +31,19 @@ since_calm setting since before after message calm sent = rw calm.is
     (since_on since before calm.items message sent)
 
 all_since : (since : ℕ) (journal : List Item) (n : ℕ) (messages : List Message) (message : Message)
-    → since ≤ n → IsIn message messages → IsSince since (journal ++ sent_from n messages) message
-unfolding sent_from
+    → since ≤ n → IsIn message messages → IsSince since (journal ++ machine_sent_items_from n messages) message
+unfolding machine_sent_items_from
 all_since since journal n [] message late is = absurd is
 all_since since journal n (first ∷ messages) message late is =
     let next : Item = Item.Sent n first in
     let now : List Item = journal ++ next ∷ [] in
     subst (λ j. IsSince since j message)
-    (append_assoc journal (next ∷ []) (sent_from (n + 1) messages))
+    (append_assoc journal (next ∷ []) (machine_sent_items_from (n + 1) messages))
     (elim is [
-      | inl here ↦ since_on since now (sent_from (n + 1) messages) message
+      | inl here ↦ since_on since now (machine_sent_items_from (n + 1) messages) message
           (subst (IsSince since now) here (record {
             number = n;
-            boot = receiver_boot_at journal first.to;
+            boot = journal_receiver_boot_at journal first.to;
             late = late;
             is = rw (sendings_more journal next)
                 (in_right _ (sendings journal) (sent_by journal next) (inl refl));
@@ -53,10 +53,10 @@ all_since since journal n (first ∷ messages) message late is =
 
 -- each of the messages that are sent now
 pub sends_since : (since : ℕ) (journal : List Item) (messages : List Message) (message : Message)
-    → since ≤ next_message journal → IsIn message messages
+    → since ≤ journal_next_message journal → IsIn message messages
     → IsSince since (journal ++ send_items journal messages) message
 sends_since since journal messages message late is =
-    all_since since journal (next_message journal) messages message late is
+    all_since since journal (journal_next_message journal) messages message late is
 
 -- ---- what was sent later, and what was sent earlier
 
@@ -67,9 +67,9 @@ pub record IsEarlier (before : List Item) (message : Message) : Type 0 where
 
 pub since_or_earlier : (setting : Setting) (before journal : List Item) (message : Message)
     → Calmly setting before journal → AreTraced journal → IsSent journal message
-    → IsSince (next_message before) journal message ⊎ IsEarlier before message
+    → IsSince (journal_next_message before) journal message ⊎ IsEarlier before message
 since_or_earlier setting before journal message calm traced sent =
-    elim (cases_lt sent.sending.number (next_message before)) [
+    elim (cases_lt sent.sending.number (journal_next_message before)) [
       | inl below ↦ inr (record {
         number = sent.sending.number;
         sent = sym ((stays setting before journal calm).messages sent.sending.number below)
@@ -98,23 +98,23 @@ pub record IsFlushed (setting : Setting) (before journal : List Item) : Type 0 w
   pub waiting : next_waiting journal ≡ None
 
 pub since_delivered : (setting : Setting) (before journal : List Item)
-    → IsFlushed setting before journal → (number boot : ℕ) (message : Message) → next_message before
+    → IsFlushed setting before journal → (number boot : ℕ) (message : Message) → journal_next_message before
     ≤ number → IsIn (record { number = number; message = message; boot = boot }) (sendings journal)
     → IsTrue (was_delivered journal number)
 since_delivered setting before journal are number boot message late is =
     one_delivered journal (record { number = number; message = message; boot = boot }) are.waiting
     ((stays setting before journal are.calm).forgotten number
-    ∙ by_forgotten (is_forgotten before number) refl)
+    ∙ by_forgotten (is_forgotten_in_journal before number) refl)
     (each_in (IsTraced journal) _ (sendings journal) are.traced.each is)
   where
-    by_forgotten : (b : Bool) → is_forgotten before number ≡ b
-        → IsFalse (is_forgotten before number)
+    by_forgotten : (b : Bool) → is_forgotten_in_journal before number ≡ b
+        → IsFalse (is_forgotten_in_journal before number)
     by_forgotten false e = e
     by_forgotten true e = absurd (omega (arith, are.first.forgotten number e, late))
 
 -- so the controller heard what was sent to it
 pub since_told : (setting : Setting) (before journal : List Item) → IsFlushed setting before journal
-    → (body : Body) → IsSince (next_message before) journal (to_controller body)
+    → (body : Body) → IsSince (journal_next_message before) journal (to_controller body)
     → IsIn body (controller_heard journal)
 since_told setting before journal are body sent = (each_in (IsTraced journal)
     (record { number = sent.number; message = to_controller body; boot = sent.boot })
@@ -175,14 +175,14 @@ piece_delivers setting at row m n = behind_piece setting at row (Deliver m)
 
     by_test : (b : Bool) → is_deliverable at m ≡ b → was_delivered (here ++ elim b [
       | false ↦ nothing
-      | true ↦ journal_items_then (Item.Delivered m ∷ []) (delivery_items setting at m) here
+      | true ↦ journal_items_then (Item.Delivered m ∷ []) (machine_delivery_items setting at m) here
     ]) n ≡ true → was_delivered at n ≡ false → (m ≡ n) × (is_deliverable at m ≡ true)
     by_test false e is none = absurd (cc (sym is ∙ delivered_more here Item.Nothing n
         ∙ delivered_more at (Item.Row row (Deliver m)) n ∙ none))
     by_test true e is none = (
       by_number (m == n) refl
           (sym (delivered_more here (Item.Delivered m) n) ∙ sym (plain_undelivered now
-          (delivery_items setting at m now) n (delivery_plain setting at m now))
+          (machine_delivery_items setting at m now) n (delivery_plain setting at m now))
           ∙ ap (λ j. was_delivered j n) (append_assoc here (Item.Delivered m ∷ []) _) ∙ is) none,
       e,
     )
@@ -250,9 +250,9 @@ answered_calm setting since before after s body calm is = IfSome_then (answer_of
     (λ answer sent. since_calm setting since before after (to_controller answer) calm sent)
 
 switch_since : (setting : Setting) (since : ℕ) (before : List Item) (s : ℕ) (body : Body)
-    (now : List Item) → since ≤ next_message now → serves now s ≡ serves before s
-    → IsAnsweredSince since (now ++ switch_items setting before s body now) s body
-unfolding switch_items
+    (now : List Item) → since ≤ journal_next_message now → serves now s ≡ serves before s
+    → IsAnsweredSince since (now ++ journal_switch_items setting before s body now) s body
+unfolding journal_switch_items
 switch_since setting since before s (Install boot tables) now late same =
     sends_since since now (to_controller (Installed s boot tables.version) ∷ []) _ late (inl refl)
 switch_since setting since before s (Stamp boot version touched) now late same =
@@ -263,15 +263,15 @@ switch_since setting since before s _ now late same = tt
 
 -- the message of this number, which was sent to a switch that is up in the boot that it is for
 pub delivered_answered : (setting : Setting) (before after : List Item) (n s : ℕ) (body : Body)
-    → HaveCauses (IsInOrder setting) [] before → IsDeliveredIn setting before after n
-    → message_of after n ≡ Some (to_switch s body) → IsTrue (is_up after s)
-    → IsTrue (is_for_boot (boot_of after s) body)
-    → IsAnsweredSince (next_message before) after s body
+    → JournalItemsHaveCauses (IsInOrder setting) [] before → IsDeliveredIn setting before after n
+    → message_of after n ≡ Some (machine_message_to_switch s body) → IsTrue (is_up after s)
+    → IsTrue (journal_body_for_boot (journal_boot_of after s) body)
+    → IsAnsweredSince (journal_next_message before) after s body
 unfolding deliver_items
 delivered_answered setting before after n s body causes is sent up own =
-    answered_calm setting (next_message before) then after s body is.rest
+    answered_calm setting (journal_next_message before) then after s body is.rest
     (behind_piece setting at is.row (Deliver n)
-    (λ j. IsAnsweredSince (next_message before) j s body) (by_test (is_deliverable at n) is.may))
+    (λ j. IsAnsweredSince (journal_next_message before) j s body) (by_test (is_deliverable at n) is.may))
   where
     at : List Item
     at = is.at
@@ -289,23 +289,23 @@ delivered_answered setting before after n s body causes is sent up own =
     left = stays setting at after
         (calm_through setting at then after (calm_piece setting at is.row (Deliver n) tt) is.rest)
 
-    sent_at : message_of at n ≡ Some (to_switch s body)
+    sent_at : message_of at n ≡ Some (machine_message_to_switch s body)
     sent_at =
         let found = deliverable_sent at n is.may in
-        let below : n < next_message at =
+        let below : n < journal_next_message at =
         (caused_traced setting at (calm_causes setting before at causes is.first)).sent n found.0
         found.1 in
         sym (left.messages n below) ∙ sent
 
-    said : body_to_switch at s n ≡ Some body
+    said : journal_body_to_switch at s n ≡ Some body
     said =
         let sent_here = sent_at in
         let same : (s == s) ≡ true = eq-eqb s s refl in
-        let for_it : is_for_boot (boot_of at s) body ≡ true =
-        ap (λ b. is_for_boot b body) (sym (left.boot s)) ∙ own in
-        rw (sent_here, same, sym (left.up s) ∙ up, for_it, body_to_switch) refl
+        let for_it : journal_body_for_boot (journal_boot_of at s) body ≡ true =
+        ap (λ b. journal_body_for_boot b body) (sym (left.boot s)) ∙ own in
+        rw (sent_here, same, sym (left.up s) ∙ up, for_it, journal_body_to_switch) refl
 
-    late : next_message before ≤ next_message now
+    late : journal_next_message before ≤ journal_next_message now
     late = omega (
       arith,
       (stays setting before at is.first).numbers,
@@ -313,14 +313,14 @@ delivered_answered setting before after n s body causes is sent up own =
       next_grows here (Item.Delivered n ∷ []),
     )
 
-    by_test : (b : Bool) → b ≡ true → IsAnsweredSince (next_message before) (here ++ elim b [
+    by_test : (b : Bool) → b ≡ true → IsAnsweredSince (journal_next_message before) (here ++ elim b [
       | false ↦ nothing
-      | true ↦ journal_items_then (Item.Delivered n ∷ []) (delivery_items setting at n) here
+      | true ↦ journal_items_then (Item.Delivered n ∷ []) (machine_delivery_items setting at n) here
     ]) s body
     by_test false e = absurd cc
-    by_test true e = subst (λ j. IsAnsweredSince (next_message before) j s body)
-        (append_assoc here (Item.Delivered n ∷ []) (delivery_items setting at n now))
-        (subst (λ items. IsAnsweredSince (next_message before) (now ++ items) s body)
+    by_test true e = subst (λ j. IsAnsweredSince (journal_next_message before) j s body)
+        (append_assoc here (Item.Delivered n ∷ []) (machine_delivery_items setting at n now))
+        (subst (λ items. IsAnsweredSince (journal_next_message before) (now ++ items) s body)
         (sym (delivery_is setting at n now s body said))
-        (switch_since setting (next_message before) at s body now late
+        (switch_since setting (journal_next_message before) at s body now late
         (serving_more here (Item.Delivered n) s ∙ serving_more at (Item.Row is.row (Deliver n)) s)))

@@ -3,7 +3,7 @@
 -- that waits.
 use Rattle.std.proofs.Common.{[], ◌++◌, ◌+◌, ◌||◌, ◌∙◌, ◌∷◌, ◌≡◌, ◌⊎◌, All, Bool, Contains, IsFalse, IsTrue, List, ap, append-nil, append_assoc, arith, eq-eqb, false, inl, inr, length, not, refl, subst, sym, true, ℕ}
 use Rattle.base.proofs.Exports.{All-from_recursion, AllByRecursion, recursion_from_All}
-use Rattle.update_machine.specs.Exports.{Answers, AreAllEventSteps, AreSteps, Confirm, Event, Flush, Item, One, Resend, Setting, Step, StepOfRow, journal_after_steps, confirm_items, gives_waited_for, is_up, is_waited_for, journal_items_then, next_delivery, nothing, piece, settling, switches_of}
+use Rattle.update_machine.specs.Exports.{Answers, AreAllMachineEventSteps, AreMachineSteps, Confirm, Event, Flush, Item, One, Resend, Setting, Step, StepOfRow, journal_after_steps, confirm_items, gives_waited_for, is_up, is_waited_for, journal_items_then, journal_next_delivery, nothing, piece, settling, switches_of}
 use Rattle.steps.specs.Exports.{HasSwitch}
 use Rattle.update_machine.proofs.Exports.{AreOf, after_append}
 use Rattle.control_laws.proofs.Exports.{IsControl, behind_piece, each_range, each_weaker, fact_on, have_weaker, last_more, settling_control, up_more}
@@ -19,11 +19,11 @@ record AreParted (setting : Setting) (row : ℕ) (one other : List Event) (befor
   rest : List StepOfRow
   later : ℕ
   is : steps ≡ mine ++ rest
-  first : AreSteps setting row one before mine
-  second : AreSteps setting later other (journal_after_steps setting before mine) rest
+  first : AreMachineSteps setting row one before mine
+  second : AreMachineSteps setting later other (journal_after_steps setting before mine) rest
 
 steps_part : (setting : Setting) (row : ℕ) (one other : List Event) (before : List Item)
-    (steps : List StepOfRow) → AreSteps setting row (one ++ other) before steps
+    (steps : List StepOfRow) → AreMachineSteps setting row (one ++ other) before steps
     → AreParted setting row one other before steps
 steps_part setting row [] other before steps are = record {
   mine = [];
@@ -62,7 +62,7 @@ IsAmong step (next ∷ steps) = (next.step ≡ step) ⊎ IsAmong step steps
 
 singles_each : (setting : Setting) (step : ℕ → Step) (row : ℕ) (rows : List Event)
     (before : List Item) (steps : List StepOfRow) → Only step rows
-    → AreSteps setting row rows before steps → AreEach step steps
+    → AreMachineSteps setting row rows before steps → AreEach step steps
 singles_each setting step row [] before steps only are = subst (AreEach step) (sym are) tt
 singles_each setting step row (One first ∷ rows) before steps only are =
     subst (AreEach step) (sym (are.2.split ∙ ap (λ mine. mine ++ are.1) are.3)) (
@@ -77,7 +77,7 @@ singles_each setting step row (event ∷ rows) before steps only are =
 
 singles_among : (setting : Setting) (step : Step) (row : ℕ) (rows : List Event)
     (before : List Item) (steps : List StepOfRow) → IsIn (One step) rows
-    → AreSteps setting row rows before steps → IsAmong step steps
+    → AreMachineSteps setting row rows before steps → IsAmong step steps
 singles_among setting step row [] before steps is are = absurd is
 singles_among setting step row (One first ∷ rows) before steps is are = subst (IsAmong step)
     (sym (are.2.split ∙ ap (λ mine. mine ++ are.1) are.3)) (elim is [
@@ -206,7 +206,7 @@ pub record EndsCalmly (setting : Setting) (journal : List Item) : Type 0 where
   pub switches : All (IsConfirmed (journal_after_steps setting [] first)) (switches_of setting)
   pub asked : AreEach Resend resends
   pub each : (s : ℕ) → HasSwitch setting.net s → IsAmong (Resend s) resends
-  pub all : AreAllEventSteps setting next_delivery row
+  pub all : AreAllMachineEventSteps setting journal_next_delivery row
       (journal_after_steps setting (journal_after_steps setting [] first) resends) flush
 
 pub all_confirmed_on : (setting : Setting) (before after : List Item) → Calmly setting before after
@@ -232,16 +232,16 @@ all_confirmed setting before steps are each =
 
 -- the steps of a flush alone
 flush_alone : (setting : Setting) (row : ℕ) (before : List Item) (steps : List StepOfRow)
-    → AreSteps setting row (Flush ∷ []) before steps → AreAllEventSteps setting next_delivery row before steps
-flush_alone setting row before steps are = subst (AreAllEventSteps setting next_delivery row before)
+    → AreMachineSteps setting row (Flush ∷ []) before steps → AreAllMachineEventSteps setting journal_next_delivery row before steps
+flush_alone setting row before steps are = subst (AreAllMachineEventSteps setting journal_next_delivery row before)
     (sym (are.2.split ∙ ap (λ rest. are.0 ++ rest) are.4 ∙ append-nil are.0)) are.3
 
 -- the journal of rows that leave each switch up, or not waited for, resends of each, and a flush
 pub ends_by : (setting : Setting) (rows resends : List Event) (journal : List Item)
     → RecoveryAsksEach setting.net Resend resends → Answers setting (rows ++ resends ++ Flush ∷ []) journal
-    → ((steps : List StepOfRow) → AreSteps setting 1 rows [] steps
+    → ((steps : List StepOfRow) → AreMachineSteps setting 1 rows [] steps
     → All (IsConfirmed (journal_after_steps setting [] steps)) (switches_of setting))
-    → (ends : EndsCalmly setting journal) × AreSteps setting 1 rows [] ends.first
+    → (ends : EndsCalmly setting journal) × AreMachineSteps setting 1 rows [] ends.first
 ends_by setting rows resends journal asks answers confirms = (
   record {
     first = resending.mine;
@@ -272,7 +272,7 @@ ends_by setting rows resends journal asks answers confirms = (
 
 -- rows that confirm each switch leave it so
 confirms_leave : (setting : Setting) (front confirms : List Event) (steps : List StepOfRow)
-    → RecoveryAsksEach setting.net Confirm confirms → AreSteps setting 1 (front ++ confirms) [] steps
+    → RecoveryAsksEach setting.net Confirm confirms → AreMachineSteps setting 1 (front ++ confirms) [] steps
     → All (IsConfirmed (journal_after_steps setting [] steps)) (switches_of setting)
 confirms_leave setting front confirms steps asks are =
     rw (ap (journal_after_steps setting []) parts.is ∙ after_append setting [] parts.mine parts.rest)

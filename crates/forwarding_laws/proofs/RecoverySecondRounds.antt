@@ -2,16 +2,16 @@
 -- retired, and so holds the tables of the newest version alone.
 use Rattle.std.proofs.Common.{[], ◌&&◌, ◌++◌, ◌<◌, ◌==◌, ◌||◌, ◌∙◌, ◌∷◌, ◌≡◌, ◌≢◌, ◌≤◌, ◌⊎◌, All, Bool, IsFalse, IsTrue, List, None, Option, Some, ap, arith, eq-eqb, false, inl, inr, length, ne_eqb, not, refl, rules, subst, sym, true, ℕ}
 use Rattle.base.proofs.Exports.{⊤, All-from_recursion, All-weaker, cases_eq, list_any, nat_tests, recursion_from_All}
-use Rattle.update_machine.specs.Exports.{Answers, AreSteps, BeginsAnswer, Body, CacheEntry, Collect, Drain, Event, HaveCauses, Header, Hop, IsPlay, IsSetting, Item, Packet, Sending, Setting, StepOfRow, journal_after_steps, boot_of, cache_of, collects_version, concerns_controller, concerns_policies, current_mark, heard, holds_version, installs_version, is_in_first_boot, is_member, is_opening_body, is_over, is_up, known_boot, next_message, next_packet, piece, plan_at, policy_at, resent_by_controller, resent_by_switch, retired_mark, sendings, serves, stamp_of, switches_of, to_switch, version_count}
+use Rattle.update_machine.specs.Exports.{Answers, AreMachineSteps, JournalBeginsAnswer, Body, CacheEntry, Collect, Drain, Event, JournalItemsHaveCauses, Header, Hop, IsMachinePlay, IsSetting, Item, Packet, Sending, Setting, StepOfRow, journal_after_steps, journal_boot_of, journal_cache_of, journal_collects_version, concerns_controller, item_concerns_policies, journal_current_mark, heard, holds_version, installs_version, is_first_boot_in_journal, is_member, is_machine_opening_body, is_over, is_up, journal_known_boot, journal_next_message, journal_next_packet, piece, journal_plan_at, policy_at, journal_resent_by_controller, journal_resent_by_switch, journal_retired_mark, sendings, serves, journal_stamp_of, switches_of, machine_message_to_switch, journal_version_count}
 use Rattle.update_machine.proofs.Exports.{controller_keeps, policies_keep}
 use Rattle.convergence_laws.proofs.Exports.{AreKept, Both, IsIn, IsTraced, IsWork, Walks, all_in, caused_traced, each_in, each_of_in, have_both, have_weaker, heard_in_boot, hop_work, in_range, in_right, items_caused, moves, near_back, own_boot, packet_works, piece_has, rule_cases}
 use Rattle.packet_laws.proofs.Exports.{IsNoRow, no_rows, play_begins}
 use Rattle.net_file.specs.Exports.{IsNet}
-use Rattle.convergence_laws.specs.Exports.{GetStuckApart, HasConverged, IsNetworkUpdated, LeadsOverUsable, Reaches}
-use Rattle.control_laws.specs.Exports.{AreNetworkEvents, HasItemCause, HoldsAtEnds, HoldsReached}
+use Rattle.convergence_laws.specs.Exports.{GetStuckApart, HasConverged, HasConvergedOnVersion, LeadsOverUsableNeighbours, Reaches}
+use Rattle.control_laws.specs.Exports.{AreNetworkEvents, HasControlItemCause, HoldsAtEnds, HoldsReached}
 use Rattle.control_laws.proofs.Exports.{IsServing, member_of, pieces_have, serving_hold, steps_have, tables_planned}
-use Rattle.packet_laws.specs.Exports.{HoldsBetween, IsRightEntry, RulesAreRight}
-use Rattle.forwarding_laws.specs.Exports.{RolloutAccountsForAll, AllAccountedOrCutOff, CacheNewestAlone, DropsNothing, EndsInDrain, EndsInRecovery, EndsInTwoRounds, HasRecovered, HoldNewestAlone, IsConnectedNetwork, LeavesNothingOld, NoneIsStuck, NothingFailsInRollout, PlaysKeepWorking}
+use Rattle.packet_laws.specs.Exports.{HoldsBetween, IsRightEntry, PacketRulesAreRight}
+use Rattle.forwarding_laws.specs.Exports.{RolloutAccountsForAll, AllAccountedOrCutOff, ForwardingCachesNewestAlone, DropsNothing, EndsInDrain, EndsInRecovery, EndsInTwoRecoveryRounds, HasRecovered, HoldNewestAlone, IsConnectedNetwork, RecoveryLeavesNothingOld, NoneIsStuck, NothingFailsInRollout, PlaysKeepForwarding}
 use Rattle.forwarding_laws.proofs.RolloutDrains.{caches_above}
 use Rattle.forwarding_laws.proofs.RecoveryCalmItems.{Stays, calm_causes, stays}
 use Rattle.forwarding_laws.proofs.RecoveredControl.{IsAsked, IsRecovered}
@@ -45,16 +45,16 @@ comes_passes setting before next both = both.first
 
 -- the pieces of such steps
 pub packet_passes : (setting : Setting) (before : List Item) (row s : ℕ) (header : Header)
-    → HaveCauses (Passes setting) before (piece setting before row (Packet s header))
+    → JournalItemsHaveCauses (Passes setting) before (piece setting before row (Packet s header))
 packet_passes setting before row s header = piece_has (Passes setting) setting before row
     (Packet s header) refl
     (have_weaker (Both (Comes setting) (λ now other. IsNoRow other)) (Passes setting)
     (comes_passes setting) _ _ (have_both (Comes setting) (λ now other. IsNoRow other) _ _
-    (packet_works setting (Comes setting) (work_comes setting) (next_packet before) s header _ tt)
+    (packet_works setting (Comes setting) (work_comes setting) (journal_next_packet before) s header _ tt)
     (no_rows setting before row (Packet s header))))
 
 pub hop_passes : (setting : Setting) (before : List Item) (row i : ℕ)
-    → HaveCauses (Passes setting) before (piece setting before row (Hop i))
+    → JournalItemsHaveCauses (Passes setting) before (piece setting before row (Hop i))
 hop_passes setting before row i = piece_has (Passes setting) setting before row (Hop i) refl
     (have_weaker (Both (Comes setting) (λ now other. IsNoRow other)) (Passes setting)
     (comes_passes setting) _ _ (have_both (Comes setting) (λ now other. IsNoRow other) _ _
@@ -70,22 +70,22 @@ passes_walks setting before _ passes = search rules
 passes_controller : (setting : Setting) (before : List Item) (next : Item)
     → Passes setting before next → IsFalse (concerns_controller before next)
 passes_controller setting before (Item.Sent number message) passes =
-    rule_cases before (λ to body. IsFalse (is_opening_body body))
+    rule_cases before (λ to body. IsFalse (is_machine_opening_body body))
     (λ s version word rule action there ingress. refl) message.to message.body passes
 passes_controller setting before _ passes = search rules
 
 passes_policies : (setting : Setting) (before : List Item) (next : Item)
-    → Passes setting before next → IsFalse (concerns_policies before next)
+    → Passes setting before next → IsFalse (item_concerns_policies before next)
 passes_policies setting before (Item.Submitted file version) passes = absurd passes
 passes_policies setting before _ passes = refl
 
 -- marks and policies are as they were
 pub record MarksStay (setting : Setting) (journal now : List Item) : Type 0 where
-  pub current : current_mark now ≡ current_mark journal
-  pub retired : retired_mark now ≡ retired_mark journal
-  pub count : version_count now ≡ version_count journal
+  pub current : journal_current_mark now ≡ journal_current_mark journal
+  pub retired : journal_retired_mark now ≡ journal_retired_mark journal
+  pub count : journal_version_count now ≡ journal_version_count journal
   pub policy : (v : ℕ) → policy_at setting now v ≡ policy_at setting journal v
-  pub plan : (v : ℕ) → plan_at setting now v ≡ plan_at setting journal v
+  pub plan : (v : ℕ) → journal_plan_at setting now v ≡ journal_plan_at setting journal v
 
 pub marks_stay : (setting : Setting) (journal : List Item)
     → AreKept (Passes setting) (MarksStay setting journal)
@@ -104,7 +104,7 @@ marks_stay setting journal before next passes stay =
 -- ---- walks over usable links lead back: what their end doesn't reach, their beginning doesn't
 
 turn_round : (setting : Setting) (journal : List Item) → IsNet setting.net → (there at target : ℕ)
-    (rest : List ℕ) → LeadsOverUsable setting journal there at rest
+    (rest : List ℕ) → LeadsOverUsableNeighbours setting journal there at rest
     → Reaches setting journal at target → Reaches setting journal there target
 turn_round setting journal net there at target [] leads reaches = rw leads at reaches
 turn_round setting journal net there at target (next ∷ rest) leads reaches =
@@ -151,26 +151,26 @@ collected_gone : (journal : List Item) (s boot mark version : ℕ)
 unfolding holds_version
 collected_gone journal s boot mark version told below =
     ap (λ b. (list_any (installs_version version) (heard journal s)
-    || (version == 1 && is_in_first_boot journal s)) && not b) (any_of_in (collects_version version)
+    || (version == 1 && is_first_boot_in_journal journal s)) && not b) (any_of_in (journal_collects_version version)
     (Collect boot mark) (heard journal s) told (grind (arith, nat_tests)))
     ∙ none (list_any (installs_version version) (heard journal s)
-    || (version == 1 && is_in_first_boot journal s))
+    || (version == 1 && is_first_boot_in_journal journal s))
   where
     none : (b : Bool) → (b && false) ≡ false
     none true = refl
     none false = refl
 
 module _ (setting : Setting) (before journal : List Item) (are : IsRecovered setting before journal)
-    (early : IsNetworkUpdated setting before) (late : IsNetworkUpdated setting journal) where
-  caused : HaveCauses (HasItemCause setting) [] journal
+    (early : HasConvergedOnVersion setting before) (late : HasConvergedOnVersion setting journal) where
+  caused : JournalItemsHaveCauses (HasControlItemCause setting) [] journal
   caused = items_caused setting journal are.ready.causes
 
   -- what is retired is told to each switch that is up
   collect_sent : (s : ℕ) → s < length setting.net.switches → IsTrue (is_up journal s)
-      → (retired_mark journal == 0) ≡ false → IsSince (next_message before) journal
-      (to_switch s (Collect (boot_of journal s) (retired_mark journal)))
+      → (journal_retired_mark journal == 0) ≡ false → IsSince (journal_next_message before) journal
+      (machine_message_to_switch s (Collect (journal_boot_of journal s) (journal_retired_mark journal)))
   collect_sent s there up some = rw mark at (rw (own ∙ sym (left.boot s)) at (asked.sends _
-      (in_right _ (resent_by_switch setting here s) (resent_by_controller setting here s)
+      (in_right _ (journal_resent_by_switch setting here s) (journal_resent_by_controller setting here s)
       (collect_resent setting here s not_over member (ap (λ n. n == 0) mark ∙ some)))))
     where
       asked : IsAsked setting before journal s
@@ -185,7 +185,7 @@ module _ (setting : Setting) (before journal : List Item) (are : IsRecovered set
       left : Stays here journal
       left = stays setting here journal asked.rest
 
-      mark : retired_mark here ≡ retired_mark journal
+      mark : journal_retired_mark here ≡ journal_retired_mark journal
       mark = omega (
         arith,
         first.retired,
@@ -205,7 +205,7 @@ module _ (setting : Setting) (before journal : List Item) (are : IsRecovered set
           (of_network (λ t. IsTrue (is_up before t) → IsTrue (serves before t)) setting s there
           early.serving (sym (first.up s) ∙ sym (left.up s) ∙ up))
 
-      own : known_boot here s ≡ boot_of here s
+      own : journal_known_boot here s ≡ journal_boot_of here s
       own = is.known serving
 
       not_over : IsFalse (is_over here s)
@@ -216,103 +216,103 @@ module _ (setting : Setting) (before journal : List Item) (are : IsRecovered set
 
   -- and it heard it
   collect_heard : (s : ℕ) → s < length setting.net.switches → IsTrue (is_up journal s)
-      → (retired_mark journal == 0) ≡ false
-      → IsIn (Collect (boot_of journal s) (retired_mark journal)) (heard journal s)
+      → (journal_retired_mark journal == 0) ≡ false
+      → IsIn (Collect (journal_boot_of journal s) (journal_retired_mark journal)) (heard journal s)
   collect_heard s there up some = heard_in_boot journal s sent.number sent.boot body
-      are.flushed.traced sent.is up boot (eq-eqb (boot_of journal s) sent.boot (sym boot))
-      (since_delivered setting before journal are.flushed sent.number sent.boot (to_switch s body)
+      are.flushed.traced sent.is up boot (eq-eqb (journal_boot_of journal s) sent.boot (sym boot))
+      (since_delivered setting before journal are.flushed sent.number sent.boot (machine_message_to_switch s body)
       sent.late sent.is)
     where
       body : Body
-      body = Collect (boot_of journal s) (retired_mark journal)
+      body = Collect (journal_boot_of journal s) (journal_retired_mark journal)
 
-      sent : IsSince (next_message before) journal (to_switch s body)
+      sent : IsSince (journal_next_message before) journal (machine_message_to_switch s body)
       sent = collect_sent s there up some
 
       x : Sending
-      x = record { number = sent.number; message = to_switch s body; boot = sent.boot }
+      x = record { number = sent.number; message = machine_message_to_switch s body; boot = sent.boot }
 
-      boot : sent.boot ≡ boot_of journal s
-      boot = own_boot journal s (boot_of journal s) x
+      boot : sent.boot ≡ journal_boot_of journal s
+      boot = own_boot journal s (journal_boot_of journal s) x
           (each_in (IsTraced journal) x (sendings journal) are.flushed.traced.each sent.is).course
           refl refl
 
   pub hold_newest : HoldNewestAlone setting journal
-  hold_newest s version there up = by_place (cases_eq version (version_count journal)) where
+  hold_newest s version there up = by_place (cases_eq version (journal_version_count journal)) where
     serving : IsTrue (serves journal s)
     serving = of_network (λ t. IsTrue (is_up journal t) → IsTrue (serves journal t)) setting s
         there late.serving up
 
-    stamp : stamp_of journal s ≡ version_count journal
-    stamp = of_network (λ t. IsTrue (is_up journal t) → stamp_of journal t ≡ version_count journal)
+    stamp : journal_stamp_of journal s ≡ journal_version_count journal
+    stamp = of_network (λ t. IsTrue (is_up journal t) → journal_stamp_of journal t ≡ journal_version_count journal)
         setting s there late.stamps up
 
-    by_held : version ≢ version_count journal → (b : Bool) → holds_version journal s version ≡ b
+    by_held : version ≢ journal_version_count journal → (b : Bool) → holds_version journal s version ≡ b
         → holds_version journal s version ≡ false
     by_held apart false e = e
     by_held apart true e =
         let there_is = (tables_planned setting journal caused).held s version e in
-        let below : version ≤ retired_mark journal =
+        let below : version ≤ journal_retired_mark journal =
         omega (arith, there_is.0, there_is.1, apart, late.retired) in
-        let some : (retired_mark journal == 0) ≡ false =
-        ne_eqb (retired_mark journal) 0 (λ none. omega (arith, none, below, there_is.0)) in
-        collected_gone journal s (boot_of journal s) (retired_mark journal) version
+        let some : (journal_retired_mark journal == 0) ≡ false =
+        ne_eqb (journal_retired_mark journal) 0 (λ none. omega (arith, none, below, there_is.0)) in
+        collected_gone journal s (journal_boot_of journal s) (journal_retired_mark journal) version
         (collect_heard s there up some) below
 
-    by_place : (version ≡ version_count journal) ⊎ (version ≢ version_count journal)
-        → holds_version journal s version ≡ (version == version_count journal)
+    by_place : (version ≡ journal_version_count journal) ⊎ (version ≢ journal_version_count journal)
+        → holds_version journal s version ≡ (version == journal_version_count journal)
     by_place (inl same) = ap (holds_version journal s) (same ∙ sym stamp)
         ∙ (serving_hold setting journal caused s there serving).stamp
-        ∙ sym (eq-eqb version (version_count journal) same)
+        ∙ sym (eq-eqb version (journal_version_count journal) same)
     by_place (inr apart) = by_held apart (holds_version journal s version) refl
-        ∙ sym (ne_eqb version (version_count journal) apart)
+        ∙ sym (ne_eqb version (journal_version_count journal) apart)
 
 -- ---- caches
 
 pub cache_newest : (setting : Setting) (journal : List Item)
-    → HaveCauses (HasItemCause setting) [] journal → RulesAreRight setting journal
-    → IsNetworkUpdated setting journal → CacheNewestAlone setting journal
+    → JournalItemsHaveCauses (HasControlItemCause setting) [] journal → PacketRulesAreRight setting journal
+    → HasConvergedOnVersion setting journal → ForwardingCachesNewestAlone setting journal
 cache_newest setting journal causes rules updated s there up =
-    All-from_recursion (λ (entry : CacheEntry). entry.version ≡ version_count journal)
-    (cache_of setting journal s).entries
-    (each_of_in (λ (entry : CacheEntry). entry.version ≡ version_count journal)
-    (cache_of setting journal s).entries
+    All-from_recursion (λ (entry : CacheEntry). entry.version ≡ journal_version_count journal)
+    (journal_cache_of setting journal s).entries
+    (each_of_in (λ (entry : CacheEntry). entry.version ≡ journal_version_count journal)
+    (journal_cache_of setting journal s).entries
     (λ entry is. let above = (caches_above setting journal causes).each s entry is in
-    let right = each_in (IsRightEntry setting journal) entry (cache_of setting journal s).entries
-    (recursion_from_All (IsRightEntry setting journal) (cache_of setting journal s).entries
+    let right = each_in (IsRightEntry setting journal) entry (journal_cache_of setting journal s).entries
+    (recursion_from_All (IsRightEntry setting journal) (journal_cache_of setting journal s).entries
     (rules.cached s)) is in
     omega (arith, above, right.current, updated.current, stamp)))
   where
-    stamp : stamp_of journal s ≡ version_count journal
-    stamp = of_network (λ t. IsTrue (is_up journal t) → stamp_of journal t ≡ version_count journal)
+    stamp : journal_stamp_of journal s ≡ journal_version_count journal
+    stamp = of_network (λ t. IsTrue (is_up journal t) → journal_stamp_of journal t ≡ journal_version_count journal)
         setting s there updated.stamps up
 
 -- ---- after recovery and one more round nothing old is left
 
 -- what holds of cache rules, of each journal of the network
 abbrev pub RulesLaw : Type 0
-RulesLaw = HoldsReached (λ setting journal. IsSetting setting → RulesAreRight setting journal)
+RulesLaw = HoldsReached (λ setting journal. IsSetting setting → PacketRulesAreRight setting journal)
 
 -- caches of an answer
 answer_caches : RulesLaw → (setting : Setting) (events : List Event) (journal : List Item)
     → IsSetting setting → AreNetworkEvents setting events → Answers setting events journal
-    → IsNetworkUpdated setting journal → CacheNewestAlone setting journal
+    → HasConvergedOnVersion setting journal → ForwardingCachesNewestAlone setting journal
 answer_caches rules setting events journal is own answers updated = cache_newest setting journal
     causes (rules.answered setting events journal own answers is) updated
   where
-    causes : HaveCauses (HasItemCause setting) [] journal
-    causes = subst (HaveCauses (HasItemCause setting) []) (sym answers.written)
-        (steps_have (HasItemCause setting) setting (pieces_have setting) [] answers.steps tt)
+    causes : JournalItemsHaveCauses (HasControlItemCause setting) [] journal
+    causes = subst (JournalItemsHaveCauses (HasControlItemCause setting) []) (sym answers.written)
+        (steps_have (HasControlItemCause setting) setting (pieces_have setting) [] answers.steps tt)
 
 pub recovered_caches : RulesLaw → (setting : Setting) (events : List Event) (journal : List Item)
     → IsSetting setting → AreNetworkEvents setting events → EndsInRecovery setting.net events
-    → Answers setting events journal → CacheNewestAlone setting journal
+    → Answers setting events journal → ForwardingCachesNewestAlone setting journal
 recovered_caches rules setting events journal is own ends answers = answer_caches rules setting
     events journal is own answers (recovered_updated setting events journal ends answers)
 
 -- the second round is one that begins after recovery
 two_calmly : (setting : Setting) (events : List Event) (journal : List Item)
-    → (two : EndsInTwoRounds setting.net events) → Answers setting events journal
+    → (two : EndsInTwoRecoveryRounds setting.net events) → Answers setting events journal
     → (ends : EndsCalmly setting journal)
     × Answers setting two.first (journal_after_steps setting [] ends.first)
 two_calmly setting events journal two answers =
@@ -320,7 +320,7 @@ two_calmly setting events journal two answers =
     (subst (λ of. Answers setting of journal) two.ends answers) confirms in
     (found.0, record { steps = found.0.first; allowed = found.1; written = refl })
   where
-    confirms : (steps : List StepOfRow) → AreSteps setting 1 two.first [] steps
+    confirms : (steps : List StepOfRow) → AreMachineSteps setting 1 two.first [] steps
         → All (IsConfirmed (journal_after_steps setting [] steps)) (switches_of setting)
     confirms steps are =
         let middle : List Item = journal_after_steps setting [] steps in
@@ -332,8 +332,8 @@ two_calmly setting events journal two answers =
 pub nothing_old : HoldsAtEnds (Agrees HasConverged) → HoldsAtEnds (Agrees GetStuckApart)
     → HoldsBetween ForwardsBy → RulesLaw → (setting : Setting) (events : List Event)
     (journal : List Item) → IsSetting setting → AreNetworkEvents setting events
-    → EndsInTwoRounds setting.net events → Answers setting events journal
-    → LeavesNothingOld setting journal
+    → EndsInTwoRecoveryRounds setting.net events → Answers setting events journal
+    → RecoveryLeavesNothingOld setting journal
 nothing_old converge part forward rules setting events journal is own two answers = record {
   recovered = calm_recovers converge part forward setting events journal is own answers ends;
   tables = hold_newest setting (journal_after_steps setting [] ends.first) journal
@@ -348,14 +348,14 @@ nothing_old converge part forward rules setting events journal is own two answer
   ends : EndsCalmly setting journal
   ends = found.0
 
-  updated : IsNetworkUpdated setting journal
+  updated : HasConvergedOnVersion setting journal
   updated = ends_updated setting journal ends
 
 -- ---- the laws of recovery and of rollouts, of plays
 
 -- a play that didn't stop full answers its events
 play_answers : (setting : Setting) (events : List Event) (journal : List Item) (full : Option ℕ)
-    → IsPlay setting events journal full → full ≡ None → Answers setting events journal
+    → IsMachinePlay setting events journal full → full ≡ None → Answers setting events journal
 play_answers setting events journal None play whole = play.answers
 play_answers setting events journal (Some row) play whole = absurd cc
 
@@ -368,21 +368,21 @@ pub keep_working : ((setting : Setting) (events : List Event) (journal : List It
     → IsSetting setting → AreNetworkEvents setting events → EndsInRecovery setting.net events
     → Answers setting events journal → HasRecovered setting journal)
     → ((setting : Setting) (events : List Event) (journal : List Item) → IsSetting setting
-    → AreNetworkEvents setting events → EndsInTwoRounds setting.net events → Answers setting events journal
-    → LeavesNothingOld setting journal)
+    → AreNetworkEvents setting events → EndsInTwoRecoveryRounds setting.net events → Answers setting events journal
+    → RecoveryLeavesNothingOld setting journal)
     → ((setting : Setting) (events : List Event) (journal : List Item) → IsSetting setting
-    → AreNetworkEvents setting events → NothingFailsInRollout events → BeginsAnswer setting events journal
-    → HaveCauses (DropsNothing setting) [] journal)
+    → AreNetworkEvents setting events → NothingFailsInRollout events → JournalBeginsAnswer setting events journal
+    → JournalItemsHaveCauses (DropsNothing setting) [] journal)
     → ((setting : Setting) (events : List Event) (journal : List Item) → IsSetting setting
     → AreNetworkEvents setting events → NothingFailsInRollout events → IsConnectedNetwork setting.net
-    → BeginsAnswer setting events journal → NoneIsStuck journal)
+    → JournalBeginsAnswer setting events journal → NoneIsStuck journal)
     → ((setting : Setting) (events : List Event) (journal : List Item) → IsSetting setting
     → AreNetworkEvents setting (events ++ Drain ∷ []) → NothingFailsInRollout (events ++ Drain ∷ [])
     → Answers setting (events ++ Drain ∷ []) journal → AllAccountedOrCutOff setting journal)
     → ((setting : Setting) (events : List Event) (journal : List Item) → IsSetting setting
     → AreNetworkEvents setting (events ++ Drain ∷ []) → NothingFailsInRollout (events ++ Drain ∷ []) → IsConnectedNetwork
     setting.net → Answers setting (events ++ Drain ∷ []) journal → RolloutAccountsForAll setting journal)
-    → PlaysKeepWorking
+    → PlaysKeepForwarding
 keep_working recover renew drop stuck or_cut_off account setting events journal full is own play = record {
   recovers = λ whole ends. recover setting events journal is own ends (answers whole);
   renews = λ whole ends. renew setting events journal is own ends (answers whole);
@@ -400,7 +400,7 @@ keep_working recover renew drop stuck or_cut_off account setting events journal 
       (λ front mine safe answered. account setting front journal is mine safe connected answered)
       own nothing (answers whole);
 } where
-  begins : BeginsAnswer setting events journal
+  begins : JournalBeginsAnswer setting events journal
   begins = play_begins setting events journal full play
 
   answers : full ≡ None → Answers setting events journal

@@ -1,15 +1,15 @@
 -- Behind a drain no packet travels, so each that entered has ended.
 use Rattle.std.proofs.Common.{[], ◌++◌, ◌==◌, ◌||◌, ◌∙◌, ◌∷◌, ◌≡◌, ◌≤◌, ◌⊎◌, Bool, List, None, Option, Some, ap, append-nil, append_assoc, arith, drop, eq-eqb, eqb-true, false, filter, if◌then◌else◌, inl, inr, length, max, nat_le, nat_lt, option_and_then, option_map, refl, subst, suc, sym, take, true, unwrap_or, zero, ℕ}
 use Rattle.base.proofs.Exports.{list_any, nat_tests, option_or}
-use Rattle.update_machine.specs.Exports.{Answers, AreNumbered, BeginsAnswer, Body, CacheEntry, CacheRule, Drain, Event, HasCause, HaveCauses, Header, Hop, IsSetting, Item, LeavesRightly, Lose, OpenAt, Setting, Stamp, body_to_switch, boot_of, cache_after, cache_of, changes_cache, concerns_switch, gives_travelling, heard, is_up, last_given, next_hop, next_travelling, packet_number, packets_in, present_step, stamp_in, stamp_of, touched_by, travels}
-use Rattle.switch_table.specs.Exports.{CacheValue, after_carry, carried_entry, is_carried, newest_cache_entries, same_key, under}
+use Rattle.update_machine.specs.Exports.{Answers, AreNumbered, JournalBeginsAnswer, Body, CacheEntry, CacheRule, Drain, Event, HasCause, JournalItemsHaveCauses, Header, Hop, IsSetting, Item, MachineLeavesRightly, Lose, OpenAt, Setting, Stamp, journal_body_to_switch, journal_boot_of, machine_cache_after, journal_cache_of, changes_journal_cache, concerns_switch, item_gives_travelling, heard, is_up, journal_last_given, journal_next_hop, next_travelling, machine_packet_number, journal_packets, journal_present_step, journal_stamp_in_body, journal_stamp_of, touched_by, travels}
+use Rattle.switch_table.specs.Exports.{CacheValue, cache_after_carry, carried_entry, is_carried, newest_cache_entries, same_key, under}
 use Rattle.ternary.specs.Exports.{WordValue}
 use Rattle.update_machine.proofs.Exports.{answers_so_far, begins_itself, folded_append, start_laws, switch_keeps}
-use Rattle.control_laws.specs.Exports.{AreNetworkEvents, HasItemCause, HoldsReached}
+use Rattle.control_laws.specs.Exports.{AreNetworkEvents, HasControlItemCause, HoldsReached}
 use Rattle.control_laws.proofs.Exports.{AreKept, Both, boot_more, fact_on, have_both, heard_more, raised, stamp_told, up_more}
 use Rattle.convergence_laws.proofs.Exports.{IsIn, contains_in, in_at, in_either, in_flat_map, in_right, last_ends, none_found, of_filter, of_filter_map}
-use Rattle.packet_laws.specs.Exports.{IsDroppedHere, PacketCause}
-use Rattle.forwarding_laws.specs.Exports.{RolloutAccountsForAll, AllAccountedOrCutOff, DropsNothing, EndsOrIsCutOff, RolloutEndsRightly, RolloutHasItem, IsConnectedNetwork, IsDroppedRightly, IsStuckCutOff, NoneIsStuck, NothingFailsInRollout}
+use Rattle.packet_laws.specs.Exports.{IsPacketDroppedHere, HasPacketItemCause}
+use Rattle.forwarding_laws.specs.Exports.{RolloutAccountsForAll, AllAccountedOrCutOff, DropsNothing, EndsOrIsCutOff, RolloutEndsRightly, RolloutHasItem, IsConnectedNetwork, ForwardedIsDroppedRightly, IsStuckCutOff, NoneIsStuck, NothingFailsInRollout}
 
 -- ---- the entries of a cache are of the stamp of its switch, or of later versions
 
@@ -18,8 +18,8 @@ abbrev AreFrom : ℕ → List CacheEntry → Type 0
 AreFrom stamp entries = (entry : CacheEntry) → IsIn entry entries → stamp ≤ entry.version
 
 pub record AreCachesAbove (setting : Setting) (journal : List Item) : Type 0 where
-  pub each : (s : ℕ) (entry : CacheEntry) → IsIn entry (cache_of setting journal s).entries
-      → stamp_of journal s ≤ entry.version
+  pub each : (s : ℕ) (entry : CacheEntry) → IsIn entry (journal_cache_of setting journal s).entries
+      → journal_stamp_of journal s ≤ entry.version
 
 -- ---- parts of lists
 
@@ -47,8 +47,8 @@ of_newest capacity entry entries is = by_room (nat_lt capacity (length entries))
 
 -- what a body makes of a cache whose entries are from the stamp on
 said_from : (touched_of : ℕ → List WordValue) (stamp number : ℕ) (cache : CacheValue) (body : Body)
-    → AreFrom stamp cache.entries → let now = raised stamp (stamp_in body) in
-    AreFrom now (cache_after touched_of stamp now number cache body).entries
+    → AreFrom stamp cache.entries → let now = raised stamp (journal_stamp_in_body body) in
+    AreFrom now (machine_cache_after touched_of stamp now number cache body).entries
 said_from touched_of stamp number cache (CacheRule version word rule action) from =
     by_old (nat_lt version stamp) refl
   where
@@ -100,7 +100,7 @@ said_from touched_of stamp number cache (Stamp boot version touched) from =
     by_raise (nat_lt stamp version) refl
   where
     by_raise : (b : Bool) → nat_lt stamp version ≡ b → AreFrom (max stamp version)
-        (if b then after_carry version (touched_of version) cache else cache).entries
+        (if b then cache_after_carry version (touched_of version) cache else cache).entries
     by_raise true e = λ entry is.
         let found = of_filter_map (carried_entry version (touched_of version) cache.entries) entry
         cache.entries is in
@@ -129,25 +129,25 @@ said_from touched_of stamp number cache body from = from
 
 -- an entry is of what the item makes of the cache before it
 entry_back : (setting : Setting) (before : List Item) (next : Item) (s : ℕ) (entry : CacheEntry)
-    → IsIn entry (cache_of setting (before ++ next ∷ []) s).entries
-    → IsIn entry (changes_cache setting s before (cache_of setting before s) next).entries
-unfolding cache_of
+    → IsIn entry (journal_cache_of setting (before ++ next ∷ []) s).entries
+    → IsIn entry (changes_journal_cache setting s before (journal_cache_of setting before s) next).entries
+unfolding journal_cache_of
 entry_back setting before next s entry = subst (λ (cache : CacheValue). IsIn entry cache.entries)
-    (folded_append (changes_cache setting s) (record { entries = []; capacity = setting.net.cache })
+    (folded_append (changes_journal_cache setting s) (record { entries = []; capacity = setting.net.cache })
     before (next ∷ []))
 
 -- an item that ends no boot, begins none and delivers nothing leaves the stamp
 stamp_same : (before : List Item) (next : Item) (s : ℕ) → heard (before ++ next ∷ []) s
     ≡ heard before s → is_up (before ++ next ∷ []) s ≡ is_up before s
-    → boot_of (before ++ next ∷ []) s ≡ boot_of before s
-    → stamp_of (before ++ next ∷ []) s ≡ stamp_of before s
-unfolding stamp_of
+    → journal_boot_of (before ++ next ∷ []) s ≡ journal_boot_of before s
+    → journal_stamp_of (before ++ next ∷ []) s ≡ journal_stamp_of before s
+unfolding journal_stamp_of
 stamp_same before next s bodies up boot = rw (bodies, up, boot) refl
 
 -- what concerns the switch
 concerned_above : (setting : Setting) (before : List Item) (next : Item) (s : ℕ) → concerns_switch s
-    before next ≡ true → AreFrom (stamp_of before s) (cache_of setting before s).entries
-    → AreFrom (stamp_of (before ++ next ∷ []) s) (cache_of setting (before ++ next ∷ []) s).entries
+    before next ≡ true → AreFrom (journal_stamp_of before s) (journal_cache_of setting before s).entries
+    → AreFrom (journal_stamp_of (before ++ next ∷ []) s) (journal_cache_of setting (before ++ next ∷ []) s).entries
 concerned_above setting before (Item.Down t) s is from = λ entry has.
     let none : IsIn entry [] = rw is at (entry_back setting before (Item.Down t) s entry has) in absurd none
 concerned_above setting before (Item.Booted t boot) s is from = λ entry has.
@@ -159,7 +159,7 @@ concerned_above setting before (Item.Opened t version) s is from = λ entry has.
     omega (arith, from entry (entry_back setting before next s entry has), same)
 concerned_above setting before (Item.Expired t place message) s is from = λ entry has.
     let next : Item = Item.Expired t place message in
-    let entries : List CacheEntry = (cache_of setting before s).entries in
+    let entries : List CacheEntry = (journal_cache_of setting before s).entries in
     let parts : IsIn entry (take place entries ++ drop (suc place) entries) =
     rw is at (entry_back setting before next s entry has) in
     let old = from entry (elim (in_either entry (take place entries) (drop (suc place) entries) parts) [
@@ -170,37 +170,37 @@ concerned_above setting before (Item.Expired t place message) s is from = λ ent
     (boot_more before next s) in
     omega (arith, old, same)
 concerned_above setting before (Item.Delivered number) s is from =
-    by_said (body_to_switch before s number) refl
+    by_said (journal_body_to_switch before s number) refl
   where
     next : Item
     next = Item.Delivered number
 
     now : ℕ
-    now = stamp_of (before ++ next ∷ []) s
+    now = journal_stamp_of (before ++ next ∷ []) s
 
-    by_said : (o : Option Body) → body_to_switch before s number ≡ o
-        → AreFrom now (cache_of setting (before ++ next ∷ []) s).entries
+    by_said : (o : Option Body) → journal_body_to_switch before s number ≡ o
+        → AreFrom now (journal_cache_of setting (before ++ next ∷ []) s).entries
     by_said None e entry has =
-        let same : now ≡ stamp_of before s = stamp_told before number s
-        ∙ ap (λ o. raised (stamp_of before s) (option_and_then stamp_in o)) e in
+        let same : now ≡ journal_stamp_of before s = stamp_told before number s
+        ∙ ap (λ o. raised (journal_stamp_of before s) (option_and_then journal_stamp_in_body o)) e in
         omega (arith, from entry (rw e at (entry_back setting before next s entry has)), same)
     by_said (Some body) e entry has =
         let same = stamp_told before number s
-        ∙ ap (λ o. raised (stamp_of before s) (option_and_then stamp_in o)) e in
-        let above = said_from (touched_by setting before) (stamp_of before s) number
-        (cache_of setting before s) body from entry
-        (subst (λ n. IsIn entry (cache_after (touched_by setting before) (stamp_of before s) n
-        number (cache_of setting before s) body).entries) same
+        ∙ ap (λ o. raised (journal_stamp_of before s) (option_and_then journal_stamp_in_body o)) e in
+        let above = said_from (touched_by setting before) (journal_stamp_of before s) number
+        (journal_cache_of setting before s) body from entry
+        (subst (λ n. IsIn entry (machine_cache_after (touched_by setting before) (journal_stamp_of before s) n
+        number (journal_cache_of setting before s) body).entries) same
         (rw e at (entry_back setting before next s entry has))) in
         omega (arith, above, same)
 concerned_above setting before next s is from = absurd cc
 
-caches_on : (setting : Setting) → AreKept (HasItemCause setting) (AreCachesAbove setting)
+caches_on : (setting : Setting) → AreKept (HasControlItemCause setting) (AreCachesAbove setting)
 caches_on setting before next cause are = record {
   each = λ s. by_concern s (concerns_switch s before next) refl;
 } where
   by_concern : (s : ℕ) (b : Bool) → concerns_switch s before next ≡ b
-      → AreFrom (stamp_of (before ++ next ∷ []) s) (cache_of setting (before ++ next ∷ []) s).entries
+      → AreFrom (journal_stamp_of (before ++ next ∷ []) s) (journal_cache_of setting (before ++ next ∷ []) s).entries
   by_concern s true e = concerned_above setting before next s e (are.each s)
   by_concern s false e = λ entry has.
       let keeps = switch_keeps setting s before (next ∷ []) (e, tt) in
@@ -209,8 +209,8 @@ caches_on setting before next cause are = record {
       omega (arith, old, keeps.stamp)
 
 pub caches_above : (setting : Setting) (journal : List Item)
-    → HaveCauses (HasItemCause setting) [] journal → AreCachesAbove setting journal
-caches_above setting journal causes = fact_on (HasItemCause setting) (AreCachesAbove setting)
+    → JournalItemsHaveCauses (HasControlItemCause setting) [] journal → AreCachesAbove setting journal
+caches_above setting journal causes = fact_on (HasControlItemCause setting) (AreCachesAbove setting)
     (caches_on setting) [] journal causes (record {
       each = λ s entry has. absurd (rw (start_laws.cache setting s) at has);
     })
@@ -226,7 +226,7 @@ pub record Stands (is : List Item → Item → Type 0) (before items : List Item
   pub own : is (before ++ front) x
 
 pub stands_in : (is : List Item → Item → Type 0) (before items : List Item) (x : Item)
-    → HaveCauses is before items → IsIn x items → Stands is before items x
+    → JournalItemsHaveCauses is before items → IsIn x items → Stands is before items x
 stands_in is before [] x have there = absurd there
 stands_in is before (y ∷ items) x have there = elim there [
   | inl here ↦ record {
@@ -248,26 +248,26 @@ stands_in is before (y ∷ items) x have there = elim there [
 -- ---- what items tell last
 
 given_by : {X : Type 0} (tells : Item → Option X) (x : X) (items : List Item)
-    → last_given tells items ≡ Some x → (y : Item) × IsIn y items × (tells y ≡ Some x)
+    → journal_last_given tells items ≡ Some x → (y : Item) × IsIn y items × (tells y ≡ Some x)
 given_by tells x [] is = absurd cc
 given_by {X = X} tells x (first ∷ items) is =
-    by_last (last_given tells items) refl is (given_by tells x items)
+    by_last (journal_last_given tells items) refl is (given_by tells x items)
   where
-    by_last : (o : Option X) → last_given tells items ≡ o → option_or o (tells first) ≡ Some x
-        → (last_given tells items ≡ Some x → (y : Item) × IsIn y items × (tells y ≡ Some x))
+    by_last : (o : Option X) → journal_last_given tells items ≡ o → option_or o (tells first) ≡ Some x
+        → (journal_last_given tells items ≡ Some x → (y : Item) × IsIn y items × (tells y ≡ Some x))
         → (y : Item) × IsIn y (first ∷ items) × (tells y ≡ Some x)
     by_last None e is rest = (first, inl refl, is)
     by_last (Some z) e is rest = let found = rest (e ∙ is) in (found.0, inr found.1, found.2)
 
 told_some : {X : Type 0} (tells : Item → Option X) (x : X) (y : Item) (items : List Item)
-    → IsIn y items → tells y ≡ Some x → last_given tells items ≡ None → ⊥
+    → IsIn y items → tells y ≡ Some x → journal_last_given tells items ≡ None → ⊥
 told_some tells x y [] is told none = absurd is
 told_some {X = X} tells x y (first ∷ items) is told none =
-    by_last (last_given tells items) refl none is (told_some tells x y items)
+    by_last (journal_last_given tells items) refl none is (told_some tells x y items)
   where
-    by_last : (o : Option X) → last_given tells items ≡ o → option_or o (tells first) ≡ None
+    by_last : (o : Option X) → journal_last_given tells items ≡ o → option_or o (tells first) ≡ None
         → (first ≡ y) ⊎ IsIn y items
-        → (IsIn y items → tells y ≡ Some x → last_given tells items ≡ None → ⊥) → ⊥
+        → (IsIn y items → tells y ≡ Some x → journal_last_given tells items ≡ None → ⊥) → ⊥
     by_last (Some z) e none is rest = absurd cc
     by_last None e none (inl here) rest =
         let clash : None ≡ Some x = sym none ∙ ap tells here ∙ told in absurd cc
@@ -277,7 +277,7 @@ told_some {X = X} tells x y (first ∷ items) is told none =
 
 -- what is known of an item
 abbrev IsKnownEnd : Setting → List Item → Item → Type 0
-IsKnownEnd setting = Both (PacketCause setting) (Both (HasCause setting) (DropsNothing setting))
+IsKnownEnd setting = Both (HasPacketItemCause setting) (Both (HasCause setting) (DropsNothing setting))
 
 same_number : (packet i : ℕ) → (if packet == i then Some false else None) ≡ Some false → packet ≡ i
 same_number packet i ends = by_test (packet == i) refl ends where
@@ -288,7 +288,7 @@ same_number packet i ends = by_test (packet == i) refl ends where
 
 -- by the item that ended it
 ends_so : (setting : Setting) (i : ℕ) (before : List Item) (x : Item) → IsKnownEnd setting before x
-    → gives_travelling i x ≡ Some false → EndsOrIsCutOff setting i before x
+    → item_gives_travelling i x ≡ Some false → EndsOrIsCutOff setting i before x
 ends_so setting i before (Item.Entered packet switch header) known ends =
     absurd (by_test (packet == i) ends)
   where
@@ -296,15 +296,15 @@ ends_so setting i before (Item.Entered packet switch header) known ends =
     by_test true e = absurd cc
     by_test false e = absurd cc
 ends_so setting i before (Item.Dropped packet) known ends =
-    let dropped : IsDroppedHere before packet = known.first in
-    let own : IsDroppedRightly before packet =
+    let dropped : IsPacketDroppedHere before packet = known.first in
+    let own : ForwardedIsDroppedRightly before packet =
     record { decision = dropped.decision; decided = dropped.decided; drops = dropped.action } in
-    let same = same_number packet i ends in (same, subst (IsDroppedRightly before) same own)
+    let same = same_number packet i ends in (same, subst (ForwardedIsDroppedRightly before) same own)
 ends_so setting i before (Item.Left packet port leaving) known ends =
     let same = same_number packet i ends in
-    (same, subst (λ n. LeavesRightly setting before n port leaving) same known.second.first)
+    (same, subst (λ n. MachineLeavesRightly setting before n port leaving) same known.second.first)
 ends_so setting i before (Item.Lost packet) known ends = let same = same_number packet i ends in
-    (same, subst (λ n. present_step before ≡ Some (Lose n)) same known.second.second)
+    (same, subst (λ n. journal_present_step before ≡ Some (Lose n)) same known.second.second)
 ends_so setting i before (Item.Stuck packet switch cause leg down) known ends =
     let same = same_number packet i ends in
     (same, subst (λ n. IsStuckCutOff setting before n switch leg) same known.second.second)
@@ -312,22 +312,22 @@ ends_so setting i before x known ends = absurd cc
 
 -- a packet that entered and doesn't travel has ended
 entered_ended : (setting : Setting) (journal : List Item) (i s : ℕ) (header : Header)
-    → HaveCauses (IsKnownEnd setting) [] journal → IsIn (Item.Entered i s header) journal
+    → JournalItemsHaveCauses (IsKnownEnd setting) [] journal → IsIn (Item.Entered i s header) journal
     → travels journal i ≡ false → RolloutHasItem (EndsOrIsCutOff setting i) journal
 unfolding travels
 entered_ended setting journal i s header known is ended =
-    by_last (last_given (gives_travelling i) journal) refl ended
+    by_last (journal_last_given (item_gives_travelling i) journal) refl ended
   where
-    came : gives_travelling i (Item.Entered i s header) ≡ Some true
+    came : item_gives_travelling i (Item.Entered i s header) ≡ Some true
     came = ap (λ b. if b then Some true else None) (eq-eqb i i refl)
 
-    by_last : (o : Option Bool) → last_given (gives_travelling i) journal ≡ o
+    by_last : (o : Option Bool) → journal_last_given (item_gives_travelling i) journal ≡ o
         → unwrap_or o false ≡ false → RolloutHasItem (EndsOrIsCutOff setting i) journal
     by_last None e ended =
-        absurd (told_some (gives_travelling i) true (Item.Entered i s header) journal is came e)
+        absurd (told_some (item_gives_travelling i) true (Item.Entered i s header) journal is came e)
     by_last (Some true) e ended = absurd cc
     by_last (Some false) e ended =
-        let last = given_by (gives_travelling i) false journal e in
+        let last = given_by (item_gives_travelling i) false journal e in
         let at = stands_in (IsKnownEnd setting) [] journal last.0 known last.1 in record {
           before = at.front;
           found = last.0;
@@ -349,7 +349,7 @@ not_cut_off setting i journal before x rest none stands own = own
 
 -- ---- behind a drain
 
-none_hops : (journal : List Item) → next_hop journal ≡ None → next_travelling journal ≡ None
+none_hops : (journal : List Item) → journal_next_hop journal ≡ None → next_travelling journal ≡ None
 none_hops journal none = by_next (next_travelling journal) none where
   by_next : (o : Option ℕ) → option_map Hop o ≡ None → o ≡ None
   by_next None e = refl
@@ -360,35 +360,35 @@ none_travels : (journal : List Item) (i s : ℕ) (header : Header) → AreNumber
     → travels journal i ≡ false
 unfolding next_travelling
 none_travels journal i s header numbered none is = none_found (travels journal) i
-    (packets_in journal) none (rw numbered.packets at
-    (in_flat_map packet_number (Item.Entered i s header) i journal is (inl refl)))
+    (journal_packets journal) none (rw numbered.packets at
+    (in_flat_map machine_packet_number (Item.Entered i s header) i journal is (inl refl)))
 
 abbrev Reaches : (Setting → List Item → Item → Type 0) → Type 0
 Reaches cause = HoldsReached (λ setting journal.
-    IsSetting setting → HaveCauses (cause setting) [] journal)
+    IsSetting setting → JournalItemsHaveCauses (cause setting) [] journal)
 
 pub accounted_or_cut_off : ((setting : Setting) (events : List Event) (journal : List Item)
-    → BeginsAnswer setting events journal → AreNumbered journal) → Reaches PacketCause
+    → JournalBeginsAnswer setting events journal → AreNumbered journal) → Reaches HasPacketItemCause
     → Reaches HasCause → ((setting : Setting) (events : List Event) (journal : List Item)
     → IsSetting setting → AreNetworkEvents setting events → NothingFailsInRollout events
-    → BeginsAnswer setting events journal → HaveCauses (DropsNothing setting) [] journal)
+    → JournalBeginsAnswer setting events journal → JournalItemsHaveCauses (DropsNothing setting) [] journal)
     → (setting : Setting) (events : List Event) (journal : List Item) → IsSetting setting
     → AreNetworkEvents setting (events ++ Drain ∷ []) → NothingFailsInRollout (events ++ Drain ∷ [])
     → Answers setting (events ++ Drain ∷ []) journal → AllAccountedOrCutOff setting journal
 accounted_or_cut_off number packets ends drops setting events journal is own nothing answers i s
     header found = entered_ended setting journal i s header known there
     (none_travels journal i s header (number setting asked journal begins)
-    (none_hops journal (rw answers.written (last_ends setting next_hop Drain
+    (none_hops journal (rw answers.written (last_ends setting journal_next_hop Drain
     (λ row before steps are. are) 1 events [] answers.steps answers.allowed))) there)
   where
     asked : List Event
     asked = events ++ Drain ∷ []
 
-    begins : BeginsAnswer setting asked journal
+    begins : JournalBeginsAnswer setting asked journal
     begins = begins_itself setting asked journal (answers_so_far setting asked journal answers)
 
-    known : HaveCauses (IsKnownEnd setting) [] journal
-    known = have_both (PacketCause setting) (Both (HasCause setting) (DropsNothing setting)) []
+    known : JournalItemsHaveCauses (IsKnownEnd setting) [] journal
+    known = have_both (HasPacketItemCause setting) (Both (HasCause setting) (DropsNothing setting)) []
         journal (packets.begun setting asked journal own begins is) (have_both (HasCause setting)
         (DropsNothing setting) [] journal (ends.begun setting asked journal own begins is)
         (drops setting asked journal is own nothing begins))
@@ -398,7 +398,7 @@ accounted_or_cut_off number packets ends drops setting events journal is own not
 
 pub all_accounted : ((setting : Setting) (events : List Event) (journal : List Item)
     → IsSetting setting → AreNetworkEvents setting events → NothingFailsInRollout events → IsConnectedNetwork setting.net
-    → BeginsAnswer setting events journal → NoneIsStuck journal)
+    → JournalBeginsAnswer setting events journal → NoneIsStuck journal)
     → ((setting : Setting) (events : List Event) (journal : List Item) → IsSetting setting
     → AreNetworkEvents setting (events ++ Drain ∷ []) → NothingFailsInRollout (events ++ Drain ∷ [])
     → Answers setting (events ++ Drain ∷ []) journal → AllAccountedOrCutOff setting journal)

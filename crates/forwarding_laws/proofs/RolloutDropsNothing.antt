@@ -2,17 +2,17 @@
 -- only where the network's links lead to no target.
 use Rattle.std.proofs.Common.{[], ◌&&◌, ◌++◌, ◌<◌, ◌==◌, ◌||◌, ◌∙◌, ◌∷◌, ◌≡◌, ◌≢◌, ◌⊎◌, All, Bool, Contains, IsFalse, IsTrue, List, None, Ok, Option, Some, ap, arith, eq-eqb, false, get_or, if◌then◌else◌, inl, inr, length, map, ne_eqb, not, option_to_list, refl, subst, sym, true, unwrap_or, ℕ}
 use Rattle.base.proofs.Exports.{⊤, All-cons, All-nil, cases_eq, get_or-map, length-map, list_any, list_any-append, option_map_or}
-use Rattle.net_file.specs.Exports.{IsNet, are_linked, owner_of}
-use Rattle.update_machine.specs.Exports.{AreTargets, BeginsAnswer, Cause, Claim, Crash, Event, Exit, HasCause, HasPlan, HaveCauses, IsPlanOf, IsSetting, IsStuckRightly, Item, Leads, Leg, LinkDown, Net, One, Row, Seek, Setting, Step, StepOfRow, journal_after_steps, can_use, claim_of, finds_down, gives_step, hosted_in_version, is_end, is_open, is_up, piece, plan_at, policy_at, present_step}
+use Rattle.net_file.specs.Exports.{IsNet, are_linked, net_port_owner}
+use Rattle.update_machine.specs.Exports.{AreMachineLegTargets, JournalBeginsAnswer, Cause, JournalClaim, Crash, Event, Exit, HasCause, SettingHasPlan, JournalItemsHaveCauses, IsSettingPlanOf, IsSetting, IsRightMachineStuck, Item, Leads, Leg, LinkDown, Net, One, Row, Seek, Setting, Step, StepOfRow, journal_after_steps, journal_can_use, journal_claim_of, finds_down, item_gives_step, setting_hosted_or_none, is_end, is_open, is_up, piece, journal_plan_at, policy_at, journal_present_step}
 use Rattle.net_file.proofs.NetFileRowPlaces.{links, ports}
 use Rattle.partition.specs.Plan.{Hosted, IsPartitionPlan}
 use Rattle.steps.specs.Exports.{HasSwitch}
 use Rattle.control_laws.specs.Exports.{AreNetworkEvents, HoldsReached}
 use Rattle.control_laws.proofs.Exports.{AreKept, Behind, Both, HasBothCauses, behind_both, have_both, have_weaker, piece_has, up_more, with_fact}
-use Rattle.packet_laws.specs.Exports.{AllKept, IsBlockedOn, TakesLeg, stage_of, what_is_known}
+use Rattle.packet_laws.specs.Exports.{AllPacketFactsKept, IsPacketBlockedOn, PacketTakesLeg, packet_stage_of, packet_facts_of}
 use Rattle.packet_laws.proofs.Exports.{IsHere, IsNoRow, IsWayItem, Knows, Past, decision_out, exiting_of, here_known, kept_before, known_before, knows, leg_in, no_rows, port_named, reached, version_planned}
 use Rattle.convergence_laws.proofs.Exports.{in_at}
-use Rattle.forwarding_laws.specs.Exports.{AreCutOff, DropsNothing, FailsNothing, IsConnectedNetwork, IsStuckCutOff, NoneIsStuck, NothingFailsInRollout, fails}
+use Rattle.forwarding_laws.specs.Exports.{AreForwardingTargetsCutOff, DropsNothing, RolloutFailsNothing, IsConnectedNetwork, IsStuckCutOff, NoneIsStuck, NothingFailsInRollout, fails}
 use Rattle.forwarding_laws.proofs.RolloutDrains.{stands_in}
 use Rattle.update_machine.proofs.Exports.{AreOf, HasNexts, IsEventOf, first_steps_are, have_append, have_take, last_given_append, start_laws}
 use Rattle.forwarding_laws.proofs.RolloutUnfailingItems.{ClaimsAll, IsUnfailing, all_up, all_usable, are_claimed}
@@ -44,14 +44,14 @@ targets_planned rows net plan hosted is found =
 
 -- a plan of a version is sound
 plan_sound : (setting : Setting) (journal : List Item) (version : ℕ) (plan : List Hosted)
-    → IsSetting setting → IsPlanOf setting journal version plan
+    → IsSetting setting → IsSettingPlanOf setting journal version plan
     → (rows : List Row) × IsPartitionPlan rows setting.net plan
-unfolding policy_at plan_at
+unfolding policy_at journal_plan_at
 plan_sound setting journal version plan is of =
     let own : policy_at setting journal version ≡ of.0 = ap (λ o. unwrap_or o []) of.1 in
-    let same = ap (λ o. option_map_or (λ rows. hosted_in_version (setting.plan rows)) o []) of.1
-    ∙ ap hosted_in_version of.2 in
-    let has : HasPlan setting journal version = record {
+    let same = ap (λ o. option_map_or (λ rows. setting_hosted_or_none (setting.plan rows)) o []) of.1
+    ∙ ap setting_hosted_or_none of.2 in
+    let has : SettingHasPlan setting journal version = record {
       policy = of.1 ∙ ap Some (sym own);
       plan = ap setting.plan own ∙ of.2 ∙ ap Ok (sym same);
     } in (
@@ -62,9 +62,9 @@ plan_sound setting journal version plan is of =
 -- ---- the switch of a port
 
 exit_there : (setting : Setting) (before : List Item) (i s port : ℕ)
-    → Knows setting before i (stage_of before i) → (here : IsHere setting before i s)
-    → TakesLeg setting before i s (Exit port) ⊎ IsBlockedOn before i (Exit port)
-    → (home : ℕ) × (owner_of setting.net.switches port ≡ Some home)
+    → Knows setting before i (packet_stage_of before i) → (here : IsHere setting before i s)
+    → PacketTakesLeg setting before i s (Exit port) ⊎ IsPacketBlockedOn before i (Exit port)
+    → (home : ℕ) × (net_port_owner setting.net.switches port ≡ Some home)
 exit_there setting before i s port knows here (inl takes) =
     let judged = knows.kept.judged here.travelling takes.judged here.under.header
     here.under.entered in
@@ -72,13 +72,13 @@ exit_there setting before i s port knows here (inl takes) =
     (sym (decision_out before i (Some judged.decision) judged.decided) ∙ takes.decided) in
     (_, port_named setting port judged.decision.action (own ∙ takes.action) judged.named)
 exit_there setting before i s port knows here (inr blocked) =
-    let on = exiting_of setting before (what_is_known before i) port
+    let on = exiting_of setting before (packet_facts_of before i) port
     (knows.kept.on_way here.travelling (inr blocked.blocked))
     (leg_in before i (Some (Exit port)) blocked.takes) in
     (on.owner, on.has_port)
 
-home_there : (net : Net) (port home : ℕ) (targets : List ℕ) → owner_of net.switches port ≡ Some home
-    → option_to_list (owner_of net.switches port) ≡ targets → AreSwitches net targets
+home_there : (net : Net) (port home : ℕ) (targets : List ℕ) → net_port_owner net.switches port ≡ Some home
+    → option_to_list (net_port_owner net.switches port) ≡ targets → AreSwitches net targets
 home_there net port home targets owns are =
     subst (AreSwitches net) (sym (ap option_to_list owns) ∙ are) (record {
       some = omega arith;
@@ -87,9 +87,9 @@ home_there net port home targets owns are =
     })
 
 targets_there : (setting : Setting) (before : List Item) (i s : ℕ) (leg : Leg)
-    (targets : List ℕ) → Knows setting before i (stage_of before i) → IsHere setting before i s
-    → TakesLeg setting before i s leg ⊎ IsBlockedOn before i leg
-    → AreTargets setting before i leg targets → AreSwitches setting.net targets
+    (targets : List ℕ) → Knows setting before i (packet_stage_of before i) → IsHere setting before i s
+    → PacketTakesLeg setting before i s leg ⊎ IsPacketBlockedOn before i leg
+    → AreMachineLegTargets setting before i leg targets → AreSwitches setting.net targets
 targets_there setting before i s (Seek version partition) targets knows here on own =
     let sound = plan_sound setting before version own.3 knows.is own.4 in
     subst (AreSwitches setting.net) own.9
@@ -102,13 +102,13 @@ targets_there setting before i s (Exit port) targets knows here on own =
 
 -- all that is known of an item of a packet on its way
 abbrev pub IsKeptItem : Setting → List Item → Item → Type 0
-IsKeptItem setting = Behind (Past (IsWayItem setting)) (AllKept setting)
+IsKeptItem setting = Behind (Past (IsWayItem setting)) (AllPacketFactsKept setting)
 
 pub are_kept_items : (setting : Setting) (events : List Event) (journal : List Item)
-    → IsSetting setting → AreNetworkEvents setting events → BeginsAnswer setting events journal
-    → HaveCauses (IsKeptItem setting) [] journal
+    → IsSetting setting → AreNetworkEvents setting events → JournalBeginsAnswer setting events journal
+    → JournalItemsHaveCauses (IsKeptItem setting) [] journal
 are_kept_items setting events journal is own begins = kept_before setting journal is
-    ((reached (λ setting journal. HaveCauses (IsWayItem setting) [] journal)
+    ((reached (λ setting journal. JournalItemsHaveCauses (IsWayItem setting) [] journal)
     (λ setting journal is have. have)).begun setting events journal own begins is)
 
 -- it is at a switch of the network, and its leg has targets, which are switches of the network too
@@ -119,9 +119,9 @@ pub record IsStuckAmong (net : Net) (switch : ℕ) (targets : List ℕ) : Type 0
 pub stuck_among : (setting : Setting) → IsSetting setting → (before : List Item)
     (packet switch : ℕ) (cause : Cause) (leg : Leg) (down targets : List ℕ)
     → IsKeptItem setting before (Item.Stuck packet switch cause leg down)
-    → AreTargets setting before packet leg targets → IsStuckAmong setting.net switch targets
+    → AreMachineLegTargets setting before packet leg targets → IsStuckAmong setting.net switch targets
 stuck_among setting is before packet switch cause leg down targets kept own =
-    let known : Knows setting before packet (stage_of before packet) = knows setting before packet
+    let known : Knows setting before packet (packet_stage_of before packet) = knows setting before packet
     (known_before setting is before (Item.Stuck packet switch cause leg down) kept) in
     let finds = kept.caused.caused.way in
     let here = here_known setting before packet switch known finds.at in record {
@@ -132,7 +132,7 @@ stuck_among setting is before packet switch cause leg down targets kept own =
 -- ---- connected networks
 
 leads_to_one : (net : Net) (switch : ℕ) (targets : List ℕ) → IsConnectedNetwork net
-    → IsStuckAmong net switch targets → AreCutOff net switch targets → ⊥
+    → IsStuckAmong net switch targets → AreForwardingTargetsCutOff net switch targets → ⊥
 leads_to_one net switch [] connected stuck cut_off = absurd (omega (arith, stuck.among.some))
 leads_to_one net switch (target ∷ targets) connected stuck cut_off =
     let way = connected switch target stuck.there (stuck.among.there 0 target (omega arith)) in
@@ -155,15 +155,15 @@ not_stuck setting is connected before next both = tt
 
 pub none_is_stuck : ((setting : Setting) (events : List Event) (journal : List Item)
     → IsSetting setting → AreNetworkEvents setting events → NothingFailsInRollout events
-    → BeginsAnswer setting events journal → HaveCauses (DropsNothing setting) [] journal)
+    → JournalBeginsAnswer setting events journal → JournalItemsHaveCauses (DropsNothing setting) [] journal)
     → (setting : Setting) (events : List Event) (journal : List Item)
     → IsSetting setting → AreNetworkEvents setting events → NothingFailsInRollout events
-    → IsConnectedNetwork setting.net → BeginsAnswer setting events journal → NoneIsStuck journal
+    → IsConnectedNetwork setting.net → JournalBeginsAnswer setting events journal → NoneIsStuck journal
 none_is_stuck drops setting events journal is own nothing connected begins packet switch cause leg
     down found = (stands_in IsNotStuck [] journal (Item.Stuck packet switch cause leg down) none
     (in_at journal found.0 (Item.Stuck packet switch cause leg down) found.1 found.2)).own
   where
-    none : HaveCauses IsNotStuck [] journal
+    none : JournalItemsHaveCauses IsNotStuck [] journal
     none = have_weaker (Both (DropsNothing setting) (IsKeptItem setting)) IsNotStuck
         (not_stuck setting is connected) [] journal (have_both (DropsNothing setting)
         (IsKeptItem setting) [] journal (drops setting events journal is own nothing begins)
@@ -185,7 +185,7 @@ abbrev IsSafe : Step → Type 0
 IsSafe step = IsFalse (fails step)
 
 steps_safe : (setting : Setting) (before : List Item) (steps : List StepOfRow) → AreOf IsSafe steps
-    → HaveCauses IsSafeRow [] before → HaveCauses IsSafeRow [] (journal_after_steps setting before steps)
+    → JournalItemsHaveCauses IsSafeRow [] before → JournalItemsHaveCauses IsSafeRow [] (journal_after_steps setting before steps)
 steps_safe setting before [] safe have = have
 steps_safe setting before (next ∷ steps) safe have = steps_safe setting
     (before ++ piece setting before next.row next.step) steps safe.1
@@ -193,7 +193,7 @@ steps_safe setting before (next ∷ steps) safe have = steps_safe setting
     (piece_has IsSafeRow setting before next.row next.step safe.0 (have_weaker (λ js after. IsNoRow
     after) IsSafeRow no_row_safe _ _ (no_rows setting before next.row next.step))))
 
-event_safe : (event : Event) → FailsNothing event → IsEventOf IsSafe event
+event_safe : (event : Event) → RolloutFailsNothing event → IsEventOf IsSafe event
 event_safe (One step) safe = safe
 event_safe _ safe = tt
 
@@ -201,7 +201,7 @@ nexts_safe : HasNexts IsSafe
 nexts_safe = record { delivery = λ number. refl; hop = λ packet. refl }
 
 rows_safe : (setting : Setting) (events : List Event) (journal : List Item) → NothingFailsInRollout events
-    → BeginsAnswer setting events journal → HaveCauses IsSafeRow [] journal
+    → JournalBeginsAnswer setting events journal → JournalItemsHaveCauses IsSafeRow [] journal
 rows_safe setting events journal nothing begins = rw begins.written
     (have_take IsSafeRow [] begins.whole begins.length
     (rw begins.answers.written (steps_safe setting [] begins.answers.steps
@@ -216,21 +216,21 @@ IsCaused setting = Both (HasCause setting) (Both (HasBothCauses setting) IsSafeR
 
 -- of a journal in which nothing failed
 record IsSound (setting : Setting) (journal : List Item) : Type 0 where
-  step : (step : Step) → present_step journal ≡ Some step → IsFalse (fails step)
+  step : (step : Step) → journal_present_step journal ≡ Some step → IsFalse (fails step)
   up : (s : ℕ) → IsTrue (is_up journal s)
-  have : HaveCauses (Both (HasBothCauses setting) IsUnfailing) [] journal
+  have : JournalItemsHaveCauses (Both (HasBothCauses setting) IsUnfailing) [] journal
   found : (i one two : ℕ) → list_any (finds_down i one two) journal ≡ false
 
 next_step : (before : List Item) (next : Item) → IsSafeRow before next
-    → ((step : Step) → present_step before ≡ Some step → IsFalse (fails step)) → (step : Step)
-    → present_step (before ++ next ∷ []) ≡ Some step → IsFalse (fails step)
-unfolding present_step
+    → ((step : Step) → journal_present_step before ≡ Some step → IsFalse (fails step)) → (step : Step)
+    → journal_present_step (before ++ next ∷ []) ≡ Some step → IsFalse (fails step)
+unfolding journal_present_step
 next_step before (Item.Row row now) safe old step is =
     let same : Some now ≡ Some step =
-    sym (last_given_append gives_step before (Item.Row row now ∷ [])) ∙ is in
+    sym (last_given_append item_gives_step before (Item.Row row now ∷ [])) ∙ is in
     let is_now : now ≡ step = cc in subst (λ x. IsFalse (fails x)) is_now safe
 next_step before next safe old step is =
-    old step (sym (last_given_append gives_step before (next ∷ [])) ∙ is)
+    old step (sym (last_given_append item_gives_step before (next ∷ [])) ∙ is)
 
 module _ (setting : Setting) (net : IsNet setting.net) where
   next_unfailing : (before : List Item) (next : Item) → IsCaused setting before next
@@ -245,7 +245,7 @@ module _ (setting : Setting) (net : IsNet setting.net) where
   ]
   next_unfailing before next caused sound = tt
 
-  safe_of : (journal : List Item) → IsSound setting journal → HaveCauses IsUnfailing [] journal
+  safe_of : (journal : List Item) → IsSound setting journal → JournalItemsHaveCauses IsUnfailing [] journal
   safe_of journal sound = have_weaker (Both (HasBothCauses setting) IsUnfailing) IsUnfailing
       (λ before next both. both.second) [] journal sound.have
 
@@ -288,8 +288,8 @@ module _ (setting : Setting) (net : IsNet setting.net) where
   ends_known : (before : List Item) → IsSound setting before → (s one two : ℕ) → two < 64
       → is_end setting before s one two ≡ are_linked setting.net.links one two
   ends_known before sound s one two small = by_place (cases_eq one s) where
-    by_claim : (o : Option Claim) → claim_of setting before s one ≡ o → ClaimsAll setting.net one o
-        → option_map_or (λ claim. claim.links two) (claim_of setting before s one) false
+    by_claim : (o : Option JournalClaim) → journal_claim_of setting before s one ≡ o → ClaimsAll setting.net one o
+        → option_map_or (λ claim. claim.links two) (journal_claim_of setting before s one) false
         ≡ are_linked setting.net.links one two
     by_claim None e all = absurd all
     by_claim (Some claim) e all = cc (e, all two small)
@@ -298,9 +298,9 @@ module _ (setting : Setting) (net : IsNet setting.net) where
         → is_end setting before s one two ≡ are_linked setting.net.links one two
     by_place (inl same) =
         cc (eq-eqb one s same, all_usable setting before (safe_of before sound) s two, same)
-    by_place (inr apart) = ap (λ b. if b then can_use setting before s two
-        else option_map_or (λ claim. claim.links two) (claim_of setting before s one) false)
-        (ne_eqb one s apart) ∙ by_claim (claim_of setting before s one) refl
+    by_place (inr apart) = ap (λ b. if b then journal_can_use setting before s two
+        else option_map_or (λ claim. claim.links two) (journal_claim_of setting before s one) false)
+        (ne_eqb one s apart) ∙ by_claim (journal_claim_of setting before s one) refl
         ((are_claimed setting before sound.have).claims s one)
 
   -- each link of the network is open to each packet
@@ -350,7 +350,7 @@ module _ (setting : Setting) (net : IsNet setting.net) where
   drops_nothing : IsSetting setting → (before : List Item) (next : Item) → IsKnown before next
       → DropsNothing setting before next
   drops_nothing is before (Item.Stuck packet switch cause leg down) known =
-      let stuck : IsStuckRightly setting before packet switch leg = known.first.caused.first in
+      let stuck : IsRightMachineStuck setting before packet switch leg = known.first.caused.first in
       record {
         stands = stuck.stands;
         targets = stuck.targets;
@@ -373,10 +373,10 @@ module _ (setting : Setting) (net : IsNet setting.net) where
       ∙ known.second.caused.caused.way.1))
   drops_nothing is before next known = tt
 
-pub rollouts : HoldsReached (λ setting journal. IsSetting setting → HaveCauses (HasCause setting) [] journal)
+pub rollouts : HoldsReached (λ setting journal. IsSetting setting → JournalItemsHaveCauses (HasCause setting) [] journal)
     → (setting : Setting) (events : List Event) (journal : List Item)
     → IsSetting setting → AreNetworkEvents setting events → NothingFailsInRollout events
-    → BeginsAnswer setting events journal → HaveCauses (DropsNothing setting) [] journal
+    → JournalBeginsAnswer setting events journal → JournalItemsHaveCauses (DropsNothing setting) [] journal
 rollouts ends setting events journal is own nothing begins =
     have_weaker (Both (Behind (IsCaused setting) (IsSound setting)) (IsKeptItem setting))
     (DropsNothing setting) (drops_nothing setting is.net is) [] journal
@@ -384,11 +384,11 @@ rollouts ends setting events journal is own nothing begins =
     (with_fact (IsCaused setting) (IsSound setting) (sound_kept setting is.net) [] journal caused
     (sound_at_first setting is.net)) (are_kept_items setting events journal is own begins))
   where
-    both : HaveCauses (HasBothCauses setting) [] journal
-    both = (behind_both (λ setting journal. HaveCauses (HasBothCauses setting) [] journal)
+    both : JournalItemsHaveCauses (HasBothCauses setting) [] journal
+    both = (behind_both (λ setting journal. JournalItemsHaveCauses (HasBothCauses setting) [] journal)
         (λ setting journal have. have)).begun setting events journal begins
 
-    caused : HaveCauses (IsCaused setting) [] journal
+    caused : JournalItemsHaveCauses (IsCaused setting) [] journal
     caused = have_both (HasCause setting) (Both (HasBothCauses setting) IsSafeRow) [] journal
         (ends.begun setting events journal own begins is) (have_both (HasBothCauses setting)
         IsSafeRow [] journal both (rows_safe setting events journal nothing begins))

@@ -3,7 +3,7 @@
 use Rattle.std.proofs.Common.{[], ◌&&◌, ◌++◌, ◌<◌, ◌==◌, ◌||◌, ◌∙◌, ◌∷◌, ◌≡◌, Bool, IsTrue, List, None, Option, Some, ap, arith, false, if◌then◌else◌, max, min, nat_lt, option_and_then, refl, subst, sym, true, unwrap_or, ℕ}
 use Rattle.base.proofs.Exports.{⊤, bit_at, has_mask, list_any, nat_tests}
 use Rattle.base.specs.Exports.{has}
-use Rattle.update_machine.specs.Exports.{Advert, Advertise, Body, Claim, HaveCauses, Item, LinkRow, Message, Net, Place, Setting, can_use, changes_claim, claim_by, claim_in, claim_of, gives_link, is_link_up, is_usable, message_of, newer_claim_of, own_advert, serves}
+use Rattle.update_machine.specs.Exports.{Advert, Advertise, Body, JournalClaim, JournalItemsHaveCauses, Item, LinkRow, Message, Net, Place, Setting, journal_can_use, changes_journal_claim, journal_claim_by, journal_claim_in_message, journal_claim_of, gives_journal_link, is_link_up_in_journal, is_usable_in_journal, message_of, newer_journal_claim_of, own_advert, serves}
 use Rattle.net_file.specs.Exports.{are_linked, joins}
 use Rattle.update_machine.proofs.Exports.{have_append, near_usable, start_laws}
 use Rattle.control_laws.proofs.Exports.{AreKept, AreSuch, Both, HasBothCauses, IfAdvert, IsAdvertFact, claim_more, fact_on, have_front, last_more, serving_more, such_at_first, such_kept}
@@ -18,7 +18,7 @@ IsUnfailing before _ = ⊤
 
 pub record AreAllUp (journal : List Item) : Type 0 where
   pub serving : (s : ℕ) → IsTrue (serves journal s)
-  pub links : (one other : ℕ) → IsTrue (is_link_up journal one other)
+  pub links : (one other : ℕ) → IsTrue (is_link_up_in_journal journal one other)
 
 next_serving : (before : List Item) (next : Item) (s : ℕ) → IsUnfailing before next
     → IsTrue (serves before s) → IsTrue (serves (before ++ next ∷ []) s)
@@ -34,19 +34,19 @@ next_serving before (Item.Opened t version) s safe serving =
 next_serving before next s safe serving = rw (serving_more before next s) serving
 
 next_link : (before : List Item) (next : Item) (one other : ℕ) → IsUnfailing before next
-    → IsTrue (is_link_up before one other) → IsTrue (is_link_up (before ++ next ∷ []) one other)
-unfolding is_link_up
+    → IsTrue (is_link_up_in_journal before one other) → IsTrue (is_link_up_in_journal (before ++ next ∷ []) one other)
+unfolding is_link_up_in_journal
 next_link before (Item.LinkIs x y false) one other safe up = absurd safe
 next_link before (Item.LinkIs x y true) one other safe up =
-    rw (last_more (gives_link (min one other) (max one other)) before (Item.LinkIs x y true) true)
+    rw (last_more (gives_journal_link (min one other) (max one other)) before (Item.LinkIs x y true) true)
     (by_test (x == min one other && y == max one other) up)
   where
-    by_test : (b : Bool) → IsTrue (is_link_up before one other)
-        → IsTrue (unwrap_or (if b then Some true else None) (is_link_up before one other))
+    by_test : (b : Bool) → IsTrue (is_link_up_in_journal before one other)
+        → IsTrue (unwrap_or (if b then Some true else None) (is_link_up_in_journal before one other))
     by_test true up = refl
     by_test false up = up
 next_link before next one other safe up =
-    rw (last_more (gives_link (min one other) (max one other)) before next true) up
+    rw (last_more (gives_journal_link (min one other) (max one other)) before next true) up
 
 up_kept : AreKept IsUnfailing AreAllUp
 up_kept before next safe up = record {
@@ -54,12 +54,12 @@ up_kept before next safe up = record {
   links = λ one other. next_link before next one other safe (up.links one other);
 }
 
-pub all_up : (journal : List Item) → HaveCauses IsUnfailing [] journal → AreAllUp journal
+pub all_up : (journal : List Item) → JournalItemsHaveCauses IsUnfailing [] journal → AreAllUp journal
 all_up journal safe = fact_on IsUnfailing AreAllUp up_kept [] journal safe
     (record { serving = start_laws.serving; links = start_laws.links })
 
 any_usable : (journal : List Item) (one two : ℕ) (rows : List LinkRow) → AreAllUp journal
-    → list_any (λ link. joins one two link && is_usable journal link) rows
+    → list_any (λ link. joins one two link && is_usable_in_journal journal link) rows
     ≡ list_any (joins one two) rows
 any_usable journal one two [] up = refl
 any_usable journal one two (link ∷ rows) up =
@@ -69,7 +69,7 @@ any_usable journal one two (link ∷ rows) up =
     with_true true = refl
     with_true false = refl
 
-    usable : is_usable journal link ≡ true
+    usable : is_usable_in_journal journal link ≡ true
     usable = let second = up.serving link.two in
         all_three _ _ _ (up.links link.one link.two) (up.serving link.one) second
       where
@@ -77,8 +77,8 @@ any_usable journal one two (link ∷ rows) up =
         all_three a b c p q r = rw (p, q, r) refl
 
 -- exactly the links of the network are usable
-pub all_usable : (setting : Setting) (journal : List Item) → HaveCauses IsUnfailing [] journal
-    → (one two : ℕ) → can_use setting journal one two ≡ are_linked setting.net.links one two
+pub all_usable : (setting : Setting) (journal : List Item) → JournalItemsHaveCauses IsUnfailing [] journal
+    → (one two : ℕ) → journal_can_use setting journal one two ≡ are_linked setting.net.links one two
 all_usable setting journal safe one two =
     any_usable journal one two setting.net.links (all_up journal safe)
 
@@ -89,14 +89,14 @@ abbrev pub NamesAll : Net → Advert → Type 0
 NamesAll net advert = (k : ℕ) → k < 64 → has advert.up k ≡ are_linked net.links advert.origin k
 
 own_names_all : (setting : Setting) (journal : List Item) (s : ℕ)
-    → HaveCauses IsUnfailing [] journal → NamesAll setting.net (own_advert setting journal s)
+    → JournalItemsHaveCauses IsUnfailing [] journal → NamesAll setting.net (own_advert setting journal s)
 unfolding own_advert
 own_names_all setting journal s safe k small =
     near_usable setting journal s k small ∙ all_usable setting journal safe s k
 
 abbrev pub NamesAllSafely : Setting → List Item → Advert → Type 0
 NamesAllSafely setting journal advert =
-    HaveCauses IsUnfailing [] journal → NamesAll setting.net advert
+    JournalItemsHaveCauses IsUnfailing [] journal → NamesAll setting.net advert
 
 pub all_fact : (setting : Setting) → IsAdvertFact setting (NamesAllSafely setting)
 all_fact setting = record {
@@ -109,21 +109,21 @@ all_fact setting = record {
 -- ---- where nothing fails each switch is claimed to have all its links
 
 -- the claim is of all links of this switch
-abbrev pub IsWhole : Net → ℕ → Claim → Type 0
+abbrev pub IsWhole : Net → ℕ → JournalClaim → Type 0
 IsWhole net one claim = (k : ℕ) → k < 64 → claim.links k ≡ are_linked net.links one k
 
 -- there is such a claim
-abbrev pub ClaimsAll : Net → ℕ → Option Claim → Type 0
+abbrev pub ClaimsAll : Net → ℕ → Option JournalClaim → Type 0
 ClaimsAll net one None = ⊥
 ClaimsAll net one (Some claim) = IsWhole net one claim
 
 -- if there is one, it is such
-abbrev IfClaims : Net → ℕ → Option Claim → Type 0
+abbrev IfClaims : Net → ℕ → Option JournalClaim → Type 0
 IfClaims net one None = ⊤
 IfClaims net one (Some claim) = IsWhole net one claim
 
-newer_all : (net : Net) (one : ℕ) (old new : Option Claim) → ClaimsAll net one old
-    → IfClaims net one new → ClaimsAll net one (newer_claim_of old new)
+newer_all : (net : Net) (one : ℕ) (old new : Option JournalClaim) → ClaimsAll net one old
+    → IfClaims net one new → ClaimsAll net one (newer_journal_claim_of old new)
 newer_all net one None new olds news = absurd olds
 newer_all net one (Some old) None olds news = olds
 newer_all net one (Some old) (Some new) olds news =
@@ -134,7 +134,7 @@ newer_all net one (Some old) (Some new) olds news =
     by_test false = olds
 
 -- what an advert claims
-abbrev said_by : Advert → Claim
+abbrev said_by : Advert → JournalClaim
 said_by advert = record {
   boot = advert.boot;
   seq = advert.seq;
@@ -142,7 +142,7 @@ said_by advert = record {
 }
 
 claimed_all : (net : Net) (s one : ℕ) (to : Place) (body : Body) → IfAdvert (NamesAll net) body
-    → IfClaims net one (claim_by s one to body)
+    → IfClaims net one (journal_claim_by s one to body)
 unfolding has
 claimed_all net s one (Place.Switch t) (Advertise advert) such =
     by_tests ((t == s) && (advert.origin == one)) refl
@@ -157,16 +157,16 @@ claimed_all net s one to body such = tt
 -- what is kept of it, item by item, of a journal in which nothing failed
 pub record AreClaimed (setting : Setting) (journal : List Item) : Type 0 where
   pub such : AreSuch setting (NamesAllSafely setting) journal
-  pub safe : HaveCauses IsUnfailing [] journal
-  pub claims : (s one : ℕ) → ClaimsAll setting.net one (claim_of setting journal s one)
+  pub safe : JournalItemsHaveCauses IsUnfailing [] journal
+  pub claims : (s one : ℕ) → ClaimsAll setting.net one (journal_claim_of setting journal s one)
 
 claims_on : (setting : Setting) (before : List Item) (next : Item) (s one : ℕ)
     → IsUnfailing before next → AreClaimed setting before
-    → ClaimsAll setting.net one (changes_claim s one before (claim_of setting before s one) next)
+    → ClaimsAll setting.net one (changes_journal_claim s one before (journal_claim_of setting before s one) next)
 claims_on setting before (Item.Down t) s one safe kept = absurd safe
 claims_on setting before (Item.Booted t boot) s one safe kept = absurd safe
 claims_on setting before (Item.Delivered number) s one safe kept = newer_all setting.net one
-    (claim_of setting before s one) (option_and_then (claim_in s one) (message_of before number))
+    (journal_claim_of setting before s one) (option_and_then (journal_claim_in_message s one) (message_of before number))
     (kept.claims s one) (by_message (message_of before number) refl)
   where
     by_body : (body : Body) → IfAdvert (NamesAllSafely setting before) body
@@ -175,7 +175,7 @@ claims_on setting before (Item.Delivered number) s one safe kept = newer_all set
     by_body _ such = tt
 
     by_message : (message : Option Message) → message_of before number ≡ message
-        → IfClaims setting.net one (option_and_then (claim_in s one) message)
+        → IfClaims setting.net one (option_and_then (journal_claim_in_message s one) message)
     by_message None e = tt
     by_message (Some message) e = claimed_all setting.net s one message.to message.body
         (by_body message.body (kept.such.sent number message e))
@@ -192,7 +192,7 @@ claimed_kept setting before next both kept = record {
 }
 
 claimed_at_first : (setting : Setting) → AreClaimed setting []
-unfolding claim_of
+unfolding journal_claim_of
 claimed_at_first setting = record {
   such = such_at_first setting (NamesAllSafely setting) (all_fact setting);
   safe = tt;
@@ -200,6 +200,6 @@ claimed_at_first setting = record {
 }
 
 pub are_claimed : (setting : Setting) (journal : List Item)
-    → HaveCauses (Both (HasBothCauses setting) IsUnfailing) [] journal → AreClaimed setting journal
+    → JournalItemsHaveCauses (Both (HasBothCauses setting) IsUnfailing) [] journal → AreClaimed setting journal
 are_claimed setting journal have = fact_on (Both (HasBothCauses setting) IsUnfailing)
     (AreClaimed setting) (claimed_kept setting) [] journal have (claimed_at_first setting)

@@ -4,9 +4,9 @@
 -- 2010; that they end like this is our own notion.
 use Rattle.std.specs.Prelude.{◌++◌, ◌≡◌, ◌⊎◌, All, Contains, IsTrue, List, None, Option, Some, find, option_map, ℕ}
 use Rattle.five_tuple.specs.Exports.{IsHeader}
-use Rattle.update_machine.specs.Exports.{Action, AreAllEventSteps, Cause, Exit, Header, Item, Leaving, Leg, Packet, Seek, Setting, StepOfRow, journal_after_steps, decision_of, is_up, next_hop, next_packet, piece, plan_at, policy_at, targets_of, version_count}
-use Rattle.net_file.specs.Exports.{owner_of}
-use Rattle.policy_rules.specs.Exports.{IsFirstMatch, is_in}
+use Rattle.update_machine.specs.Exports.{Action, AreAllMachineEventSteps, Cause, Exit, Header, Item, Leaving, Leg, Packet, Seek, Setting, StepOfRow, journal_after_steps, journal_decision_of, is_up, journal_next_hop, journal_next_packet, piece, journal_plan_at, policy_at, targets_of, journal_version_count}
+use Rattle.net_file.specs.Exports.{net_port_owner}
+use Rattle.policy_rules.specs.Exports.{IsFirstMatch, is_in_policy_partition}
 use Rattle.policy_rules.specs.declared.policy.Action.TheVariants as action
 use Rattle.journal.specs.declared.item.Item.TheVariants as item
 use Rattle.steps.specs.Exports.{HasSwitch}
@@ -16,9 +16,9 @@ use Rattle.convergence_laws.specs.Exports.{Reaches}
 pub record IsDecidedByNewest (setting : Setting) (before after : List Item) (packet : ℕ)
     (header : Header) (act : Action) : Type 0 where
   pub rule : Option ℕ
-  pub decided : decision_of after packet
-      ≡ Some (record { version = version_count before; rule = rule; action = act })
-  pub first_match : IsFirstMatch (policy_at setting before (version_count before)) header
+  pub decided : journal_decision_of after packet
+      ≡ Some (record { version = journal_version_count before; rule = rule; action = act })
+  pub first_match : IsFirstMatch (policy_at setting before (journal_version_count before)) header
       (record { rule = rule; action = act })
 
 -- the packet is stuck on this leg, and usable links led from where it entered to no target
@@ -37,7 +37,7 @@ pub record ForwardedLeavesThere (setting : Setting) (before after : List Item) (
   pub leaving : Leaving
   pub left : Contains after (item.Left packet port leaving)
   pub home : ℕ
-  pub has_port : owner_of setting.net.switches port ≡ Some home
+  pub has_port : net_port_owner setting.net.switches port ≡ Some home
   pub reached : Reaches setting before ingress home
 
 -- a packet with this action is dropped; or it leaves by its port, or is stuck on its way there
@@ -47,7 +47,7 @@ ForwardedEndsBy setting before after packet ingress (action.Out port) =
     ForwardedLeavesThere setting before after packet ingress port
     ⊎ IsStuckApart setting before after packet ingress (Exit port)
 
-pub record IsForwarded (setting : Setting) (before after : List Item) (packet ingress : ℕ)
+pub record IsForwardedByNewest (setting : Setting) (before after : List Item) (packet ingress : ℕ)
     (header : Header) : Type 0 where
   pub act : Action
   pub decided : IsDecidedByNewest setting before after packet header act
@@ -55,15 +55,15 @@ pub record IsForwarded (setting : Setting) (before after : List Item) (packet in
 
 -- undecided, the packet is stuck on its way to the partition of the newest version's plan whose
 -- region holds its header
-pub record FindsNoTarget (setting : Setting) (before after : List Item) (packet ingress : ℕ)
+pub record ForwardingFindsNoTarget (setting : Setting) (before after : List Item) (packet ingress : ℕ)
     (header : Header) : Type 0 where
-  pub undecided : decision_of after packet ≡ None
+  pub undecided : journal_decision_of after packet ≡ None
   pub partition : ℕ
   pub own : option_map (λ hosted. hosted.0.number)
-      (find (λ hosted. is_in header hosted.0) (plan_at setting before (version_count before)))
+      (find (λ hosted. is_in_policy_partition header hosted.0) (journal_plan_at setting before (journal_version_count before)))
       ≡ Some partition
   pub stuck : IsStuckApart setting before after packet ingress
-      (Seek (version_count before) partition)
+      (Seek (journal_version_count before) partition)
 
 -- this is true of each packet that enters right after the journal at a switch that is up, once a
 -- drain has taken all its hops
@@ -71,7 +71,7 @@ abbrev pub QuietForwards : Setting → List Item → Type 0
 QuietForwards setting before = (row later ingress : ℕ) (header : Header) (hops : List StepOfRow)
     → HasSwitch setting.net ingress → IsHeader header → IsTrue (is_up before ingress)
     → (let entered = before ++ piece setting before row (Packet ingress header) in
-    AreAllEventSteps setting next_hop later entered hops
+    AreAllMachineEventSteps setting journal_next_hop later entered hops
     → (let after = journal_after_steps setting entered hops in
-    IsForwarded setting before after (next_packet before) ingress header
-    ⊎ FindsNoTarget setting before after (next_packet before) ingress header))
+    IsForwardedByNewest setting before after (journal_next_packet before) ingress header
+    ⊎ ForwardingFindsNoTarget setting before after (journal_next_packet before) ingress header))

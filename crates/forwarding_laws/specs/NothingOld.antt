@@ -4,13 +4,13 @@
 -- packet needs them is from Reitblatt, Foster, Rexford, Schlesinger and Walker, "Abstractions for
 -- Network Update".
 use Rattle.std.specs.Prelude.{[], ◌++◌, ◌==◌, ◌∷◌, ◌≡◌, All, IsTrue, List, ℕ}
-use Rattle.update_machine.specs.Exports.{Event, Flush, Item, Net, Resend, Setting, cache_of, holds_version, is_up, version_count}
+use Rattle.update_machine.specs.Exports.{Event, Flush, Item, Net, Resend, Setting, journal_cache_of, holds_version, is_up, journal_version_count}
 use Rattle.steps.specs.Exports.{HasSwitch}
 use Rattle.forwarding_laws.specs.Recovered.{HasRecovered}
 use Rattle.forwarding_laws.specs.Recovery.{RecoveryAsksEach, EndsInRecovery}
 
 -- the events end in recovery, then a resend to each switch, then a flush
-pub record EndsInTwoRounds (net : Net) (events : List Event) : Type 0 where
+pub record EndsInTwoRecoveryRounds (net : Net) (events : List Event) : Type 0 where
   pub first : List Event
   pub resends : List Event
   pub ends : events ≡ first ++ resends ++ Flush ∷ []
@@ -20,15 +20,15 @@ pub record EndsInTwoRounds (net : Net) (events : List Event) : Type 0 where
 -- each switch of the network that is up has the tables of the newest version, and of no other
 abbrev pub HoldNewestAlone : Setting → List Item → Type 0
 HoldNewestAlone setting journal = (s version : ℕ) → HasSwitch setting.net s
-    → IsTrue (is_up journal s) → holds_version journal s version ≡ (version == version_count journal)
+    → IsTrue (is_up journal s) → holds_version journal s version ≡ (version == journal_version_count journal)
 
 -- each of them caches only rules of the newest version
-abbrev pub CacheNewestAlone : Setting → List Item → Type 0
-CacheNewestAlone setting journal = (s : ℕ) → HasSwitch setting.net s → IsTrue (is_up journal s)
-    → All (λ entry. entry.version ≡ version_count journal) (cache_of setting journal s).entries
+abbrev pub ForwardingCachesNewestAlone : Setting → List Item → Type 0
+ForwardingCachesNewestAlone setting journal = (s : ℕ) → HasSwitch setting.net s → IsTrue (is_up journal s)
+    → All (λ entry. entry.version ≡ journal_version_count journal) (journal_cache_of setting journal s).entries
 
 -- nothing old is left in a network that has recovered
-pub record LeavesNothingOld (setting : Setting) (journal : List Item) : Type 0 where
+pub record RecoveryLeavesNothingOld (setting : Setting) (journal : List Item) : Type 0 where
   pub recovered : HasRecovered setting journal
   pub tables : HoldNewestAlone setting journal
-  pub caches : CacheNewestAlone setting journal
+  pub caches : ForwardingCachesNewestAlone setting journal

@@ -1,13 +1,13 @@
 -- The result of recovery.
 use Rattle.std.specs.Prelude.{◌≡◌, ◌⊎◌, IsTrue, List, Some, ℕ}
-use Rattle.update_machine.specs.Exports.{Item, Message, Setting, is_forgotten, message_of, was_delivered}
-use Rattle.convergence_laws.specs.Exports.{GetStuckApart, HasConverged, IsNetworkUpdated}
+use Rattle.update_machine.specs.Exports.{Item, Message, Setting, is_forgotten_in_journal, message_of, was_delivered}
+use Rattle.convergence_laws.specs.Exports.{GetStuckApart, HasConverged, HasConvergedOnVersion}
 use Rattle.forwarding_laws.specs.Forwards.{QuietForwards}
 
 -- each message that was sent was delivered, or was forgotten
 abbrev pub RecoveryDeliversAll : List Item → Type 0
 RecoveryDeliversAll journal = (n : ℕ) (message : Message) → message_of journal n ≡ Some message
-    → IsTrue (was_delivered journal n) ⊎ IsTrue (is_forgotten journal n)
+    → IsTrue (was_delivered journal n) ⊎ IsTrue (is_forgotten_in_journal journal n)
 
 -- the switches know the usable links, and a packet that had found no link down gets stuck in the
 -- next step only if no target is reachable. The switches that are up stamp with the newest version,
@@ -16,5 +16,5 @@ RecoveryDeliversAll journal = (n : ℕ) (message : Message) → message_of journ
 pub record HasRecovered (setting : Setting) (journal : List Item) : Type 0 where
   pub converged : HasConverged setting journal
   pub apart : GetStuckApart setting journal
-  pub updated : IsNetworkUpdated setting journal
+  pub updated : HasConvergedOnVersion setting journal
   pub forwards : QuietForwards setting journal

@@ -3,7 +3,7 @@
 -- its own row, or is stuck, cut off from its targets. That an update drops none is a requirement
 -- of Reitblatt, Foster, Rexford, Schlesinger and Walker, "Abstractions for Network Update".
 use Rattle.std.specs.Prelude.{[], ◌++◌, ◌∷◌, ◌≡◌, ◌≢◌, All, Bool, Contains, IsFalse, List, Some, false, true, ℕ, ⊤}
-use Rattle.update_machine.specs.Exports.{AreTargets, Cause, Crash, Decision, Drop, Event, Header, Item, Leads, LeavesRightly, Leg, LinkDown, Lose, Net, One, Setting, Step, decision_of, present_step, standing}
+use Rattle.update_machine.specs.Exports.{AreMachineLegTargets, Cause, Crash, Decision, Drop, Event, Header, Item, Leads, MachineLeavesRightly, Leg, LinkDown, Lose, Net, One, Setting, Step, journal_decision_of, journal_present_step, standing}
 use Rattle.journal.specs.declared.item.Item.TheVariants as item
 use Rattle.net_file.specs.Exports.{are_linked}
 use Rattle.steps.specs.Exports.{HasSwitch}
@@ -14,17 +14,17 @@ fails (Crash s) = true
 fails (LinkDown one two) = true
 fails _ = false
 
-abbrev pub FailsNothing : Event → Type 0
-FailsNothing (One step) = IsFalse (fails step)
-FailsNothing _ = ⊤
+abbrev pub RolloutFailsNothing : Event → Type 0
+RolloutFailsNothing (One step) = IsFalse (fails step)
+RolloutFailsNothing _ = ⊤
 
 -- no row of the schedule crashes a switch or fails a link
 abbrev pub NothingFailsInRollout : List Event → Type 0
-NothingFailsInRollout events = All FailsNothing events
+NothingFailsInRollout events = All RolloutFailsNothing events
 
 -- the links of the network lead from the switch to none of the targets
-abbrev pub AreCutOff : Net → ℕ → List ℕ → Type 0
-AreCutOff net switch targets = All (λ target. (path : List ℕ)
+abbrev pub AreForwardingTargetsCutOff : Net → ℕ → List ℕ → Type 0
+AreForwardingTargetsCutOff net switch targets = All (λ target. (path : List ℕ)
     → ¬ Leads (are_linked net.links) switch path target) targets
 
 -- a packet is stuck where it is: its leg has targets, and the links of the network lead from there
@@ -33,16 +33,16 @@ pub record IsStuckCutOff (setting : Setting) (before : List Item) (packet switch
     : Type 0 where
   pub stands : standing before packet ≡ Some switch
   pub targets : List ℕ
-  pub own_leg : AreTargets setting before packet leg targets
+  pub own_leg : AreMachineLegTargets setting before packet leg targets
   pub has_targets : targets ≢ []
-  pub cut_off : AreCutOff setting.net switch targets
+  pub cut_off : AreForwardingTargetsCutOff setting.net switch targets
 
 -- a packet is stuck only if it is cut off, and lost only by its own row; none finds a link down;
 -- and no switch is closed to one
 abbrev pub DropsNothing : Setting → List Item → Item → Type 0
 DropsNothing setting before (item.Stuck packet switch cause leg down) =
     IsStuckCutOff setting before packet switch leg
-DropsNothing setting before (item.Lost packet) = present_step before ≡ Some (Lose packet)
+DropsNothing setting before (item.Lost packet) = journal_present_step before ≡ Some (Lose packet)
 DropsNothing setting before (item.FoundDown packet one two) = ⊥
 DropsNothing setting before (item.Closed packet switch) = ⊥
 DropsNothing setting before _ = ⊤
@@ -62,19 +62,19 @@ NoneIsStuck journal = (packet switch : ℕ) (cause : Cause) (leg : Leg) (down : 
 -- ---- the whole account
 
 -- the packet was decided, and dropped by its decision
-pub record IsDroppedRightly (before : List Item) (packet : ℕ) : Type 0 where
+pub record ForwardedIsDroppedRightly (before : List Item) (packet : ℕ) : Type 0 where
   pub decision : Decision
-  pub decided : decision_of before packet ≡ Some decision
+  pub decided : journal_decision_of before packet ≡ Some decision
   pub drops : decision.action ≡ Drop
 
 -- how a packet ends that isn't cut off: by its decision it is dropped, or leaves by its decision's
 -- port; or it is lost by its own row
 abbrev pub RolloutEndsRightly : Setting → ℕ → List Item → Item → Type 0
-RolloutEndsRightly setting packet before (item.Dropped i) = (i ≡ packet) × IsDroppedRightly before packet
+RolloutEndsRightly setting packet before (item.Dropped i) = (i ≡ packet) × ForwardedIsDroppedRightly before packet
 RolloutEndsRightly setting packet before (item.Left i port leaving) =
-    (i ≡ packet) × LeavesRightly setting before packet port leaving
+    (i ≡ packet) × MachineLeavesRightly setting before packet port leaving
 RolloutEndsRightly setting packet before (item.Lost i) =
-    (i ≡ packet) × (present_step before ≡ Some (Lose packet))
+    (i ≡ packet) × (journal_present_step before ≡ Some (Lose packet))
 RolloutEndsRightly setting packet before _ = ⊥
 
 -- or it is stuck, cut off from its targets

@@ -2,9 +2,9 @@
 -- recovery, nothing old is left after a second round, and a rollout drops nothing. For a play that
 -- stopped full only the last is true, because it didn't reach its end.
 use Rattle.std.specs.Prelude.{[], ◌++◌, ◌∷◌, ◌≡◌, List, None, Option, ℕ}
-use Rattle.update_machine.specs.Exports.{Drain, Event, HaveCauses, IsPlay, IsSetting, Item, Setting}
+use Rattle.update_machine.specs.Exports.{Drain, Event, JournalItemsHaveCauses, IsMachinePlay, IsSetting, Item, Setting}
 use Rattle.control_laws.specs.Exports.{AreNetworkEvents}
-use Rattle.forwarding_laws.specs.NothingOld.{EndsInTwoRounds, LeavesNothingOld}
+use Rattle.forwarding_laws.specs.NothingOld.{EndsInTwoRecoveryRounds, RecoveryLeavesNothingOld}
 use Rattle.forwarding_laws.specs.Recovered.{HasRecovered}
 use Rattle.forwarding_laws.specs.Recovery.{EndsInRecovery}
 use Rattle.forwarding_laws.specs.Rollout.{RolloutAccountsForAll, AllAccountedOrCutOff, DropsNothing, IsConnectedNetwork, NoneIsStuck, NothingFailsInRollout}
@@ -13,11 +13,11 @@ use Rattle.forwarding_laws.specs.Rollout.{RolloutAccountsForAll, AllAccountedOrC
 abbrev pub EndsInDrain : List Event → Type 0
 EndsInDrain events = (front : List Event) × (events ≡ front ++ Drain ∷ [])
 
-pub record KeepsWorking (setting : Setting) (events : List Event) (journal : List Item)
+pub record KeepsForwarding (setting : Setting) (events : List Event) (journal : List Item)
     (full : Option ℕ) : Type 0 where
   pub recovers : full ≡ None → EndsInRecovery setting.net events → HasRecovered setting journal
-  pub renews : full ≡ None → EndsInTwoRounds setting.net events → LeavesNothingOld setting journal
-  pub drops_nothing : NothingFailsInRollout events → HaveCauses (DropsNothing setting) [] journal
+  pub renews : full ≡ None → EndsInTwoRecoveryRounds setting.net events → RecoveryLeavesNothingOld setting journal
+  pub drops_nothing : NothingFailsInRollout events → JournalItemsHaveCauses (DropsNothing setting) [] journal
   pub leaves_none_stuck : NothingFailsInRollout events → IsConnectedNetwork setting.net → NoneIsStuck journal
   pub accounts_or_cut_off : full ≡ None → EndsInDrain events → NothingFailsInRollout events
       → AllAccountedOrCutOff setting journal
@@ -25,7 +25,7 @@ pub record KeepsWorking (setting : Setting) (events : List Event) (journal : Lis
       → IsConnectedNetwork setting.net → RolloutAccountsForAll setting journal
 
 -- this is true of each play of a setting, whose events name its own switches and ports
-abbrev pub PlaysKeepWorking : Type 0
-PlaysKeepWorking = (setting : Setting) (events : List Event) (journal : List Item)
+abbrev pub PlaysKeepForwarding : Type 0
+PlaysKeepForwarding = (setting : Setting) (events : List Event) (journal : List Item)
     (full : Option ℕ) → IsSetting setting → AreNetworkEvents setting events
-    → IsPlay setting events journal full → KeepsWorking setting events journal full
+    → IsMachinePlay setting events journal full → KeepsForwarding setting events journal full

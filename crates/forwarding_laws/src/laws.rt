@@ -1,8 +1,8 @@
 //! Laws about networks that have converged or are quiet: they forward.
-ghost use Rattle.update_machine.specs.Exports.{IsQuiet, IsSetting};
-ghost use Rattle.convergence_laws.specs.Exports.{HasConverged, IsNetworkUpdated};
+ghost use Rattle.update_machine.specs.Exports.{IsMachineQuiet, IsSetting};
+ghost use Rattle.convergence_laws.specs.Exports.{HasConverged, HasConvergedOnVersion};
 ghost use Rattle.packet_laws.specs.Exports.{HoldsBetween};
-ghost use Rattle.forwarding_laws.specs.Exports.{HasComeToRest, QuietForwards};
+ghost use Rattle.forwarding_laws.specs.Exports.{HasForwardingComeToRest, QuietForwards};
 
 use convergence_laws::{
     packets_get_stuck_apart, quiet_networks_are_updated, quiet_networks_have_converged,
@@ -14,13 +14,13 @@ use convergence_laws::{
 /// partition, or not to its port's switch.
 pub fn converged_networks_forward()
     ensures { HoldsBetween (λ setting journal. IsSetting setting → HasConverged setting journal
-        → IsNetworkUpdated setting journal → QuietForwards setting journal) }
+        → HasConvergedOnVersion setting journal → QuietForwards setting journal) }
 {}
 
 /// A quiet network forwards in the same way.
 pub fn quiet_networks_forward()
     ensures { HoldsBetween (λ setting journal.
-        IsSetting setting → IsQuiet setting journal → QuietForwards setting journal) }
+        IsSetting setting → IsMachineQuiet setting journal → QuietForwards setting journal) }
 {
     quiet_networks_have_converged();
     quiet_networks_are_updated();
@@ -30,7 +30,7 @@ pub fn quiet_networks_forward()
 /// So a quiet network has come to rest: it has converged and is updated, and it forwards.
 pub fn quiet_networks_have_come_to_rest()
     ensures { HoldsBetween (λ setting journal.
-        IsSetting setting → IsQuiet setting journal → HasComeToRest setting journal) }
+        IsSetting setting → IsMachineQuiet setting journal → HasForwardingComeToRest setting journal) }
 {
     quiet_networks_have_converged();
     packets_get_stuck_apart();

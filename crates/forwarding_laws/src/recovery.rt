@@ -4,8 +4,8 @@ ghost use Rattle.net_file.specs.Net.{IsNet};
 ghost use Rattle.update_machine.specs.Exports.{Answers, Event, IsSetting, Item, Setting};
 ghost use Rattle.steps.specs.declared.step.Event.TheVariants.{Flush};
 ghost use Rattle.control_laws.specs.Always.{AreNetworkEvents};
-ghost use Rattle.convergence_laws.specs.Exports.{HasConverged, IsNetworkUpdated, NeighboursAgree};
-ghost use Rattle.forwarding_laws.specs.NothingOld.{CacheNewestAlone, EndsInTwoRounds, LeavesNothingOld};
+ghost use Rattle.convergence_laws.specs.Exports.{HasConverged, HasConvergedOnVersion, NeighboursAgree};
+ghost use Rattle.forwarding_laws.specs.NothingOld.{ForwardingCachesNewestAlone, EndsInTwoRecoveryRounds, RecoveryLeavesNothingOld};
 ghost use Rattle.forwarding_laws.specs.Recovered.{RecoveryDeliversAll, HasRecovered};
 ghost use Rattle.forwarding_laws.specs.Recovery.{EndsInRecovery};
 
@@ -42,7 +42,7 @@ pub fn recovered_networks_have_converged()
 pub fn recovered_networks_are_updated()
     ensures { (setting : Setting) (events : List Event) (journal : List Item)
         → EndsInRecovery setting.net events → Answers setting events journal
-        → IsNetworkUpdated setting journal }
+        → HasConvergedOnVersion setting journal }
 {}
 
 /// Suppose a schedule ends with the confirmation of each switch, a resend to each switch and a
@@ -62,7 +62,7 @@ pub fn networks_recover()
 pub fn recovered_caches_are_new()
     ensures { (setting : Setting) (events : List Event) (journal : List Item)
         → IsSetting setting → AreNetworkEvents setting events → EndsInRecovery setting.net events
-        → Answers setting events journal → CacheNewestAlone setting journal }
+        → Answers setting events journal → ForwardingCachesNewestAlone setting journal }
 {
     cache_rules_are_right();
 }
@@ -71,8 +71,8 @@ pub fn recovered_caches_are_new()
 /// that are up have the tables of the newest version and of no other, and cache only its rules.
 pub fn nothing_old_is_left()
     ensures { (setting : Setting) (events : List Event) (journal : List Item)
-        → IsSetting setting → AreNetworkEvents setting events → EndsInTwoRounds setting.net events
-        → Answers setting events journal → LeavesNothingOld setting journal }
+        → IsSetting setting → AreNetworkEvents setting events → EndsInTwoRecoveryRounds setting.net events
+        → Answers setting events journal → RecoveryLeavesNothingOld setting journal }
 {
     agreeing_networks_have_converged();
     packets_get_stuck_apart();

@@ -1,7 +1,7 @@
 //! Laws of rollouts in which nothing fails.
 ghost use Rattle.std.specs.Prelude.{◌∷◌, ◌++◌, [], List};
 ghost use Rattle.steps.specs.declared.step.Event.TheVariants.{Drain};
-ghost use Rattle.update_machine.specs.Exports.{Answers, BeginsAnswer, Event, HaveCauses, IsSetting, Item, Setting};
+ghost use Rattle.update_machine.specs.Exports.{Answers, JournalBeginsAnswer, Event, JournalItemsHaveCauses, IsSetting, Item, Setting};
 ghost use Rattle.control_laws.specs.Always.{AreNetworkEvents};
 ghost use Rattle.forwarding_laws.specs.Rollout.{RolloutAccountsForAll, AllAccountedOrCutOff, DropsNothing, IsConnectedNetwork, NoneIsStuck, NothingFailsInRollout};
 
@@ -15,7 +15,7 @@ use update_machine::answers_are_numbered;
 pub fn rollouts_drop_nothing()
     ensures { (setting : Setting) (events : List Event) (journal : List Item)
         → IsSetting setting → AreNetworkEvents setting events → NothingFailsInRollout events
-        → BeginsAnswer setting events journal → HaveCauses (DropsNothing setting) [] journal }
+        → JournalBeginsAnswer setting events journal → JournalItemsHaveCauses (DropsNothing setting) [] journal }
 {
     ends_have_causes();
 }
@@ -24,7 +24,7 @@ pub fn rollouts_drop_nothing()
 pub fn connected_rollouts_leave_none_stuck()
     ensures { (setting : Setting) (events : List Event) (journal : List Item)
         → IsSetting setting → AreNetworkEvents setting events → NothingFailsInRollout events
-        → IsConnectedNetwork setting.net → BeginsAnswer setting events journal → NoneIsStuck journal }
+        → IsConnectedNetwork setting.net → JournalBeginsAnswer setting events journal → NoneIsStuck journal }
 {
     rollouts_drop_nothing();
 }

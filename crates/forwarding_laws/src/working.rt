@@ -1,5 +1,5 @@
 //! The law that each play keeps its network working.
-ghost use Rattle.forwarding_laws.specs.Exports.{PlaysKeepWorking};
+ghost use Rattle.forwarding_laws.specs.Exports.{PlaysKeepForwarding};
 
 use crate::recovery::{networks_recover, nothing_old_is_left};
 use crate::rollout::{
@@ -11,7 +11,7 @@ use crate::rollout::{
 /// and after a second round nothing old is left. If nothing fails, no packet is lost except by its
 /// own row, or stuck unless it is cut off. This is also true of a play that stopped full.
 pub fn plays_keep_working()
-    ensures { PlaysKeepWorking }
+    ensures { PlaysKeepForwarding }
 {
     networks_recover();
     nothing_old_is_left();

@@ -4,28 +4,28 @@ use Rattle.std.specs.List.{list_all, range_with_len}
 use Rattle.std.proofs.lemmas.List.{at_drop_all}
 use Rattle.std.proofs.lemmas.List.Elements.{All-from_recursion}
 use Rattle.std.proofs.lemmas.List.Sums.{AllPass-from_list_all, list_all-from_AllPass}
-use Rattle.update_machine.specs.Exports.{AreMessagesReceived, IsQuiet, Item, Setting, is_delivery, is_up, is_waited_for, switches_of, was_delivered}
+use Rattle.update_machine.specs.Exports.{AreJournalMessagesReceived, IsMachineQuiet, Item, Setting, is_delivery_item, is_up, is_waited_for, switches_of, was_delivered}
 use Rattle.journal.specs.declared.item.Item.TheVariants as item
 use Rattle.convergence_laws.proofs.Exports.{all_in, each_of_in}
 use Rattle.journal_reports.specs.declared.traffic.Traffic.{Traffic}
-use Rattle.journal_reports.specs.Exports.{AreTraffic, TrafficConcernsOne, IsTrafficAfter, IsTraffic, concerned_switch, has_mark, is_missed, is_named, switch_status_in}
+use Rattle.journal_reports.specs.Exports.{AreReportTrafficRows, ReportTrafficConcernsOne, IsReportTrafficAfter, IsReportTraffic, report_concerned_switch, report_has_mark, is_missed, is_named_in_report, report_switch_status_in}
 use Rattle.journal_reports.proofs.QuietReadItems.{IsReadNext, mark_first, none_delivered, not_received, received_first, traffic_first}
 
 -- ---- switches
 
 abbrev is_found : List Item → ℕ → Bool
-is_found journal s = not (is_missed (switch_status_in journal s))
+is_found journal s = not (is_missed (report_switch_status_in journal s))
 
 rows_found : (journal : List Item) (rows : List Traffic) (first : ℕ)
-    → ((s : ℕ) (d : Traffic) → s < length rows → IsTraffic journal [] (first + s) (get_or rows s d))
+    → ((s : ℕ) (d : Traffic) → s < length rows → IsReportTraffic journal [] (first + s) (get_or rows s d))
     → list_all (λ row. not (is_missed row.status)) rows
     ≡ list_all (is_found journal) (range_with_len first (length rows))
 rows_found journal [] first are = refl
 rows_found journal (row ∷ rows) first are =
-    let here : row.status ≡ switch_status_in journal first =
-    (subst (λ s. IsTraffic journal [] s row) (omega arith) (are 0 row (omega arith))).status in
+    let here : row.status ≡ report_switch_status_in journal first =
+    (subst (λ s. IsReportTraffic journal [] s row) (omega arith) (are 0 row (omega arith))).status in
     let rest = rows_found journal rows
-    (first + 1) (λ s d within. subst (λ n. IsTraffic journal [] n (get_or rows s d)) (omega arith)
+    (first + 1) (λ s d within. subst (λ n. IsReportTraffic journal [] n (get_or rows s d)) (omega arith)
     (are (suc s) d (omega (arith, within)))) in
     rw (here, rest) refl
 
@@ -41,7 +41,7 @@ is_not_missed false false is = refl
 
 -- none of the switches is missed where the definition says so
 pub switches_found : (setting : Setting) (journal : List Item) (rows : List Traffic)
-    → AreTraffic journal [] rows → length setting.net.switches ≡ length rows
+    → AreReportTrafficRows journal [] rows → length setting.net.switches ≡ length rows
     → IsTrue (list_all (λ row. not (is_missed row.status)) rows)
     ↔ All (λ s. IsTrue (is_up journal s || not (is_waited_for journal s))) (switches_of setting)
 switches_found setting journal rows are count = (
@@ -63,14 +63,14 @@ switches_found setting journal rows are count = (
   same : list_all (λ row. not (is_missed row.status)) rows
       ≡ list_all (is_found journal) (switches_of setting)
   same = rows_found journal rows 0 (λ s d within. subst
-      (λ n. IsTraffic journal [] n (get_or rows s d)) (omega arith) (are s d within))
+      (λ n. IsReportTraffic journal [] n (get_or rows s d)) (omega arith) (are s d within))
       ∙ ap (λ n. list_all (is_found journal) (range_with_len 0 n)) (sym count)
 
 -- ---- the last items of a journal
 
 -- what was received was at its end
 received_tail : (setting : Setting) (journal items : List Item) (place : ℕ)
-    → AreMessagesReceived setting journal items → AreMessagesReceived setting journal (drop place items)
+    → AreJournalMessagesReceived setting journal items → AreJournalMessagesReceived setting journal (drop place items)
 received_tail setting journal items zero received = received
 received_tail setting journal [] (suc place) received = tt
 received_tail setting journal (item.Sent number message ∷ items) (suc place) received =
@@ -92,9 +92,9 @@ item_before (first ∷ items) (suc place) next there is =
 
 pub marks_before : (items : List Item) (place from n : ℕ) (next : Item) (marks now : List Bool)
     → from ≡ place + 1 → place < length items → next ≡ get_or items place next
-    → has_mark marks n ≡ was_delivered (drop from items) n
-    → has_mark now n ≡ (is_delivery n next || has_mark marks n)
-    → has_mark now n ≡ was_delivered (drop place items) n
+    → report_has_mark marks n ≡ was_delivered (drop from items) n
+    → report_has_mark now n ≡ (is_delivery_item n next || report_has_mark marks n)
+    → report_has_mark now n ≡ was_delivered (drop place items) n
 marks_before items place from n next marks now at there is was step = mark_first marks now next
     (drop (place + 1) items) n (was ∙ ap (λ k. was_delivered (drop k items) n) at) step
     ∙ ap (λ js. was_delivered js n) (sym (item_before items place next there is))
@@ -102,14 +102,14 @@ marks_before items place from n next marks now at there is was step = mark_first
 pub read_next : (items : List Item) (place from : ℕ) (next : Item) (marks : List Bool)
     (rows now : List Traffic) (answer : Bool)
     → from ≡ place + 1 → place < length items → next ≡ get_or items place next
-    → ((n : ℕ) → has_mark marks n ≡ was_delivered (drop place items) n)
-    → AreTraffic items (drop from items) rows
-    → ((s : ℕ) (d : Traffic) → s < length rows → is_named s (concerned_switch next) ≡ true
-    → IsTrafficAfter marks next (get_or rows s d) (get_or now s d) answer)
+    → ((n : ℕ) → report_has_mark marks n ≡ was_delivered (drop place items) n)
+    → AreReportTrafficRows items (drop from items) rows
+    → ((s : ℕ) (d : Traffic) → s < length rows → is_named_in_report s (report_concerned_switch next) ≡ true
+    → IsReportTrafficAfter marks next (get_or rows s d) (get_or now s d) answer)
     → IsReadNext items (drop (place + 1) items) next marks rows now answer
 read_next items place from next marks rows now answer at there is right was one = record {
   right = λ n. right n ∙ ap (λ js. was_delivered js n) (item_before items place next there is);
-  was = subst (λ k. AreTraffic items (drop k items) rows) at was;
+  was = subst (λ k. AreReportTrafficRows items (drop k items) rows) at was;
   one = one;
 }
 
@@ -120,21 +120,21 @@ module _ (items : List Item) (place : ℕ) (next : Item) (marks : List Bool) (ro
   first = item_before items place next there is
 
   pub rows_before : length now ≡ length rows → ((s : ℕ) (d : Traffic)
-      → is_named s (concerned_switch next) ≡ false → get_or now s d ≡ get_or rows s d)
-      → AreTraffic items (drop place items) now
-  rows_before count others = subst (λ js. AreTraffic items js now) (sym first)
+      → is_named_in_report s (report_concerned_switch next) ≡ false → get_or now s d ≡ get_or rows s d)
+      → AreReportTrafficRows items (drop place items) now
+  rows_before count others = subst (λ js. AreReportTrafficRows items js now) (sym first)
       (traffic_first items (drop (place + 1) items) next marks rows now answer read count others)
 
   module _ (setting : Setting) (count : length setting.net.switches ≡ length rows) where
     pub received_before : (from : ℕ) → from ≡ place + 1 → IsTrue answer
-        → AreMessagesReceived setting items (drop from items) → AreMessagesReceived setting items (drop place items)
+        → AreJournalMessagesReceived setting items (drop from items) → AreJournalMessagesReceived setting items (drop place items)
     received_before from at met received = rw first (received_first setting items
         (drop (place + 1) items) next marks rows now answer count read met (rw at at received))
 
     -- a message that matters wasn't received
-    pub waiting_answer : TrafficConcernsOne rows next → IsFalse answer → IsQuiet setting items → ⊥
+    pub waiting_answer : ReportTrafficConcernsOne rows next → IsFalse answer → IsMachineQuiet setting items → ⊥
     waiting_answer concerns unmet quiet = not_received setting items (drop (place + 1) items) next
-        marks rows now answer count read concerns unmet (subst (AreMessagesReceived setting items) first
+        marks rows now answer count read concerns unmet (subst (AreJournalMessagesReceived setting items) first
         (received_tail setting items items place quiet.messages))
 
 -- ---- before any item is read
@@ -143,22 +143,22 @@ none_left : (items : List Item) (place : ℕ) → length items ≤ place → dro
 none_left items place few = at_drop_all (λ (js : List Item). js) items place few
 
 pub marks_at_end : (items : List Item) (place n : ℕ) (marks : List Bool) → length items ≤ place
-    → marks ≡ [] → has_mark marks n ≡ was_delivered (drop place items) n
+    → marks ≡ [] → report_has_mark marks n ≡ was_delivered (drop place items) n
 marks_at_end items place n marks few none = cc (none, none_delivered n, none_left items place few)
 
 pub rows_at_end : (items : List Item) (place : ℕ) (rows : List Traffic) → length items ≤ place
-    → AreTraffic items [] rows → AreTraffic items (drop place items) rows
+    → AreReportTrafficRows items [] rows → AreReportTrafficRows items (drop place items) rows
 rows_at_end items place rows few are = rw (none_left items place few) are
 
 pub received_at_end : (setting : Setting) (items : List Item) (place : ℕ) → length items ≤ place
-    → AreMessagesReceived setting items (drop place items)
+    → AreJournalMessagesReceived setting items (drop place items)
 received_at_end setting items place few = rw (none_left items place few) tt
 
 -- ---- the answer
 
 pub missed_answer : (setting : Setting) (journal : List Item) (rows : List Traffic)
-    → AreTraffic journal [] rows → length setting.net.switches ≡ length rows
-    → IsFalse (list_all (λ row. not (is_missed row.status)) rows) → IsQuiet setting journal → ⊥
+    → AreReportTrafficRows journal [] rows → length setting.net.switches ≡ length rows
+    → IsFalse (list_all (λ row. not (is_missed row.status)) rows) → IsMachineQuiet setting journal → ⊥
 missed_answer setting journal rows are count some quiet =
     clash (sym some ∙ (switches_found setting journal rows are count).1 quiet.switches)
   where

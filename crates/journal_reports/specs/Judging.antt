@@ -3,7 +3,7 @@
 use Rattle.std.specs.Prelude.{[], ◌&&◌, ◌==◌, ◌||◌, ◌∷◌, ◌≡◌, ◌⊎◌, Bool, IsTrue, List, None, Option, Some, false, nat_eq, nat_lt, not, option_map, slice_index_or, true, unwrap_or, ℕ, ⊤}
 use Rattle.std.specs.Option.{option_eq, option_map_or}
 use Rattle.ctrl_msg.specs.Exports.{body_boot, body_version}
-use Rattle.update_machine.specs.Exports.{Advert, Advertise, Body, Collect, Hello, Install, Installed, Item, Message, OpenAt, Place, Stamp, Stamped, are_old_tables, boot_of, carries_boot, current_mark, gives_boot, gives_current, gives_up, gives_waited_for, is_advert, is_of_boot, is_old_ack_in_journal, is_up, is_waited_for, speaking_in_body}
+use Rattle.update_machine.specs.Exports.{Advert, Advertise, Body, Collect, Hello, Install, Installed, Item, Message, OpenAt, Place, Stamp, Stamped, are_old_tables, journal_boot_of, journal_body_carries_boot, journal_current_mark, item_gives_boot, gives_current, item_gives_switch_up, gives_waited_for, is_advert, is_of_boot, is_old_ack_in_journal, is_up, is_waited_for, machine_speaking_in_body}
 use Rattle.ctrl_msg.specs.declared.message.Place.TheVariants as receiver
 use Rattle.failover.specs.Exports.{is_newer}
 use Rattle.journal.specs.declared.item.Item.TheVariants as item
@@ -12,143 +12,143 @@ use Rattle.journal_reports.specs.declared.status.SwitchStatus.{SwitchStatus}
 -- ---- marks of delivered messages
 
 -- the message of this number is marked, and all other marks are as before
-abbrev pub MarksOneMore : ℕ → List Bool → List Bool → Type 0
-MarksOneMore number before after = (n : ℕ)
+abbrev pub ReportMarksOneMore : ℕ → List Bool → List Bool → Type 0
+ReportMarksOneMore number before after = (n : ℕ)
     → slice_index_or after n false ≡ (number == n || slice_index_or before n false)
 
 -- ---- the status of a switch
 
-abbrev pub switch_status_with : Item → SwitchStatus → SwitchStatus
-switch_status_with item status = record {
+abbrev pub report_switch_status_with : Item → SwitchStatus → SwitchStatus
+report_switch_status_with item status = record {
   switch = status.switch;
-  is_up = unwrap_or (gives_up status.switch item) status.is_up;
-  boot = unwrap_or (gives_boot status.switch item) status.boot;
+  is_up = unwrap_or (item_gives_switch_up status.switch item) status.is_up;
+  boot = unwrap_or (item_gives_boot status.switch item) status.boot;
   is_waited_for = unwrap_or (gives_waited_for status.switch item) status.is_waited_for;
   current = unwrap_or (gives_current item) status.current;
 }
 
 -- only the item, if it concerns statuses
-abbrev pub status_item : Item → List Item
-status_item (item.Down s) = item.Down s ∷ []
-status_item (item.Booted s boot) = item.Booted s boot ∷ []
-status_item (item.OverNow s) = item.OverNow s ∷ []
-status_item (item.Current version) = item.Current version ∷ []
-status_item item = []
+abbrev pub report_status_item : Item → List Item
+report_status_item (item.Down s) = item.Down s ∷ []
+report_status_item (item.Booted s boot) = item.Booted s boot ∷ []
+report_status_item (item.OverNow s) = item.OverNow s ∷ []
+report_status_item (item.Current version) = item.Current version ∷ []
+report_status_item item = []
 
 -- what the journal says about the switch
-abbrev pub switch_status_in : List Item → ℕ → SwitchStatus
-switch_status_in journal s = record {
+abbrev pub report_switch_status_in : List Item → ℕ → SwitchStatus
+report_switch_status_in journal s = record {
   switch = s;
   is_up = is_up journal s;
-  boot = boot_of journal s;
+  boot = journal_boot_of journal s;
   is_waited_for = is_waited_for journal s;
-  current = current_mark journal;
+  current = journal_current_mark journal;
 }
 
 -- ---- which messages matter
 
 -- the message, to the switch or from it, matters in this status; one to it only if no boot of the
 -- switch began since it was sent. None matters if the switch is down
-abbrev pub matters_in_status : SwitchStatus → Bool → Message → Bool
-matters_in_status status in_boot message = elim message.to [
+abbrev pub matters_in_report_status : SwitchStatus → Bool → Message → Bool
+matters_in_report_status status in_boot message = elim message.to [
   | receiver.Controller ↦
       status.is_up
-      && option_map_or (is_of_boot status.switch status.boot) (speaking_in_body message.body) false
+      && option_map_or (is_of_boot status.switch status.boot) (machine_speaking_in_body message.body) false
       && not (is_old_ack_in_journal status.current message.body)
   | receiver.Switch to ↦
       status.is_up && to == status.switch && in_boot
-      && (is_advert message.body || carries_boot status.boot message.body)
+      && (is_advert message.body || journal_body_carries_boot status.boot message.body)
       && not (are_old_tables status.current message.body)
 ]
 
 -- ---- which messages replace others
 
 -- the switch that says this to the controller
-abbrev pub speaking_switch : Body → Option ℕ
-speaking_switch body = option_map (λ (of : ℕ × ℕ). of.0) (speaking_in_body body)
+abbrev pub report_speaking_switch : Body → Option ℕ
+report_speaking_switch body = option_map (λ (of : ℕ × ℕ). of.0) (machine_speaking_in_body body)
 
-abbrev pub is_same : Advert → Advert → Bool
-is_same one other = one.origin == other.origin && one.boot == other.boot && one.seq == other.seq
+abbrev pub report_is_same_advert : Advert → Advert → Bool
+report_is_same_advert one other = one.origin == other.origin && one.boot == other.boot && one.seq == other.seq
     && one.up == other.up
 
 -- both bodies are of the same kind, which is neither cache rule nor advert
-abbrev pub is_same_kind : Body → Body → Bool
-is_same_kind (Install boot tables) (Install of earlier) = true
-is_same_kind (OpenAt boot version) (OpenAt of earlier) = true
-is_same_kind (Stamp boot version touched) (Stamp of earlier others) = true
-is_same_kind (Collect boot version) (Collect of earlier) = true
-is_same_kind (Hello s boot) (Hello t of) = true
-is_same_kind (Installed s boot version) (Installed t of earlier) = true
-is_same_kind (Stamped s boot version) (Stamped t of earlier) = true
-is_same_kind _ _ = false
+abbrev pub is_same_report_kind : Body → Body → Bool
+is_same_report_kind (Install boot tables) (Install of earlier) = true
+is_same_report_kind (OpenAt boot version) (OpenAt of earlier) = true
+is_same_report_kind (Stamp boot version touched) (Stamp of earlier others) = true
+is_same_report_kind (Collect boot version) (Collect of earlier) = true
+is_same_report_kind (Hello s boot) (Hello t of) = true
+is_same_report_kind (Installed s boot version) (Installed t of earlier) = true
+is_same_report_kind (Stamped s boot version) (Stamped t of earlier) = true
+is_same_report_kind _ _ = false
 
 -- what the body says of a version is true of those before it too
-abbrev pub holds_for_earlier_versions : Body → Bool
-holds_for_earlier_versions (Stamp boot version touched) = true
-holds_for_earlier_versions (Collect boot version) = true
-holds_for_earlier_versions (Stamped s boot version) = true
-holds_for_earlier_versions _ = false
+abbrev pub report_holds_for_earlier : Body → Bool
+report_holds_for_earlier (Stamp boot version touched) = true
+report_holds_for_earlier (Collect boot version) = true
+report_holds_for_earlier (Stamped s boot version) = true
+report_holds_for_earlier _ = false
 
 -- if there are two versions, the first is the second one, or greater if that is enough
-abbrev pub is_version_at_least : Bool → Option ℕ → Option ℕ → Bool
-is_version_at_least rises (Some version) (Some old) = version == old || (rises && nat_lt old version)
-is_version_at_least rises _ _ = true
+abbrev pub is_reported_version_at_least : Bool → Option ℕ → Option ℕ → Bool
+is_reported_version_at_least rises (Some version) (Some old) = version == old || (rises && nat_lt old version)
+is_reported_version_at_least rises _ _ = true
 
-abbrev pub is_version_enough : Body → Body → Bool
-is_version_enough later earlier =
-    is_version_at_least (holds_for_earlier_versions later) (body_version later) (body_version earlier)
+abbrev pub is_report_version_enough : Body → Body → Bool
+is_report_version_enough later earlier =
+    is_reported_version_at_least (report_holds_for_earlier later) (body_version later) (body_version earlier)
 
 -- the later body says what the earlier one does, of the same or a greater version, or of the same
 -- or a newer advert; of tables it compares only the version, and of touched words nothing
-abbrev pub replaces_body : Body → Body → Bool
-replaces_body (Advertise advert) (Advertise earlier) =
-    is_same advert earlier || (advert.origin == earlier.origin && is_newer advert earlier)
-replaces_body later earlier = is_same_kind later earlier
-    && option_eq nat_eq (speaking_switch later) (speaking_switch earlier)
-    && option_eq nat_eq (body_boot later) (body_boot earlier) && is_version_enough later earlier
+abbrev pub report_replaces_body : Body → Body → Bool
+report_replaces_body (Advertise advert) (Advertise earlier) =
+    report_is_same_advert advert earlier || (advert.origin == earlier.origin && is_newer advert earlier)
+report_replaces_body later earlier = is_same_report_kind later earlier
+    && option_eq nat_eq (report_speaking_switch later) (report_speaking_switch earlier)
+    && option_eq nat_eq (body_boot later) (body_boot earlier) && is_report_version_enough later earlier
 
-abbrev pub is_same_receiver : Place → Place → Bool
-is_same_receiver (receiver.Switch s) (receiver.Switch t) = s == t
-is_same_receiver receiver.Controller receiver.Controller = true
-is_same_receiver _ _ = false
+abbrev pub is_same_report_receiver : Place → Place → Bool
+is_same_report_receiver (receiver.Switch s) (receiver.Switch t) = s == t
+is_same_report_receiver receiver.Controller receiver.Controller = true
+is_same_report_receiver _ _ = false
 
-abbrev pub replaces_message : Message → Message → Bool
-replaces_message later earlier =
-    is_same_receiver later.to earlier.to && replaces_body later.body earlier.body
+abbrev pub report_replaces_message : Message → Message → Bool
+report_replaces_message later earlier =
+    is_same_report_receiver later.to earlier.to && report_replaces_body later.body earlier.body
 
 -- two installs have the same tables; of two stamps the later one is of a greater version, or both
 -- have the same touched words
-abbrev pub HaveSameLists : Body → Body → Type 0
-HaveSameLists (Install boot one) (Install of other) = one ≡ other
-HaveSameLists (Stamp boot version one) (Stamp of earlier other) =
+abbrev pub HaveSameListsInReport : Body → Body → Type 0
+HaveSameListsInReport (Install boot one) (Install of other) = one ≡ other
+HaveSameListsInReport (Stamp boot version one) (Stamp of earlier other) =
     IsTrue (nat_lt earlier version) ⊎ (one ≡ other)
-HaveSameLists _ _ = ⊤
+HaveSameListsInReport _ _ = ⊤
 
 -- the later message says as much: it replaces the earlier one, if that is no cache rule
-pub record SaysAsMuch (later earlier : Message) : Type 0 where
-  pub message : IsTrue (replaces_message later earlier)
-  pub lists : HaveSameLists later.body earlier.body
+pub record ReportedMessageSaysAsMuch (later earlier : Message) : Type 0 where
+  pub message : IsTrue (report_replaces_message later earlier)
+  pub lists : HaveSameListsInReport later.body earlier.body
 
-abbrev pub has_mark : List Bool → ℕ → Bool
-has_mark marks number = slice_index_or marks number false
+abbrev pub report_has_mark : List Bool → ℕ → Bool
+report_has_mark marks number = slice_index_or marks number false
 
 -- ---- which switch an item concerns
 
 -- the switch that a message is to, or from
-abbrev pub switch_of_message : Message → Option ℕ
-switch_of_message message = elim message.to [
+abbrev pub report_switch_of_message : Message → Option ℕ
+report_switch_of_message message = elim message.to [
   | receiver.Switch s ↦ Some s
-  | receiver.Controller ↦ speaking_switch message.body
+  | receiver.Controller ↦ report_speaking_switch message.body
 ]
 
 -- the switch that the item concerns: it begins its boot, or sends a message to it or from it
-abbrev pub concerned_switch : Item → Option ℕ
-concerned_switch (item.Sent number message) = switch_of_message message
-concerned_switch (item.Booted s boot) = Some s
-concerned_switch item = None
+abbrev pub report_concerned_switch : Item → Option ℕ
+report_concerned_switch (item.Sent number message) = report_switch_of_message message
+report_concerned_switch (item.Booted s boot) = Some s
+report_concerned_switch item = None
 
-abbrev pub is_named : ℕ → Option ℕ → Bool
-is_named s who = option_map_or (λ t. t == s) who false
+abbrev pub is_named_in_report : ℕ → Option ℕ → Bool
+is_named_in_report s who = option_map_or (λ t. t == s) who false
 
 -- ---- which switches are missed
 

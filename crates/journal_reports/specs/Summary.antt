@@ -1,48 +1,48 @@
 -- What became of the packets of a play, what was sent in it, and which versions it ended with.
 use Rattle.std.specs.Prelude.{[], if◌then◌else◌, ◌++◌, ◌+◌, ◌-◌, ◌<◌, ◌^◌, ◌∷◌, Bool, List, None, Option, Some, codes, decimal, false, true, unwrap_or, ℕ}
-use Rattle.update_machine.specs.Exports.{How, Item, count_of, current_mark, gives_current, gives_retired, is_packet, retired_mark}
+use Rattle.update_machine.specs.Exports.{How, Item, count_of, journal_current_mark, gives_current, item_gives_retired, is_packet, journal_retired_mark}
 use Rattle.journal.specs.declared.item.Item.TheVariants as item
 use Rattle.policy_rules.specs.declared.packet.How.TheVariants as how
 use Rattle.journal_reports.specs.declared.summary.Summary.{Summary}
 
 -- ---- which items are counted
 
-abbrev pub counts_entered : Item → Bool
-counts_entered (item.Entered packet switch header) = true
-counts_entered _ = false
+abbrev pub summary_counts_entered : Item → Bool
+summary_counts_entered (item.Entered packet switch header) = true
+summary_counts_entered _ = false
 
-abbrev pub counts_closed : Item → Bool
-counts_closed (item.Closed packet switch) = true
-counts_closed _ = false
+abbrev pub summary_counts_closed : Item → Bool
+summary_counts_closed (item.Closed packet switch) = true
+summary_counts_closed _ = false
 
-abbrev pub is_left : Item → Bool
-is_left (item.Left packet port leaving) = true
-is_left _ = false
+abbrev pub summary_counts_left : Item → Bool
+summary_counts_left (item.Left packet port leaving) = true
+summary_counts_left _ = false
 
 abbrev pub counts_dropped : Item → Bool
 counts_dropped (item.Dropped packet) = true
 counts_dropped _ = false
 
-abbrev pub counts_lost : Item → Bool
-counts_lost (item.Lost packet) = true
-counts_lost _ = false
+abbrev pub summary_counts_lost : Item → Bool
+summary_counts_lost (item.Lost packet) = true
+summary_counts_lost _ = false
 
 abbrev pub is_stuck : Item → Bool
 is_stuck (item.Stuck packet switch cause leg down) = true
 is_stuck _ = false
 
-abbrev pub is_by_cache : How → Bool
-is_by_cache (how.Cached message) = true
-is_by_cache _ = false
+abbrev pub is_cached_in_summary : How → Bool
+is_cached_in_summary (how.Cached message) = true
+is_cached_in_summary _ = false
 
 -- a decision by a cached rule
 abbrev pub counts_cached : Item → Bool
-counts_cached (item.Decided packet version rule action how) = is_by_cache how
+counts_cached (item.Decided packet version rule action how) = is_cached_in_summary how
 counts_cached _ = false
 
-abbrev pub is_sent : Item → Bool
-is_sent (item.Sent number message) = true
-is_sent _ = false
+abbrev pub summary_counts_sent : Item → Bool
+summary_counts_sent (item.Sent number message) = true
+summary_counts_sent _ = false
 
 -- ---- the summary
 
@@ -50,16 +50,16 @@ is_sent _ = false
 abbrev pub item_counts : List Item → Summary
 item_counts journal = record {
   packets = count_of is_packet journal;
-  closed = count_of counts_closed journal;
-  delivered = count_of is_left journal;
+  closed = count_of summary_counts_closed journal;
+  delivered = count_of summary_counts_left journal;
   dropped = count_of counts_dropped journal;
-  lost = count_of counts_lost journal;
+  lost = count_of summary_counts_lost journal;
   stuck = count_of is_stuck journal;
-  travelling = count_of counts_entered journal;
+  travelling = count_of summary_counts_entered journal;
   cached = count_of counts_cached journal;
-  messages = count_of is_sent journal;
-  current = current_mark journal;
-  retired = retired_mark journal;
+  messages = count_of summary_counts_sent journal;
+  current = journal_current_mark journal;
+  retired = journal_retired_mark journal;
 }
 
 -- a packet that entered and neither left, nor was dropped or lost, nor is stuck, still travels
@@ -71,26 +71,26 @@ summary_of journal = with_travelling (item_counts journal)
 
 -- ---- one more item
 
-abbrev pub one_more : Bool → ℕ → ℕ
-one_more counts n = if counts then n + 1 else n
+abbrev pub summary_one_more : Bool → ℕ → ℕ
+summary_one_more counts n = if counts then n + 1 else n
 
 abbrev pub counts_after_item : Summary → Item → Summary
 counts_after_item s item = record {
-  packets = one_more (is_packet item) s.packets;
-  closed = one_more (counts_closed item) s.closed;
-  delivered = one_more (is_left item) s.delivered;
-  dropped = one_more (counts_dropped item) s.dropped;
-  lost = one_more (counts_lost item) s.lost;
-  stuck = one_more (is_stuck item) s.stuck;
-  travelling = one_more (counts_entered item) s.travelling;
-  cached = one_more (counts_cached item) s.cached;
-  messages = one_more (is_sent item) s.messages;
+  packets = summary_one_more (is_packet item) s.packets;
+  closed = summary_one_more (summary_counts_closed item) s.closed;
+  delivered = summary_one_more (summary_counts_left item) s.delivered;
+  dropped = summary_one_more (counts_dropped item) s.dropped;
+  lost = summary_one_more (summary_counts_lost item) s.lost;
+  stuck = summary_one_more (is_stuck item) s.stuck;
+  travelling = summary_one_more (summary_counts_entered item) s.travelling;
+  cached = summary_one_more (counts_cached item) s.cached;
+  messages = summary_one_more (summary_counts_sent item) s.messages;
   current = unwrap_or (gives_current item) s.current;
-  retired = unwrap_or (gives_retired item) s.retired;
+  retired = unwrap_or (item_gives_retired item) s.retired;
 }
 
 -- each count may still rise by one
-pub record CountsHaveRoom (s : Summary) : Type 0 where
+pub record SummaryCountsHaveRoom (s : Summary) : Type 0 where
   pub packets : s.packets + 1 < 2 ^ 64
   pub closed : s.closed + 1 < 2 ^ 64
   pub delivered : s.delivered + 1 < 2 ^ 64

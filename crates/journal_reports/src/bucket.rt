@@ -2,8 +2,8 @@
 //! the same bucket.
 ghost use Rattle.std.specs.Prelude.{◌≡◌, ◌↔◌, ◌⊎◌, length, IfOk, IsTrue, OnOk};
 ghost use Rattle.ctrl_msg.specs.declared.message.Message.{Message};
-ghost use Rattle.journal_reports.specs.Buckets.{AreEmptyBuckets, BucketHasSaying, IsKeptInBucket, bucket_of, subject};
-ghost use Rattle.journal_reports.specs.Judging.{SaysAsMuch};
+ghost use Rattle.journal_reports.specs.Buckets.{AreEmptyReportBuckets, ReportBucketHasSaying, IsKeptInReportBucket, report_bucket_of, subject};
+ghost use Rattle.journal_reports.specs.Judging.{ReportedMessageSaysAsMuch};
 
 use crate::replacing::says_as_much;
 use journal::{Body, Message, SharedMessage};
@@ -21,7 +21,7 @@ pub struct Bucket {
 /// # Errors
 /// Only out of memory.
 pub fn empty_buckets(alloc: Global) -> Result<Vec<Bucket>, AllocError>
-    ensures { IfOk result (λ buckets. AreEmptyBuckets buckets.items) }
+    ensures { IfOk result (λ buckets. AreEmptyReportBuckets buckets.items) }
 {
     let mut buckets = Vec::new(alloc);
     for bucket in 0..64_u32 {
@@ -34,15 +34,15 @@ pub fn empty_buckets(alloc: Global) -> Result<Vec<Bucket>, AllocError>
 
 /// Whether one of the messages in the buckets says as much as this one.
 pub fn is_kept_in_buckets(buckets: &[Bucket], message: &Message) -> bool
-    ensures { IsTrue result ↔ IsKeptInBucket buckets.now message.now }
+    ensures { IsTrue result ↔ IsKeptInReportBucket buckets.now message.now }
 {
-    let bucket = bucket_of(&message.body) as usize;
+    let bucket = report_bucket_of(&message.body) as usize;
     bucket < buckets.len() && is_said_in_bucket(&buckets[bucket].messages, message)
 }
 
 // Whether one of the messages says as much as this one.
 fn is_said_in_bucket(messages: &[SharedMessage], message: &Message) -> bool
-    ensures { IsTrue result ↔ BucketHasSaying messages.now message.now }
+    ensures { IsTrue result ↔ ReportBucketHasSaying messages.now message.now }
 {
     for kept in messages {
         if says_as_much(kept.get(), message) {
@@ -59,10 +59,10 @@ fn is_said_in_bucket(messages: &[SharedMessage], message: &Message) -> bool
 pub fn keep(buckets: &mut Vec<Bucket>, message: &SharedMessage) -> Result<(), AllocError>
     ensures count { OnOk result (length buckets.new.items ≡ length buckets.old.items) }
     ensures kept { OnOk result (length buckets.old.items ≡ 64 → (other : Message) →
-        IsKeptInBucket buckets.new.items other
-        ↔ (IsKeptInBucket buckets.old.items other ⊎ SaysAsMuch message.now other)) }
+        IsKeptInReportBucket buckets.new.items other
+        ↔ (IsKeptInReportBucket buckets.old.items other ⊎ ReportedMessageSaysAsMuch message.now other)) }
 {
-    let bucket = bucket_of(&message.get().body) as usize;
+    let bucket = report_bucket_of(&message.get().body) as usize;
     if bucket >= buckets.len() {
         return Ok(());
     }
@@ -72,8 +72,8 @@ pub fn keep(buckets: &mut Vec<Bucket>, message: &SharedMessage) -> Result<(), Al
 
 /// The bucket of a message with this body. In a journal of steps each origin and each version has
 /// its own bucket, so that few messages are kept in a bucket.
-pub fn bucket_of(body: &Body) -> u32
-    ensures { result ≡ bucket_of body.now }
+pub fn report_bucket_of(body: &Body) -> u32
+    ensures { result ≡ report_bucket_of body.now }
 {
     let subject = subject(body);
     if subject < 64 { subject } else { 0 }

@@ -1,7 +1,7 @@
 //! Which messages were delivered, as marks by their numbers: one past the end wasn't.
 ghost use Rattle.std.specs.Prelude.{ℕ, ◌≡◌, ◌||◌, false, OnOk, slice_index_or};
-ghost use Rattle.update_machine.specs.Messages.{is_delivery};
-ghost use Rattle.journal_reports.specs.Judging.{MarksOneMore};
+ghost use Rattle.update_machine.specs.Messages.{is_delivery_item};
+ghost use Rattle.journal_reports.specs.Judging.{ReportMarksOneMore};
 
 use journal::Item;
 use std::alloc::AllocError;
@@ -12,7 +12,7 @@ use std::alloc::AllocError;
 /// Only out of memory.
 pub fn mark_delivered_item(marks: &mut Vec<bool>, item: &Item) -> Result<(), AllocError>
     ensures { OnOk result ((n : ℕ) → slice_index_or marks.new.items n false
-        ≡ (is_delivery n item.now || slice_index_or marks.old.items n false)) }
+        ≡ (is_delivery_item n item.now || slice_index_or marks.old.items n false)) }
 {
     match item {
         Item::Delivered { number } => mark(marks, *number as usize),
@@ -22,7 +22,7 @@ pub fn mark_delivered_item(marks: &mut Vec<bool>, item: &Item) -> Result<(), All
 
 // Marks the message of this number as delivered.
 fn mark(marks: &mut Vec<bool>, number: usize) -> Result<(), AllocError>
-    ensures { OnOk result (MarksOneMore number marks.old.items marks.new.items) }
+    ensures { OnOk result (ReportMarksOneMore number marks.old.items marks.new.items) }
 {
     while marks.len() <= number {
         marks.push(false)?;

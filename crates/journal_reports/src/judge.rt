@@ -1,7 +1,7 @@
 //! Whether a network is quiet.
 ghost use Rattle.std.specs.Prelude.{◌≡◌, ◌↔◌, IfOk, IsTrue};
 ghost use Rattle.net_file.specs.Net.{IsNet};
-ghost use Rattle.update_machine.specs.Exports.{IsQuiet, Setting};
+ghost use Rattle.update_machine.specs.Exports.{IsMachineQuiet, Setting};
 
 use crate::deliveries::mark_delivered_item;
 use crate::traffic::{at_end, no_switch_missed, take_item};
@@ -21,7 +21,7 @@ use std::alloc::{AllocError, Global};
 pub fn quiet(alloc: Global, journal: &Journal, net: &Net) -> Result<bool, AllocError>
     requires { IsNet net.now }
     ensures { IfOk result (λ answer. (setting : Setting) → setting.net ≡ net.now
-        → IsTrue answer ↔ IsQuiet setting journal.now) }
+        → IsTrue answer ↔ IsMachineQuiet setting journal.now) }
 {
     let items = journal.items();
     let count = net.switches.items().len() as u32;

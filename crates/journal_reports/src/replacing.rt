@@ -1,8 +1,8 @@
 //! Which messages replace others, and which matter.
 ghost use Rattle.std.specs.Prelude.{◌≡◌, ◌↔◌, ◌||◌, false, IsTrue};
 ghost use Rattle.std.specs.Option.{option_map_or};
-ghost use Rattle.update_machine.specs.Quiet.{are_old_tables, carries_boot, is_advert, is_of_boot, is_old_ack_in_journal, speaking_in_body};
-ghost use Rattle.journal_reports.specs.Judging.{HaveSameLists, SaysAsMuch, holds_for_earlier_versions, is_same_kind, is_version_enough, matters_in_status, replaces_body, replaces_message, speaking_switch};
+ghost use Rattle.update_machine.specs.Quiet.{are_old_tables, journal_body_carries_boot, is_advert, is_of_boot, is_old_ack_in_journal, machine_speaking_in_body};
+ghost use Rattle.journal_reports.specs.Judging.{HaveSameListsInReport, ReportedMessageSaysAsMuch, report_holds_for_earlier, is_same_report_kind, is_report_version_enough, matters_in_report_status, report_replaces_body, report_replaces_message, report_speaking_switch};
 
 use crate::status::SwitchStatus;
 use ctrl_msg::{are_same_tables, are_same_words};
@@ -11,7 +11,7 @@ use journal::{Body, Message, Place};
 /// Whether the message, to the switch or from it, matters; one to it matters only if the switch's
 /// boot at the end didn't begin after the message.
 pub fn matters(message: &Message, status: &SwitchStatus, is_in_boot: bool) -> bool
-    ensures { result ≡ matters_in_status status.now is_in_boot message.now }
+    ensures { result ≡ matters_in_report_status status.now is_in_boot message.now }
 {
     if !status.is_up {
         return false;
@@ -32,7 +32,7 @@ pub fn matters(message: &Message, status: &SwitchStatus, is_in_boot: bool) -> bo
 
 // Whether the body is an advert, or carries this boot.
 fn is_for_boot_of(body: &Body, boot: u32) -> bool
-    ensures { result ≡ (is_advert body.now || carries_boot boot body.now) }
+    ensures { result ≡ (is_advert body.now || journal_body_carries_boot boot body.now) }
 {
     match body {
         Body::Advertise { .. } => true,
@@ -43,7 +43,7 @@ fn is_for_boot_of(body: &Body, boot: u32) -> bool
 // Whether the switch says this, in its boot.
 fn is_of_boot(body: &Body, status: &SwitchStatus) -> bool
     ensures { result
-        ≡ option_map_or (is_of_boot status.now.switch status.now.boot) (speaking_in_body body.now) false }
+        ≡ option_map_or (is_of_boot status.now.switch status.now.boot) (machine_speaking_in_body body.now) false }
 {
     match body {
         Body::Hello { switch, boot }
@@ -75,15 +75,15 @@ fn is_old_ack_in_journal(body: &Body, current: u32) -> bool
 
 /// Whether the later message says as much as the earlier one, and so replaces it if that matters.
 pub fn says_as_much(later: &Message, earlier: &Message) -> bool
-    ensures { IsTrue result ↔ SaysAsMuch later.now earlier.now }
+    ensures { IsTrue result ↔ ReportedMessageSaysAsMuch later.now earlier.now }
 {
-    replaces_message(later, earlier) && have_same_message_lists(&later.body, &earlier.body)
+    report_replaces_message(later, earlier) && have_same_message_lists(&later.body, &earlier.body)
 }
 
 // Whether two installs have the same tables; and of two stamps, whether the later one is of a
 // greater version, or both have the same touched words.
 fn have_same_message_lists(later: &Body, earlier: &Body) -> bool
-    ensures { IsTrue result ↔ HaveSameLists later.now earlier.now }
+    ensures { IsTrue result ↔ HaveSameListsInReport later.now earlier.now }
 {
     match (later, earlier) {
         (Body::Install { tables, .. }, Body::Install { tables: old, .. }) => {
@@ -107,33 +107,33 @@ fn have_same_message_lists(later: &Body, earlier: &Body) -> bool
 
 // Whether the later message has the same receiver and says the same or more, apart from the rows
 // and partitions of tables and from touched words.
-fn replaces_message(later: &Message, earlier: &Message) -> bool
-    ensures { result ≡ replaces_message later.now earlier.now }
+fn report_replaces_message(later: &Message, earlier: &Message) -> bool
+    ensures { result ≡ report_replaces_message later.now earlier.now }
 {
-    later.to == earlier.to && replaces_body(&later.body, &earlier.body)
+    later.to == earlier.to && report_replaces_body(&later.body, &earlier.body)
 }
 
 // Whether the later body says what the earlier one does, of the same or a greater version, or of
 // the same or a newer advert, apart from the rows and partitions of tables and from touched words.
-fn replaces_body(later: &Body, earlier: &Body) -> bool
-    ensures { result ≡ replaces_body later.now earlier.now }
+fn report_replaces_body(later: &Body, earlier: &Body) -> bool
+    ensures { result ≡ report_replaces_body later.now earlier.now }
 {
     match (later, earlier) {
         (Body::Advertise { advert }, Body::Advertise { advert: old }) => {
             advert == old || (advert.origin == old.origin && advert.is_newer(old))
         }
         _ => {
-            is_same_kind(later, earlier)
+            is_same_report_kind(later, earlier)
                 && speaks(later) == speaks(earlier)
                 && later.boot() == earlier.boot()
-                && is_version_enough(later, earlier)
+                && is_report_version_enough(later, earlier)
         }
     }
 }
 
 // Whether both are of the same kind, which is neither cache rule nor advert.
-fn is_same_kind(later: &Body, earlier: &Body) -> bool
-    ensures { result ≡ is_same_kind later.now earlier.now }
+fn is_same_report_kind(later: &Body, earlier: &Body) -> bool
+    ensures { result ≡ is_same_report_kind later.now earlier.now }
 {
     match (later, earlier) {
         (Body::Install { .. }, Body::Install { .. })
@@ -149,7 +149,7 @@ fn is_same_kind(later: &Body, earlier: &Body) -> bool
 
 /// The switch that says this to the controller; `None` for other bodies.
 pub fn speaks(body: &Body) -> Option<u32>
-    ensures { result ≡ speaking_switch body.now }
+    ensures { result ≡ report_speaking_switch body.now }
 {
     match body {
         Body::Hello { switch, .. }
@@ -161,19 +161,19 @@ pub fn speaks(body: &Body) -> Option<u32>
 
 // Whether, if both messages name a version, the later one names the same, or a greater one if what
 // it says is true for earlier versions too.
-fn is_version_enough(later: &Body, earlier: &Body) -> bool
-    ensures { result ≡ is_version_enough later.now earlier.now }
+fn is_report_version_enough(later: &Body, earlier: &Body) -> bool
+    ensures { result ≡ is_report_version_enough later.now earlier.now }
 {
     match (later.version(), earlier.version()) {
         (Some(version), Some(old)) => {
-            version == old || (holds_for_earlier_versions(later) && old < version)
+            version == old || (report_holds_for_earlier(later) && old < version)
         }
         _ => true,
     }
 }
 
-fn holds_for_earlier_versions(body: &Body) -> bool
-    ensures { result ≡ holds_for_earlier_versions body.now }
+fn report_holds_for_earlier(body: &Body) -> bool
+    ensures { result ≡ report_holds_for_earlier body.now }
 {
     match body {
         Body::Stamp { .. } | Body::Collect { .. } | Body::Stamped { .. } => true,

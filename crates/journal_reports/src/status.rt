@@ -1,6 +1,6 @@
 //! What a journal says about a switch, at its end.
 ghost use Rattle.std.specs.Prelude.{ℕ, ◌≡◌, ◌++◌, IfOk, OnOk};
-ghost use Rattle.journal_reports.specs.Judging.{is_missed, switch_status_with, switch_status_in, status_item};
+ghost use Rattle.journal_reports.specs.Judging.{is_missed, report_switch_status_with, report_switch_status_in, report_status_item};
 
 use journal::Item;
 use std::alloc::{AllocError, Global};
@@ -19,7 +19,7 @@ pub struct SwitchStatus {
 impl SwitchStatus {
     /// The status of the switch, and the current version, at the end of the journal.
     pub fn of(items: &[Item], switch: u32) -> SwitchStatus
-        ensures { result ≡ switch_status_in items.now switch }
+        ensures { result ≡ report_switch_status_in items.now switch }
     {
         let mut status = SwitchStatus {
             switch,
@@ -43,7 +43,7 @@ impl SwitchStatus {
 
     // Updates the status by one more item.
     fn go_on(&mut self, item: &Item)
-        ensures { self.new ≡ switch_status_with item.now self.old }
+        ensures { self.new ≡ report_switch_status_with item.now self.old }
     {
         match item {
             Item::Down { switch } => {
@@ -75,7 +75,7 @@ impl SwitchStatus {
 /// # Errors
 /// Only out of memory.
 pub fn status_items(alloc: Global, items: &[Item]) -> Result<Vec<Item>, AllocError>
-    ensures { IfOk result (λ told. (s : ℕ) → switch_status_in told.items s ≡ switch_status_in items.now s) }
+    ensures { IfOk result (λ told. (s : ℕ) → report_switch_status_in told.items s ≡ report_switch_status_in items.now s) }
 {
     let mut told = Vec::new(alloc);
     for item in items {
@@ -86,7 +86,7 @@ pub fn status_items(alloc: Global, items: &[Item]) -> Result<Vec<Item>, AllocErr
 
 // Adds the item, if it concerns statuses.
 fn push_status_item(told: &mut Vec<Item>, item: &Item) -> Result<(), AllocError>
-    ensures { OnOk result (told.new.items ≡ told.old.items ++ status_item item.now) }
+    ensures { OnOk result (told.new.items ≡ told.old.items ++ report_status_item item.now) }
 {
     match item {
         Item::Down { switch } => told.push(Item::Down { switch: *switch })?,

@@ -1,5 +1,5 @@
 ghost use Rattle.std.specs.Prelude.{◌≡◌};
-ghost use Rattle.journal_reports.specs.Summary.{CountsHaveRoom, counts_after_item, item_counts, with_travelling, summary_of};
+ghost use Rattle.journal_reports.specs.Summary.{SummaryCountsHaveRoom, counts_after_item, item_counts, with_travelling, summary_of};
 
 use journal::{How, Item, Journal};
 
@@ -60,7 +60,7 @@ fn count(items: &[Item]) -> Summary
 impl Summary {
     // Counts one more item.
     fn note(&mut self, item: &Item)
-        requires { CountsHaveRoom self.old }
+        requires { SummaryCountsHaveRoom self.old }
         ensures { self.new ≡ counts_after_item self.old item.now }
     {
         match item {

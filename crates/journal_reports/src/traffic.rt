@@ -3,9 +3,9 @@ ghost use Rattle.std.specs.Prelude.{ℕ, ◌≡◌, ◌<◌, ◌⊎◌, ◌↔�
 ghost use Rattle.std.specs.List.{list_all};
 ghost use Rattle.ctrl_msg.specs.declared.message.Message.{Message};
 ghost use Rattle.journal_reports.specs.declared.traffic.Traffic.{Traffic};
-ghost use Rattle.journal_reports.specs.Buckets.{IsKeptInBucket};
-ghost use Rattle.journal_reports.specs.Judging.{concerned_switch, is_missed, is_named, matters_in_status, switch_of_message};
-ghost use Rattle.journal_reports.specs.Traffic.{AreTraffic, TrafficConcernsOne, IsAdded, IsTrafficAfter};
+ghost use Rattle.journal_reports.specs.Buckets.{IsKeptInReportBucket};
+ghost use Rattle.journal_reports.specs.Judging.{report_concerned_switch, is_missed, is_named_in_report, matters_in_report_status, report_switch_of_message};
+ghost use Rattle.journal_reports.specs.Traffic.{AreReportTrafficRows, ReportTrafficConcernsOne, IsReportTrafficAdded, IsReportTrafficAfter};
 
 use crate::bucket::{Bucket, empty_buckets, is_kept_in_buckets, keep};
 use crate::deliveries::is_marked;
@@ -28,7 +28,7 @@ impl Traffic {
     // Takes the item before those that were read, which concerns the switch. Returns false if the
     // item sends a message that matters, which wasn't delivered and which none replaces.
     fn take_item(&mut self, item: &Item, delivered: &[bool]) -> Result<bool, AllocError>
-        ensures { IfOk result (λ answer. IsTrafficAfter delivered.now item.now self.old self.new answer) }
+        ensures { IfOk result (λ answer. IsReportTrafficAfter delivered.now item.now self.old self.new answer) }
     {
         match item {
             Item::Booted { switch, .. } => {
@@ -56,12 +56,12 @@ impl Traffic {
         ensures count { OnOk result
             (length self.new.buckets.items ≡ length self.old.buckets.items) }
         ensures kept { OnOk result (length self.old.buckets.items ≡ 64 → (other : Message) →
-            IsKeptInBucket self.new.buckets.items other
-            ↔ (IsKeptInBucket self.old.buckets.items other
-            ⊎ IsAdded self.old is_delivered message.now other)) }
+            IsKeptInReportBucket self.new.buckets.items other
+            ↔ (IsKeptInReportBucket self.old.buckets.items other
+            ⊎ IsReportTrafficAdded self.old is_delivered message.now other)) }
         ensures received { IfOk result (λ answer. IsTrue answer
-            ↔ (IsTrue (matters_in_status self.old.status self.old.is_in_boot message.now)
-            → IsTrue is_delivered ⊎ IsKeptInBucket self.old.buckets.items message.now)) }
+            ↔ (IsTrue (matters_in_report_status self.old.status self.old.is_in_boot message.now)
+            → IsTrue is_delivered ⊎ IsKeptInReportBucket self.old.buckets.items message.now)) }
     {
         if !matters(message.get(), &self.status, self.is_in_boot) {
             return Ok(true);
@@ -89,7 +89,7 @@ pub fn no_switch_missed(rows: &[Traffic]) -> bool
 /// Only out of memory.
 pub fn at_end(alloc: Global, items: &[Item], count: u32) -> Result<Vec<Traffic>, AllocError>
     ensures count { IfOk result (λ rows. length rows.items ≡ count) }
-    ensures each { IfOk result (λ rows. AreTraffic items.now [] rows.items) }
+    ensures each { IfOk result (λ rows. AreReportTrafficRows items.now [] rows.items) }
 {
     let told = status_items(alloc, items)?;
     let mut rows = Vec::new(alloc);
@@ -116,13 +116,13 @@ pub fn take_item(
 ) -> Result<bool, AllocError>
     ensures count { OnOk result (length rows.new.items ≡ length rows.old.items) }
     ensures concerned { IfOk result (λ answer. (s : ℕ) (d : Traffic) → s < length rows.old.items
-        → is_named s (concerned_switch item.now) ≡ true
-        → IsTrafficAfter delivered.now item.now (get_or rows.old.items s d) (get_or rows.new.items s d)
+        → is_named_in_report s (report_concerned_switch item.now) ≡ true
+        → IsReportTrafficAfter delivered.now item.now (get_or rows.old.items s d) (get_or rows.new.items s d)
         answer) }
-    ensures others { OnOk result ((s : ℕ) (d : Traffic) → is_named s (concerned_switch item.now)
+    ensures others { OnOk result ((s : ℕ) (d : Traffic) → is_named_in_report s (report_concerned_switch item.now)
         ≡ false
         → get_or rows.new.items s d ≡ get_or rows.old.items s d) }
-    ensures some { IfOk result (λ answer. IsFalse answer → TrafficConcernsOne rows.old.items item.now) }
+    ensures some { IfOk result (λ answer. IsFalse answer → ReportTrafficConcernsOne rows.old.items item.now) }
 {
     match concerned(item) {
         Some(s) if (s as usize) < rows.len() => rows[s as usize].take_item(item, delivered),
@@ -132,7 +132,7 @@ pub fn take_item(
 
 // The switch that the item concerns, if any: it begins its boot, or sends it or from it a message.
 fn concerned(item: &Item) -> Option<u32>
-    ensures { result ≡ concerned_switch item.now }
+    ensures { result ≡ report_concerned_switch item.now }
 {
     match item {
         Item::Booted { switch, .. } => Some(*switch),
@@ -143,7 +143,7 @@ fn concerned(item: &Item) -> Option<u32>
 
 // The switch that a message is to, or from.
 fn message_party(message: &Message) -> Option<u32>
-    ensures { result ≡ switch_of_message message.now }
+    ensures { result ≡ report_switch_of_message message.now }
 {
     match message.to {
         Place::Switch(to) => Some(to),

@@ -5,7 +5,7 @@ use Rattle.journal.specs.declared.item.Item.{Item}
 use Rattle.journal_text.specs.Lines.{item_line, journal_text}
 use Rattle.lines.specs.Pushes.{line_with}
 use Rattle.net_file.specs.declared.net.Net.{Net}
-use Rattle.shelf.specs.Exports.{SinkGainedPart, IsAfterWrite, IsBlockGathered, FaultsRose, SinkState, sink_with_gained}
+use Rattle.shelf.specs.Exports.{SinkGainedPart, IsAfterWrite, IsSinkBlockGathered, FaultsRose, SinkState, sink_with_gained}
 use Rattle.shelf.proofs.SinkGains.{nothing_gained}
 use Rattle.shelf.specs.declared.output.SinkError.{SinkError}
 use Rattle.shelf.specs.declared.output.SinkError.TheVariants.{Failed, NoMemory}
@@ -42,7 +42,7 @@ part_upto net items i before now part =
 pub record IsHeld (text : List ℕ) (before now : Option (List ℕ)) (waiting line : List ℕ)
     : Type 0 where
   pub front : List ℕ
-  pub gathered : IsBlockGathered front before now waiting
+  pub gathered : IsSinkBlockGathered front before now waiting
   pub whole : text ≡ front ++ line
 
 -- nothing of an empty text is held
@@ -66,7 +66,7 @@ held_more text piece before now waiting line is = record {
 -- what a line held was gathered, so that it holds nothing
 pub held_nothing : (text : List ℕ) (before now later : Option (List ℕ))
     (waiting line all piece : List ℕ) → (is : IsHeld text before now waiting line) → piece ≡ line
-    → IsBlockGathered (is.front ++ piece) before later all
+    → IsSinkBlockGathered (is.front ++ piece) before later all
     → IsHeld text before later all []
 held_nothing text before now later waiting line all piece is same gathered = record {
   front = text;
@@ -82,7 +82,7 @@ pub gathers_no_more : (net : Net) {items journal : List Item} (i : ℕ) (takes_m
     (first old new : SinkState) (error : SinkError) {waiting line piece : List ℕ}
     → items ≡ journal → IsHeld (journal_text net (take i items)) first.bytes old.bytes waiting line
     → old.faults ≡ first.faults → piece ≡ line → ((text : List ℕ) (before : Option (List ℕ))
-    → IsBlockGathered text before old.bytes waiting → SinkGainedPart before (text ++ piece) new.bytes)
+    → IsSinkBlockGathered text before old.bytes waiting → SinkGainedPart before (text ++ piece) new.bytes)
     → old.faults ≤ new.faults → (fails error ≢ Err Failed → new.faults ≡ old.faults)
     → (IsErrOf (fails error) Failed → FaultsRose old.faults new.faults)
     → (IsErrOf (fails error) NoMemory → IsTrue takes_memory)

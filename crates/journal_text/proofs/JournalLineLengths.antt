@@ -16,15 +16,15 @@ use Rattle.policy_rules.specs.declared.packet.How.TheVariants.{Cached, Authority
 use Rattle.policy_rules.specs.declared.policy.Action.{Action}
 use Rattle.journal.specs.declared.item.Item.{Item}
 use Rattle.journal.specs.declared.item.Item.TheVariants as item
-use Rattle.journal_text.specs.Lines.{advert_text, body_text, boot_text, cause_text, how_text, item_line, mask_text, text_with_name, text_with_number, packet_at_text, pair_text, receiver_text, cached_rule_text, state_text, step_text, two_numbers_text, version_text, via_text}
-use Rattle.journal_text.specs.Sizes.{IsBodyOfType, IsHow, IsItemOfType, IsShortRoute, IsStepOfType, LinesFit}
+use Rattle.journal_text.specs.Lines.{advert_text, body_text, boot_text, cause_text, how_text, item_line, journal_mask_text, text_with_name, journal_text_with_number, packet_at_text, journal_pair_text, journal_receiver_text, journal_cached_rule_text, state_text, journal_step_text, journal_two_numbers_text, version_text, via_text}
+use Rattle.journal_text.specs.Sizes.{IsJournalTextBody, IsJournalTextHow, IsJournalTextItem, IsJournalTextRoute, IsJournalTextStep, JournalLinesFit}
 use Rattle.lines.proofs.LinePrintedLengths.{IsWithin, all_of, joined_within, with_text, widened, number, rule_within, action_within, fields_within, word_within, name_within, names_within}
-use Rattle.lines.specs.Sizes.{IsPrintedAction, IsNumber, IsPrintedRule}
+use Rattle.lines.specs.Sizes.{IsPrintedLineAction, IsNumber, IsPrintedLineRule}
 use Rattle.steps.specs.declared.step.Step.{Step}
 use Rattle.steps.specs.declared.step.Step.TheVariants.{Packet, Hop, Lose, Deliver, Forget, Expire, Update, LinkDown, LinkUp, Crash, Restart, Confirm, Resend}
 
 numbered_within : {m : ℕ} {text : List ℕ} → IsWithin m text → (n : ℕ) → IsNumber n
-    → IsWithin (m + 1 + 10) (text_with_number text n)
+    → IsWithin (m + 1 + 10) (journal_text_with_number text n)
 numbered_within w n small =
     joined_within (with_text w (codes " ")) (number n small)
 
@@ -44,10 +44,10 @@ module _ (laws : NameLaws) (net : Net) (sound : IsNet net) where
   named_within w s =
       joined_within (with_text w (codes " ")) (name_within laws net sound s)
 
-  route_within : (route : List ℕ) → IsShortRoute route → IsWithin 1088 (names_text net route)
+  route_within : (route : List ℕ) → IsJournalTextRoute route → IsWithin 1088 (names_text net route)
   route_within route is = widened (names_within laws net sound route) 1088 (omega (arith, is))
 
-  mask_within : (mask : ℕ) → IsWithin 1088 (mask_text net mask)
+  mask_within : (mask : ℕ) → IsWithin 1088 (journal_mask_text net mask)
   mask_within mask = elim (mask == 0) as (λ b. IsWithin 1088
       (if b then codes " -" else names_text net (filter (has mask) switches))) [
         | true ↦ widened (all_of (codes " -")) 1088 (omega arith)
@@ -60,7 +60,7 @@ module _ (laws : NameLaws) (net : Net) (sound : IsNet net) where
       joined_within (with_text (numbered_within w packet is) (codes " ")) (name_within laws net sound s)
 
   pair_within : {m : ℕ} {text : List ℕ} → IsWithin m text → (one two : ℕ)
-      → IsWithin (m + 1 + 16 + 1 + 16) (pair_text net text one two)
+      → IsWithin (m + 1 + 16 + 1 + 16) (journal_pair_text net text one two)
   pair_within w one two =
       joined_within (with_text (named_within w one) (codes " ")) (name_within laws net sound two)
 
@@ -77,7 +77,7 @@ module _ (laws : NameLaws) (net : Net) (sound : IsNet net) where
   version_within w boot version is =
       joined_within (with_text (boot_within w boot is.0) (codes " version ")) (number version is.1)
 
-  step_within : (step : Step) → IsStepOfType step → IsWithin 300 (step_text net step)
+  step_within : (step : Step) → IsJournalTextStep step → IsWithin 300 (journal_step_text net step)
   step_within (Packet switch header) is =
       widened (joined_within (with_text (named_within (all_of (codes "packet")) switch) (codes " "))
       (fields_within header is)) 300 (omega arith)
@@ -109,13 +109,13 @@ module _ (laws : NameLaws) (net : Net) (sound : IsNet net) where
   step_within (Resend switch) is =
       widened (named_within (all_of (codes "resend")) switch) 300 (omega arith)
 
-  receiver_within : (to : Place) → IsWithin 16 (receiver_text net to)
+  receiver_within : (to : Place) → IsWithin 16 (journal_receiver_text net to)
   receiver_within (receiver.Switch s) = name_within laws net sound s
   receiver_within receiver.Controller = widened (all_of (codes "controller")) 16 (omega arith)
 
-  ruled_within : (rule : Option ℕ) (action : Action) → IsPrintedRule rule → IsPrintedAction action
-      → IsWithin 31 (cached_rule_text rule action)
-  unfolding cached_rule_text
+  ruled_within : (rule : Option ℕ) (action : Action) → IsPrintedLineRule rule → IsPrintedLineAction action
+      → IsWithin 31 (journal_cached_rule_text rule action)
+  unfolding journal_cached_rule_text
   ruled_within rule action r a =
       joined_within (with_text (joined_within (all_of (codes " rule ")) (rule_within rule r)) (codes " "))
       (action_within action a)
@@ -127,7 +127,7 @@ module _ (laws : NameLaws) (net : Net) (sound : IsNet net) where
       "advert")) advert.origin) advert.boot is.0) (codes " seq ")) (number advert.seq is.1)) (codes
       " up")) (mask_within advert.up)) 1200 (omega arith)
 
-  body_within : (body : Body) → IsBodyOfType body → IsWithin 1200 (body_text net body)
+  body_within : (body : Body) → IsJournalTextBody body → IsWithin 1200 (body_text net body)
   body_within (Install boot tables) is =
       widened (version_within (all_of (codes "install")) boot tables.version is) 1200 (omega arith)
   body_within (OpenAt boot version) is =
@@ -153,7 +153,7 @@ module _ (laws : NameLaws) (net : Net) (sound : IsNet net) where
 
   -- ---- items
 
-  how_within : (how : How) → IsHow how → IsWithin 50 (how_text net how)
+  how_within : (how : How) → IsJournalTextHow how → IsWithin 50 (how_text net how)
   how_within (Cached message) is =
       widened (numbered_within (all_of (codes "cache")) message is) 50 (omega arith)
   how_within (Authority switch partition) is =
@@ -170,16 +170,16 @@ module _ (laws : NameLaws) (net : Net) (sound : IsNet net) where
 
   two_within : {m k : ℕ} {text : List ℕ} → IsWithin m text → {next : List ℕ} → IsWithin k next
       → (n p : ℕ) → IsNumber n → IsNumber p
-      → IsWithin (m + 1 + 10 + k + 10) (two_numbers_text text n next p)
-  unfolding two_numbers_text
+      → IsWithin (m + 1 + 10 + k + 10) (journal_two_numbers_text text n next p)
+  unfolding journal_two_numbers_text
   two_within w v n p is also =
       joined_within (joined_within (numbered_within w n is) v) (number p also)
 
-  via_within : (route : List ℕ) → IsShortRoute route → IsWithin 1092 (via_text net route)
+  via_within : (route : List ℕ) → IsJournalTextRoute route → IsWithin 1092 (via_text net route)
   unfolding via_text
   via_within route is = joined_within (all_of (codes " via")) (route_within route is)
 
-  item_within : (item : Item) → IsItemOfType item → IsWithin 1240 (item_line net item)
+  item_within : (item : Item) → IsJournalTextItem item → IsWithin 1240 (item_line net item)
   item_within (item.Row row step) is =
       widened (joined_within (with_text (numbered_within (all_of (codes "row")) row is.0) (codes ": "))
       (step_within step is.1)) 1240 (omega arith)
@@ -253,11 +253,11 @@ module _ (laws : NameLaws) (net : Net) (sound : IsNet net) where
       (state_within up)) 1240 (omega arith)
   item_within item.Nothing is = widened (all_of (codes "  nothing")) 1240 (omega arith)
 
-pub line_within : NameLaws → (net : Net) → IsNet net → (item : Item) → IsItemOfType item
+pub line_within : NameLaws → (net : Net) → IsNet net → (item : Item) → IsJournalTextItem item
     → IsWithin 1241 (item_line net item ++ 10 ∷ [])
 line_within laws net sound item is =
     joined_within (item_within laws net sound item is) (all_of (10 ∷ []))
 
-pub lines_within : NameLaws → LinesFit
+pub lines_within : NameLaws → JournalLinesFit
 lines_within laws net item sound is =
     let line = widened (line_within laws net sound item is) 2048 (omega arith) in line.size

@@ -13,9 +13,9 @@ pub record IsKeptText (net : Net) (kept : AdvertText) : Type 0 where
   pub seq : IsNumber kept.advert.seq
   pub text : take kept.len kept.bytes ≡ line_with [] (advert_text net kept.advert)
 
-abbrev pub IsKept : Net → Option AdvertText → Type 0
-IsKept net None = ⊤
-IsKept net (Some kept) = IsKeptText net kept
+abbrev pub IsAdvertTextIfKept : Net → Option AdvertText → Type 0
+IsAdvertTextIfKept net None = ⊤
+IsAdvertTextIfKept net (Some kept) = IsKeptText net kept
 
 abbrev pub AreAdvertTexts : Net → AdvertTexts → Type 0
-AreAdvertTexts net texts = All (IsKept net) texts.kept
+AreAdvertTexts net texts = All (IsAdvertTextIfKept net) texts.kept

@@ -24,54 +24,54 @@ use Rattle.steps.specs.declared.step.Step.TheVariants.{Packet, Hop, Lose, Delive
 -- ---- what lines are made of
 
 -- a number after a text, and a name after one
-abbrev pub text_with_number : List ℕ → ℕ → List ℕ
-text_with_number text n = text ++ codes " " ++ decimal n
+abbrev pub journal_text_with_number : List ℕ → ℕ → List ℕ
+journal_text_with_number text n = text ++ codes " " ++ decimal n
 
 abbrev pub text_with_name : Net → List ℕ → ℕ → List ℕ
 text_with_name net text s = text ++ codes " " ++ switch_name_of net s
 
 -- two numbers, each after a text
-unfoldable pub two_numbers_text : List ℕ → ℕ → List ℕ → ℕ → List ℕ
-two_numbers_text text n next m = text_with_number text n ++ next ++ decimal m
+unfoldable pub journal_two_numbers_text : List ℕ → ℕ → List ℕ → ℕ → List ℕ
+journal_two_numbers_text text n next m = journal_text_with_number text n ++ next ++ decimal m
 
 -- the names of a mask's switches, ascending, or a dash for none
-abbrev pub mask_text : Net → ℕ → List ℕ
-mask_text net mask =
+abbrev pub journal_mask_text : Net → ℕ → List ℕ
+journal_mask_text net mask =
     if mask == 0 then codes " -" else names_text net (filter (has mask) switches)
 
 -- a packet and a switch, as in an entry
 abbrev pub packet_at_text : Net → List ℕ → ℕ → ℕ → List ℕ
-packet_at_text net text packet s = text_with_number text packet ++ codes " " ++ switch_name_of net s
+packet_at_text net text packet s = journal_text_with_number text packet ++ codes " " ++ switch_name_of net s
 
 -- two switches, as the ends of a link
-abbrev pub pair_text : Net → List ℕ → ℕ → ℕ → List ℕ
-pair_text net text one two = text_with_name net text one ++ codes " " ++ switch_name_of net two
+abbrev pub journal_pair_text : Net → List ℕ → ℕ → ℕ → List ℕ
+journal_pair_text net text one two = text_with_name net text one ++ codes " " ++ switch_name_of net two
 
 -- ---- steps
 
 -- the fields of the step's row; a link's lower switch first
-abbrev pub step_text : Net → Step → List ℕ
-step_text net (Packet switch header) =
+abbrev pub journal_step_text : Net → Step → List ℕ
+journal_step_text net (Packet switch header) =
     text_with_name net (codes "packet") switch ++ codes " " ++ fields_text header.fields
-step_text net (Hop packet) = text_with_number (codes "hop") packet
-step_text net (Lose packet) = text_with_number (codes "lose") packet
-step_text net (Deliver message) = text_with_number (codes "deliver") message
-step_text net (Forget message) = text_with_number (codes "forget") message
-step_text net (Expire switch place) =
+journal_step_text net (Hop packet) = journal_text_with_number (codes "hop") packet
+journal_step_text net (Lose packet) = journal_text_with_number (codes "lose") packet
+journal_step_text net (Deliver message) = journal_text_with_number (codes "deliver") message
+journal_step_text net (Forget message) = journal_text_with_number (codes "forget") message
+journal_step_text net (Expire switch place) =
     text_with_name net (codes "expire") switch ++ codes " " ++ decimal place
-step_text net (Update file) = text_with_number (codes "update") file
-step_text net (LinkDown one two) = pair_text net (codes "linkdown") (min one two) (max one two)
-step_text net (LinkUp one two) = pair_text net (codes "linkup") (min one two) (max one two)
-step_text net (Crash switch) = text_with_name net (codes "crash") switch
-step_text net (Restart switch) = text_with_name net (codes "restart") switch
-step_text net (Confirm switch) = text_with_name net (codes "confirm") switch
-step_text net (Resend switch) = text_with_name net (codes "resend") switch
+journal_step_text net (Update file) = journal_text_with_number (codes "update") file
+journal_step_text net (LinkDown one two) = journal_pair_text net (codes "linkdown") (min one two) (max one two)
+journal_step_text net (LinkUp one two) = journal_pair_text net (codes "linkup") (min one two) (max one two)
+journal_step_text net (Crash switch) = text_with_name net (codes "crash") switch
+journal_step_text net (Restart switch) = text_with_name net (codes "restart") switch
+journal_step_text net (Confirm switch) = text_with_name net (codes "confirm") switch
+journal_step_text net (Resend switch) = text_with_name net (codes "resend") switch
 
 -- ---- messages
 
-abbrev pub receiver_text : Net → Place → List ℕ
-receiver_text net (receiver.Switch s) = switch_name_of net s
-receiver_text net receiver.Controller = codes "controller"
+abbrev pub journal_receiver_text : Net → Place → List ℕ
+journal_receiver_text net (receiver.Switch s) = switch_name_of net s
+journal_receiver_text net receiver.Controller = codes "controller"
 
 abbrev pub boot_text : List ℕ → ℕ → List ℕ
 boot_text text boot = text ++ codes " boot " ++ decimal boot
@@ -82,23 +82,23 @@ version_text text boot version = boot_text text boot ++ codes " version " ++ dec
 abbrev pub advert_text : Net → Advert → List ℕ
 advert_text net advert =
     boot_text (text_with_name net (codes "advert") advert.origin) advert.boot
-    ++ codes " seq " ++ decimal advert.seq ++ codes " up" ++ mask_text net advert.up
+    ++ codes " seq " ++ decimal advert.seq ++ codes " up" ++ journal_mask_text net advert.up
 
 -- a rule and its action
-unfoldable pub cached_rule_text : Option ℕ → Action → List ℕ
-cached_rule_text rule action = codes " rule " ++ rule_text rule ++ codes " " ++ action_text action
+unfoldable pub journal_cached_rule_text : Option ℕ → Action → List ℕ
+journal_cached_rule_text rule action = codes " rule " ++ rule_text rule ++ codes " " ++ action_text action
 
-abbrev pub cache_text : ℕ → WordValue → Option ℕ → Action → List ℕ
-cache_text version word rule action =
-    text_with_number (codes "cache version") version ++ codes " word " ++ word_text word
-    ++ cached_rule_text rule action
+abbrev pub journal_cache_text : ℕ → WordValue → Option ℕ → Action → List ℕ
+journal_cache_text version word rule action =
+    journal_text_with_number (codes "cache version") version ++ codes " word " ++ word_text word
+    ++ journal_cached_rule_text rule action
 
 abbrev pub body_text : Net → Body → List ℕ
 body_text net (Install boot tables) = version_text (codes "install") boot tables.version
 body_text net (OpenAt boot version) = version_text (codes "open") boot version
 body_text net (Stamp boot version touched) = version_text (codes "stamp") boot version
 body_text net (Collect boot version) = version_text (codes "collect") boot version
-body_text net (CacheRule version word rule action) = cache_text version word rule action
+body_text net (CacheRule version word rule action) = journal_cache_text version word rule action
 body_text net (Advertise advert) = advert_text net advert
 body_text net (Hello switch boot) = boot_text (text_with_name net (codes "hello") switch) boot
 body_text net (Installed switch boot version) =
@@ -109,7 +109,7 @@ body_text net (Stamped switch boot version) =
 -- ---- items
 
 abbrev pub how_text : Net → How → List ℕ
-how_text net (Cached message) = text_with_number (codes "cache") message
+how_text net (Cached message) = journal_text_with_number (codes "cache") message
 how_text net (Authority switch partition) =
     text_with_name net (codes "authority") switch ++ codes " part " ++ decimal partition
 
@@ -128,42 +128,42 @@ via_text net route = codes " via" ++ names_text net route
 -- the item's line without its line feed: a row at the left edge, each other item after two blanks
 abbrev pub item_line : Net → Item → List ℕ
 item_line net (item.Row row step) =
-    text_with_number (codes "row") row ++ codes ": " ++ step_text net step
+    journal_text_with_number (codes "row") row ++ codes ": " ++ journal_step_text net step
 item_line net (item.Entered packet switch header) = packet_at_text net (codes "  entered") packet switch
 item_line net (item.Closed packet switch) = packet_at_text net (codes "  closed") packet switch
 item_line net (item.Seeking packet version partition route) =
-    two_numbers_text (codes "  tunnelled") packet (codes " v") version
-    ++ text_with_number (codes " part") partition ++ via_text net route
+    journal_two_numbers_text (codes "  tunnelled") packet (codes " v") version
+    ++ journal_text_with_number (codes " part") partition ++ via_text net route
 item_line net (item.Exiting packet route) =
-    text_with_number (codes "  exit") packet ++ via_text net route
+    journal_text_with_number (codes "  exit") packet ++ via_text net route
 item_line net (item.Hopped packet switch) = packet_at_text net (codes "  hopped") packet switch
 item_line net (item.FoundDown packet one two) =
-    pair_text net (text_with_number (codes "  found") packet) one two
+    journal_pair_text net (journal_text_with_number (codes "  found") packet) one two
 item_line net (item.Rerouted packet route) =
-    text_with_number (codes "  rerouted") packet ++ via_text net route
+    journal_text_with_number (codes "  rerouted") packet ++ via_text net route
 item_line net (item.Decided packet version rule action how) =
-    two_numbers_text (codes "  decided") packet (codes " v") version ++ cached_rule_text rule action
+    journal_two_numbers_text (codes "  decided") packet (codes " v") version ++ journal_cached_rule_text rule action
     ++ codes " " ++ how_text net how
 item_line net (item.Left packet port leaving) =
-    two_numbers_text (codes "  out") packet (codes " port ") port
-item_line net (item.Dropped packet) = text_with_number (codes "  dropped") packet
-item_line net (item.Lost packet) = text_with_number (codes "  lost") packet
+    journal_two_numbers_text (codes "  out") packet (codes " port ") port
+item_line net (item.Dropped packet) = journal_text_with_number (codes "  dropped") packet
+item_line net (item.Lost packet) = journal_text_with_number (codes "  lost") packet
 item_line net (item.Stuck packet switch cause leg down) =
     packet_at_text net (codes "  stuck") packet switch ++ codes " " ++ cause_text cause
 item_line net (item.Sent number message) =
-    text_with_number (codes "  sent") number ++ codes " " ++ receiver_text net message.to ++ codes " "
+    journal_text_with_number (codes "  sent") number ++ codes " " ++ journal_receiver_text net message.to ++ codes " "
     ++ body_text net message.body
-item_line net (item.Delivered number) = text_with_number (codes "  delivered") number
-item_line net (item.Forgotten number) = text_with_number (codes "  forgotten") number
+item_line net (item.Delivered number) = journal_text_with_number (codes "  delivered") number
+item_line net (item.Forgotten number) = journal_text_with_number (codes "  forgotten") number
 item_line net (item.Expired switch place message) =
     text_with_name net (codes "  expired") switch ++ codes " " ++ decimal place ++ codes " message "
     ++ decimal message
 item_line net (item.Submitted file version) =
-    two_numbers_text (codes "  submitted file") file (codes " version ") version
+    journal_two_numbers_text (codes "  submitted file") file (codes " version ") version
 item_line net (item.Refused file code) =
-    two_numbers_text (codes "  refused file") file (codes " code ") code
-item_line net (item.Current version) = text_with_number (codes "  current") version
-item_line net (item.Retired version) = text_with_number (codes "  retired") version
+    journal_two_numbers_text (codes "  refused file") file (codes " code ") code
+item_line net (item.Current version) = journal_text_with_number (codes "  current") version
+item_line net (item.Retired version) = journal_text_with_number (codes "  retired") version
 item_line net (item.Booted switch boot) =
     text_with_name net (codes "  booted") switch ++ codes " " ++ decimal boot
 item_line net (item.Opened switch version) =
@@ -171,7 +171,7 @@ item_line net (item.Opened switch version) =
 item_line net (item.Down switch) = text_with_name net (codes "  down") switch
 item_line net (item.OverNow switch) = text_with_name net (codes "  over") switch
 item_line net (item.LinkIs one two up) =
-    pair_text net (codes "  link") one two ++ codes " " ++ state_text up
+    journal_pair_text net (codes "  link") one two ++ codes " " ++ state_text up
 item_line net item.Nothing = codes "  nothing"
 
 -- one line for each item, with its line feed

@@ -6,7 +6,7 @@ ghost use Rattle.journal_text.specs.AdvertTexts.{AreAdvertTexts, IsKeptText};
 ghost use Rattle.lines.specs.Sizes.{IsNumber};
 ghost use Rattle.lines.specs.Pushes.{line_with};
 
-use crate::messages::push_advert_body;
+use crate::messages::push_journal_advert_text;
 use failover::Advert;
 use lines::Line;
 use net_file::Net;
@@ -97,7 +97,7 @@ impl AdvertTexts {
         ensures texts { AreAdvertTexts net.now self.new }
     {
         self.own.clear();
-        push_advert_body(&mut self.own, net, advert);
+        push_journal_advert_text(&mut self.own, net, advert);
         let text = self.own.bytes();
         if text.len() <= KEPT_BYTES {
             let place = (advert.origin % 64) as usize;

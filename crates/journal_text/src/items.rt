@@ -1,15 +1,16 @@
 ghost use Rattle.std.specs.Prelude.{◌≡◌, ◌≤◌, ◌++◌, ◌∷◌, [], IfOk, codes, length};
 ghost use Rattle.net_file.specs.Net.{IsNet};
 ghost use Rattle.journal.specs.declared.item.Item.TheVariants as item;
-ghost use Rattle.journal_text.specs.Lines.{cause_text, how_text, item_line, journal_text, text_with_number, packet_at_text, two_numbers_text, via_text};
-ghost use Rattle.journal_text.specs.Sizes.{IsBodyOfType, IsItemOfType, IsShortRoute};
+ghost use Rattle.journal_text.specs.Lines.{cause_text, how_text, item_line, journal_text, journal_text_with_number, packet_at_text, journal_two_numbers_text, via_text};
+ghost use Rattle.journal_text.specs.Sizes.{IsJournalTextBody, IsJournalTextItem, IsJournalTextRoute};
 ghost use Rattle.journal_text.specs.AdvertTexts.{AreAdvertTexts};
 ghost use Rattle.lines.specs.Pushes.{line_with};
 
 use crate::advert_texts::AdvertTexts;
-use crate::messages::{push_cached_rule, push_message_body, push_message_receiver};
+use crate::messages::{push_journal_body_text, push_journal_cached_rule, push_message_receiver};
 use crate::rows::{
-    push_item_named_number, push_named_switch, push_numbered_text, push_step_row, push_switch_pair,
+    push_item_named_number, push_journal_numbered_text, push_journal_step_row,
+    push_journal_switch_pair, push_named_switch,
 };
 use journal::{Action, Cause, How, Item, Journal, SharedMessage, SharedRoute};
 use lines::{Line, push_name, push_names};
@@ -31,7 +32,7 @@ pub fn text(alloc: Global, journal: &Journal, net: &Net) -> Result<Vec<u8>, Allo
     let mut texts = AdvertTexts::new();
     for item in items {
         line.clear();
-        push_line(&mut line, net, &mut texts, item);
+        push_journal_line(&mut line, net, &mut texts, item);
         text.extend_from_slice(line.bytes())?;
     }
     Ok(text)
@@ -39,7 +40,7 @@ pub fn text(alloc: Global, journal: &Journal, net: &Net) -> Result<Vec<u8>, Allo
 
 /// Adds the line of the item, with its line feed. After 800 bytes there is room for any line.
 #[inline(always)]
-pub(crate) fn push_line(line: &mut Line, net: &Net, texts: &mut AdvertTexts, item: &Item)
+pub(crate) fn push_journal_line(line: &mut Line, net: &Net, texts: &mut AdvertTexts, item: &Item)
     requires net { IsNet net.now }
     requires room { length line.old ≤ 800 }
     requires texts { AreAdvertTexts net.now texts.old }
@@ -51,31 +52,31 @@ pub(crate) fn push_line(line: &mut Line, net: &Net, texts: &mut AdvertTexts, ite
     line.push("\n");
 }
 
-#[tactic(auto, using(lines::proofs::CallerLemmas::pushed_append))]
+#[tactic(auto, using(lines::proofs::LinesCallerLemmas::pushed_append))]
 fn push_row(line: &mut Line, net: &Net, row: u32, step: &Step)
     ensures text { line.new ≡ line_with line.old (item_line net.now (item.Row row step.now)) }
-    ensures of_type { IsItemOfType (item.Row row step.now) }
+    ensures of_type { IsJournalTextItem (item.Row row step.now) }
 {
-    push_numbered_text(line, "row", row);
+    push_journal_numbered_text(line, "row", row);
     line.push(": ");
-    push_step_row(line, net, step);
+    push_journal_step_row(line, net, step);
 }
 
 // Adds a packet and a switch after a text.
-#[tactic(auto, using(lines::proofs::CallerLemmas::pushed_append))]
+#[tactic(auto, using(lines::proofs::LinesCallerLemmas::pushed_append))]
 fn push_packet_at(line: &mut Line, net: &Net, text: &str, packet: u32, s: u32)
     ensures { line.new ≡ line_with line.old (packet_at_text net.now text.now packet s) }
 {
-    push_numbered_text(line, text, packet);
+    push_journal_numbered_text(line, text, packet);
     line.push(" ");
     push_name(line, net, s);
 }
 
 // Adds the switches of a route.
-#[tactic(auto, using(lines::proofs::CallerLemmas::pushed_append), unfolding(crate::specs::Lines::via_text))]
+#[tactic(auto, using(lines::proofs::LinesCallerLemmas::pushed_append), unfolding(crate::specs::Lines::via_text))]
 fn push_via_route(line: &mut Line, net: &Net, route: &SharedRoute)
     ensures text { line.new ≡ line_with line.old (via_text net.now route.now) }
-    ensures of_type { IsShortRoute route.now }
+    ensures of_type { IsJournalTextRoute route.now }
 {
     line.push(" via");
     push_names(line, net, route.get().items());
@@ -91,25 +92,25 @@ fn push_seeking_item(
 )
     ensures text { line.new ≡ line_with line.old
         (item_line net.now (item.Seeking packet version partition route.now)) }
-    ensures of_type { IsItemOfType (item.Seeking packet version partition route.now) }
+    ensures of_type { IsJournalTextItem (item.Seeking packet version partition route.now) }
 {
     push_two_numbers(line, "  tunnelled", packet, " v", version);
-    push_numbered_text(line, " part", partition);
+    push_journal_numbered_text(line, " part", partition);
     push_via_route(line, net, route);
 }
 
 // Adds a packet and its route after a text.
-#[tactic(auto, using(lines::proofs::CallerLemmas::pushed_append))]
+#[tactic(auto, using(lines::proofs::LinesCallerLemmas::pushed_append))]
 fn push_route_item(line: &mut Line, net: &Net, text: &str, packet: u32, route: &SharedRoute)
     ensures text { line.new ≡ line_with line.old
-        (text_with_number text.now packet ++ via_text net.now route.now) }
-    ensures of_type { IsShortRoute route.now }
+        (journal_text_with_number text.now packet ++ via_text net.now route.now) }
+    ensures of_type { IsJournalTextRoute route.now }
 {
-    push_numbered_text(line, text, packet);
+    push_journal_numbered_text(line, text, packet);
     push_via_route(line, net, route);
 }
 
-#[tactic(auto, using(lines::proofs::CallerLemmas::pushed_append))]
+#[tactic(auto, using(lines::proofs::LinesCallerLemmas::pushed_append))]
 fn push_found_item(line: &mut Line, net: &Net, packet: u32, one: u32, two: u32)
     ensures { line.new ≡ line_with line.old (item_line net.now (item.FoundDown packet one two)) }
 {
@@ -118,19 +119,19 @@ fn push_found_item(line: &mut Line, net: &Net, packet: u32, one: u32, two: u32)
     push_name(line, net, two);
 }
 
-#[tactic(auto, using(lines::proofs::CallerLemmas::pushed_append))]
+#[tactic(auto, using(lines::proofs::LinesCallerLemmas::pushed_append))]
 fn push_decided_how(line: &mut Line, net: &Net, how: How)
     ensures { line.new ≡ line_with line.old (how_text net.now how) }
 {
     match how {
-        How::Cached { message } => push_numbered_text(line, "cache", message),
+        How::Cached { message } => push_journal_numbered_text(line, "cache", message),
         How::Authority { switch, partition } => {
             push_item_named_number(line, net, "authority", switch, " part ", partition)
         }
     }
 }
 
-#[tactic(auto, using(lines::proofs::CallerLemmas::pushed_append))]
+#[tactic(auto, using(lines::proofs::LinesCallerLemmas::pushed_append))]
 fn push_decided_item(
     line: &mut Line,
     net: &Net,
@@ -142,20 +143,20 @@ fn push_decided_item(
 )
     ensures text { line.new ≡ line_with line.old
         (item_line net.now (item.Decided packet version rule action how)) }
-    ensures of_type { IsItemOfType (item.Decided packet version rule action how) }
+    ensures of_type { IsJournalTextItem (item.Decided packet version rule action how) }
 {
     push_two_numbers(line, "  decided", packet, " v", version);
-    push_cached_rule(line, rule, action);
+    push_journal_cached_rule(line, rule, action);
     line.push(" ");
     push_decided_how(line, net, how);
 }
 
 // Adds two numbers, each after a text.
-#[tactic(auto, using(lines::proofs::CallerLemmas::pushed_append), unfolding(crate::specs::Lines::two_numbers_text))]
+#[tactic(auto, using(lines::proofs::LinesCallerLemmas::pushed_append), unfolding(crate::specs::Lines::journal_two_numbers_text))]
 fn push_two_numbers(line: &mut Line, text: &str, n: u32, next: &str, m: u32)
-    ensures { line.new ≡ line_with line.old (two_numbers_text text.now n next.now m) }
+    ensures { line.new ≡ line_with line.old (journal_two_numbers_text text.now n next.now m) }
 {
-    push_numbered_text(line, text, n);
+    push_journal_numbered_text(line, text, n);
     line.push(next);
     line.push_number(u64::from(m));
 }
@@ -169,7 +170,7 @@ fn cause_text(cause: Cause) -> &'static str
     }
 }
 
-#[tactic(auto, using(lines::proofs::CallerLemmas::pushed_append))]
+#[tactic(auto, using(lines::proofs::LinesCallerLemmas::pushed_append))]
 fn push_stuck_item(line: &mut Line, net: &Net, packet: u32, switch: u32, cause: Cause)
     ensures { line.new ≡ line_with line.old
         (packet_at_text net.now (codes "  stuck") packet switch ++ codes " " ++ cause_text cause) }
@@ -179,7 +180,7 @@ fn push_stuck_item(line: &mut Line, net: &Net, packet: u32, switch: u32, cause: 
     line.push(cause_text(cause));
 }
 
-#[tactic(auto, using(lines::proofs::CallerLemmas::pushed_append))]
+#[tactic(auto, using(lines::proofs::LinesCallerLemmas::pushed_append))]
 fn push_sent_item(
     line: &mut Line,
     net: &Net,
@@ -190,7 +191,7 @@ fn push_sent_item(
     requires { AreAdvertTexts net.now texts.old }
     ensures text { line.new ≡ line_with line.old
         (item_line net.now (item.Sent number message.now)) }
-    ensures of_type { IsBodyOfType message.now.body }
+    ensures of_type { IsJournalTextBody message.now.body }
     ensures texts { AreAdvertTexts net.now texts.new }
 {
     let message = message.get();
@@ -199,10 +200,10 @@ fn push_sent_item(
     line.push(" ");
     push_message_receiver(line, net, message.to);
     line.push(" ");
-    push_message_body(line, net, texts, &message.body);
+    push_journal_body_text(line, net, texts, &message.body);
 }
 
-#[tactic(auto, using(lines::proofs::CallerLemmas::pushed_append))]
+#[tactic(auto, using(lines::proofs::LinesCallerLemmas::pushed_append))]
 fn push_expired_item(line: &mut Line, net: &Net, switch: u32, place: u32, message: u32)
     ensures { line.new
         ≡ line_with line.old (item_line net.now (item.Expired switch place message)) }
@@ -212,11 +213,11 @@ fn push_expired_item(line: &mut Line, net: &Net, switch: u32, place: u32, messag
     line.push_number(u64::from(message));
 }
 
-#[tactic(auto, using(lines::proofs::CallerLemmas::pushed_append))]
+#[tactic(auto, using(lines::proofs::LinesCallerLemmas::pushed_append))]
 fn push_link_item(line: &mut Line, net: &Net, one: u32, two: u32, up: bool)
     ensures { line.new ≡ line_with line.old (item_line net.now (item.LinkIs one two up)) }
 {
-    push_switch_pair(line, net, "  link", one, two);
+    push_journal_switch_pair(line, net, "  link", one, two);
     line.push(" ");
     if up {
         line.push("up");
@@ -229,7 +230,7 @@ fn push_link_item(line: &mut Line, net: &Net, one: u32, two: u32, up: bool)
 fn push_item(line: &mut Line, net: &Net, texts: &mut AdvertTexts, item: &Item)
     requires { AreAdvertTexts net.now texts.old }
     ensures text { line.new ≡ line_with line.old (item_line net.now item.now) }
-    ensures of_type { IsItemOfType item.now }
+    ensures of_type { IsJournalTextItem item.now }
     ensures texts { AreAdvertTexts net.now texts.new }
 {
     match item {
@@ -264,8 +265,8 @@ fn push_item(line: &mut Line, net: &Net, texts: &mut AdvertTexts, item: &Item)
         Item::Left { packet, port, .. } => push_two_numbers(
             line, "  out", *packet, " port ", *port,
         ),
-        Item::Dropped { packet } => push_numbered_text(line, "  dropped", *packet),
-        Item::Lost { packet } => push_numbered_text(line, "  lost", *packet),
+        Item::Dropped { packet } => push_journal_numbered_text(line, "  dropped", *packet),
+        Item::Lost { packet } => push_journal_numbered_text(line, "  lost", *packet),
         Item::Stuck {
             packet,
             switch,
@@ -273,8 +274,8 @@ fn push_item(line: &mut Line, net: &Net, texts: &mut AdvertTexts, item: &Item)
             ..
         } => push_stuck_item(line, net, *packet, *switch, *cause),
         Item::Sent { number, message } => push_sent_item(line, net, texts, *number, message),
-        Item::Delivered { number } => push_numbered_text(line, "  delivered", *number),
-        Item::Forgotten { number } => push_numbered_text(line, "  forgotten", *number),
+        Item::Delivered { number } => push_journal_numbered_text(line, "  delivered", *number),
+        Item::Forgotten { number } => push_journal_numbered_text(line, "  forgotten", *number),
         Item::Expired {
             switch,
             place,
@@ -290,8 +291,8 @@ fn push_item(line: &mut Line, net: &Net, texts: &mut AdvertTexts, item: &Item)
             " code ",
             *code,
         ),
-        Item::Current { version } => push_numbered_text(line, "  current", *version),
-        Item::Retired { version } => push_numbered_text(line, "  retired", *version),
+        Item::Current { version } => push_journal_numbered_text(line, "  current", *version),
+        Item::Retired { version } => push_journal_numbered_text(line, "  retired", *version),
         Item::Booted { switch, boot } => {
             push_item_named_number(line, net, "  booted", *switch, " ", *boot)
         }

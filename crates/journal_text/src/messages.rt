@@ -1,14 +1,14 @@
 ghost use Rattle.std.specs.Prelude.{◌≡◌};
 ghost use Rattle.ctrl_msg.specs.declared.message.Body.TheVariants.{CacheRule};
-ghost use Rattle.journal_text.specs.Lines.{advert_text, body_text, boot_text, cache_text, text_with_name, receiver_text, cached_rule_text, version_text};
-ghost use Rattle.journal_text.specs.Sizes.{IsBodyOfType};
+ghost use Rattle.journal_text.specs.Lines.{advert_text, body_text, boot_text, journal_cache_text, text_with_name, journal_receiver_text, journal_cached_rule_text, version_text};
+ghost use Rattle.journal_text.specs.Sizes.{IsJournalTextBody};
 ghost use Rattle.journal_text.specs.AdvertTexts.{AreAdvertTexts};
-ghost use Rattle.lines.specs.Sizes.{IsPrintedAction, IsNumber, IsPrintedRule};
+ghost use Rattle.lines.specs.Sizes.{IsPrintedLineAction, IsNumber, IsPrintedLineRule};
 ghost use Rattle.lines.specs.Pushes.{line_with};
 
 use crate::advert_texts::AdvertTexts;
-use crate::names::push_mask_names;
-use crate::rows::{push_item_named_number, push_numbered_text};
+use crate::names::push_journal_mask_text;
+use crate::rows::{push_item_named_number, push_journal_numbered_text};
 use ctrl_msg::{Body, Place};
 use failover::Advert;
 use lines::{Line, push_action, push_name, push_rule, push_word};
@@ -18,7 +18,7 @@ use ternary::Word;
 
 /// Adds the receiver of a message.
 pub(crate) fn push_message_receiver(line: &mut Line, net: &Net, to: Place)
-    ensures { line.new ≡ line_with line.old (receiver_text net.now to) }
+    ensures { line.new ≡ line_with line.old (journal_receiver_text net.now to) }
 {
     match to {
         Place::Switch(s) => push_name(line, net, s),
@@ -27,7 +27,7 @@ pub(crate) fn push_message_receiver(line: &mut Line, net: &Net, to: Place)
 }
 
 // Adds a boot after a text.
-#[tactic(auto, using(lines::proofs::CallerLemmas::pushed_append))]
+#[tactic(auto, using(lines::proofs::LinesCallerLemmas::pushed_append))]
 fn push_boot_number(line: &mut Line, text: &str, boot: u32)
     ensures { line.new ≡ line_with line.old (boot_text text.now boot) }
 {
@@ -36,7 +36,7 @@ fn push_boot_number(line: &mut Line, text: &str, boot: u32)
     line.push_number(u64::from(boot));
 }
 
-#[tactic(auto, using(lines::proofs::CallerLemmas::pushed_append))]
+#[tactic(auto, using(lines::proofs::LinesCallerLemmas::pushed_append))]
 fn push_version_number(line: &mut Line, text: &str, boot: u32, version: u32)
     ensures { line.new ≡ line_with line.old (version_text text.now boot version) }
 {
@@ -45,14 +45,14 @@ fn push_version_number(line: &mut Line, text: &str, boot: u32, version: u32)
     line.push_number(u64::from(version));
 }
 
-#[tactic(auto, using(lines::proofs::CallerLemmas::pushed_append))]
+#[tactic(auto, using(lines::proofs::LinesCallerLemmas::pushed_append))]
 fn push_booted_body(line: &mut Line, net: &Net, text: &str, switch: u32, boot: u32)
     ensures { line.new ≡ line_with line.old (boot_text (text_with_name net.now text.now switch) boot) }
 {
     push_item_named_number(line, net, text, switch, " boot ", boot);
 }
 
-#[tactic(auto, using(lines::proofs::CallerLemmas::pushed_append))]
+#[tactic(auto, using(lines::proofs::LinesCallerLemmas::pushed_append))]
 fn push_answer_body(line: &mut Line, net: &Net, text: &str, switch: u32, boot: u32, version: u32)
     ensures { line.new
         ≡ line_with line.old (version_text (text_with_name net.now text.now switch) boot version) }
@@ -63,10 +63,10 @@ fn push_answer_body(line: &mut Line, net: &Net, text: &str, switch: u32, boot: u
 }
 
 /// Adds a rule and its action.
-#[tactic(auto, using(lines::proofs::CallerLemmas::pushed_append), unfolding(crate::specs::Lines::cached_rule_text))]
-pub(crate) fn push_cached_rule(line: &mut Line, rule: Option<u32>, action: Action)
-    ensures text { line.new ≡ line_with line.old (cached_rule_text rule action) }
-    ensures of_type { IsPrintedRule rule × IsPrintedAction action }
+#[tactic(auto, using(lines::proofs::LinesCallerLemmas::pushed_append), unfolding(crate::specs::Lines::journal_cached_rule_text))]
+pub(crate) fn push_journal_cached_rule(line: &mut Line, rule: Option<u32>, action: Action)
+    ensures text { line.new ≡ line_with line.old (journal_cached_rule_text rule action) }
+    ensures of_type { IsPrintedLineRule rule × IsPrintedLineAction action }
 {
     line.push(" rule ");
     push_rule(line, rule);
@@ -81,18 +81,18 @@ fn push_cache_rule_body(
     rule: Option<u32>,
     action: Action,
 )
-    ensures text { line.new ≡ line_with line.old (cache_text version word.now rule action) }
-    ensures of_type { IsBodyOfType (CacheRule version word.now rule action) }
+    ensures text { line.new ≡ line_with line.old (journal_cache_text version word.now rule action) }
+    ensures of_type { IsJournalTextBody (CacheRule version word.now rule action) }
 {
-    push_numbered_text(line, "cache version", version);
+    push_journal_numbered_text(line, "cache version", version);
     line.push(" word ");
     push_word(line, word);
-    push_cached_rule(line, rule, action);
+    push_journal_cached_rule(line, rule, action);
 }
 
 /// Adds an advert: its origin, boot and number, and the neighbours that it names.
-#[tactic(auto, using(lines::proofs::CallerLemmas::pushed_append))]
-pub(crate) fn push_advert_body(line: &mut Line, net: &Net, advert: &Advert)
+#[tactic(auto, using(lines::proofs::LinesCallerLemmas::pushed_append))]
+pub(crate) fn push_journal_advert_text(line: &mut Line, net: &Net, advert: &Advert)
     ensures text { line.new ≡ line_with line.old (advert_text net.now advert.now) }
     ensures of_type { IsNumber advert.now.boot × IsNumber advert.now.seq }
 {
@@ -106,14 +106,19 @@ pub(crate) fn push_advert_body(line: &mut Line, net: &Net, advert: &Advert)
     line.push(" seq ");
     line.push_number(u64::from(seq));
     line.push(" up");
-    push_mask_names(line, net, up);
+    push_journal_mask_text(line, net, up);
 }
 
 /// Adds a message's body.
-pub(crate) fn push_message_body(line: &mut Line, net: &Net, texts: &mut AdvertTexts, body: &Body)
+pub(crate) fn push_journal_body_text(
+    line: &mut Line,
+    net: &Net,
+    texts: &mut AdvertTexts,
+    body: &Body,
+)
     requires { AreAdvertTexts net.now texts.old }
     ensures text { line.new ≡ line_with line.old (body_text net.now body.now) }
-    ensures of_type { IsBodyOfType body.now }
+    ensures of_type { IsJournalTextBody body.now }
     ensures texts { AreAdvertTexts net.now texts.new }
 {
     match body {

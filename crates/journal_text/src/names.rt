@@ -1,7 +1,7 @@
 ghost use Rattle.std.specs.Prelude.{◌≡◌, ◌++◌, filter, codes};
 ghost use Rattle.base.specs.Masks.{has, switches};
 ghost use Rattle.net_file.specs.Net.{switch_name_of, names_text};
-ghost use Rattle.journal_text.specs.Lines.{mask_text};
+ghost use Rattle.journal_text.specs.Lines.{journal_mask_text};
 ghost use Rattle.lines.specs.Pushes.{line_with};
 
 use base::only_if;
@@ -9,8 +9,8 @@ use lines::{Line, push_name};
 use net_file::Net;
 
 /// Adds the names of a mask's switches, ascending, each after a blank, or a dash for none.
-pub(crate) fn push_mask_names(line: &mut Line, net: &Net, mask: u64)
-    ensures { line.new ≡ line_with line.old (mask_text net.now mask) }
+pub(crate) fn push_journal_mask_text(line: &mut Line, net: &Net, mask: u64)
+    ensures { line.new ≡ line_with line.old (journal_mask_text net.now mask) }
 {
     if mask == 0 {
         line.push(" -");
@@ -20,7 +20,7 @@ pub(crate) fn push_mask_names(line: &mut Line, net: &Net, mask: u64)
 }
 
 // Adds the names of a mask's switches, each after a blank, from the least number up.
-#[tactic(auto, using(crate::proofs::JournalLineMasks::none_left, lines::proofs::CallerLemmas::pushed_nothing))]
+#[tactic(auto, using(crate::proofs::JournalLineMasks::none_left, lines::proofs::LinesCallerLemmas::pushed_nothing))]
 fn push_mask_switches(line: &mut Line, net: &Net, mask: u64)
     ensures { line.new ≡ line_with line.old (names_text net.now (filter (has mask) switches)) }
 {
@@ -34,7 +34,7 @@ fn push_mask_switches(line: &mut Line, net: &Net, mask: u64)
 }
 
 // Adds the name of the switch, after a blank.
-#[tactic(auto, using(lines::proofs::CallerLemmas::pushed_append))]
+#[tactic(auto, using(lines::proofs::LinesCallerLemmas::pushed_append))]
 fn push_behind_blank(line: &mut Line, net: &Net, s: u32)
     ensures { line.new ≡ line_with line.old (codes " " ++ switch_name_of net.now s) }
 {

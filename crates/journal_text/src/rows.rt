@@ -1,6 +1,6 @@
 ghost use Rattle.std.specs.Prelude.{◌≡◌, ◌++◌, decimal};
-ghost use Rattle.journal_text.specs.Lines.{text_with_name, text_with_number, pair_text, step_text};
-ghost use Rattle.journal_text.specs.Sizes.{IsStepOfType};
+ghost use Rattle.journal_text.specs.Lines.{text_with_name, journal_text_with_number, journal_pair_text, journal_step_text};
+ghost use Rattle.journal_text.specs.Sizes.{IsJournalTextStep};
 ghost use Rattle.steps.specs.declared.step.Step.TheVariants.{Packet};
 ghost use Rattle.lines.specs.Pushes.{line_with};
 
@@ -10,9 +10,9 @@ use net_file::Net;
 use steps::Step;
 
 /// Adds a number after a text.
-#[tactic(auto, using(lines::proofs::CallerLemmas::pushed_append))]
-pub(crate) fn push_numbered_text(line: &mut Line, text: &str, n: u32)
-    ensures { line.new ≡ line_with line.old (text_with_number text.now n) }
+#[tactic(auto, using(lines::proofs::LinesCallerLemmas::pushed_append))]
+pub(crate) fn push_journal_numbered_text(line: &mut Line, text: &str, n: u32)
+    ensures { line.new ≡ line_with line.old (journal_text_with_number text.now n) }
 {
     line.push(text);
     line.push(" ");
@@ -20,7 +20,7 @@ pub(crate) fn push_numbered_text(line: &mut Line, text: &str, n: u32)
 }
 
 /// Adds a switch's name after a text.
-#[tactic(auto, using(lines::proofs::CallerLemmas::pushed_append))]
+#[tactic(auto, using(lines::proofs::LinesCallerLemmas::pushed_append))]
 pub(crate) fn push_named_switch(line: &mut Line, net: &Net, text: &str, s: u32)
     ensures { line.new ≡ line_with line.old (text_with_name net.now text.now s) }
 {
@@ -30,7 +30,7 @@ pub(crate) fn push_named_switch(line: &mut Line, net: &Net, text: &str, s: u32)
 }
 
 /// Adds a switch's name and a number, each after a text.
-#[tactic(auto, using(lines::proofs::CallerLemmas::pushed_append))]
+#[tactic(auto, using(lines::proofs::LinesCallerLemmas::pushed_append))]
 pub(crate) fn push_item_named_number(
     line: &mut Line,
     net: &Net,
@@ -48,19 +48,19 @@ pub(crate) fn push_item_named_number(
 }
 
 /// Adds the names of two switches after a text.
-#[tactic(auto, using(lines::proofs::CallerLemmas::pushed_append))]
-pub(crate) fn push_switch_pair(line: &mut Line, net: &Net, text: &str, one: u32, two: u32)
-    ensures { line.new ≡ line_with line.old (pair_text net.now text.now one two) }
+#[tactic(auto, using(lines::proofs::LinesCallerLemmas::pushed_append))]
+pub(crate) fn push_journal_switch_pair(line: &mut Line, net: &Net, text: &str, one: u32, two: u32)
+    ensures { line.new ≡ line_with line.old (journal_pair_text net.now text.now one two) }
 {
     push_named_switch(line, net, text, one);
     line.push(" ");
     push_name(line, net, two);
 }
 
-#[tactic(auto, using(lines::proofs::CallerLemmas::pushed_append))]
+#[tactic(auto, using(lines::proofs::LinesCallerLemmas::pushed_append))]
 fn push_packet_row(line: &mut Line, net: &Net, switch: u32, header: &Header)
-    ensures text { line.new ≡ line_with line.old (step_text net.now (Packet switch header.now)) }
-    ensures of_type { IsStepOfType (Packet switch header.now) }
+    ensures text { line.new ≡ line_with line.old (journal_step_text net.now (Packet switch header.now)) }
+    ensures of_type { IsJournalTextStep (Packet switch header.now) }
 {
     let _number = header.number();
     push_named_switch(line, net, "packet", switch);
@@ -69,25 +69,25 @@ fn push_packet_row(line: &mut Line, net: &Net, switch: u32, header: &Header)
 }
 
 /// Adds the fields of a step's row, separated by blanks.
-pub(crate) fn push_step_row(line: &mut Line, net: &Net, step: &Step)
-    ensures text { line.new ≡ line_with line.old (step_text net.now step.now) }
-    ensures of_type { IsStepOfType step.now }
+pub(crate) fn push_journal_step_row(line: &mut Line, net: &Net, step: &Step)
+    ensures text { line.new ≡ line_with line.old (journal_step_text net.now step.now) }
+    ensures of_type { IsJournalTextStep step.now }
 {
     match step {
         Step::Packet { switch, header } => push_packet_row(line, net, *switch, header),
-        Step::Hop { packet } => push_numbered_text(line, "hop", *packet),
-        Step::Lose { packet } => push_numbered_text(line, "lose", *packet),
-        Step::Deliver { message } => push_numbered_text(line, "deliver", *message),
-        Step::Forget { message } => push_numbered_text(line, "forget", *message),
+        Step::Hop { packet } => push_journal_numbered_text(line, "hop", *packet),
+        Step::Lose { packet } => push_journal_numbered_text(line, "lose", *packet),
+        Step::Deliver { message } => push_journal_numbered_text(line, "deliver", *message),
+        Step::Forget { message } => push_journal_numbered_text(line, "forget", *message),
         Step::Expire { switch, place } => {
             push_item_named_number(line, net, "expire", *switch, " ", *place)
         }
-        Step::Update { file } => push_numbered_text(line, "update", *file),
+        Step::Update { file } => push_journal_numbered_text(line, "update", *file),
         Step::LinkDown { one, two } => {
-            push_switch_pair(line, net, "linkdown", (*one).min(*two), (*one).max(*two))
+            push_journal_switch_pair(line, net, "linkdown", (*one).min(*two), (*one).max(*two))
         }
         Step::LinkUp { one, two } => {
-            push_switch_pair(line, net, "linkup", (*one).min(*two), (*one).max(*two))
+            push_journal_switch_pair(line, net, "linkup", (*one).min(*two), (*one).max(*two))
         }
         Step::Crash { switch } => push_named_switch(line, net, "crash", *switch),
         Step::Restart { switch } => push_named_switch(line, net, "restart", *switch),

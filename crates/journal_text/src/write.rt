@@ -4,7 +4,7 @@ ghost use Rattle.journal_text.specs.Lines.{journal_text};
 ghost use Rattle.shelf.specs.SinkWrites.{IsAfterWrite};
 
 use crate::advert_texts::AdvertTexts;
-use crate::items::push_line;
+use crate::items::push_journal_line;
 use journal::Journal;
 use lines::Line;
 use net_file::Net;
@@ -36,7 +36,7 @@ pub fn write_text<K: Sink>(journal: &Journal, net: &Net, sink: &mut K) -> Result
             block.push(line.bytes(), sink)?;
             line.clear();
         }
-        push_line(&mut line, net, &mut texts, item);
+        push_journal_line(&mut line, net, &mut texts, item);
     }
     block.push(line.bytes(), sink)?;
     block.finish(sink)

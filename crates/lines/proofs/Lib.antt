@@ -1,4 +1,4 @@
-pub mod CallerLemmas
+pub mod LinesCallerLemmas
 mod LinePieceLemmas
 mod LineShortNumbers
 mod LineHexPairs

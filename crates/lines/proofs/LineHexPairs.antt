@@ -2,8 +2,8 @@
 use Rattle.std.proofs.Common.{[], ◌%◌, ◌*◌, ◌++◌, ◌+◌, ◌/◌, ◌<◌, ◌∙◌, ◌∷◌, ◌≡◌, List, add-one, ap, append_assoc, arith, drop, false, get_or, length, length-set, refl, set, sym, ℕ}
 use Rattle.std.specs.Fmt.{digit_glyph}
 use Rattle.std.proofs.lemmas.List.{drop-set, set_comm}
-use Rattle.ternary.specs.Exports.{hex_digits}
-use Rattle.lines.proofs.CallerLemmas.{pair_at}
+use Rattle.ternary.specs.Exports.{word_hex_digits}
+use Rattle.lines.proofs.LinesCallerLemmas.{pair_at}
 use Rattle.lines.specs.declared.rules.TheConstants.{HEX_PAIRS}
 
 -- the digit of a number below 16
@@ -17,16 +17,16 @@ pairs_at n within = pair_at HEX_PAIRS (λ n. glyph (n / 16)) (λ n. glyph (n % 1
 
 -- one more digit is written
 more : (at left : ℕ) (digits : List ℕ) → at < length digits
-    → hex_digits (at + 1) left ++ drop (at + 1) digits
-    ≡ hex_digits at (left / 16) ++ drop at (set digits at (glyph (left % 16)))
-unfolding hex_digits
-more at left digits within = ap (λ n. hex_digits n left ++ drop (at + 1) digits) (add-one at)
-    ∙ append_assoc (hex_digits at (left / 16)) (glyph (left % 16) ∷ []) (drop (at + 1) digits) ∙ ap
-    (λ ys. hex_digits at (left / 16) ++ ys) (sym (drop-set digits at (glyph (left % 16)) within))
+    → word_hex_digits (at + 1) left ++ drop (at + 1) digits
+    ≡ word_hex_digits at (left / 16) ++ drop at (set digits at (glyph (left % 16)))
+unfolding word_hex_digits
+more at left digits within = ap (λ n. word_hex_digits n left ++ drop (at + 1) digits) (add-one at)
+    ∙ append_assoc (word_hex_digits at (left / 16)) (glyph (left % 16) ∷ []) (drop (at + 1) digits) ∙ ap
+    (λ ys. word_hex_digits at (left / 16) ++ ys) (sym (drop-set digits at (glyph (left % 16)) within))
 
 -- two digits more stand
 pub two_more : (at left : ℕ) (digits : List ℕ) → at + 1 < length digits
-    → hex_digits (at + 2) left ++ drop (at + 2) digits ≡ hex_digits at (left / 256)
+    → word_hex_digits (at + 2) left ++ drop (at + 2) digits ≡ word_hex_digits at (left / 256)
     ++ drop at (set (set digits at (glyph (left % 256 / 16))) (at + 1) (glyph (left % 256 % 16)))
 two_more at left digits within =
     let two : at + 2 ≡ at + 1 + 1 = omega arith in
@@ -34,7 +34,7 @@ two_more at left digits within =
     let ten : left / 16 % 16 ≡ left % 256 / 16 = omega arith in
     let one : left % 16 ≡ left % 256 % 16 = omega arith in
     let last = set digits (at + 1) (glyph (left % 16)) in
-    ap (λ n. hex_digits n left ++ drop n digits) two
+    ap (λ n. word_hex_digits n left ++ drop n digits) two
     ∙ more (at + 1) left digits within
     ∙ more at (left / 16) last (omega (arith, length-set digits (at + 1) (glyph (left % 16))))
     ∙ rw (

@@ -6,14 +6,14 @@ use Rattle.std.proofs.lemmas.List.Elements.{All-get_or}
 use Rattle.std.proofs.lemmas.Option.{slice_get_cases}
 use Rattle.five_tuple.specs.Exports.{IsHeader, address_text, fields_text, proto_number_text}
 use Rattle.five_tuple.specs.declared.header.Header.{Header}
-use Rattle.net_file.specs.Exports.{IsNet, IsSwitchRow, NameLaws, switch_name_of, names_text}
+use Rattle.net_file.specs.Exports.{IsNet, IsNetSwitchRow, NameLaws, switch_name_of, names_text}
 use Rattle.net_file.specs.declared.net.Net.{Net}
 use Rattle.net_file.specs.declared.net.SwitchRow.{SwitchRow}
 use Rattle.policy_rules.specs.Exports.{action_text, rule_text}
 use Rattle.policy_rules.specs.declared.policy.Action.{Action}
 use Rattle.policy_rules.specs.declared.policy.Action.TheVariants.{Drop, Out}
-use Rattle.ternary.specs.Exports.{WordValue, hex_digits, word_text}
-use Rattle.lines.specs.Sizes.{IsPrintedAction, IsNumber, IsPrintedRule}
+use Rattle.ternary.specs.Exports.{WordValue, word_hex_digits, word_text}
+use Rattle.lines.specs.Sizes.{IsPrintedLineAction, IsNumber, IsPrintedLineRule}
 
 -- at most so many bytes
 pub record IsWithin (most : ℕ) (text : List ℕ) : Type 0 where
@@ -40,11 +40,11 @@ number n small = record {
   size = length-decimal-le 10 n (omega arith) (omega (arith, small)) (omega (arith, small));
 }
 
-pub rule_within : (rule : Option ℕ) → IsPrintedRule rule → IsWithin 10 (rule_text rule)
+pub rule_within : (rule : Option ℕ) → IsPrintedLineRule rule → IsWithin 10 (rule_text rule)
 rule_within (Some priority) is = number priority is
 rule_within None is = widened (all_of (codes "default")) 10 (omega arith)
 
-pub action_within : (action : Action) → IsPrintedAction action → IsWithin 14 (action_text action)
+pub action_within : (action : Action) → IsPrintedLineAction action → IsWithin 14 (action_text action)
 action_within (Out port) is =
     joined_within (all_of (codes "out:")) (number port is)
 action_within Drop is = widened (all_of (codes "drop")) 14 (omega arith)
@@ -86,8 +86,8 @@ fields_within header is =
 one_byte : (byte : ℕ) → IsWithin 1 (byte ∷ [])
 one_byte byte = record { size = omega arith }
 
-digits_within : (count n : ℕ) → IsWithin count (hex_digits count n)
-unfolding hex_digits
+digits_within : (count n : ℕ) → IsWithin count (word_hex_digits count n)
+unfolding word_hex_digits
 digits_within zero n = record { size = omega arith }
 digits_within (suc count) n =
     widened (joined_within (digits_within count (n / 16)) (one_byte (digit_glyph false (n % 16))))
@@ -108,8 +108,8 @@ module _ (laws : NameLaws) (net : Net) (sound : IsNet net) where
         ⊎ ((length net.switches ≤ s) × (slice_get net.switches s ≡ None))
         → IsWithin 16 (switch_name_of net s)
     by (inl w) =
-        let is : IsSwitchRow w.0 = subst IsSwitchRow w.3
-        (All-get_or IsSwitchRow net.switches s w.0 w.1 sound.switches) in
+        let is : IsNetSwitchRow w.0 = subst IsNetSwitchRow w.3
+        (All-get_or IsNetSwitchRow net.switches s w.0 w.1 sound.switches) in
         rw w.2 (record { size = (laws.size w.0.name is.name).1 })
     by (inr w) = rw w.1 (record { size = omega arith })
 

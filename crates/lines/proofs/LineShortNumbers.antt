@@ -4,7 +4,7 @@ use Rattle.std.proofs.lemmas.Fmt.{decimal_digit, decimal_step}
 use Rattle.std.proofs.lemmas.List.{take_more_set}
 use Rattle.lines.specs.Pushes.{line_with}
 use Rattle.lines.specs.declared.digits.TheConstants.{PAIRS}
-use Rattle.lines.proofs.CallerLemmas.{pair_at}
+use Rattle.lines.proofs.LinesCallerLemmas.{pair_at}
 
 -- the digits of a number below 100, in the codes of their characters
 abbrev pub pair : ℕ → List ℕ

@@ -6,10 +6,10 @@ use Rattle.policy_rules.specs.declared.policy.Action.TheVariants.{Drop, Out}
 abbrev pub IsNumber : ℕ → Type 0
 IsNumber n = n < 2 ^ 32
 
-abbrev pub IsPrintedRule : Option ℕ → Type 0
-IsPrintedRule (Some priority) = IsNumber priority
-IsPrintedRule None = ⊤
+abbrev pub IsPrintedLineRule : Option ℕ → Type 0
+IsPrintedLineRule (Some priority) = IsNumber priority
+IsPrintedLineRule None = ⊤
 
-abbrev pub IsPrintedAction : Action → Type 0
-IsPrintedAction (Out port) = IsNumber port
-IsPrintedAction Drop = ⊤
+abbrev pub IsPrintedLineAction : Action → Type 0
+IsPrintedLineAction (Out port) = IsNumber port
+IsPrintedLineAction Drop = ⊤

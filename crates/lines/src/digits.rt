@@ -23,7 +23,7 @@ fn put_digit_pair(bytes: &mut [u8; 2048], len: usize, pair: u64)
 
 /// Writes a number of one digit, and returns the new length.
 #[inline]
-pub(crate) fn put_digit(bytes: &mut [u8; 2048], len: usize, n: u64) -> usize
+pub(crate) fn put_line_digit(bytes: &mut [u8; 2048], len: usize, n: u64) -> usize
     requires short { n < 10 }
     requires room { len < 2048 }
     ensures end { result ≡ len + 1 }
@@ -42,7 +42,7 @@ fn put_first(bytes: &mut [u8; 2048], len: usize, n: u64) -> usize
     ensures held { take result bytes.new ≡ take len bytes.old ++ decimal n }
 {
     if n < 10 {
-        put_digit(bytes, len, n)
+        put_line_digit(bytes, len, n)
     } else {
         put_digit_pair(bytes, len, n);
         len + 2
@@ -51,7 +51,7 @@ fn put_first(bytes: &mut [u8; 2048], len: usize, n: u64) -> usize
 
 /// Writes a number of at most six digits, and returns the new length.
 #[inline]
-pub(crate) fn put_short_number(bytes: &mut [u8; 2048], len: usize, n: u64) -> usize
+pub(crate) fn put_short_line_number(bytes: &mut [u8; 2048], len: usize, n: u64) -> usize
     requires short { n < 1000000 }
     requires room { len + 6 ≤ 2048 }
     ensures within { result ≤ 2048 }

@@ -1,7 +1,7 @@
 ghost use Rattle.std.specs.Prelude.{◌≡◌, ◌≤◌, [], length, decimal};
 ghost use Rattle.lines.specs.Pushes.{line_with};
 
-use crate::digits::{put_digit, put_short_number};
+use crate::digits::{put_line_digit, put_short_line_number};
 use crate::pieces::put;
 use itoa::Buffer;
 use std::marker::Model;
@@ -74,7 +74,7 @@ impl Line {
         ensures { self.new ≡ line_with self.old (decimal n) }
     {
         if n < 10 && self.len < LINE_BYTES {
-            self.len = put_digit(&mut self.bytes, self.len, n);
+            self.len = put_line_digit(&mut self.bytes, self.len, n);
         } else {
             self.push_digits(n);
         }
@@ -86,7 +86,7 @@ impl Line {
         ensures { self.new ≡ line_with self.old (decimal n) }
     {
         if n < 1_000_000 && self.len <= LINE_BYTES - 6 {
-            self.len = put_short_number(&mut self.bytes, self.len, n);
+            self.len = put_short_line_number(&mut self.bytes, self.len, n);
         } else {
             self.push_long_number(n);
         }

@@ -17,7 +17,7 @@ pub fn push_name(line: &mut Line, net: &Net, s: u32)
 }
 
 /// Adds the names of switches, each after a blank.
-#[tactic(auto, using(crate::proofs::CallerLemmas::pushed_append, crate::proofs::CallerLemmas::pushed_nothing))]
+#[tactic(auto, using(crate::proofs::LinesCallerLemmas::pushed_append, crate::proofs::LinesCallerLemmas::pushed_nothing))]
 pub fn push_names(line: &mut Line, net: &Net, switches: &[u32])
     ensures { line.new ≡ line_with line.old (names_text net.now switches.now) }
 {

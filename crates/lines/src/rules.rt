@@ -1,7 +1,7 @@
 ghost use Rattle.std.specs.Prelude.{◌≡◌};
 ghost use Rattle.policy_rules.specs.Policy.{action_text, rule_text};
-ghost use Rattle.ternary.specs.Word.{hex_digits, word_text};
-ghost use Rattle.lines.specs.Sizes.{IsPrintedAction, IsPrintedRule};
+ghost use Rattle.ternary.specs.Word.{word_hex_digits, word_text};
+ghost use Rattle.lines.specs.Sizes.{IsPrintedLineAction, IsPrintedLineRule};
 ghost use Rattle.lines.specs.Pushes.{line_with};
 
 use crate::line::Line;
@@ -21,7 +21,7 @@ e0e1e2e3e4e5e6e7e8e9eaebecedeeeff0f1f2f3f4f5f6f7f8f9fafbfcfdfeff";
 
 // The number in 26 hexadecimal digits.
 fn hex_digits_of(number: u128) -> [u8; 26]
-    ensures { result ≡ hex_digits 26 number }
+    ensures { result ≡ word_hex_digits 26 number }
 {
     let mut digits = [0; 26];
     let mut left = number;
@@ -37,7 +37,7 @@ fn hex_digits_of(number: u128) -> [u8; 26]
 }
 
 /// Adds a word as its value and its mask with a slash between them.
-#[tactic(auto, using(crate::proofs::CallerLemmas::pushed_append), unfolding(ternary::specs::Word::word_text))]
+#[tactic(auto, using(crate::proofs::LinesCallerLemmas::pushed_append), unfolding(ternary::specs::Word::word_text))]
 pub fn push_word(line: &mut Line, word: &Word)
     ensures { line.new ≡ line_with line.old (word_text word.now) }
 {
@@ -49,7 +49,7 @@ pub fn push_word(line: &mut Line, word: &Word)
 /// Adds a rule's name: the priority of its row, or `default`.
 pub fn push_rule(line: &mut Line, rule: Option<u32>)
     ensures text { line.new ≡ line_with line.old (rule_text rule) }
-    ensures of_type { IsPrintedRule rule }
+    ensures of_type { IsPrintedLineRule rule }
 {
     match rule {
         Some(priority) => line.push_number(u64::from(priority)),
@@ -58,10 +58,10 @@ pub fn push_rule(line: &mut Line, rule: Option<u32>)
 }
 
 /// Adds an action: `drop`, or `out:` and the port.
-#[tactic(auto, using(crate::proofs::CallerLemmas::pushed_append))]
+#[tactic(auto, using(crate::proofs::LinesCallerLemmas::pushed_append))]
 pub fn push_action(line: &mut Line, action: Action)
     ensures text { line.new ≡ line_with line.old (action_text action) }
-    ensures of_type { IsPrintedAction action }
+    ensures of_type { IsPrintedLineAction action }
 {
     match action {
         Action::Drop => line.push("drop"),

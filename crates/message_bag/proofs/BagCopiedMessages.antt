@@ -3,20 +3,20 @@ use Rattle.std.proofs.Common.{[], ◌-◌, ◌∙◌, ◌≡◌, ◌≤◌, All,
 use Rattle.base.proofs.Exports.{All-head, IfSome-at_place, none-some, same_Some, slice_get-map}
 use Rattle.ctrl_msg.specs.declared.message.Message.{Message}
 use Rattle.ctrl_msg.specs.declared.message.Place.{Place}
-use Rattle.wire.specs.Exports.{begun_for, body, frames, frames_of_receiver, message as form, receiver}
+use Rattle.wire.specs.Exports.{wire_begun_for, body, frames, wire_frames_of_receiver, message as form, receiver}
 use Rattle.message_bag.proofs.BagFramedMessages.{framed_is, known_by_frames}
 use Rattle.message_bag.proofs.BagFramesOfReceivers.{of_another_receiver}
 use Rattle.message_bag.proofs.BagFrameSizes.{IsSized, fields_of_message, frames_sized}
-use Rattle.message_bag.specs.Exports.{AreKeptFrames, First, HasFrames, HasShortSpelling, IsPostLike, IsThere, bag_frames_in, posted_frames}
+use Rattle.message_bag.specs.Exports.{AreBagKeptFrames, First, HasBagFrames, HasShortBagSpelling, IsPostLike, IsBagNumberThere, bag_frames_in, posted_frames}
 
 -- these are the frames of the message, perhaps to another receiver
 pub record AreLike (kept : List (List (List ℕ))) (first : First) (m : Message) : Type 0 where
   pub to : Place
-  pub there : IsThere kept first.1
-  pub has : HasFrames (record m { to = to })
+  pub there : IsBagNumberThere kept first.1
+  pub has : HasBagFrames (record m { to = to })
   pub are : bag_frames_in kept first ≡ frames (record m { to = to })
 
-known : (kept : List (List (List ℕ))) (first : First) (m : Message) (to : Place) → AreKeptFrames kept first
+known : (kept : List (List (List ℕ))) (first : First) (m : Message) (to : Place) → AreBagKeptFrames kept first
     → bag_frames_in kept first ≡ posted_frames (record m { to = to }) → AreLike kept first m
 known kept first m to is same =
     let its = is.are in
@@ -24,31 +24,31 @@ known kept first m to is same =
     its.1.fits (sym same ∙ its.2 ∙ sym (framed_is its.0 its.1.fits)) in record {
       to = to;
       there = is.there;
-      has = subst HasFrames (sym other) its.1;
+      has = subst HasBagFrames (sym other) its.1;
       are = its.2 ∙ ap frames (sym other);
     }
 
 pub found : (kept : List (List (List ℕ))) (firsts : List First) (bag : List (List (List ℕ))) (number : ℕ) (m : Message) (first : First)
-    → All (AreKeptFrames kept) firsts → map (bag_frames_in kept) firsts ≡ bag → IsPostLike bag number m
+    → All (AreBagKeptFrames kept) firsts → map (bag_frames_in kept) firsts ≡ bag → IsPostLike bag number m
     → slice_get firsts (number - 1) ≡ Some first → AreLike kept first m
 found kept firsts bag zero m first all view like at = absurd (none-some (posted_frames (record m { to = like.0 })) like.1)
 found kept firsts bag (suc place) m first all view like at =
     let here : slice_get firsts place ≡ Some first = ap (slice_get firsts) (omega arith) ∙ at in
     known kept first m like.0
-    (IfSome-at_place (AreKeptFrames kept) firsts place (Some first) all here)
+    (IfSome-at_place (AreBagKeptFrames kept) firsts place (Some first) all here)
     (same_Some _ _ (sym (slice_get-map (bag_frames_in kept) firsts place ∙ ap (option_map (bag_frames_in kept)) here)
     ∙ ap (λ (b : List (List (List ℕ))). slice_get b place) view ∙ like.1))
 
 first_of : (kept : List (List (List ℕ))) (bytes : List ℕ) (tables : Option ℕ) (to : Place)
-    → bag_frames_in kept (begun_for to bytes, tables) ≡ frames_of_receiver to (bag_frames_in kept (bytes, tables))
+    → bag_frames_in kept (wire_begun_for to bytes, tables) ≡ wire_frames_of_receiver to (bag_frames_in kept (bytes, tables))
 first_of kept bytes None to = refl
 first_of kept bytes (Some number) to = refl
 
 -- a copy of its first frame begins with the receiver
 pub copied : (kept : List (List (List ℕ))) (bytes : List ℕ) (tables : Option ℕ) (m : Message)
-    → AreLike kept (bytes, tables) m → bag_frames_in kept (begun_for m.to bytes, tables) ≡ frames m
+    → AreLike kept (bytes, tables) m → bag_frames_in kept (wire_begun_for m.to bytes, tables) ≡ frames m
 copied kept bytes tables m like =
-    first_of kept bytes tables m.to ∙ ap (frames_of_receiver m.to) like.are
+    first_of kept bytes tables m.to ∙ ap (wire_frames_of_receiver m.to) like.are
     ∙ sym (of_another_receiver (record m { to = like.to }) m.to)
 
 pub long : (kept : List (List (List ℕ))) (bytes : List ℕ) (tables : Option ℕ) (m : Message)
@@ -61,7 +61,7 @@ long kept bytes tables m like =
     by_tables (Some number) sized = (All-head IsSized bytes (drop 1 (get_or kept number [])) sized).long
 
 pub has : (kept : List (List (List ℕ))) (first : First) (m : Message) → AreLike kept first m
-    → receiver.fits m.to ≡ true → HasShortSpelling m → HasFrames m
+    → receiver.fits m.to ≡ true → HasShortBagSpelling m → HasBagFrames m
 unfolding form body
 has kept first m like to short = record {
   fits = rw (to, fields_of_message (record m { to = like.to }) like.has.fits, short.spelling.suits) refl;

@@ -5,15 +5,15 @@ use Rattle.ctrl_msg.specs.declared.message.Body.{Body}
 use Rattle.ctrl_msg.specs.declared.message.Body.TheVariants.{Install, Stamp}
 use Rattle.ctrl_msg.specs.declared.message.Message.{Message}
 use Rattle.wire.specs.Fields as form
-use Rattle.wire.specs.Exports.{AreFramesRising, IsOfCount, body, chunks, equal_chunks, fields_fit, frame, frames, frames_from, first_chunk_len, message, most_of_chunk, n4, place_in_frame, receiver, spelled_fields, stamp_form, body_suits_receiver}
+use Rattle.wire.specs.Exports.{AreFramesRising, IsFrameOfCount, body, chunks, wire_equal_chunks, fields_fit, frame, frames, frames_from, first_chunk_len, message, most_of_chunk, n4, place_in_frame, receiver, wire_spelled_fields, stamp_form, wire_body_suits_receiver}
 use Rattle.wire.proofs.WireFrameBytes.{length_frame, place_of_frame, count_of_frame, chunk_of_frame}
 use Rattle.wire.proofs.WireSpellingCuts.{few_chunks}
-use Rattle.message_bag.specs.Exports.{HasFrames, tables_version}
+use Rattle.message_bag.specs.Exports.{HasBagFrames, bag_tables_version}
 use Rattle.message_bag.proofs.BagSpellingLengths.{length_message, fields_short, install_long, stamp_short, few_words}
 
 -- ---- places and counts
 
-pub few_frames : (m : Message) → HasFrames m → length (chunks m) < 2 ^ 32
+pub few_frames : (m : Message) → HasBagFrames m → length (chunks m) < 2 ^ 32
 few_frames m has = few_chunks (first_chunk_len m.body (message.spell m)) (message.spell m) has.short
 
 rising : (place count : ℕ) (parts : List (List ℕ)) → place + length parts ≡ count → count < 2 ^ 32
@@ -21,7 +21,7 @@ rising : (place count : ℕ) (parts : List (List ℕ)) → place + length parts 
 rising place count [] all few = tt
 rising place count (part ∷ parts) all few =
     let at : place_in_frame (frame place count part) ≡ place = place_of_frame place count part (omega arith) in
-    let of : IsOfCount count (frame place count part) = record {
+    let of : IsFrameOfCount count (frame place count part) = record {
       below = omega arith;
       whole = ap (λ p. frame p count part) (sym at)
           ∙ ap (frame (place_in_frame (frame place count part)) count)
@@ -35,7 +35,7 @@ rising place count (part ∷ parts) all few =
     )
 
 -- the frames of a message have rising places
-pub frames_rise : (m : Message) → HasFrames m → AreFramesRising 0 (length (chunks m)) (frames m)
+pub frames_rise : (m : Message) → HasBagFrames m → AreFramesRising 0 (length (chunks m)) (frames m)
 frames_rise m has = rising 0 (length (chunks m)) (chunks m) (omega arith) (few_frames m has)
 
 pub length_from : (place count : ℕ) (parts : List (List ℕ)) → length (frames_from place count parts) ≡ length parts
@@ -57,7 +57,7 @@ record IsChunk (part : List ℕ) : Type 0 where
   pub short : length part ≤ 16376
 
 slices_are : (count : ℕ) (bytes : List ℕ) → count * most_of_chunk < length bytes + most_of_chunk
-    → AllByRecursion IsChunk (equal_chunks count most_of_chunk bytes)
+    → AllByRecursion IsChunk (wire_equal_chunks count most_of_chunk bytes)
 slices_are zero bytes enough = tt
 slices_are (suc count) bytes enough =
     let first : IsChunk (take most_of_chunk bytes) = record {
@@ -68,16 +68,16 @@ slices_are (suc count) bytes enough =
       slices_are count (drop most_of_chunk bytes) (omega (arith, length-drop most_of_chunk bytes)),
     )
 
-all_of : (b : Body) (bytes : List ℕ) → length (spelled_fields b) ≤ 521
-    → length bytes ≡ 2 + length (spelled_fields b) → IsChunk (take (length bytes) bytes)
+all_of : (b : Body) (bytes : List ℕ) → length (wire_spelled_fields b) ≤ 521
+    → length bytes ≡ 2 + length (wire_spelled_fields b) → IsChunk (take (length bytes) bytes)
 all_of b bytes short long = record {
   some = omega (arith, length-take (length bytes) bytes);
   short = omega (arith, length-take (length bytes) bytes, short);
 }
 
 -- what fits and has no tables is short: of a stamp the version and its list
-fits_short : (b : Body) → tables_version b ≡ None → fields_fit b ≡ true
-    → length (spelled_fields b) ≤ 521
+fits_short : (b : Body) → bag_tables_version b ≡ None → fields_fit b ≡ true
+    → length (wire_spelled_fields b) ≤ 521
 unfolding stamp_form
 fits_short (Install boot t) alone fits = absurd cc
 fits_short (Stamp boot version touched) alone fits =
@@ -87,7 +87,7 @@ fits_short (Stamp boot version touched) alone fits =
 fits_short b alone fits = omega (arith, fields_short b refl)
 
 head_is : (b : Body) (bytes : List ℕ) → fields_fit b ≡ true
-    → length bytes ≡ 2 + length (spelled_fields b) → IsChunk (take (first_chunk_len b bytes) bytes)
+    → length bytes ≡ 2 + length (wire_spelled_fields b) → IsChunk (take (first_chunk_len b bytes) bytes)
 head_is (Install boot t) bytes fits long = record {
   some = omega (arith, length-take 6 bytes, install_long boot t);
   short = omega (arith, length-take 6 bytes);
@@ -97,7 +97,7 @@ head_is b bytes fits long = all_of b bytes (fits_short b refl fits) long
 pub fields_of_message : (m : Message) → message.fits m ≡ true → fields_fit m.body ≡ true
 unfolding message body
 fields_of_message m fits = (and_parts (receiver.fits m.to) (fields_fit m.body)
-    (and_parts (receiver.fits m.to && fields_fit m.body) (body_suits_receiver m.to m.body) fits).0).1
+    (and_parts (receiver.fits m.to && fields_fit m.body) (wire_body_suits_receiver m.to m.body) fits).0).1
 
 chunks_are : (m : Message) → message.fits m ≡ true → AllByRecursion IsChunk (chunks m)
 chunks_are m fits =

@@ -2,7 +2,7 @@
 use Rattle.std.proofs.Common.{[], if◌then◌else◌, ◌++◌, ◌-◌, ◌<◌, ◌∙◌, ◌∷◌, ◌≡◌, ◌≤◌, Bool, List, None, Ok, Option, Some, ap, arith, false, is_some, length, min, not, option_and_then, refl, set, slice_get, suc, sym, true, zero, zip, ℕ}
 use Rattle.base.proofs.Exports.{length-zip, option_map_or, seconds-zip, zip_pushed}
 use Rattle.ctrl_msg.specs.declared.message.Message.{Message}
-use Rattle.message_bag.specs.Exports.{HasPosted, Post, frames_posted, is_deliverable, may_be_delivered, new_post, posted_frames, remembered_frames, post_statuses_of, waiting_status, with_changed, post_with_status}
+use Rattle.message_bag.specs.Exports.{HasPosted, Post, frames_posted, is_deliverable, may_be_delivered, new_post, posted_frames, bag_frames_remembered, post_statuses_of, bag_waiting_status, bag_with_changed, post_with_status}
 use Rattle.message_bag.specs.declared.deliveries.MessageState.{MessageState}
 
 -- what became of one changes
@@ -34,16 +34,16 @@ zip_set change (m ∷ all) (s ∷ statuses) (suc i) same =
 
 zip_changed : (change : MessageState → MessageState) (all : List (List (List ℕ))) (statuses : List MessageState)
     (number : ℕ) → length all ≡ length statuses
-    → zip all (with_changed change statuses number)
-    ≡ with_changed (post_with_status change) (zip all statuses) number
+    → zip all (bag_with_changed change statuses number)
+    ≡ bag_with_changed (post_with_status change) (zip all statuses) number
 zip_changed change all statuses zero same = refl
 zip_changed change all statuses (suc place) same = zip_set change all statuses place same
 
 -- so the posts change, by whatever name they go
 pub posts_changed : (change : MessageState → MessageState) (all : List (List (List ℕ)))
     (statuses after : List MessageState) (posts : List Post) (number : ℕ) → length all ≡ length statuses
-    → zip all statuses ≡ posts → after ≡ with_changed change statuses number
-    → zip all after ≡ with_changed (post_with_status change) posts number
+    → zip all statuses ≡ posts → after ≡ bag_with_changed change statuses number
+    → zip all after ≡ bag_with_changed (post_with_status change) posts number
 posts_changed change all statuses after posts number same are made =
     cc (made, zip_changed change all statuses number same, are)
 
@@ -60,11 +60,11 @@ length_of_zip all statuses same = cc (length-zip all statuses, same, itself (len
 -- one more message waits behind them
 pub one_more : {E : Type 0} (number : ℕ) (all more : List (List (List ℕ))) (statuses after : List MessageState)
     (posts : List Post) (m : Message) → length all ≡ length statuses → zip all statuses ≡ posts
-    → HasPosted {E = E} (Ok number) (posted_frames m) all more → after ≡ statuses ++ waiting_status ∷ []
+    → HasPosted {E = E} (Ok number) (posted_frames m) all more → after ≡ statuses ++ bag_waiting_status ∷ []
     → HasPosted {E = E} (Ok number) (new_post m) posts (zip more after)
 one_more number all more statuses after posts m same are post added = record {
   number = omega (arith, post.number, same, ap length are, length_of_zip all statuses same);
-  posted = rw (post.posted, added, zip_pushed all statuses (posted_frames m) waiting_status same, are) refl;
+  posted = rw (post.posted, added, zip_pushed all statuses (posted_frames m) bag_waiting_status same, are) refl;
   unchanged = tt;
 }
 
@@ -82,7 +82,7 @@ deliverable_same all statuses (suc place) same = at_place all statuses place sam
 
   at_place : (all : List (List (List ℕ))) (statuses : List MessageState) (i : ℕ)
       → length all ≡ length statuses → option_map_or may_be_delivered (slice_get statuses i) false
-      ≡ is_some (option_and_then remembered_frames (slice_get (zip all statuses) i))
+      ≡ is_some (option_and_then bag_frames_remembered (slice_get (zip all statuses) i))
   at_place [] [] i same = refl
   at_place [] (s ∷ statuses) i same = absurd (omega (arith, same))
   at_place (m ∷ all) [] i same = absurd (omega (arith, same))
@@ -106,7 +106,7 @@ the_frames all statuses (suc place) fs is kept = let at : suc place - 1 ≡ plac
   where
     at_place : (all : List (List (List ℕ))) (statuses : List MessageState) (i : ℕ)
         → option_map_or may_be_delivered (slice_get statuses i) false ≡ true → slice_get all i
-        ≡ Some fs → option_and_then remembered_frames (slice_get (zip all statuses) i) ≡ Some fs
+        ≡ Some fs → option_and_then bag_frames_remembered (slice_get (zip all statuses) i) ≡ Some fs
     at_place [] statuses i is kept = absurd (cc kept)
     at_place (m ∷ all) [] i is kept = absurd (cc is)
     at_place (m ∷ all) (s ∷ statuses) zero is kept = by_flag s.forgotten is where

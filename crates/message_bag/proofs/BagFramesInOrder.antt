@@ -3,10 +3,10 @@
 use Rattle.std.proofs.Common.{[], ◌+◌, ◌<◌, ◌^◌, ◌∙◌, ◌∷◌, ◌≡◌, ◌≢◌, ◌≤◌, Contains, IsSome, List, Some, ap, arith, inl, inr, le-ltb, length, lt-ltb, ltb, slice_get, subst, suc, sym, true, zero, ℕ}
 use Rattle.base.proofs.Exports.{cases_lt, same_Some, slice_get_within, some_passes}
 use Rattle.ctrl_msg.specs.declared.message.Message.{Message}
-use Rattle.wire.specs.Exports.{AreAllHeld, IsRefusedFrame, chunks, count_in_frame, frame, frames, frames_from, frame_held_at, place_in_frame, frames_with_frame}
+use Rattle.wire.specs.Exports.{AreWireFramesHeld, IsRefusedFrame, chunks, count_in_frame, frame, frames, frames_from, frame_held_at, place_in_frame, frames_with_frame}
 use Rattle.wire.proofs.WireFrameBytes.{place_of_frame}
 use Rattle.wire.proofs.WireFramesHeld.{all_held}
-use Rattle.message_bag.specs.Exports.{HasFrames}
+use Rattle.message_bag.specs.Exports.{HasBagFrames}
 use Rattle.message_bag.proofs.BagFrameArrivals.{IsOneOf, is_one_of, never_refused}
 use Rattle.message_bag.proofs.BagHeldFrames.{held_part, part, part_all, part_none, with_part}
 use Rattle.message_bag.proofs.BagFrameSizes.{few_frames, frames_rise, length_frames}
@@ -18,7 +18,7 @@ frames_before m place = part (λ n. ltb n place) (frames m)
 pub none_before : (m : Message) → frames_before m 0 ≡ []
 none_before m = part_none (λ n. ltb n 0) (frames m) (λ n. le-ltb n 0 (omega arith))
 
-pub all_before : (m : Message) → HasFrames m → frames_before m (length (frames m)) ≡ frames m
+pub all_before : (m : Message) → HasBagFrames m → frames_before m (length (frames m)) ≡ frames m
 all_before m has = part_all (λ n. ltb n (length (frames m))) 0 (length (chunks m)) (frames m)
     (frames_rise m has) (λ n lt. lt-ltb _ _ (omega (arith, length_frames m)))
 
@@ -52,20 +52,20 @@ beside n place other = elim (cases_lt n place) [
 pub record ComesNext (m : Message) (place : ℕ) (f : List ℕ) : Type 0 where
   pub taken : IsRefusedFrame (frames_before m place) f → ⊥
   pub held : frames_with_frame (frames_before m place) f ≡ frames_before m (place + 1)
-  pub some : place + 1 ≡ length (frames m) → AreAllHeld (frames_before m (place + 1)) (count_in_frame f)
-  pub none : AreAllHeld (frames_before m (place + 1)) (count_in_frame f) → place + 1 ≡ length (frames m)
+  pub some : place + 1 ≡ length (frames m) → AreWireFramesHeld (frames_before m (place + 1)) (count_in_frame f)
+  pub none : AreWireFramesHeld (frames_before m (place + 1)) (count_in_frame f) → place + 1 ≡ length (frames m)
 
-pub comes_next : (m : Message) (place : ℕ) (f : List ℕ) → HasFrames m → slice_get (frames m) place ≡ Some f
+pub comes_next : (m : Message) (place : ℕ) (f : List ℕ) → HasBagFrames m → slice_get (frames m) place ≡ Some f
     → ComesNext m place f
 comes_next m place f has at = record {
   taken = never_refused m (λ n. ltb n place) (λ n. ltb n (place + 1)) f has one joined;
   held = joined;
-  some = λ last. subst (AreAllHeld (frames_before m (place + 1))) (sym one.of.count_is)
+  some = λ last. subst (AreWireFramesHeld (frames_before m (place + 1))) (sym one.of.count_is)
       (rw (ap (frames_before m) last ∙ all_before m has)
       (all_held (length (chunks m)) (frames m) (frames_rise m has) (length_frames m)));
   none = λ held. elim (cases_lt (place + 1) (length (frames m))) [
     | inl lt ↦ absurd (missing (place + 1)
-        (subst (AreAllHeld (frames_before m (place + 1))) one.of.count_is held (place + 1) (omega (arith, length_frames m))))
+        (subst (AreWireFramesHeld (frames_before m (place + 1))) one.of.count_is held (place + 1) (omega (arith, length_frames m))))
     | inr ge ↦ omega (arith, slice_get_within (frames m) place f at)
   ];
 } where

@@ -5,7 +5,7 @@ use Rattle.ctrl_msg.specs.declared.message.Body.{Body}
 use Rattle.ctrl_msg.specs.declared.message.Body.TheVariants.{Install}
 use Rattle.ctrl_msg.specs.declared.message.Message.{Message}
 use Rattle.ctrl_msg.specs.declared.message.Place.{Place}
-use Rattle.wire.specs.Exports.{body, chunks_behind_head, equal_chunks, frames, frames_from, frames_of, frames_of_receiver, first_chunk_len, message, most_of_chunk, receiver}
+use Rattle.wire.specs.Exports.{body, chunks_behind_head, wire_equal_chunks, frames, frames_from, frames_of, wire_frames_of_receiver, first_chunk_len, message, most_of_chunk, receiver}
 use Rattle.message_bag.proofs.BagSpellingLengths.{length_receiver}
 use Rattle.message_bag.proofs.BagTablesRestamped.{replaced}
 
@@ -25,7 +25,7 @@ head_is b to rest = length-append (receiver.spell to) rest
 
 -- the chunks behind the first one
 abbrev others : ℕ → List ℕ → List (List ℕ)
-others len rest = equal_chunks (div_ceil (length rest - len) most_of_chunk) most_of_chunk (drop len rest)
+others len rest = wire_equal_chunks (div_ceil (length rest - len) most_of_chunk) most_of_chunk (drop len rest)
 
 cut : (first rest : List ℕ) (len : ℕ) → chunks_behind_head (length first + len) (first ++ rest)
     ≡ (first ++ take len rest) ∷ others len rest
@@ -47,7 +47,7 @@ frames_are m = let rest = body.spell m.body in
     ∙ ap frames_of (cut (receiver.spell m.to) rest (first_len m.body rest))
 
 pub of_another_receiver : (m : Message) (to : Place)
-    → frames (record m { to = to }) ≡ frames_of_receiver to (frames m)
+    → frames (record m { to = to }) ≡ wire_frames_of_receiver to (frames m)
 of_another_receiver m to =
     let rest = body.spell m.body in
     let len = first_len m.body rest in
@@ -55,4 +55,4 @@ of_another_receiver m to =
     frames_are (record m { to = to })
     ∙ ap (λ f. f ∷ frames_from 1 count (others len rest))
     (sym (replaced 0 count (receiver.spell m.to) (receiver.spell to) (take len rest) 9 (omega (arith, length_receiver m.to))))
-    ∙ ap (frames_of_receiver to) (sym (frames_are m))
+    ∙ ap (wire_frames_of_receiver to) (sym (frames_are m))

@@ -5,10 +5,10 @@ use Rattle.ctrl_msg.specs.declared.message.Place.{Place}
 use Rattle.ctrl_msg.specs.declared.message.Place.TheVariants.{Switch, Controller}
 use Rattle.ctrl_msg.specs.declared.message.Body.TheVariants.{Install}
 use Rattle.switch_table.specs.declared.tables.Tables.{Tables}
-use Rattle.wire.specs.Exports.{body, chunks_behind_head, equal_chunks, frame, frames, frames_from, frames_of, install_form, list_of, message, message_front, most_of_chunk, n1, n4, partition, receiver, region, spelled_front, body_suits_receiver, tables}
+use Rattle.wire.specs.Exports.{body, chunks_behind_head, wire_equal_chunks, frame, frames, frames_from, frames_of, install_form, wire_list_of, message, message_front, most_of_chunk, n1, n4, partition, receiver, region, spelled_front, wire_body_suits_receiver, tables}
 use Rattle.wire.proofs.WireSpellingCuts.{length-slices}
 use Rattle.wire.proofs.WireFrameBytes.{length_n4}
-use Rattle.message_bag.specs.Exports.{frame_count, install_frames, table_chunks, table_frames}
+use Rattle.message_bag.specs.Exports.{frame_count, bag_install_frames, bag_table_chunks, bag_table_frames}
 use Rattle.message_bag.proofs.BagSpellingLengths.{length_kind, length_receiver}
 use Rattle.message_bag.proofs.BagFrameSizes.{length_from}
 
@@ -31,63 +31,63 @@ length_front to boot = omega (
 )
 
 cut_behind : (head rest : List ℕ) → length head ≡ 6 → chunks_behind_head 6 (head ++ rest)
-    ≡ head ∷ equal_chunks (div_ceil (length rest) most_of_chunk) most_of_chunk rest
+    ≡ head ∷ wire_equal_chunks (div_ceil (length rest) most_of_chunk) most_of_chunk rest
 cut_behind head rest len =
     let left : length (head ++ rest) - 6 ≡ length rest = omega (arith, length-append head rest) in
     rw (left, take_at head rest 6 len, drop_at head rest 6 len) refl
 
 pub installed : (to : Place) (boot : ℕ) (t : Tables)
-    → frames (record { to = to; body = Install boot t }) ≡ install_frames to boot t
+    → frames (record { to = to; body = Install boot t }) ≡ bag_install_frames to boot t
 installed to boot t = ap frames_of (ap (chunks_behind_head 6) (spelled to boot t)
     ∙ cut_behind (spelled_front to boot) (tables.spell t) (length_front to boot))
-    ∙ ap (λ n. frame 0 n (spelled_front to boot) ∷ frames_from 1 n (table_chunks t))
-    (sym (add-one (length (table_chunks t))))
+    ∙ ap (λ n. frame 0 n (spelled_front to boot) ∷ frames_from 1 n (bag_table_chunks t))
+    (sym (add-one (length (bag_table_chunks t))))
 
 -- ---- which installations have a spelling
 
 pub fits_parts : (to : Place) (boot : ℕ) (t : Tables) → message.fits (record { to = to; body = Install boot t }) ≡ true
     → (message_front.fits (to, (1, boot)) ≡ true) × (tables.fits t ≡ true)
-    × (body_suits_receiver to (Install boot t) ≡ true)
+    × (wire_body_suits_receiver to (Install boot t) ≡ true)
 unfolding message body install_form message_front n1
 fits_parts to boot t fits =
     let all = and_parts (receiver.fits to && (n4.fits boot && tables.fits t))
-    (body_suits_receiver to (Install boot t)) fits in
+    (wire_body_suits_receiver to (Install boot t)) fits in
     let parts = and_parts (receiver.fits to) (n4.fits boot && tables.fits t) all.0 in
     let fields = and_parts (n4.fits boot) (tables.fits t) parts.1 in
     (rw (parts.0, fields.0) refl, fields.1, all.1)
 
 pub fits_whole : (to : Place) (boot : ℕ) (t : Tables) → message_front.fits (to, (1, boot)) ≡ true
-    → tables.fits t ≡ true → body_suits_receiver to (Install boot t) ≡ true
+    → tables.fits t ≡ true → wire_body_suits_receiver to (Install boot t) ≡ true
     → message.fits (record { to = to; body = Install boot t }) ≡ true
 unfolding message body install_form message_front n1
 fits_whole to boot t head rest is = let parts = and_parts (receiver.fits to) (n4.fits boot) head in
     rw (parts.0, parts.1, rest, is) refl
 
 -- it doesn't matter of which boot and which tables
-pub suits_any : (to : Place) (i j : ℕ) (t u : Tables) → body_suits_receiver to (Install i t)
-    ≡ body_suits_receiver to (Install j u)
+pub suits_any : (to : Place) (i j : ℕ) (t u : Tables) → wire_body_suits_receiver to (Install i t)
+    ≡ wire_body_suits_receiver to (Install j u)
 suits_any (Switch s) i j t u = refl
 suits_any Controller i j t u = refl
 
 -- ---- how many frames there are
 
-pub length_behind : (t : Tables) → length (table_frames t) + 1 ≡ frame_count t
-length_behind t = ap (λ n. n + 1) (length_from 1 (frame_count t) (table_chunks t))
+pub length_behind : (t : Tables) → length (bag_table_frames t) + 1 ≡ frame_count t
+length_behind t = ap (λ n. n + 1) (length_from 1 (frame_count t) (bag_table_chunks t))
 
 long_tables : (t : Tables) → 4 ≤ length (tables.spell t)
 unfolding tables
 long_tables t = omega (
   arith,
-  length-append (n4.spell t.version) ((list_of n4 region).spell t.parts ++ (list_of n4 partition).spell t.auth),
+  length-append (n4.spell t.version) ((wire_list_of n4 region).spell t.parts ++ (wire_list_of n4 partition).spell t.auth),
   length_n4 t.version,
 )
 
 -- tables are never spelled in no bytes
-pub some_behind : (t : Tables) → 1 ≤ length (table_frames t)
+pub some_behind : (t : Tables) → 1 ≤ length (bag_table_frames t)
 some_behind t = let bytes = tables.spell t in
     omega (
       arith,
-      length_from 1 (frame_count t) (table_chunks t),
+      length_from 1 (frame_count t) (bag_table_chunks t),
       length-slices (div_ceil (length bytes) most_of_chunk) most_of_chunk bytes,
       div_ceil_times (length bytes) most_of_chunk (omega arith),
       long_tables t,

@@ -2,22 +2,22 @@
 use Rattle.std.proofs.Common.{[], ◌+◌, ◌-◌, ◌^◌, ◌∙◌, ◌∷◌, ◌≡◌, ◌≤◌, All, List, Some, add-one, ap, append-nil, arith, drop, length, length-drop, refl, slice_get, subst, sym, take, take_all, ℕ}
 use Rattle.base.proofs.Exports.{All-head, slice_get_within}
 use Rattle.ctrl_msg.specs.declared.message.Message.{Message}
-use Rattle.wire.specs.Exports.{AreAllHeld, AreFrames, IsRefusedFrame, IsSpelling, chunk_of, count_in_frame, frames, frames_with_frame}
+use Rattle.wire.specs.Exports.{AreWireFramesHeld, AreFrames, IsRefusedFrame, IsSpelling, chunk_of, count_in_frame, frames, frames_with_frame}
 use Rattle.wire.proofs.WireFrameAssembly.{spelled_by}
 use Rattle.wire.proofs.WireDecoding.{one_message}
-use Rattle.message_bag.specs.Exports.{AreOfMessage, HasFrames}
+use Rattle.message_bag.specs.Exports.{AreBagFramesOfMessage, HasBagFrames}
 use Rattle.message_bag.proofs.BagFramesInOrder.{all_before, comes_next, frames_before, none_before}
 use Rattle.message_bag.proofs.BagFrameSizes.{IsSized, few_frames, frames_sized, length_frames}
 
-pub are_frames : (m : Message) (fs : List (List ℕ)) → HasFrames m → fs ≡ frames m → AreFrames m fs
+pub are_frames : (m : Message) (fs : List (List ℕ)) → HasBagFrames m → fs ≡ frames m → AreFrames m fs
 are_frames m fs has is = record { fits = has.fits; frames_are = is }
 
 -- the one chunk is the spelling
-pub spelled_alone : (f : List ℕ) → (of : AreOfMessage (f ∷ [])) → IsSpelling of.0 (chunk_of f)
+pub spelled_alone : (f : List ℕ) → (of : AreBagFramesOfMessage (f ∷ [])) → IsSpelling of.0 (chunk_of f)
 spelled_alone f of = subst (IsSpelling of.0) (append-nil (chunk_of f))
     (spelled_by of.0 (f ∷ []) (are_frames of.0 (f ∷ []) of.1 of.2))
 
-pub alone_are : (f bytes : List ℕ) (m : Message) → AreOfMessage (f ∷ []) → bytes ≡ chunk_of f
+pub alone_are : (f bytes : List ℕ) (m : Message) → AreBagFramesOfMessage (f ∷ []) → bytes ≡ chunk_of f
     → IsSpelling m bytes → AreFrames m (f ∷ [])
 alone_are f bytes m of is spelled =
     let same : m ≡ of.0 = one_message (chunk_of f) m of.0 (subst (IsSpelling m) is spelled)
@@ -28,12 +28,12 @@ alone_are f bytes m of is spelled =
 
 -- it holds those of the places before this one, and this frame is next
 pub record IsFedTo (first : List ℕ) (fs held : List (List ℕ)) (next : List ℕ) (place : ℕ) (m : Message) : Type 0 where
-  pub has : HasFrames m
+  pub has : HasBagFrames m
   pub is : first ∷ drop 1 fs ≡ frames m
   pub held_is : held ≡ frames_before m place
   pub next_is : slice_get (frames m) place ≡ Some next
 
-pub begins : (first : List ℕ) (fs held : List (List ℕ)) → (of : AreOfMessage (first ∷ drop 1 fs)) → held ≡ []
+pub begins : (first : List ℕ) (fs held : List (List ℕ)) → (of : AreBagFramesOfMessage (first ∷ drop 1 fs)) → held ≡ []
     → IsFedTo first fs held first 0 of.0
 begins first fs held of empty = record {
   has = of.1;
@@ -69,22 +69,22 @@ goes_on first fs held after next other place m fed is at = record {
 }
 
 pub comes_out : (first : List ℕ) (fs held after : List (List ℕ)) (next : List ℕ) (place : ℕ) (m answer : Message)
-    → IsFedTo first fs held next place m → after ≡ frames_with_frame held next → AreAllHeld after (count_in_frame next)
+    → IsFedTo first fs held next place m → after ≡ frames_with_frame held next → AreWireFramesHeld after (count_in_frame next)
     → AreFrames answer after → AreFrames answer (first ∷ drop 1 fs)
 comes_out first fs held after next place m answer fed is all are =
     let now = joined first fs held after next place m fed is in
     let last : place + 1 ≡ length (frames m) =
-    (comes_next m place next fed.has fed.next_is).none (subst (λ h. AreAllHeld h (count_in_frame next)) now all) in
+    (comes_next m place next fed.has fed.next_is).none (subst (λ h. AreWireFramesHeld h (count_in_frame next)) now all) in
     subst (AreFrames answer) (now ∙ ap (frames_before m) last ∙ all_before m fed.has ∙ sym fed.is) are
 
 -- there is one more as long as not all are held
 pub never_short : (first : List ℕ) (fs held after : List (List ℕ)) (next : List ℕ) (place : ℕ) (m : Message)
-    → IsFedTo first fs held next place m → after ≡ frames_with_frame held next → (AreAllHeld after (count_in_frame next) → ⊥)
+    → IsFedTo first fs held next place m → after ≡ frames_with_frame held next → (AreWireFramesHeld after (count_in_frame next) → ⊥)
     → length fs ≤ place + 1 → ⊥
 never_short first fs held after next place m fed is none short =
     let within = slice_get_within (frames m) place next fed.next_is in
     let last : place + 1 ≡ length (frames m) = omega (arith, ap length fed.is, length-drop 1 fs) in
-    none (subst (λ h. AreAllHeld h (count_in_frame next)) (sym (joined first fs held after next place m fed is))
+    none (subst (λ h. AreWireFramesHeld h (count_in_frame next)) (sym (joined first fs held after next place m fed is))
     ((comes_next m place next fed.has fed.next_is).some last))
 
 pub never_past : (first : List ℕ) (fs held : List (List ℕ)) (next : List ℕ) (place : ℕ) (m : Message)
@@ -93,7 +93,7 @@ never_past first fs held next place m fed past =
     absurd (omega (arith, slice_get_within (frames m) place next fed.next_is, few_frames m fed.has, length_frames m))
 
 -- a frame of a message has its header
-pub long_alone : (f : List ℕ) → AreOfMessage (f ∷ []) → 8 ≤ length f
+pub long_alone : (f : List ℕ) → AreBagFramesOfMessage (f ∷ []) → 8 ≤ length f
 long_alone f of =
     let sized : IsSized f = All-head IsSized f [] (subst (All IsSized) (sym of.2) (frames_sized of.0 of.1.fits)) in
     omega (arith, sized.long)

@@ -2,7 +2,7 @@
 use Rattle.std.proofs.Common.{[], if◌then◌else◌, ◌++◌, ◌+◌, ◌==◌, ◌∙◌, ◌∷◌, ◌≡◌, All, Err, IfSome, IsErr, List, None, Ok, Option, Result, Some, add-one, ap, arith, length, length-set, map, option_map, refl, set, slice_get, suc, zero, ℕ}
 use Rattle.base.proofs.Exports.{All-push, get_push_at, get_push_left, get_pushed, get_set_found, length-map, map_push, option_map_or, slice_get-map, slice_get_within}
 use Prim.Native.Nat.compare.{suc-suc}
-use Rattle.message_bag.specs.Exports.{HasPosted, item_numbered, with_changed}
+use Rattle.message_bag.specs.Exports.{HasPosted, item_numbered, bag_with_changed}
 
 -- one more gets the next number; the others stay
 pub numbered_pushed : {X : Type 0} (xs : List X) (x : X) (number : ℕ)
@@ -13,7 +13,7 @@ numbered_pushed xs x (suc place) = rw (add-one, suc-suc) (get_pushed xs x place)
 
 -- a change is of one number; the others stay
 pub numbered_changed : {X : Type 0} (change : X → X) (xs : List X) (changed number : ℕ)
-    → item_numbered (with_changed change xs changed) number ≡ (if number == changed
+    → item_numbered (bag_with_changed change xs changed) number ≡ (if number == changed
     then option_map change (item_numbered xs number) else item_numbered xs number)
 numbered_changed change xs zero zero = grind arith
 numbered_changed change xs zero (suc place) = grind arith
@@ -23,7 +23,7 @@ numbered_changed change xs (suc at) (suc place) =
 
 -- a change leaves as many as before
 pub length_changed : {X : Type 0} (change : X → X) (xs : List X) (number : ℕ)
-    → length (with_changed change xs number) ≡ length xs
+    → length (bag_with_changed change xs number) ≡ length xs
 length_changed change xs zero = refl
 length_changed change xs (suc place) = by_one (slice_get xs place) where
   by_one : (o : Option _) → length (option_map_or (λ x. set xs place (change x)) o xs) ≡ length xs

@@ -3,8 +3,8 @@ use Rattle.std.proofs.Common.{[], ◌++◌, ◌∙◌, ◌∷◌, ◌≡◌, All
 use Rattle.base.proofs.Exports.{All-head, All-tail}
 use Rattle.ctrl_msg.specs.declared.message.Body.TheVariants.{Install}
 use Rattle.ctrl_msg.specs.declared.message.Message.{Message}
-use Rattle.wire.specs.Exports.{frame, frames, message, message_front, n4, spelled_front, spelled_number, body_suits_receiver, tables}
-use Rattle.message_bag.specs.Exports.{AreKeptFrames, AreOfMessage, CarryTables, First, HasFrames, HasPosted, IsBagGrown, IsThere, frame_count, bag_frames_in, posted_frames, tables_version}
+use Rattle.wire.specs.Exports.{frame, frames, message, message_front, n4, spelled_front, wire_spelled_number, wire_body_suits_receiver, tables}
+use Rattle.message_bag.specs.Exports.{AreBagKeptFrames, AreBagFramesOfMessage, BagFramesCarryTables, First, HasBagFrames, HasPosted, IsBagGrown, IsBagNumberThere, frame_count, bag_frames_in, posted_frames, bag_tables_version}
 use Rattle.message_bag.proofs.BagFramedMessages.{framed_is}
 use Rattle.message_bag.proofs.BagInstallationSpelling.{fits_whole}
 use Rattle.message_bag.proofs.BagNumberedPosts.{all_posted, posted_mapped}
@@ -14,58 +14,58 @@ use Rattle.message_bag.proofs.BagInstallationFrames.{carried, only_frame}
 -- ---- a message of one frame
 
 header : (chunk : List ℕ) → frame 0 1 chunk ≡ (0 ∷ 0 ∷ 0 ∷ 0 ∷ 0 ∷ 0 ∷ 0 ∷ 1 ∷ []) ++ chunk
-unfolding frame n4 spelled_number
+unfolding frame n4 wire_spelled_number
 header chunk = refl
 
-pub alone_is : (m : Message) (kept : List (List (List ℕ))) (bytes : List ℕ) → tables_version m.body ≡ None
+pub alone_is : (m : Message) (kept : List (List (List ℕ))) (bytes : List ℕ) → bag_tables_version m.body ≡ None
     → bytes ≡ (0 ∷ 0 ∷ 0 ∷ 0 ∷ 0 ∷ 0 ∷ 0 ∷ 1 ∷ []) ++ message.spell m → bag_frames_in kept (bytes, None) ≡ frames m
 alone_is m kept bytes alone is = cc (is, header (message.spell m), only_frame m alone)
 
 -- ---- what was kept
 
-stays : (before after : List (List (List ℕ))) (first : First) → IsBagGrown before after → IsThere before first.1
+stays : (before after : List (List (List ℕ))) (first : First) → IsBagGrown before after → IsBagNumberThere before first.1
     → bag_frames_in after first ≡ bag_frames_in before first
 stays before after (first, None) grown there = refl
 stays before after (first, Some number) grown there =
     ap (λ fs. first ∷ drop 1 fs) (sym (get_or-take (length before) after number [] there) ∙ ap (λ kept. get_or kept number []) grown)
 
-there_still : (before after : List (List (List ℕ))) (o : Option ℕ) → IsBagGrown before after → IsThere before o → IsThere after o
+there_still : (before after : List (List (List ℕ))) (o : Option ℕ) → IsBagGrown before after → IsBagNumberThere before o → IsBagNumberThere after o
 there_still before after None grown there = tt
 there_still before after (Some number) grown there =
     omega (arith, there, length-take (length before) after, ap length grown)
 
 pub all_stay : (before after : List (List (List ℕ))) (firsts : List First) → IsBagGrown before after
-    → All (AreKeptFrames before) firsts → map (bag_frames_in after) firsts ≡ map (bag_frames_in before) firsts
+    → All (AreBagKeptFrames before) firsts → map (bag_frames_in after) firsts ≡ map (bag_frames_in before) firsts
 all_stay before after [] grown kept = refl
 all_stay before after (first ∷ firsts) grown kept =
-    rw (stays before after first grown (All-head (AreKeptFrames before) first firsts kept).there)
-    (ap (λ others. bag_frames_in before first ∷ others) (all_stay before after firsts grown (All-tail (AreKeptFrames before) first firsts kept)))
+    rw (stays before after first grown (All-head (AreBagKeptFrames before) first firsts kept).there)
+    (ap (λ others. bag_frames_in before first ∷ others) (all_stay before after firsts grown (All-tail (AreBagKeptFrames before) first firsts kept)))
 
 pub still_kept : (before after : List (List (List ℕ))) (firsts : List First) → IsBagGrown before after
-    → All (AreKeptFrames before) firsts → All (AreKeptFrames after) firsts
+    → All (AreBagKeptFrames before) firsts → All (AreBagKeptFrames after) firsts
 still_kept before after firsts grown kept = λ k d lt. let is = kept k d lt in record {
   there = there_still before after _ grown is.there;
-  are = subst AreOfMessage (sym (stays before after _ grown is.there)) is.are;
+  are = subst AreBagFramesOfMessage (sym (stays before after _ grown is.there)) is.are;
 }
 
 -- ---- a first frame that is pushed, or not, if memory runs out
 
 module _ {E : Type 0} (m : Message) (kept : List (List (List ℕ))) (first : First) (firsts longer : List First)
-    (r : Result ℕ E) (post : HasPosted r first firsts longer) (has : HasFrames m) (is : bag_frames_in kept first ≡ frames m) where
+    (r : Result ℕ E) (post : HasPosted r first firsts longer) (has : HasBagFrames m) (is : bag_frames_in kept first ≡ frames m) where
   pub posted_after : (bag : List (List (List ℕ))) → map (bag_frames_in kept) firsts ≡ bag
       → HasPosted r (posted_frames m) bag (map (bag_frames_in kept) longer)
   posted_after bag view = subst (λ fs. HasPosted r fs bag (map (bag_frames_in kept) longer))
       (is ∙ sym (framed_is m has.fits)) (posted_mapped first firsts longer (bag_frames_in kept) bag r post view)
 
-  pub kept_after : All (AreKeptFrames kept) firsts → IsThere kept first.1 → All (AreKeptFrames kept) longer
-  kept_after all there = all_posted first firsts longer (AreKeptFrames kept) r post all
+  pub kept_after : All (AreBagKeptFrames kept) firsts → IsBagNumberThere kept first.1 → All (AreBagKeptFrames kept) longer
+  kept_after all there = all_posted first firsts longer (AreBagKeptFrames kept) r post all
       (record { there = there; are = (m, has, is) })
 
 -- ---- an installation
 
 -- the first frame of its own, and the kept ones behind it
 pub tables_are : (m : Message) (kept : List (List (List ℕ))) (number boot : ℕ) (t : Tables) (bytes : List ℕ)
-    → m.body ≡ Install boot t → CarryTables t (get_or kept number [])
+    → m.body ≡ Install boot t → BagFramesCarryTables t (get_or kept number [])
     → bytes ≡ frame 0 (length (get_or kept number [])) (spelled_front m.to boot)
     → bag_frames_in kept (bytes, Some number) ≡ frames m
 tables_are m kept number boot t bytes carries carry is = let fs = get_or kept number [] in
@@ -75,7 +75,7 @@ tables_are m kept number boot t bytes carries carry is = let fs = get_or kept nu
 
 pub tables_fit : (m : Message) (boot : ℕ) (t : Tables) → m.body ≡ Install boot t
     → message_front.fits (m.to, (1, boot)) ≡ true
-    → tables.fits t ≡ true → body_suits_receiver m.to m.body ≡ true → message.fits m ≡ true
+    → tables.fits t ≡ true → wire_body_suits_receiver m.to m.body ≡ true → message.fits m ≡ true
 tables_fit m boot t carries head fits is =
     ap (λ b. message.fits (record { to = m.to; body = b })) carries
-    ∙ fits_whole m.to boot t head fits (ap (body_suits_receiver m.to) (sym carries) ∙ is)
+    ∙ fits_whole m.to boot t head fits (ap (wire_body_suits_receiver m.to) (sym carries) ∙ is)

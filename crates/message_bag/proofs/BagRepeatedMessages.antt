@@ -3,7 +3,7 @@ use Rattle.std.proofs.Common.{[], ◌++◌, ◌-◌, ◌∙◌, ◌∷◌, ◌�
 use Rattle.base.proofs.Exports.{IfSome-at_place, slice_get-map}
 use Rattle.ctrl_msg.specs.declared.message.Message.{Message}
 use Rattle.message_bag.proofs.BagNumberedPosts.{all_posted, mapped_again, still_numbered}
-use Rattle.message_bag.specs.Exports.{AreKeptFrames, ArePostedAdverts, First, HasPosted, IsPostLike, IsPostedAdvert, bag_frames_in, item_numbered, posted_frames}
+use Rattle.message_bag.specs.Exports.{AreBagKeptFrames, ArePostedAdverts, First, HasPosted, IsPostLike, IsAdvertPostedInBag, bag_frames_in, item_numbered, posted_frames}
 use Rattle.message_bag.specs.declared.sharing_bag.PostedAdvert.{PostedAdvert}
 
 -- ---- a message once more
@@ -18,17 +18,17 @@ module _ {E : Type 0} (kept : List (List (List ℕ))) (firsts longer : List Firs
 
   pub repeated_kept : (number : ℕ) → IsSome (item_numbered bag number)
       → IfSome (slice_get firsts (number - 1)) (λ first. HasPosted r first firsts longer)
-      → All (AreKeptFrames kept) firsts → All (AreKeptFrames kept) longer
+      → All (AreBagKeptFrames kept) firsts → All (AreBagKeptFrames kept) longer
   repeated_kept zero is again all = absurd cc
   repeated_kept (suc place) is again all = let same : suc place - 1 ≡ place = omega arith in
       by_one (slice_get firsts place) refl (rw same at again)
       (subst (λ b. IsSome (slice_get b place)) (sym view) is)
     where
       by_one : (o : Option First) → slice_get firsts place ≡ o → IfSome o (λ first. HasPosted r first firsts longer)
-          → IsSome (slice_get (map (bag_frames_in kept) firsts) place) → All (AreKeptFrames kept) longer
+          → IsSome (slice_get (map (bag_frames_in kept) firsts) place) → All (AreBagKeptFrames kept) longer
       by_one None at post is = absurd (cc (is, slice_get-map (bag_frames_in kept) firsts place, at))
-      by_one (Some first) at post is = all_posted first firsts longer (AreKeptFrames kept) r post all
-          (IfSome-at_place (AreKeptFrames kept) firsts place (Some first) all at)
+      by_one (Some first) at post is = all_posted first firsts longer (AreBagKeptFrames kept) r post all
+          (IfSome-at_place (AreBagKeptFrames kept) firsts place (Some first) all at)
 
 -- ---- adverts
 
@@ -37,7 +37,7 @@ pub adverts_posted : {E : Type 0} (r : Result ℕ E) (more : List (List ℕ)) (b
     (adverts : List (Option PostedAdvert)) → HasPosted r more bag longer → ArePostedAdverts bag adverts
     → ArePostedAdverts longer adverts
 adverts_posted r more bag longer adverts post posted = λ place. by_one (get_or adverts place None) (posted place) where
-  by_one : (o : Option PostedAdvert) → IsPostedAdvert bag o → IsPostedAdvert longer o
+  by_one : (o : Option PostedAdvert) → IsAdvertPostedInBag bag o → IsAdvertPostedInBag longer o
   by_one None is = tt
   by_one (Some last) is = still_numbered more bag longer (posted_frames last.message) last.number r post is
 
@@ -46,17 +46,17 @@ pub again_posted : {E : Type 0} (r : Result ℕ E) (bag longer : List (List (Lis
     → IfSome (item_numbered bag last.number) (λ fs. HasPosted r fs bag longer) → ArePostedAdverts longer adverts
 again_posted r bag longer adverts place last posted there again =
     adverts_posted r (posted_frames last.message) bag longer adverts
-    (rw (subst (IsPostedAdvert bag) there (posted place)) at again) posted
+    (rw (subst (IsAdvertPostedInBag bag) there (posted place)) at again) posted
 
 -- those of more places
 pub all_same : (bag : List (List (List ℕ))) (adverts more : List (Option PostedAdvert))
     → ((place : ℕ) → get_or more place None ≡ get_or adverts place None)
     → ArePostedAdverts bag adverts → ArePostedAdverts bag more
-all_same bag adverts more same posted = λ place. subst (IsPostedAdvert bag) (sym (same place)) (posted place)
+all_same bag adverts more same posted = λ place. subst (IsAdvertPostedInBag bag) (sym (same place)) (posted place)
 
 -- one more at a place
 pub one_set : (bag : List (List (List ℕ))) (adverts : List (Option PostedAdvert)) (place : ℕ) (o : Option PostedAdvert)
-    → ArePostedAdverts bag adverts → IsPostedAdvert bag o → ArePostedAdverts bag (set adverts place o)
+    → ArePostedAdverts bag adverts → IsAdvertPostedInBag bag o → ArePostedAdverts bag (set adverts place o)
 one_set bag [] place o posted is k = posted k
 one_set bag (a ∷ adverts) zero o posted is zero = is
 one_set bag (a ∷ adverts) zero o posted is (suc k) = posted (suc k)
@@ -69,7 +69,7 @@ pub likened : (bag : List (List (List ℕ))) (adverts : List (Option PostedAdver
     → ArePostedAdverts bag adverts → get_or adverts place None ≡ Some last → last.message.body ≡ m.body
     → IsPostLike bag last.number m
 likened bag adverts place last m posted there same =
-    let is : IsPostedAdvert bag (Some last) = subst (IsPostedAdvert bag) there (posted place) in
+    let is : IsAdvertPostedInBag bag (Some last) = subst (IsAdvertPostedInBag bag) there (posted place) in
     (last.message.to, is ∙ ap (λ b. Some (posted_frames (record { to = last.message.to; body = b }))) same)
 
 -- to the same receiver it is the same

@@ -11,25 +11,25 @@ use Rattle.policy_rules.specs.declared.policy.Action.{Action}
 use Rattle.policy_rules.specs.declared.policy.Action.TheVariants.{Drop, Out}
 use Rattle.switch_table.specs.declared.tables.Tables.{Tables}
 use Rattle.ternary.specs.Exports.{WordValue}
-use Rattle.wire.specs.Exports.{acknowledgement, action, advert, body, boot_and_version, cache_rule_form, hello, install_form, kind_number, message, n1, n16, n4, n8, receiver, rule_name, spelled_fields, spelled_number, stamp_form, switch, tables, touched, touched_count, word}
+use Rattle.wire.specs.Exports.{acknowledgement, action, advert, body, boot_and_version, cache_rule_form, hello, install_form, kind_number, message, n1, n16, n4, n8, receiver, rule_name, wire_spelled_fields, wire_spelled_number, stamp_form, switch, tables, touched, wire_touched_count, word}
 use Rattle.wire.proofs.WireFrameBytes.{length_n4}
 
 pub length_receiver : (to : Place) → length (receiver.spell to) ≡ 1
-unfolding receiver switch n1 spelled_number
+unfolding receiver switch n1 wire_spelled_number
 length_receiver (Switch s) = refl
 length_receiver Controller = refl
 
 pub length_kind : (b : Body) → length (n1.spell (kind_number b)) ≡ 1
-unfolding n1 spelled_number
+unfolding n1 wire_spelled_number
 length_kind b = refl
 
 -- the receiver and the kind, and then the fields
-pub length_message : (m : Message) → length (message.spell m) ≡ 2 + length (spelled_fields m.body)
+pub length_message : (m : Message) → length (message.spell m) ≡ 2 + length (wire_spelled_fields m.body)
 unfolding message body
 length_message m = omega (
   arith,
-  length-append (receiver.spell m.to) (n1.spell (kind_number m.body) ++ spelled_fields m.body),
-  length-append (n1.spell (kind_number m.body)) (spelled_fields m.body),
+  length-append (receiver.spell m.to) (n1.spell (kind_number m.body) ++ wire_spelled_fields m.body),
+  length-append (n1.spell (kind_number m.body)) (wire_spelled_fields m.body),
   length_receiver m.to,
   length_kind m.body,
 )
@@ -41,32 +41,32 @@ is_alone (Stamp _ _ _) = false
 is_alone _ = true
 
 two_numbers : (a b : ℕ) → length (boot_and_version.spell (a, b)) ≡ 8
-unfolding boot_and_version n4 spelled_number
+unfolding boot_and_version n4 wire_spelled_number
 two_numbers a b = refl
 
 three_numbers : (s a b : ℕ) → length (acknowledgement.spell (s, (a, b))) ≡ 9
-unfolding acknowledgement boot_and_version switch n1 n4 spelled_number
+unfolding acknowledgement boot_and_version switch n1 n4 wire_spelled_number
 three_numbers s a b = refl
 
 told : (s a : ℕ) → length (hello.spell (s, a)) ≡ 5
-unfolding hello switch n1 n4 spelled_number
+unfolding hello switch n1 n4 wire_spelled_number
 told s a = refl
 
 advert_len : (a : Advert) → length (advert.spell a) ≡ 17
-unfolding advert switch n1 n4 n8 spelled_number
+unfolding advert switch n1 n4 n8 wire_spelled_number
 advert_len a = refl
 
 pub word_len : (w : WordValue) → length (word.spell w) ≡ 32
-unfolding word n16 n8 spelled_number
+unfolding word n16 n8 wire_spelled_number
 word_len w = refl
 
 pub rule_len : (o : Option ℕ) → length (rule_name.spell o) ≤ 5
-unfolding rule_name n1 n4 spelled_number
+unfolding rule_name n1 n4 wire_spelled_number
 rule_len None = omega arith
 rule_len (Some n) = omega arith
 
 pub action_len : (a : Action) → length (action.spell a) ≤ 5
-unfolding action n1 n4 spelled_number
+unfolding action n1 n4 wire_spelled_number
 action_len Drop = omega arith
 action_len (Out port) = omega arith
 
@@ -84,7 +84,7 @@ rule_fields version w rule act = omega (
   action_len act,
 )
 
-pub fields_short : (b : Body) → is_alone b ≡ true → length (spelled_fields b) ≤ 46
+pub fields_short : (b : Body) → is_alone b ≡ true → length (wire_spelled_fields b) ≤ 46
 fields_short (OpenAt boot version) alone = omega (arith, two_numbers boot version)
 fields_short (Collect boot version) alone = omega (arith, two_numbers boot version)
 fields_short (CacheRule version w rule act) alone = rule_fields version w rule act
@@ -105,18 +105,18 @@ words_len (w ∷ touched) = omega (
 )
 
 pub few_words : (list : List WordValue) → touched.fits list ≡ true → length list ≤ 16
-unfolding touched touched_count
+unfolding touched wire_touched_count
 few_words list fits =
-    let few = and_parts (touched_count.fits (length list)) (list_all word.fits list) fits in
+    let few = and_parts (wire_touched_count.fits (length list)) (list_all word.fits list) fits in
     leb-true (length list) 16
     (and_parts (n1.fits (length list)) (leb (length list) 16) few.0).1
 
 length_n1 : (n : ℕ) → length (n1.spell n) ≡ 1
-unfolding n1 spelled_number
+unfolding n1 wire_spelled_number
 length_n1 n = refl
 
 touched_len : (list : List WordValue) → length list ≤ 16 → length (touched.spell list) ≤ 513
-unfolding touched touched_count
+unfolding touched wire_touched_count
 touched_len list few = omega (
   arith,
   length-append (n1.spell (length list)) (flat_map word.spell list),
@@ -126,7 +126,7 @@ touched_len list few = omega (
 )
 
 pub stamp_short : (boot version : ℕ) (list : List WordValue) → length list ≤ 16
-    → length (spelled_fields (Stamp boot version list)) ≤ 521
+    → length (wire_spelled_fields (Stamp boot version list)) ≤ 521
 unfolding stamp_form
 stamp_short boot version list few = omega (
   arith,
@@ -138,12 +138,12 @@ stamp_short boot version list few = omega (
 )
 
 -- of an installation there is the boot
-pub install_long : (boot : ℕ) (t : Tables) → 4 ≤ length (spelled_fields (Install boot t))
+pub install_long : (boot : ℕ) (t : Tables) → 4 ≤ length (wire_spelled_fields (Install boot t))
 unfolding install_form
 install_long boot t = omega (arith, length-append (n4.spell boot) (tables.spell t), length_n4 boot)
 
 -- so a message without tables is short
-sent_short : (m : Message) → length (spelled_fields m.body) ≤ 521
+sent_short : (m : Message) → length (wire_spelled_fields m.body) ≤ 521
     → length (message.spell m) < 2 ^ 40
 sent_short m short = omega (arith, length_message m, short)
 

@@ -4,16 +4,16 @@ use Rattle.base.proofs.Exports.{and_parts, div_ceil, div_ceil_times, drop-append
 use Rattle.ctrl_msg.specs.declared.message.Place.{Place}
 use Rattle.ctrl_msg.specs.declared.message.Body.TheVariants.{Install}
 use Rattle.switch_table.specs.declared.tables.Tables.{Tables}
-use Rattle.wire.specs.Exports.{equal_chunks, frame, frames, frames_from, frames_of_version, list_of, most_of_chunk, n4, partition, region, spelled_front, tables}
+use Rattle.wire.specs.Exports.{wire_equal_chunks, frame, frames, frames_from, wire_frames_of_version, wire_list_of, most_of_chunk, n4, partition, region, spelled_front, tables}
 use Rattle.wire.proofs.WireFrameBytes.{length_n4}
-use Rattle.message_bag.specs.Exports.{frame_count, table_chunks, table_frames}
+use Rattle.message_bag.specs.Exports.{frame_count, bag_table_chunks, bag_table_frames}
 use Rattle.message_bag.proofs.BagInstallationSpelling.{installed}
 
 -- ---- the chunks
 
 -- what tables spell behind their version
 abbrev rows : Tables → List ℕ
-rows t = (list_of n4 region).spell t.parts ++ (list_of n4 partition).spell t.auth
+rows t = (wire_list_of n4 region).spell t.parts ++ (wire_list_of n4 partition).spell t.auth
 
 spelled : (t : Tables) → tables.spell t ≡ n4.spell t.version ++ rows t
 unfolding tables
@@ -21,11 +21,11 @@ spelled t = refl
 
 -- the chunks behind the first one
 abbrev others : List ℕ → List (List ℕ)
-others rest = equal_chunks (div_ceil (4 + length rest) most_of_chunk - 1) most_of_chunk
+others rest = wire_equal_chunks (div_ceil (4 + length rest) most_of_chunk - 1) most_of_chunk
     (drop 16372 rest)
 
 begin : (head rest : List ℕ) → length head ≡ 4
-    → equal_chunks (div_ceil (length (head ++ rest)) most_of_chunk) most_of_chunk (head ++ rest)
+    → wire_equal_chunks (div_ceil (length (head ++ rest)) most_of_chunk) most_of_chunk (head ++ rest)
     ≡ (head ++ take 16372 rest) ∷ others rest
 begin head rest len =
     let bytes = head ++ rest in
@@ -35,14 +35,14 @@ begin head rest len =
     omega (arith, ap (λ n. div_ceil n most_of_chunk) long, div_ceil_times) in
     let whole : most_of_chunk ≡ length head + 16372 = omega arith in
     let first = ap (λ n. take n bytes) whole ∙ take-append-add head rest 16372 in
-    ap (λ count. equal_chunks count most_of_chunk bytes) some
-    ∙ ap (λ f. f ∷ equal_chunks (div_ceil (4 + length rest) most_of_chunk - 1) most_of_chunk
+    ap (λ count. wire_equal_chunks count most_of_chunk bytes) some
+    ∙ ap (λ f. f ∷ wire_equal_chunks (div_ceil (4 + length rest) most_of_chunk - 1) most_of_chunk
     (drop most_of_chunk bytes)) first
     ∙ ap (λ bytes. (head ++ take 16372 rest)
-    ∷ equal_chunks (div_ceil (4 + length rest) most_of_chunk - 1) most_of_chunk bytes)
+    ∷ wire_equal_chunks (div_ceil (4 + length rest) most_of_chunk - 1) most_of_chunk bytes)
     (ap (λ n. drop n bytes) whole ∙ drop-append-add head rest 16372)
 
-chunks_are : (t : Tables) → table_chunks t ≡ (n4.spell t.version ++ take 16372 (rows t))
+chunks_are : (t : Tables) → bag_table_chunks t ≡ (n4.spell t.version ++ take 16372 (rows t))
     ∷ others (rows t)
 chunks_are t = cc (spelled t, begin (n4.spell t.version) (rows t) (length_n4 t.version))
 
@@ -54,7 +54,7 @@ count_is t = ap (λ (parts : List (List ℕ)). length parts + 1) (chunks_are t)
 pub same_count : (version : ℕ) (t : Tables) → frame_count (record t { version = version }) ≡ frame_count t
 same_count version t = count_is (record t { version = version }) ∙ sym (count_is t)
 
-frames_are : (t : Tables) → table_frames t
+frames_are : (t : Tables) → bag_table_frames t
     ≡ frame 1 (frame_count t) (n4.spell t.version ++ take 16372 (rows t)) ∷ frames_from 2 (frame_count t) (others (rows t))
 frames_are t = ap (frames_from 1 (frame_count t)) (chunks_are t)
 
@@ -77,24 +77,24 @@ replaced place count head new rest end is =
 
 -- behind a first frame
 pub behind : (version : ℕ) (first : List ℕ) (t : Tables)
-    → frames_of_version version (first ∷ table_frames t) ≡ first ∷ table_frames (record t { version = version })
+    → wire_frames_of_version version (first ∷ bag_table_frames t) ≡ first ∷ bag_table_frames (record t { version = version })
 behind version first t =
     let count = frame_count t in
     let rest = take 16372 (rows t) in
     let last = frames_from 2 count (others (rows t)) in
-    ap (λ fs. frames_of_version version (first ∷ fs)) (frames_are t)
+    ap (λ fs. wire_frames_of_version version (first ∷ fs)) (frames_are t)
     ∙ ap (λ f. first ∷ f ∷ last) (replaced 1 count (n4.spell t.version) (n4.spell version) rest 12 (omega (arith, length_n4 t.version)))
     ∙ ap (λ n. first ∷ frame 1 n (n4.spell version ++ rest) ∷ frames_from 2 n (others (rows t))) (sym (same_count version t))
     ∙ ap (λ fs. first ∷ fs) (sym (frames_are (record t { version = version })))
 
 pub of_another_version : (to : Place) (boot version : ℕ) (t : Tables)
     → frames (record { to = to; body = Install boot (record t { version = version }) })
-    ≡ frames_of_version version (frames (record { to = to; body = Install boot t }))
+    ≡ wire_frames_of_version version (frames (record { to = to; body = Install boot t }))
 of_another_version to boot version t =
     installed to boot (record t { version = version })
-    ∙ ap (λ n. frame 0 n (spelled_front to boot) ∷ table_frames (record t { version = version })) (same_count version t)
+    ∙ ap (λ n. frame 0 n (spelled_front to boot) ∷ bag_table_frames (record t { version = version })) (same_count version t)
     ∙ sym (behind version (frame 0 (frame_count t) (spelled_front to boot)) t)
-    ∙ ap (frames_of_version version) (sym (installed to boot t))
+    ∙ ap (wire_frames_of_version version) (sym (installed to boot t))
 
 -- ---- which tables have a spelling
 
@@ -103,5 +103,5 @@ pub fits_too : (version : ℕ) (t : Tables) → version < 2 ^ 32 → tables.fits
 unfolding tables n4
 fits_too version t few fits =
     let parts =
-    and_parts (n4.fits t.version) ((list_of n4 region).fits t.parts && (list_of n4 partition).fits t.auth) fits in
+    and_parts (n4.fits t.version) ((wire_list_of n4 region).fits t.parts && (wire_list_of n4 partition).fits t.auth) fits in
     rw (lt-ltb version (2 ^ 32) few, parts.1) refl

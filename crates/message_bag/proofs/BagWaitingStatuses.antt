@@ -2,7 +2,7 @@
 use Rattle.std.proofs.Common.{[], if◌then◌else◌, ◌++◌, ◌+◌, ◌-◌, ◌<◌, ◌==◌, ◌^◌, ◌∙◌, ◌∷◌, ◌≡◌, ◌≤◌, Bool, IsTrue, List, None, Option, Some, ap, arith, cond, eq-eqb, false, find, get_or, inl, inr, length, length-append, max, ne_eqb, option_map, refl, set, slice_get, subst, suc, sym, take, true, zero, ℕ}
 use Rattle.base.proofs.Exports.{cases_eq, cases_lt, common_steps, get_or_from_slice_get, option_map_or, range_with_len, take-append_seam}
 use Rattle.message_bag.proofs.BagNumberedPosts.{length_changed, numbered_changed, numbered_pushed}
-use Rattle.message_bag.specs.Exports.{ArePassedMessages, IsFirstWaiting, is_deliverable, is_waiting, item_numbered, may_be_delivered, next_waiting, waiting_status, waits, with_changed}
+use Rattle.message_bag.specs.Exports.{AreBagMessagesPassed, IsFirstWaiting, is_deliverable, is_waiting, item_numbered, may_be_delivered, next_waiting, bag_waiting_status, waits, bag_with_changed}
 use Rattle.message_bag.specs.declared.deliveries.MessageState.{MessageState}
 
 waits_as : (statuses after : List MessageState) (number : ℕ) (b : Bool) → item_numbered after number
@@ -22,58 +22,58 @@ status_last statuses status number last =
 
 -- a status behind the others leaves what waits before it, and waits itself
 pub pushed_passed : (passed : ℕ) (statuses : List MessageState) → length statuses + 1 < 2 ^ 32
-    → ArePassedMessages passed statuses → ArePassedMessages passed (statuses ++ waiting_status ∷ [])
+    → AreBagMessagesPassed passed statuses → AreBagMessagesPassed passed (statuses ++ bag_waiting_status ∷ [])
 pushed_passed passed statuses few are =
-    let after = statuses ++ waiting_status ∷ [] in
-    let longer = length-append statuses (waiting_status ∷ []) in record {
+    let after = statuses ++ bag_waiting_status ∷ [] in
+    let longer = length-append statuses (bag_waiting_status ∷ []) in record {
       few = omega arith;
       within = omega (arith, are.within);
       here = λ below. elim (cases_lt passed (length statuses)) [
         | inl within ↦ waits_as statuses after (passed + 1) true
-            (status_before statuses waiting_status (passed + 1) (omega arith)) (are.here within)
+            (status_before statuses bag_waiting_status (passed + 1) (omega arith)) (are.here within)
         | inr past ↦ ap (λ o. option_map_or waits o false)
-            (status_last statuses waiting_status (passed + 1) (omega arith))
+            (status_last statuses bag_waiting_status (passed + 1) (omega arith))
       ];
       none = λ number below. waits_as statuses after number false
-          (status_before statuses waiting_status number (omega (arith, are.within)))
+          (status_before statuses bag_waiting_status number (omega (arith, are.within)))
           (are.none number below);
     }
 
 -- statuses without the last one
-pub without_last : (n : ℕ) (all before : List MessageState) → all ≡ before ++ waiting_status ∷ []
+pub without_last : (n : ℕ) (all before : List MessageState) → all ≡ before ++ bag_waiting_status ∷ []
     → n ≡ length all - 1 → take n all ≡ before
 without_last n all before is last =
     let many : n ≡ length before =
-    omega (arith, last, ap length is, length-append before (waiting_status ∷ [])) in
-    rw (is, many) (take-append_seam before (waiting_status ∷ []))
+    omega (arith, last, ap length is, length-append before (bag_waiting_status ∷ [])) in
+    rw (is, many) (take-append_seam before (bag_waiting_status ∷ []))
 
 -- so it is without a status that waits behind the others
 pub taken_back : (passed : ℕ) (statuses : List MessageState)
-    → ArePassedMessages passed (statuses ++ waiting_status ∷ []) → ArePassedMessages passed statuses
+    → AreBagMessagesPassed passed (statuses ++ bag_waiting_status ∷ []) → AreBagMessagesPassed passed statuses
 taken_back passed statuses are =
-    let longer = length-append statuses (waiting_status ∷ []) in
+    let longer = length-append statuses (bag_waiting_status ∷ []) in
     let within : passed ≤ length statuses = elim (cases_lt (length statuses) passed) [
-      | inl past ↦ absurd (let last : is_waiting (statuses ++ waiting_status ∷ [])
+      | inl past ↦ absurd (let last : is_waiting (statuses ++ bag_waiting_status ∷ [])
           (length statuses + 1)
           ≡ true = ap (λ o. option_map_or waits o false)
-          (status_last statuses waiting_status (length statuses + 1) refl) in
+          (status_last statuses bag_waiting_status (length statuses + 1) refl) in
           let not_last = are.none (length statuses + 1) (omega (arith, past)) in cc)
       | inr within ↦ within
     ] in record {
       few = omega (arith, are.few, longer);
       within = within;
-      here = λ below. waits_as (statuses ++ waiting_status ∷ []) statuses (passed + 1) true
-          (sym (status_before statuses waiting_status (passed + 1) (omega (arith, below))))
+      here = λ below. waits_as (statuses ++ bag_waiting_status ∷ []) statuses (passed + 1) true
+          (sym (status_before statuses bag_waiting_status (passed + 1) (omega (arith, below))))
           (are.here (omega (arith, below, longer)));
-      none = λ number below. waits_as (statuses ++ waiting_status ∷ []) statuses number false
-          (sym (status_before statuses waiting_status number (omega (arith, below, within))))
+      none = λ number below. waits_as (statuses ++ bag_waiting_status ∷ []) statuses number false
+          (sym (status_before statuses bag_waiting_status number (omega (arith, below, within))))
           (are.none number below);
     }
 
 -- after a change by which a message waits no more, nothing waits that didn't before
 still_none : (change : MessageState → MessageState) (statuses : List MessageState) (changed number : ℕ)
     → ((status : MessageState) → waits (change status) ≡ false) → is_waiting statuses number ≡ false
-    → is_waiting (with_changed change statuses changed) number ≡ false
+    → is_waiting (bag_with_changed change statuses changed) number ≡ false
 still_none change statuses changed number still none =
     ap (λ o. option_map_or waits o false) (numbered_changed change statuses changed number)
     ∙ by_status (number == changed) (item_numbered statuses number) none
@@ -87,7 +87,7 @@ still_none change statuses changed number still none =
 -- the change of a number's status is a change at its place
 changed_place : (change : MessageState → MessageState) (statuses : List MessageState) (place : ℕ) (status : MessageState)
     → IsTrue (is_deliverable statuses (suc place)) → status ≡ get_or statuses place status
-    → set statuses place (change status) ≡ with_changed change statuses (suc place)
+    → set statuses place (change status) ≡ bag_with_changed change statuses (suc place)
 changed_place change statuses place status is here = by_status (slice_get statuses place) refl is
   where
     by_status : (o : Option MessageState) → slice_get statuses place ≡ o
@@ -99,7 +99,7 @@ changed_place change statuses place status is here = by_status (slice_get status
 
 changed_at : (change : MessageState → MessageState) (statuses : List MessageState) (number : ℕ) (status : MessageState)
     → IsTrue (is_deliverable statuses number) → status ≡ get_or statuses (number - 1) status
-    → set statuses (number - 1) (change status) ≡ with_changed change statuses number
+    → set statuses (number - 1) (change status) ≡ bag_with_changed change statuses number
 changed_at change statuses zero status is here = absurd (cc)
 changed_at change statuses (suc place) status is here =
     let same : suc place - 1 ≡ place = omega arith in
@@ -108,22 +108,22 @@ changed_at change statuses (suc place) status is here =
 pub changed_from : (change : MessageState → MessageState) (before statuses : List MessageState) (number : ℕ) (status : MessageState)
     → IsTrue (is_deliverable statuses number) → before ≡ statuses
     → status ≡ get_or before (number - 1) status
-    → set statuses (number - 1) (change status) ≡ with_changed change statuses number
+    → set statuses (number - 1) (change status) ≡ bag_with_changed change statuses number
 changed_from change before statuses number status is same here = changed_at change statuses number
     status is (subst (λ statuses. status ≡ get_or statuses (number - 1) status) same here)
 
 -- the messages up to the first that waits have been passed
 pub changed_passed : (change : MessageState → MessageState) (passed number first : ℕ)
     → (before statuses seen : List MessageState) (status : MessageState)
-    → ((status : MessageState) → waits (change status) ≡ false) → ArePassedMessages passed before
+    → ((status : MessageState) → waits (change status) ≡ false) → AreBagMessagesPassed passed before
     → IsTrue (is_deliverable statuses number) → before ≡ statuses
     → status ≡ get_or before (number - 1) status
     → seen ≡ set before (number - 1) (change status) → IsFirstWaiting seen passed first
-    → ArePassedMessages first (set before (number - 1) (change status))
+    → AreBagMessagesPassed first (set before (number - 1) (change status))
 changed_passed change passed number first before statuses seen status still are there same here
     sees found =
     let after : List MessageState = set before (number - 1) (change status) in
-    let changed : after ≡ with_changed change statuses number =
+    let changed : after ≡ bag_with_changed change statuses number =
     ap (λ statuses. set statuses (number - 1) (change status)) same
     ∙ changed_from change before statuses number status there same here in
     let long = ap length changed ∙ length_changed change statuses number ∙ sym (ap length same) in
@@ -169,16 +169,16 @@ not_found p from (suc n) none =
 
 -- a place that was searched for from this number on, behind what was passed
 pub record IsSearched (statuses : List MessageState) (passed from start place : ℕ) : Type 0 where
-  pub are : ArePassedMessages passed statuses
+  pub are : AreBagMessagesPassed passed statuses
   pub begins : start ≡ max (from - 1) passed
   pub first : IsFirstWaiting statuses start place
 
 -- by whatever name the statuses go
-pub searched : {inside now seen : List MessageState} {passed start place : ℕ} (from : ℕ) → ArePassedMessages passed inside
+pub searched : {inside now seen : List MessageState} {passed start place : ℕ} (from : ℕ) → AreBagMessagesPassed passed inside
     → start ≡ max (from - 1) passed → IsFirstWaiting seen start place → inside ≡ now → seen ≡ inside
     → IsSearched now passed from start place
 searched {passed = passed} {start = start} {place = place} from are begins first same sees = record {
-  are = subst (ArePassedMessages passed) same are;
+  are = subst (AreBagMessagesPassed passed) same are;
   begins = begins;
   first = subst (λ statuses. IsFirstWaiting statuses start place) (sees ∙ same) first;
 }

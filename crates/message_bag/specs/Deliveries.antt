@@ -6,8 +6,8 @@ use Rattle.message_bag.specs.Numbered.{item_numbered}
 use Rattle.message_bag.specs.declared.deliveries.MessageState.{MessageState}
 
 -- the status of a message that is posted now
-abbrev pub waiting_status : MessageState
-waiting_status = record { delivered = false; forgotten = false }
+abbrev pub bag_waiting_status : MessageState
+bag_waiting_status = record { delivered = false; forgotten = false }
 
 abbrev pub delivered_status : MessageState → MessageState
 delivered_status status = record status { delivered = true }
@@ -37,7 +37,7 @@ next_waiting statuses from =
 
 -- the numbers fit 32 bits, and those up to a number were passed: none of them waits and the next
 -- one does, if there is one
-pub record ArePassedMessages (passed : ℕ) (statuses : List MessageState) : Type 0 where
+pub record AreBagMessagesPassed (passed : ℕ) (statuses : List MessageState) : Type 0 where
   pub few : length statuses < 2 ^ 32
   pub within : passed ≤ length statuses
   pub here : passed < length statuses → is_waiting statuses (passed + 1) ≡ true

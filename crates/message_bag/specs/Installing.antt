@@ -5,26 +5,26 @@ use Rattle.base.specs.Exports.{div_ceil}
 use Rattle.ctrl_msg.specs.declared.message.Place.{Place}
 use Rattle.switch_table.specs.declared.tables.Tables.{Tables}
 use Rattle.wire.specs.Fields as form
-use Rattle.wire.specs.Exports.{equal_chunks, frame, frames_from, most_of_chunk, spelled_front}
+use Rattle.wire.specs.Exports.{wire_equal_chunks, frame, frames_from, most_of_chunk, spelled_front}
 
 -- the encoding of the tables, in as few chunks as possible
-abbrev pub table_chunks : Tables → List (List ℕ)
-table_chunks t =
+abbrev pub bag_table_chunks : Tables → List (List ℕ)
+bag_table_chunks t =
     let bytes = form.tables.spell t in
-    equal_chunks (div_ceil (length bytes) most_of_chunk) most_of_chunk bytes
+    wire_equal_chunks (div_ceil (length bytes) most_of_chunk) most_of_chunk bytes
 
 -- how many frames an installation of these tables has
 abbrev pub frame_count : Tables → ℕ
-frame_count t = length (table_chunks t) + 1
+frame_count t = length (bag_table_chunks t) + 1
 
 -- the frames after the first one
-abbrev pub table_frames : Tables → List (List ℕ)
-table_frames t = frames_from 1 (frame_count t) (table_chunks t)
+abbrev pub bag_table_frames : Tables → List (List ℕ)
+bag_table_frames t = frames_from 1 (frame_count t) (bag_table_chunks t)
 
-abbrev pub install_frames : Place → ℕ → Tables → List (List ℕ)
-install_frames to boot t = frame 0 (frame_count t) (spelled_front to boot) ∷ table_frames t
+abbrev pub bag_install_frames : Place → ℕ → Tables → List (List ℕ)
+bag_install_frames to boot t = frame 0 (frame_count t) (spelled_front to boot) ∷ bag_table_frames t
 
 -- after the first one these frames encode the tables
-pub record AreFramesBehindFirst (t : Tables) (fs : List (List ℕ)) : Type 0 where
+pub record AreBagFramesBehindFirst (t : Tables) (fs : List (List ℕ)) : Type 0 where
   pub fits : form.tables.fits t ≡ true
-  pub are : drop 1 fs ≡ table_frames t
+  pub are : drop 1 fs ≡ bag_table_frames t

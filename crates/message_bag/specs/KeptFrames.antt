@@ -3,16 +3,16 @@ use Rattle.std.specs.Prelude.{[], ◌++◌, ◌+◌, ◌-◌, ◌<◌, ◌∷◌
 use Rattle.ctrl_msg.specs.declared.message.Body.{Body}
 use Rattle.ctrl_msg.specs.declared.message.Body.TheVariants.{Install}
 use Rattle.ctrl_msg.specs.declared.message.Message.{Message}
-use Rattle.message_bag.specs.Feeding.{HasFrames, HasShortSpelling}
-use Rattle.message_bag.specs.Installing.{AreFramesBehindFirst, frame_count}
+use Rattle.message_bag.specs.Feeding.{HasBagFrames, HasShortBagSpelling}
+use Rattle.message_bag.specs.Installing.{AreBagFramesBehindFirst, frame_count}
 use Rattle.switch_table.specs.declared.tables.Tables.{Tables}
 use Rattle.wire.specs.Exports.{frames, message, n4}
 use Rattle.message_bag.specs.declared.firsts.Span.{Span}
 
 -- the version of the tables that an installation carries
-abbrev pub tables_version : Body → Option ℕ
-tables_version (Install boot tables) = Some tables.version
-tables_version _ = None
+abbrev pub bag_tables_version : Body → Option ℕ
+bag_tables_version (Install boot tables) = Some tables.version
+bag_tables_version _ = None
 
 -- the message of this number is this one, and it has an encoding
 pub record IsPostedInBag (bag : List (List (List ℕ))) (number : ℕ) (m : Message) : Type 0 where
@@ -20,8 +20,8 @@ pub record IsPostedInBag (bag : List (List (List ℕ))) (number : ℕ) (m : Mess
   pub posted : slice_get bag (number - 1) ≡ Some (frames m)
 
 -- the message is an installation of these tables, and has a short encoding
-abbrev pub IsInstallOf : Message → Tables → Type 0
-IsInstallOf m tables = HasShortSpelling m × ((boot : ℕ) × (m.body ≡ Install boot tables))
+abbrev pub IsBagInstallOf : Message → Tables → Type 0
+IsBagInstallOf m tables = HasShortBagSpelling m × ((boot : ℕ) × (m.body ≡ Install boot tables))
 
 -- ---- how they are kept
 
@@ -41,37 +41,37 @@ abbrev pub bag_frames_in : List (List (List ℕ)) → First → List (List ℕ)
 bag_frames_in kept (first, None) = first ∷ []
 bag_frames_in kept (first, Some number) = first ∷ drop 1 (get_or kept number [])
 
-abbrev pub IsThere : List (List (List ℕ)) → Option ℕ → Type 0
-IsThere kept None = Unit {0}
-IsThere kept (Some number) = number < length kept
+abbrev pub IsBagNumberThere : List (List (List ℕ)) → Option ℕ → Type 0
+IsBagNumberThere kept None = Unit {0}
+IsBagNumberThere kept (Some number) = number < length kept
 
 -- they are the frames of a message
-abbrev pub AreOfMessage : List (List ℕ) → Type 0
-AreOfMessage fs = (m : Message) × HasFrames m × (fs ≡ frames m)
+abbrev pub AreBagFramesOfMessage : List (List ℕ) → Type 0
+AreBagFramesOfMessage fs = (m : Message) × HasBagFrames m × (fs ≡ frames m)
 
-pub record AreKeptFrames (kept : List (List (List ℕ))) (first : First) : Type 0 where
-  pub there : IsThere kept first.1
-  pub are : AreOfMessage (bag_frames_in kept first)
+pub record AreBagKeptFrames (kept : List (List (List ℕ))) (first : First) : Type 0 where
+  pub there : IsBagNumberThere kept first.1
+  pub are : AreBagFramesOfMessage (bag_frames_in kept first)
 
 -- they are the frames of an installation
-pub record AreOfInstall (fs : List (List ℕ)) : Type 0 where
+pub record AreBagFramesOfInstall (fs : List (List ℕ)) : Type 0 where
   pub message_is : Message
   pub boot : ℕ
   pub tables : Tables
-  pub has : HasFrames message_is
+  pub has : HasBagFrames message_is
   pub are : fs ≡ frames message_is
   pub carries : message_is.body ≡ Install boot tables
 
 -- these are the frames of an installation of these tables, whatever its receiver and its boot
-pub record CarryTables (t : Tables) (fs : List (List ℕ)) : Type 0 where
-  pub behind : AreFramesBehindFirst t fs
+pub record BagFramesCarryTables (t : Tables) (fs : List (List ℕ)) : Type 0 where
+  pub behind : AreBagFramesBehindFirst t fs
   pub count : length fs ≡ frame_count t
   pub header : take 8 (get_or fs 0 []) ≡ n4.spell 0 ++ n4.spell (frame_count t)
 
 -- these are the frames of an installation of these tables under some version
-pub record FramesCarryRows (t : Tables) (fs : List (List ℕ)) : Type 0 where
+pub record BagFramesCarryRows (t : Tables) (fs : List (List ℕ)) : Type 0 where
   pub version : ℕ
-  pub carry : CarryTables (record t { version = version }) fs
+  pub carry : BagFramesCarryTables (record t { version = version }) fs
 
 -- what was kept is still kept, under its number
 abbrev pub IsBagGrown : List (List (List ℕ)) → List (List (List ℕ)) → Type 0

@@ -8,9 +8,9 @@ item_numbered xs zero = None
 item_numbered xs (suc place) = slice_get xs place
 
 -- the items with that of a number changed, if there is one
-abbrev pub with_changed : {X : Type 0} → (X → X) → List X → ℕ → List X
-with_changed change xs zero = xs
-with_changed change xs (suc place) =
+abbrev pub bag_with_changed : {X : Type 0} → (X → X) → List X → ℕ → List X
+bag_with_changed change xs zero = xs
+bag_with_changed change xs (suc place) =
     option_map_or (λ x. set xs place (change x)) (slice_get xs place) xs
 
 -- the item is the last one now, under the number that the call returned; after an error nothing

@@ -5,7 +5,7 @@ use Rattle.ctrl_msg.specs.declared.message.Message.{Message}
 use Rattle.ctrl_msg.specs.declared.message.Place.{Place}
 use Rattle.wire.specs.Exports.{frames, message as form}
 use Rattle.message_bag.specs.Deliveries as statuses
-use Rattle.message_bag.specs.Numbered.{item_numbered, with_changed}
+use Rattle.message_bag.specs.Numbered.{item_numbered, bag_with_changed}
 use Rattle.message_bag.specs.declared.deliveries.MessageState.{MessageState}
 
 -- the frames of a message; one that has no encoding has none
@@ -22,24 +22,24 @@ Post = List (List ℕ) × MessageState
 
 -- a message that is posted now
 abbrev pub new_post : Message → Post
-new_post message = (posted_frames message, statuses.waiting_status)
+new_post message = (posted_frames message, statuses.bag_waiting_status)
 
 -- the number that a call returned beside the message
-abbrev pub returned_number : {M E : Type 0} → Result (ℕ × M) E → Result ℕ E
-returned_number (Ok both) = Ok both.0
-returned_number (Err error) = Err error
+abbrev pub bag_returned_number : {M E : Type 0} → Result (ℕ × M) E → Result ℕ E
+bag_returned_number (Ok both) = Ok both.0
+bag_returned_number (Err error) = Err error
 
 -- the statuses of the messages
 abbrev pub post_statuses_of : List Post → List MessageState
 post_statuses_of posts = map (λ (post : Post). post.1) posts
 
 -- the frames of a post that isn't forgotten
-abbrev pub remembered_frames : Post → Option (List (List ℕ))
-remembered_frames post = if post.1.forgotten then None else Some post.0
+abbrev pub bag_frames_remembered : Post → Option (List (List ℕ))
+bag_frames_remembered post = if post.1.forgotten then None else Some post.0
 
 -- the frames of the message of a number, if it was posted and isn't forgotten
 abbrev pub frames_posted : List Post → ℕ → Option (List (List ℕ))
-frames_posted posts number = option_and_then remembered_frames (item_numbered posts number)
+frames_posted posts number = option_and_then bag_frames_remembered (item_numbered posts number)
 
 -- the message of a number was posted and isn't forgotten
 abbrev pub is_post_deliverable : List Post → ℕ → Bool
@@ -60,8 +60,8 @@ post_with_status change post = (post.0, change post.1)
 
 -- the posts after the message of the number was delivered, perhaps again
 abbrev pub posts_with_delivered : List Post → ℕ → List Post
-posts_with_delivered posts number = with_changed (post_with_status statuses.delivered_status) posts number
+posts_with_delivered posts number = bag_with_changed (post_with_status statuses.delivered_status) posts number
 
 -- the posts after the message of the number was forgotten: it is never delivered again
 abbrev pub posts_with_forgotten : List Post → ℕ → List Post
-posts_with_forgotten posts number = with_changed (post_with_status statuses.forgotten_status) posts number
+posts_with_forgotten posts number = bag_with_changed (post_with_status statuses.forgotten_status) posts number

@@ -5,9 +5,9 @@ use Rattle.message_bag.specs.Posts.{posted_frames}
 use Rattle.message_bag.specs.declared.sharing_bag.PostedAdvert.{PostedAdvert}
 
 -- if there is an advert, the bag has its frames under its number
-abbrev pub IsPostedAdvert : List (List (List ℕ)) → Option PostedAdvert → Type 0
-IsPostedAdvert bag None = Unit {0}
-IsPostedAdvert bag (Some last) = item_numbered bag last.number ≡ Some (posted_frames last.message)
+abbrev pub IsAdvertPostedInBag : List (List (List ℕ)) → Option PostedAdvert → Type 0
+IsAdvertPostedInBag bag None = Unit {0}
+IsAdvertPostedInBag bag (Some last) = item_numbered bag last.number ≡ Some (posted_frames last.message)
 
 abbrev pub ArePostedAdverts : List (List (List ℕ)) → List (Option PostedAdvert) → Type 0
-ArePostedAdverts bag adverts = (place : ℕ) → IsPostedAdvert bag (get_or adverts place None)
+ArePostedAdverts bag adverts = (place : ℕ) → IsAdvertPostedInBag bag (get_or adverts place None)

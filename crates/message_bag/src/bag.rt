@@ -1,8 +1,8 @@
 ghost use Rattle.std.specs.Prelude.{◌≡◌, ◌<◌, ◌-◌, ◌^◌, ◌↔◌, ◌⊎◌, [], None, true, length, IfOk, IfSome, IsNone, IsSome, OnOk};
 ghost use Rattle.ctrl_msg.specs.declared.message.Body.TheVariants.{Install};
 ghost use Rattle.wire.specs.Messages.{message as form};
-ghost use Rattle.message_bag.specs.KeptFrames.{IsPostedInBag, tables_version};
-ghost use Rattle.message_bag.specs.Feeding.{HasShortSpelling};
+ghost use Rattle.message_bag.specs.KeptFrames.{IsPostedInBag, bag_tables_version};
+ghost use Rattle.message_bag.specs.Feeding.{HasShortBagSpelling};
 ghost use Rattle.message_bag.specs.Numbered.{HasPosted, item_numbered};
 ghost use Rattle.message_bag.specs.Posts.{IsPostLike, posted_frames};
 
@@ -25,13 +25,13 @@ pub struct Bag {
 
 impl Model for Bag {
     ghost use Rattle.std.specs.Prelude.{List, ℕ, All, map};
-    ghost use Rattle.message_bag.specs.KeptFrames.{AreKeptFrames, bag_frames_in};
+    ghost use Rattle.message_bag.specs.KeptFrames.{AreBagKeptFrames, bag_frames_in};
 
     ghost Value = { List (List (List ℕ)) };
 
     ghost view = { λ b. map (bag_frames_in b.tables.items) b.firsts };
 
-    ghost invariant = { λ b. All (AreKeptFrames b.tables.items) b.firsts };
+    ghost invariant = { λ b. All (AreBagKeptFrames b.tables.items) b.firsts };
 }
 
 impl Bag {
@@ -53,7 +53,7 @@ impl Bag {
     /// then nothing changes.
     #[inline(always)]
     pub fn post(&mut self, message: &Message) -> Result<u32, AllocError>
-        requires spelling { HasShortSpelling message.now }
+        requires spelling { HasShortBagSpelling message.now }
         requires few { length self.old < 2 ^ 32 - 1 }
         ensures fits { OnOk result (form.fits message.now ≡ true) }
         ensures posted { HasPosted result (posted_frames message.now) self.old self.new }
@@ -86,7 +86,7 @@ impl Bag {
     /// Only out of memory, or if the first frames of earlier messages have 2^32 bytes or more;
     /// then nothing changes.
     pub fn post_like(&mut self, message: &Message, number: u32) -> Result<u32, AllocError>
-        requires spelling { HasShortSpelling message.now }
+        requires spelling { HasShortBagSpelling message.now }
         requires like { IsPostLike self.old number message.now }
         requires few { length self.old < 2 ^ 32 - 1 }
         ensures fits { OnOk result (form.fits message.now ≡ true) }
@@ -104,9 +104,9 @@ impl Bag {
     // Posts a message that is no installation: it has one frame.
     #[inline(always)]
     fn post_alone(&mut self, message: &Message) -> Result<u32, AllocError>
-        requires spelling { HasShortSpelling message.now }
+        requires spelling { HasShortBagSpelling message.now }
         requires few { length self.old < 2 ^ 32 - 1 }
-        requires message_of_frame { tables_version message.now.body ≡ None }
+        requires message_of_frame { bag_tables_version message.now.body ≡ None }
         ensures fits { OnOk result (form.fits message.now ≡ true) }
         ensures posted { HasPosted result (posted_frames message.now) self.old self.new }
     {
@@ -124,7 +124,7 @@ impl Bag {
         boot: u32,
         tables: &SharedTables,
     ) -> Result<u32, AllocError>
-        requires spelling { HasShortSpelling message.now }
+        requires spelling { HasShortBagSpelling message.now }
         requires few { length self.old < 2 ^ 32 - 1 }
         requires carries { message.now.body ≡ Install boot tables.now }
         ensures fits { OnOk result (form.fits message.now ≡ true) }

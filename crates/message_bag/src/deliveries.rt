@@ -1,8 +1,8 @@
 #![tactic(auto, using(crate::proofs::BagWaitingStatuses::changed_from))]
 
 ghost use Rattle.std.specs.Prelude.{◌≡◌, ◌<◌, ◌+◌, ◌-◌, ◌^◌, [], ◌∷◌, ◌++◌, List, length, IsTrue, OnOk, OnErr};
-ghost use Rattle.message_bag.specs.Deliveries.{delivered_status, forgotten_status, is_deliverable, may_be_delivered, next_waiting, waiting_status, waits, IsFirstWaiting};
-ghost use Rattle.message_bag.specs.Numbered.{with_changed};
+ghost use Rattle.message_bag.specs.Deliveries.{delivered_status, forgotten_status, is_deliverable, may_be_delivered, next_waiting, bag_waiting_status, waits, IsFirstWaiting};
+ghost use Rattle.message_bag.specs.Numbered.{bag_with_changed};
 ghost use Rattle.message_bag.specs.declared.deliveries.MessageState.{MessageState};
 
 use std::alloc::{AllocError, Global};
@@ -20,7 +20,7 @@ pub struct MessageState {
 impl MessageState {
     // The state of a message that is posted now.
     fn waiting() -> MessageState
-        ensures { result ≡ waiting_status }
+        ensures { result ≡ bag_waiting_status }
     {
         MessageState {
             delivered: false,
@@ -48,14 +48,14 @@ pub struct Deliveries {
 
 impl Model for Deliveries {
     ghost use Rattle.std.specs.Prelude.{List};
-    ghost use Rattle.message_bag.specs.Deliveries.{ArePassedMessages};
+    ghost use Rattle.message_bag.specs.Deliveries.{AreBagMessagesPassed};
     ghost use Rattle.message_bag.specs.declared.deliveries.MessageState.{MessageState};
 
     ghost Value = { List MessageState };
 
     ghost view = { λ d. d.statuses.items };
 
-    ghost invariant = { λ d. ArePassedMessages d.passed d.statuses.items };
+    ghost invariant = { λ d. AreBagMessagesPassed d.passed d.statuses.items };
 }
 
 impl Deliveries {
@@ -75,7 +75,7 @@ impl Deliveries {
     /// Only out of memory; then nothing changes.
     pub fn add(&mut self) -> Result<(), AllocError>
         requires { length self.old < 2 ^ 32 - 1 }
-        ensures added { OnOk result (self.new ≡ self.old ++ waiting_status ∷ []) }
+        ensures added { OnOk result (self.new ≡ self.old ++ bag_waiting_status ∷ []) }
         ensures unchanged { OnErr result (self.new ≡ self.old) }
     {
         self.statuses.push(MessageState::waiting())?;
@@ -84,8 +84,8 @@ impl Deliveries {
 
     /// Removes the last message, which waits.
     pub(crate) fn take_back(&mut self)
-        requires { (before : List MessageState) × (self.old ≡ before ++ waiting_status ∷ []) }
-        ensures { (before : List MessageState) → self.old ≡ before ++ waiting_status ∷ []
+        requires { (before : List MessageState) × (self.old ≡ before ++ bag_waiting_status ∷ []) }
+        ensures { (before : List MessageState) → self.old ≡ before ++ bag_waiting_status ∷ []
             → self.new ≡ before }
     {
         self.statuses.truncate(self.statuses.len() - 1);
@@ -114,7 +114,7 @@ impl Deliveries {
     /// Notes that the message of this number was delivered, perhaps again.
     pub fn deliver(&mut self, number: u32)
         requires { IsTrue (is_deliverable self.old number) }
-        ensures { self.new ≡ with_changed delivered_status self.old number }
+        ensures { self.new ≡ bag_with_changed delivered_status self.old number }
     {
         self.statuses[number as usize - 1].delivered = true;
         self.passed = first_waiting_message(&self.statuses, self.passed);
@@ -123,7 +123,7 @@ impl Deliveries {
     /// Forgets the message of this number: it is never delivered again.
     pub fn forget(&mut self, number: u32)
         requires { IsTrue (is_deliverable self.old number) }
-        ensures { self.new ≡ with_changed forgotten_status self.old number }
+        ensures { self.new ≡ bag_with_changed forgotten_status self.old number }
     {
         self.statuses[number as usize - 1].forgotten = true;
         self.passed = first_waiting_message(&self.statuses, self.passed);

@@ -4,10 +4,10 @@ ghost use Rattle.ctrl_msg.specs.declared.message.Body.TheVariants.{Install};
 ghost use Rattle.ctrl_msg.specs.declared.message.Message.{Message};
 ghost use Rattle.ctrl_msg.specs.declared.message.Place.{Place};
 ghost use Rattle.switch_table.specs.declared.tables.Tables.{Tables};
-ghost use Rattle.wire.specs.Assembly.{AreAllHeld, IsRefusedFrame};
-ghost use Rattle.wire.specs.Frames.{AreFrames, count_in_frame, frames, frames_of_receiver, frames_of_version};
-ghost use Rattle.message_bag.specs.Feeding.{AreAllAmong, AreOf, HasFrames, frames_held_after};
-ghost use Rattle.message_bag.specs.Installing.{install_frames};
+ghost use Rattle.wire.specs.Assembly.{AreWireFramesHeld, IsRefusedFrame};
+ghost use Rattle.wire.specs.Frames.{AreFrames, count_in_frame, frames, wire_frames_of_receiver, wire_frames_of_version};
+ghost use Rattle.message_bag.specs.Feeding.{AreBagFramesAllFed, AreBagFramesOf, HasBagFrames, bag_frames_held_after};
+ghost use Rattle.message_bag.specs.Installing.{bag_install_frames};
 
 /// The frames of a message may come in any order and any number of times: an assembler refuses none
 /// of them. All its places are filled exactly if each frame of the message has come, and then it
@@ -16,13 +16,13 @@ ghost use Rattle.message_bag.specs.Installing.{install_frames};
 /// So, as `Assembler::feed` ensures, it returns `None` until the last of them has come, and the
 /// message then and at each repeat.
 pub fn frames_come_in_any_order()
-    ensures taken { (m : Message) (f : List ℕ) (fed : List (List ℕ)) → HasFrames m
-        → AreOf m (f ∷ fed) → IsRefusedFrame (frames_held_after fed) f → ⊥ }
-    ensures all_held { (m : Message) (f : List ℕ) (fed : List (List ℕ)) → HasFrames m
-        → AreOf m (f ∷ fed)
-        → (AreAllHeld (frames_held_after (f ∷ fed)) (count_in_frame f) ↔ AreAllAmong m (f ∷ fed)) }
-    ensures whole { (m : Message) (fed : List (List ℕ)) → HasFrames m → AreOf m fed
-        → AreAllAmong m fed → frames_held_after fed ≡ frames m }
+    ensures taken { (m : Message) (f : List ℕ) (fed : List (List ℕ)) → HasBagFrames m
+        → AreBagFramesOf m (f ∷ fed) → IsRefusedFrame (bag_frames_held_after fed) f → ⊥ }
+    ensures all_held { (m : Message) (f : List ℕ) (fed : List (List ℕ)) → HasBagFrames m
+        → AreBagFramesOf m (f ∷ fed)
+        → (AreWireFramesHeld (bag_frames_held_after (f ∷ fed)) (count_in_frame f) ↔ AreBagFramesAllFed m (f ∷ fed)) }
+    ensures whole { (m : Message) (fed : List (List ℕ)) → HasBagFrames m → AreBagFramesOf m fed
+        → AreBagFramesAllFed m fed → bag_frames_held_after fed ≡ frames m }
 {}
 
 /// Frames belong to at most one message.
@@ -36,7 +36,7 @@ pub fn frames_are_of_one_message()
 pub fn frames_behind_the_first_carry_the_tables()
     ensures { (to : Place) (boot : ℕ) (tables : Tables)
         → frames (record { to = to; body = Install boot tables })
-        ≡ install_frames to boot tables }
+        ≡ bag_install_frames to boot tables }
 {}
 
 /// An installation of the same tables under another version has the same frames, except for the
@@ -44,12 +44,12 @@ pub fn frames_behind_the_first_carry_the_tables()
 pub fn frames_of_another_version()
     ensures { (to : Place) (boot version : ℕ) (tables : Tables)
         → frames (record { to = to; body = Install boot (record tables { version = version }) })
-        ≡ frames_of_version version (frames (record { to = to; body = Install boot tables })) }
+        ≡ wire_frames_of_version version (frames (record { to = to; body = Install boot tables })) }
 {}
 
 /// The same message to another receiver has the same frames, except for the one byte of the
 /// receiver where the first one begins.
 pub fn frames_of_another_receiver()
     ensures { (m : Message) (to : Place)
-        → frames (record m { to = to }) ≡ frames_of_receiver to (frames m) }
+        → frames (record m { to = to }) ≡ wire_frames_of_receiver to (frames m) }
 {}

@@ -1,7 +1,7 @@
 ghost use Rattle.std.specs.Prelude.{◌≡◌, ◌<◌, ◌-◌, ◌^◌, [], length, is_some, IsTrue, IfOk, IfSome};
 ghost use Rattle.message_bag.specs.Numbered.{HasPosted};
-ghost use Rattle.message_bag.specs.Posts.{IsMessageOf, is_post_deliverable, next_waiting_post, new_post, returned_number, posts_with_delivered, posts_with_forgotten};
-ghost use Rattle.message_bag.specs.Feeding.{HasShortSpelling};
+ghost use Rattle.message_bag.specs.Posts.{IsMessageOf, is_post_deliverable, next_waiting_post, new_post, bag_returned_number, posts_with_delivered, posts_with_forgotten};
+ghost use Rattle.message_bag.specs.Feeding.{HasShortBagSpelling};
 
 use crate::deliveries::Deliveries;
 use crate::sharing_bag::SharingBag;
@@ -54,10 +54,10 @@ impl PostBag {
         alloc: Global,
         message: Message,
     ) -> Result<(u32, Shared<Message>), AllocError>
-        requires spelling { HasShortSpelling message }
+        requires spelling { HasShortBagSpelling message }
         requires few { length self.old < 2 ^ 32 - 1 }
         ensures message { IfOk result (λ both. both.1 ≡ message) }
-        ensures posted { HasPosted (returned_number result) (new_post message) self.old self.new }
+        ensures posted { HasPosted (bag_returned_number result) (new_post message) self.old self.new }
     {
         self.deliveries.add()?;
         match self.frames.post_shared(alloc, message) {

@@ -2,10 +2,10 @@
 ghost use Rattle.std.specs.Prelude.{◌≡◌, ◌∷◌, ◌↔◌, ℕ, [], None, drop, IfOk, IfSome, IsNone, IsSome, OnOk};
 ghost use Rattle.ctrl_msg.specs.declared.message.Body.TheVariants.{Install};
 ghost use Rattle.ctrl_msg.specs.declared.message.Place.{Place};
-ghost use Rattle.wire.specs.Assembly.{AreAllHeld, IsRefusedFrame, frames_with_frame};
+ghost use Rattle.wire.specs.Assembly.{AreWireFramesHeld, IsRefusedFrame, frames_with_frame};
 ghost use Rattle.wire.specs.Frames.{AreFrames, count_in_frame};
 ghost use Rattle.wire.specs.Messages.{IsFront};
-ghost use Rattle.message_bag.specs.KeptFrames.{AreOfInstall, AreOfMessage, CarryTables, tables_version};
+ghost use Rattle.message_bag.specs.KeptFrames.{AreBagFramesOfInstall, AreBagFramesOfMessage, BagFramesCarryTables, bag_tables_version};
 
 use ctrl_msg::{Body, Message, Place, SharedTables};
 use std::alloc::{AllocError, Global};
@@ -16,7 +16,7 @@ use wire::{Assembler, Frames, HEADER_LEN, WireError, decode, decode_front};
 /// # Errors
 /// Only out of memory.
 pub fn message_of_frame(alloc: Global, frame: &[u8]) -> Result<Message, AllocError>
-    requires { AreOfMessage (frame.now ∷ []) }
+    requires { AreBagFramesOfMessage (frame.now ∷ []) }
     ensures { IfOk result (λ message. AreFrames message (frame.now ∷ [])) }
 {
     match decode(alloc, &frame[HEADER_LEN..]) {
@@ -31,7 +31,7 @@ fn feed(assembler: &mut Assembler, frame: &[u8]) -> Result<Option<Message>, Allo
     requires { IsRefusedFrame assembler.old frame.now → ⊥ }
     ensures held { OnOk result (assembler.new ≡ frames_with_frame assembler.old frame.now) }
     ensures some { IfOk result (λ answer.
-        IsSome answer ↔ AreAllHeld assembler.new (count_in_frame frame.now)) }
+        IsSome answer ↔ AreWireFramesHeld assembler.new (count_in_frame frame.now)) }
     ensures message { IfOk result (λ answer. IfSome answer (λ m. AreFrames m assembler.new)) }
 {
     match assembler.feed(frame) {
@@ -43,7 +43,7 @@ fn feed(assembler: &mut Assembler, frame: &[u8]) -> Result<Option<Message>, Allo
 
 // The message of this first frame and the other frames after their first one.
 fn assembled(alloc: Global, first: &[u8], frames: &Frames) -> Result<Message, AllocError>
-    requires { AreOfMessage (first.now ∷ drop 1 frames.now) }
+    requires { AreBagFramesOfMessage (first.now ∷ drop 1 frames.now) }
     ensures { IfOk result (λ message. AreFrames message (first.now ∷ drop 1 frames.now)) }
 {
     let mut assembler = Assembler::new(alloc);
@@ -63,7 +63,7 @@ fn assembled(alloc: Global, first: &[u8], frames: &Frames) -> Result<Message, Al
 /// The boot and the tables of an installation; `None` for any other body.
 pub fn tables_of(body: &Body) -> Option<(u32, &SharedTables)>
     ensures some { IfSome result (λ found. body.now ≡ Install found.0 found.1.now) }
-    ensures none { IsNone result → tables_version body.now ≡ None }
+    ensures none { IsNone result → bag_tables_version body.now ≡ None }
 {
     match body {
         Body::Install { boot, tables } => Some((*boot, tables)),
@@ -76,8 +76,8 @@ pub fn tables_of(body: &Body) -> Option<(u32, &SharedTables)>
 /// # Errors
 /// Only out of memory.
 pub fn tables_in(alloc: Global, frames: &Frames) -> Result<SharedTables, AllocError>
-    requires { AreOfInstall frames.now }
-    ensures { IfOk result (λ tables. CarryTables tables frames.now) }
+    requires { AreBagFramesOfInstall frames.now }
+    ensures { IfOk result (λ tables. BagFramesCarryTables tables frames.now) }
 {
     let message = match frames.get(0) {
         Some(first) => assembled(alloc, first, frames)?,

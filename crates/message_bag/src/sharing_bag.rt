@@ -1,9 +1,9 @@
 //! A bag that shares an advert with the last equal one of its switch to its receiver: the message,
 //! and its frames. An advert to another receiver is not encoded again.
 ghost use Rattle.std.specs.Prelude.{◌≡◌, ◌<◌, ◌-◌, ◌^◌, [], ℕ, None, Some, get_or, length, IfOk, IfSome, IsTrue, OnOk};
-ghost use Rattle.message_bag.specs.Feeding.{HasShortSpelling};
+ghost use Rattle.message_bag.specs.Feeding.{HasShortBagSpelling};
 ghost use Rattle.message_bag.specs.Numbered.{HasPosted};
-ghost use Rattle.message_bag.specs.Posts.{posted_frames, returned_number};
+ghost use Rattle.message_bag.specs.Posts.{posted_frames, bag_returned_number};
 ghost use Rattle.message_bag.specs.Sharing.{ArePostedAdverts};
 
 use crate::bag::Bag;
@@ -71,10 +71,10 @@ impl SharingBag {
         alloc: Global,
         message: Message,
     ) -> Result<(u32, Shared<Message>), AllocError>
-        requires spelling { HasShortSpelling message }
+        requires spelling { HasShortBagSpelling message }
         requires few { length self.old < 2 ^ 32 - 1 }
         ensures message { IfOk result (λ both. both.1 ≡ message) }
-        ensures posted { HasPosted (returned_number result) (posted_frames message) self.old self.new }
+        ensures posted { HasPosted (bag_returned_number result) (posted_frames message) self.old self.new }
     {
         let Some(place) = place_of(&message) else {
             let shared = Shared::new(alloc, message)?;
@@ -99,7 +99,7 @@ impl SharingBag {
     #[inline(never)]
     fn post_advert(&mut self, place: usize, message: &Shared<Message>) -> Result<u32, AllocError>
         requires place { place < 4160 }
-        requires spelling { HasShortSpelling message.now }
+        requires spelling { HasShortBagSpelling message.now }
         requires few { length self.old < 2 ^ 32 - 1 }
         ensures { HasPosted result (posted_frames message.now) self.old self.new }
     {
@@ -125,7 +125,7 @@ fn post_new_advert(
 ) -> Result<u32, AllocError>
     requires there { origin < length adverts.old.items }
     requires adverts { ArePostedAdverts bag.old adverts.old.items }
-    requires spelling { HasShortSpelling advert.now }
+    requires spelling { HasShortBagSpelling advert.now }
     requires few { length bag.old < 2 ^ 32 - 1 }
     ensures posted { HasPosted result (posted_frames advert.now) bag.old bag.new }
     ensures adverts { ArePostedAdverts bag.new adverts.new.items }

@@ -3,9 +3,9 @@ ghost use Rattle.std.specs.Prelude.{◌≡◌, ◌<◌, ◌++◌, ◌∷◌, [],
 ghost use Rattle.ctrl_msg.specs.declared.message.Body.TheVariants.{Install};
 ghost use Rattle.switch_table.specs.declared.tables.Tables.{Tables};
 ghost use Rattle.wire.specs.Frames.{AreFrames, frame, frames};
-ghost use Rattle.message_bag.specs.Feeding.{HasShortSpelling};
+ghost use Rattle.message_bag.specs.Feeding.{HasShortBagSpelling};
 ghost use Rattle.wire.specs.Messages.{IsWirePlace, message_front, message as form, spelled_front};
-ghost use Rattle.message_bag.specs.KeptFrames.{AreOfMessage, IsBagGrown, IsInstallOf, FramesCarryRows, CarryTables, bag_frames_in};
+ghost use Rattle.message_bag.specs.KeptFrames.{AreBagFramesOfMessage, IsBagGrown, IsBagInstallOf, BagFramesCarryRows, BagFramesCarryTables, bag_frames_in};
 
 use crate::digest::tables_digest_of;
 use crate::reading::{front_of, tables_in};
@@ -32,20 +32,20 @@ pub struct TableFrames {
 
 impl Model for TableFrames {
     ghost use Rattle.std.specs.Prelude.{List, ℕ};
-    ghost use Rattle.message_bag.specs.KeptFrames.{CarryTables};
+    ghost use Rattle.message_bag.specs.KeptFrames.{BagFramesCarryTables};
 
     ghost Value = { List (List ℕ) };
 
     ghost view = { λ t. t.frames };
 
-    ghost invariant = { λ t. CarryTables t.said t.frames };
+    ghost invariant = { λ t. BagFramesCarryTables t.said t.frames };
 }
 
 impl TableFrames {
     // The frames for an installation of these tables, which are encoded and decoded.
     fn new(alloc: Global, message: &Message, tables: &Tables) -> Result<TableFrames, AllocError>
-        requires { IsInstallOf message.now tables.now }
-        ensures { IfOk result (CarryTables tables.now) }
+        requires { IsBagInstallOf message.now tables.now }
+        ensures { IfOk result (BagFramesCarryTables tables.now) }
     {
         let frames = split(alloc, message)?;
         let said = with_trees(alloc, tables_in(alloc, &frames)?)?;
@@ -59,8 +59,8 @@ impl TableFrames {
 
     // The frames for the same tables under another version, without encoding or decoding them.
     fn with_version(&self, alloc: Global, version: u32) -> Result<TableFrames, AllocError>
-        ensures { IfOk result (λ kept. (t : Tables) → CarryTables t self.now
-            → CarryTables (record t { version = version }) kept) }
+        ensures { IfOk result (λ kept. (t : Tables) → BagFramesCarryTables t self.now
+            → BagFramesCarryTables (record t { version = version }) kept) }
     {
         let said = self.said.with_version(alloc, version)?;
         let frames = self.frames.with_version(alloc, version)?;
@@ -74,7 +74,7 @@ impl TableFrames {
 
     // Whether they encode these tables, which have this digest.
     fn carry(&self, tables: &Tables, digest: usize) -> bool
-        ensures { IsTrue result → CarryTables tables.now self.now }
+        ensures { IsTrue result → BagFramesCarryTables tables.now self.now }
     {
         self.version == tables.version
             && self.digest == digest
@@ -83,7 +83,7 @@ impl TableFrames {
 
     // Whether they encode these tables, which have this digest, under some version.
     fn carry_rows(&self, tables: &Tables, digest: usize) -> bool
-        ensures { IsTrue result → FramesCarryRows tables.now self.now }
+        ensures { IsTrue result → BagFramesCarryRows tables.now self.now }
     {
         self.digest == digest && have_same_rows(self.said.tables(), tables)
     }
@@ -108,7 +108,7 @@ impl TableFrames {
     /// # Errors
     /// Only out of memory.
     pub fn message(&self, alloc: Global, first: &[u8]) -> Result<Message, AllocError>
-        requires { AreOfMessage (first.now ∷ drop 1 self.now) }
+        requires { AreBagFramesOfMessage (first.now ∷ drop 1 self.now) }
         ensures { IfOk result (λ message.
             AreFrames message (first.now ∷ drop 1 self.now)) }
     {
@@ -146,7 +146,7 @@ fn are_regions_whole(rows: &[PartRow]) -> bool {
 // The number of the frames that encode these tables; `None` if there are none.
 fn find(kept: &[TableFrames], tables: &Tables) -> Option<usize>
     ensures there { IfSome result (λ number. number < length kept.now) }
-    ensures carry { IfSome result (λ number. CarryTables tables.now (get_or kept.now number [])) }
+    ensures carry { IfSome result (λ number. BagFramesCarryTables tables.now (get_or kept.now number [])) }
 {
     let digest = tables_digest_of(tables);
     kept.iter().rposition(|frames| frames.carry(tables, digest))
@@ -155,7 +155,7 @@ fn find(kept: &[TableFrames], tables: &Tables) -> Option<usize>
 // The number of the frames that encode these tables under any version; `None` if there are none.
 fn find_kept_rows(kept: &[TableFrames], tables: &Tables) -> Option<usize>
     ensures there { IfSome result (λ number. number < length kept.now) }
-    ensures carry { IfSome result (λ number. FramesCarryRows tables.now (get_or kept.now number [])) }
+    ensures carry { IfSome result (λ number. BagFramesCarryRows tables.now (get_or kept.now number [])) }
 {
     let digest = tables_digest_of(tables);
     kept.iter()
@@ -170,8 +170,8 @@ fn made(
     message: &Message,
     tables: &Tables,
 ) -> Result<TableFrames, AllocError>
-    requires { IsInstallOf message.now tables.now }
-    ensures { IfOk result (CarryTables tables.now) }
+    requires { IsBagInstallOf message.now tables.now }
+    ensures { IfOk result (BagFramesCarryTables tables.now) }
 {
     match find_kept_rows(kept, tables) {
         Some(number) => Ok(kept[number].with_version(alloc, tables.version)?),
@@ -187,10 +187,10 @@ fn keep(
     message: &Message,
     tables: &Tables,
 ) -> Result<usize, AllocError>
-    requires { IsInstallOf message.now tables.now }
+    requires { IsBagInstallOf message.now tables.now }
     ensures there { IfOk result (λ number. number < length kept.new.items) }
     ensures carry { IfOk result (λ number.
-        CarryTables tables.now (get_or kept.new.items number [])) }
+        BagFramesCarryTables tables.now (get_or kept.new.items number [])) }
     ensures grown { IsBagGrown kept.old.items kept.new.items }
 {
     match find(kept, tables) {
@@ -218,7 +218,7 @@ pub fn spell_install(
     boot: u32,
     tables: &SharedTables,
 ) -> Result<usize, AllocError>
-    requires spelling { HasShortSpelling message.now }
+    requires spelling { HasShortBagSpelling message.now }
     requires carries { message.now.body ≡ Install boot tables.now }
     ensures there { IfOk result (λ number. number < length kept.new.items) }
     ensures fits { OnOk result (form.fits message.now ≡ true) }

@@ -2,7 +2,7 @@
 use Rattle.std.proofs.Common.{[], ◌++◌, ◌+◌, ◌<◌, ◌==◌, ◌||◌, ◌∙◌, ◌∷◌, ◌≡◌, ◌≢◌, ◌≤◌, Bool, List, add-one, ap, append-nil, append_assoc, arith, cond, drop, drop_of_length-le, false, filter, get_or, length, length-take-le, map, ne_eqb, not, refl, remove, set, suc, sym, take, take_all, true, zero, ℕ}
 use Rattle.base.proofs.Exports.{drop_at_item, drop_set, filter-append, list_any, map-append, nat_tests, or_assoc, range_with_len, remove-set, seam_at, take_more_set}
 use Rattle.policy_rules.specs.declared.packet.Leaving.{Leaving}
-use Rattle.meters.specs.Exports.{IsMeterNoted, PortLeavings, Seen, has_ended, is_ended_within, leavings_of, meter_with, meters_after}
+use Rattle.meters.specs.Exports.{IsMeterNoted, PortLeavings, Seen, has_ended, is_meter_ended_within, meter_port_leavings, meter_with_leavings, meters_after}
 use Rattle.meters.specs.declared.meter.Stay.TheVariants as stay
 
 -- ---- the moments of one meter
@@ -15,37 +15,37 @@ list_any-shift f h same from (suc count) =
     ∙ ap (λ rest. h from || rest) (list_any-shift f h same (from + 1) count)
 
 holding-append : (left more : List Leaving) (meter : Seen)
-    → meter_with (left ++ more) meter ≡ meter_with more (meter_with left meter)
+    → meter_with_leavings (left ++ more) meter ≡ meter_with_leavings more (meter_with_leavings left meter)
 holding-append left more meter =
     ap (λ held. record meter { held = held }) (sym (append_assoc meter.held left more))
 
 is_over_within-cons : (one : Leaving) (more : List Leaving) (meter : Seen)
-    → is_ended_within (one ∷ more) meter
-    ≡ (has_ended (meter_with (one ∷ []) meter) || is_ended_within more (meter_with (one ∷ []) meter))
-is_over_within-cons one more meter = ap (λ rest. has_ended (meter_with (one ∷ []) meter) || rest)
-    (list_any-shift (λ k. has_ended (meter_with (take k (one ∷ more)) meter))
-    (λ k. has_ended (meter_with (take k more) (meter_with (one ∷ []) meter))) (λ k. rw add-one
+    → is_meter_ended_within (one ∷ more) meter
+    ≡ (has_ended (meter_with_leavings (one ∷ []) meter) || is_meter_ended_within more (meter_with_leavings (one ∷ []) meter))
+is_over_within-cons one more meter = ap (λ rest. has_ended (meter_with_leavings (one ∷ []) meter) || rest)
+    (list_any-shift (λ k. has_ended (meter_with_leavings (take k (one ∷ more)) meter))
+    (λ k. has_ended (meter_with_leavings (take k more) (meter_with_leavings (one ∷ []) meter))) (λ k. rw add-one
     (ap has_ended (holding-append (one ∷ []) (take k more) meter))) 1 (length more))
 
 is_over_within-append : (left more : List Leaving) (meter : Seen)
-    → is_ended_within (left ++ more) meter
-    ≡ (is_ended_within left meter || is_ended_within more (meter_with left meter))
+    → is_meter_ended_within (left ++ more) meter
+    ≡ (is_meter_ended_within left meter || is_meter_ended_within more (meter_with_leavings left meter))
 is_over_within-append [] more meter =
-    ap (λ held. is_ended_within more (record meter { held = held })) (sym (append-nil meter.held))
+    ap (λ held. is_meter_ended_within more (record meter { held = held })) (sym (append-nil meter.held))
 is_over_within-append (one ∷ left) more meter =
-    let now = meter_with (one ∷ []) meter in
-    let then : Bool = is_ended_within more (meter_with left now) in
-    let same : meter_with (one ∷ left) meter ≡ meter_with left now =
+    let now = meter_with_leavings (one ∷ []) meter in
+    let then : Bool = is_meter_ended_within more (meter_with_leavings left now) in
+    let same : meter_with_leavings (one ∷ left) meter ≡ meter_with_leavings left now =
     holding-append (one ∷ []) left meter in
     is_over_within-cons one (left ++ more) meter
     ∙ ap (λ rest. has_ended now || rest) (is_over_within-append left more now)
-    ∙ sym (or_assoc (has_ended now) (is_ended_within left now) then)
+    ∙ sym (or_assoc (has_ended now) (is_meter_ended_within left now) then)
     ∙ ap (λ before. before || then) (sym (is_over_within-cons one left meter))
-    ∙ ap (λ held. is_ended_within (one ∷ left) meter || is_ended_within more held) (sym same)
+    ∙ ap (λ held. is_meter_ended_within (one ∷ left) meter || is_meter_ended_within more held) (sym same)
 
-leavings_of-append : (port : ℕ) (left more : PortLeavings)
-    → leavings_of port (left ++ more) ≡ leavings_of port left ++ leavings_of port more
-leavings_of-append port left more = rw (filter-append, map-append)
+meter_port_leavings-append : (port : ℕ) (left more : PortLeavings)
+    → meter_port_leavings port (left ++ more) ≡ meter_port_leavings port left ++ meter_port_leavings port more
+meter_port_leavings-append port left more = rw (filter-append, map-append)
 
 -- ---- lists of meters
 
@@ -58,7 +58,7 @@ pub kept-nothing : (meters : List Seen) → meters_after [] meters ≡ meters
 unfolding meters_after
 kept-nothing [] = refl
 kept-nothing (meter ∷ meters) =
-    let now : meter_with [] meter ≡ meter =
+    let now : meter_with_leavings [] meter ≡ meter =
     ap (λ held. record meter { held = held }) (append-nil meter.held) in
     ap (λ first. first ∷ meters_after [] meters) now
     ∙ ap (λ rest. meter ∷ rest) (kept-nothing meters)
@@ -69,11 +69,11 @@ map-cond f meter true = refl
 map-cond f meter false = refl
 
 pub kept-one : (left : PortLeavings) (meter : Seen)
-    → meters_after left (meter ∷ []) ≡ cond (is_ended_within (leavings_of meter.port left) meter) []
-    (meter_with (leavings_of meter.port left) meter ∷ [])
+    → meters_after left (meter ∷ []) ≡ cond (is_meter_ended_within (meter_port_leavings meter.port left) meter) []
+    (meter_with_leavings (meter_port_leavings meter.port left) meter ∷ [])
 unfolding meters_after
-kept-one left meter = map-cond (λ m. meter_with (leavings_of m.port left) m) meter
-    (is_ended_within (leavings_of meter.port left) meter)
+kept-one left meter = map-cond (λ m. meter_with_leavings (meter_port_leavings m.port left) m) meter
+    (is_meter_ended_within (meter_port_leavings meter.port left) meter)
 
 map-chosen : {M : Type 0} (seen : M → Seen) (first : M) (chosen : Bool) (some : List M)
     → (others : List Seen) → map seen some ≡ others
@@ -93,20 +93,20 @@ same : (port other : ℕ) → other ≡ port → (port == other) ≡ true
 same port other equal = grind (arith, nat_tests)
 
 leavings_here : (port : ℕ) (leaving : Leaving) (meter : Seen) → meter.port ≡ port
-    → leavings_of meter.port ((port, leaving) ∷ []) ≡ leaving ∷ []
+    → meter_port_leavings meter.port ((port, leaving) ∷ []) ≡ leaving ∷ []
 leavings_here port leaving meter here =
     ap (λ test. map (λ (one : ℕ × Leaving). one.1) (cond test ((port, leaving) ∷ []) []))
     (same port meter.port here)
 
 leavings_elsewhere : (port : ℕ) (leaving : Leaving) (meter : Seen) → meter.port ≢ port
-    → leavings_of meter.port ((port, leaving) ∷ []) ≡ []
+    → meter_port_leavings meter.port ((port, leaving) ∷ []) ≡ []
 leavings_elsewhere port leaving meter apart =
     ap (λ test. map (λ (one : ℕ × Leaving). one.1) (cond test ((port, leaving) ∷ []) []))
     (ne_eqb port meter.port (λ same. apart (sym same)))
 
 over_after_one : (leaving : Leaving) (old new : Seen) (over : Bool)
-    → new ≡ meter_with (leaving ∷ []) old → has_ended new ≡ over
-    → is_ended_within (leaving ∷ []) old ≡ (over || false)
+    → new ≡ meter_with_leavings (leaving ∷ []) old → has_ended new ≡ over
+    → is_meter_ended_within (leaving ∷ []) old ≡ (over || false)
 over_after_one leaving old new over is_new is_over_now =
     ap (λ now. now || false) (ap has_ended (sym is_new) ∙ is_over_now)
 
@@ -180,8 +180,8 @@ after_all seen left meters at past =
     rw (take_all at meters past, drop_of_length-le meters past, append-nil) refl
 
 kept-cond : (more : PortLeavings) (meter : Seen) (over : Bool)
-    → cond (over || is_ended_within (leavings_of meter.port more) meter) []
-    (meter_with (leavings_of meter.port more) meter ∷ [])
+    → cond (over || is_meter_ended_within (meter_port_leavings meter.port more) meter) []
+    (meter_with_leavings (meter_port_leavings meter.port more) meter ∷ [])
     ≡ meters_after more (cond over [] (meter ∷ []))
 unfolding meters_after
 kept-cond more meter true = refl
@@ -190,16 +190,16 @@ kept-cond more meter false = sym (kept-one more meter)
 kept_on_one : (left more : PortLeavings) (meter : Seen)
     → meters_after (left ++ more) (meter ∷ []) ≡ meters_after more (meters_after left (meter ∷ []))
 kept_on_one left more meter =
-    let before = leavings_of meter.port left in
-    let after = leavings_of meter.port more in
+    let before = meter_port_leavings meter.port left in
+    let after = meter_port_leavings meter.port more in
     rw (
       kept-one left meter,
       kept-one (left ++ more) meter,
-      leavings_of-append meter.port left more,
+      meter_port_leavings-append meter.port left more,
       is_over_within-append before after meter,
       holding-append before after meter,
     )
-    (kept-cond more (meter_with before meter) (is_ended_within before meter))
+    (kept-cond more (meter_with_leavings before meter) (is_meter_ended_within before meter))
 
 -- who stays through all leavings stays through the earlier ones, and from there through the others
 pub kept_on : (left more : PortLeavings) (meters : List Seen)

@@ -2,18 +2,18 @@
 use Rattle.std.specs.Prelude.{[], if◌then◌else◌, ◌&&◌, ◌++◌, ◌==◌, ◌∷◌, ◌≡◌, Bool, List, filter, flat_map, map, ℕ}
 use Rattle.base.specs.Exports.{has}
 use Rattle.policy_rules.specs.declared.packet.Leaving.{Leaving}
-use Rattle.meters.specs.Meters.{PortLeavings, has_ended, kept_meters, meter_with, meters_after, flow_records_of}
+use Rattle.meters.specs.Meters.{PortLeavings, has_ended, kept_meters, meter_with_leavings, meters_after, meter_flow_records_of}
 use Rattle.meters.specs.Seen.{Seen}
 use Rattle.meters.specs.declared.flows.FlowRecord.{FlowRecord}
 
 -- the meter leaves with this leaving, which is by the meter's port and completes its list
 abbrev pub meter_leaves_with : ℕ × Leaving → Seen → Bool
-meter_leaves_with one meter = (one.0 == meter.port) && has_ended (meter_with (one.1 ∷ []) meter)
+meter_leaves_with one meter = (one.0 == meter.port) && has_ended (meter_with_leavings (one.1 ∷ []) meter)
 
 -- the records of a meter that leaves with this leaving, for the list that it then has
 abbrev pub leaving_records : ℕ × Leaving → Seen → List FlowRecord
 leaving_records one meter =
-    if meter_leaves_with one meter then flow_records_of (meter_with (one.1 ∷ []) meter) else []
+    if meter_leaves_with one meter then meter_flow_records_of (meter_with_leavings (one.1 ∷ []) meter) else []
 
 -- the records of the meters that leave while packets leave, leaving by leaving and meter by meter
 abbrev pub meters_gone_after : PortLeavings → List Seen → List FlowRecord

@@ -1,7 +1,7 @@
 //! The meters of a network's ports.
 ghost use Rattle.std.specs.Prelude.{◌≡◌, ◌∷◌, ◌++◌, [], map, filter, OnOk};
 ghost use Rattle.base.specs.Masks.{has};
-ghost use Rattle.meters.specs.Meters.{meters_after, kept_meters, flow_records_of};
+ghost use Rattle.meters.specs.Meters.{meters_after, kept_meters, meter_flow_records_of};
 ghost use Rattle.meters.specs.Gone.{GainsLeaving, meters_gone_after, seen_board, leaving_records};
 
 use crate::flows::Flows;
@@ -99,7 +99,7 @@ fn offer_leaving<M: Meter>(meter: &mut M, port: u32, leaving: &Leaving) -> Stay
     ensures silent { result ≡ Stay.Stay
         → leaving_records (port, leaving.now) (M.seen meter.old) ≡ [] }
     ensures told { result ≡ Stay.Leave
-        → leaving_records (port, leaving.now) (M.seen meter.old) ≡ flow_records_of (M.seen meter.new) }
+        → leaving_records (port, leaving.now) (M.seen meter.old) ≡ meter_flow_records_of (M.seen meter.new) }
 {
     if meter.port() == port {
         meter.note(leaving)

@@ -15,9 +15,9 @@ pub struct Recorder {
 }
 
 impl Model for Recorder {
-    ghost use Rattle.meters.specs.Meters.{Recorded};
+    ghost use Rattle.meters.specs.Meters.{MeterRecorded};
 
-    ghost Value = { Recorded };
+    ghost Value = { MeterRecorded };
 
     ghost view = { λ m. record { port = m.port; held = m.held.items } };
 }
@@ -70,9 +70,9 @@ pub struct FirstN {
 }
 
 impl Model for FirstN {
-    ghost use Rattle.meters.specs.Meters.{LimitedMeter};
+    ghost use Rattle.meters.specs.Meters.{LimitedRecorder};
 
-    ghost Value = { LimitedMeter };
+    ghost Value = { LimitedRecorder };
 
     ghost view = { λ m. record { recorder = m.recorder; most = m.most } };
 }

@@ -1,6 +1,6 @@
 //! What each kind of meter does: the trait `Meter`.
 ghost use Rattle.std.specs.Prelude.{◌≡◌, length, IfOk};
-ghost use Rattle.meters.specs.Meters.{IsMeterNoted, flow_records_of};
+ghost use Rattle.meters.specs.Meters.{IsMeterNoted, meter_flow_records_of};
 ghost use Rattle.meters.specs.Seen.{Seen};
 
 use crate::flows::Flows;
@@ -40,7 +40,7 @@ pub trait Meter: Drop {
     /// # Errors
     /// Only out of memory.
     fn records(&self) -> Result<Flows, AllocError>
-        ensures { IfOk result (λ flows. flows ≡ flow_records_of (seen self.now)) };
+        ensures { IfOk result (λ flows. flows ≡ meter_flow_records_of (seen self.now)) };
 }
 
 impl Meter for Box<dyn Meter> {

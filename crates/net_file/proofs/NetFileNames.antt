@@ -1,7 +1,7 @@
 -- Names are text.
 use Rattle.std.proofs.Common.{[], ◌&&◌, ◌<◌, ◌∷◌, ◌≡◌, IsTrue, IsUtf8, List, arith, bytes_eq, codes, get_or, leb, length, not, suc, true, zero, ℕ}
 use Rattle.base.proofs.Exports.{IsUtf8-from_ascii, and_parts, is_ascii_alphabetic, nat_tests}
-use Rattle.net_file.specs.Exports.{are_name_bytes, is_label, is_name, is_name_byte}
+use Rattle.net_file.specs.Exports.{are_name_bytes, is_net_label, is_name, is_name_byte}
 
 small_letter : (byte : ℕ) → is_ascii_alphabetic byte ≡ true → byte < 128
 small_letter byte is = grind (arith, nat_tests)
@@ -16,7 +16,7 @@ small_bytes (byte ∷ bytes) are zero =
 small_bytes (byte ∷ bytes) are (suc i) = small_bytes bytes
     (and_parts (is_name_byte byte) (are_name_bytes bytes) are).1 i
 
-small_label : (name : List ℕ) → is_label name ≡ true → (i : ℕ) → get_or name i 0 < 128
+small_label : (name : List ℕ) → is_net_label name ≡ true → (i : ℕ) → get_or name i 0 < 128
 small_label [] is i = omega arith
 small_label (first ∷ more) is i =
     let bytes = and_parts (is_ascii_alphabetic first) (are_name_bytes more)
@@ -30,4 +30,4 @@ small_label (first ∷ more) is i =
 
 pub name_is_text : (name : List ℕ) → IsTrue (is_name name) → IsUtf8 name
 name_is_text name is = IsUtf8-from_ascii name
-    (small_label name (and_parts (is_label name) (not (bytes_eq name (codes "controller"))) is).0)
+    (small_label name (and_parts (is_net_label name) (not (bytes_eq name (codes "controller"))) is).0)

@@ -1,8 +1,8 @@
 -- Bits of masks.
 use Rattle.std.proofs.Common.{◌<◌, ◌==◌, ◌^◌, ◌||◌, ◌∙◌, ◌≡◌, ◌≤◌, Bool, ap, bit_or, eq-eqb, false, inl, inr, nat_eq, ne_eqb, ℕ}
 use Rattle.base.proofs.Exports.{bit_at, cases_eq}
-use Rattle.base.proofs.CallerLemmas as masks
-use Rattle.base.specs.Exports.{has, mask_of}
+use Rattle.base.proofs.BaseCallerLemmas as masks
+use Rattle.base.specs.Exports.{has, small_number_mask}
 
 abbrev pub in_mask : ℕ → ℕ → Bool
 in_mask mask k = bit_at mask k == 1
@@ -22,7 +22,7 @@ in_mask_pow p k = elim (cases_eq k p) [
 pub in_mask_with : (mask p k : ℕ) → in_mask (bit_or mask (2 ^ p)) k ≡ (in_mask mask k || nat_eq k p)
 in_mask_with mask p k = in_mask_or mask (2 ^ p) k ∙ ap (λ b. in_mask mask k || b) (in_mask_pow p k)
 
-pub in_mask_of : (test : ℕ → Bool) (k : ℕ) → k < 64 → in_mask (mask_of test) k ≡ test k
+pub in_mask_of : (test : ℕ → Bool) (k : ℕ) → k < 64 → in_mask (small_number_mask test) k ≡ test k
 unfolding has
 in_mask_of = masks.has_mask
 
@@ -32,6 +32,6 @@ in_mask_past = masks.has_above
 
 -- a mask is the one of a test that says what bits it has
 pub mask_of_is : (mask : ℕ) (test : ℕ → Bool) → mask < 2 ^ 64 → ((k : ℕ) → in_mask mask k ≡ test k)
-    → mask ≡ mask_of test
+    → mask ≡ small_number_mask test
 unfolding has
 mask_of_is mask test small same = masks.mask_of_is mask test small (λ k below. same k)

@@ -4,7 +4,7 @@ use Rattle.base.proofs.Exports.{Any-from_list_any, and_parts, both_ways, bytes_e
 use Rattle.net_file.specs.declared.net.SwitchRow.{SwitchRow}
 use Rattle.net_file.specs.declared.net.LinkRow.{LinkRow}
 use Rattle.net_file.specs.declared.net.Net.{Net}
-use Rattle.net_file.specs.Exports.{AreApart, IsNetLink, IsNet, IsPlainByte, IsSwitchRow, NameLaws, NetLinkLaws, PortLaws, are_linked, are_name_bytes, has_port, have_port, is_label, is_name, is_name_byte, joins, owner_of, port_mask}
+use Rattle.net_file.specs.Exports.{AreApart, IsNetLink, IsNet, IsPlainNetByte, IsNetSwitchRow, NameLaws, NetLinkLaws, NetPortLaws, are_linked, are_name_bytes, has_port, have_port, is_net_label, is_name, is_name_byte, joins, net_port_owner, port_mask}
 use Rattle.net_file.proofs.NetFilePortMasks.{in_mask, in_mask_of, in_mask_past}
 
 -- ---- places
@@ -12,38 +12,38 @@ use Rattle.net_file.proofs.NetFilePortMasks.{in_mask, in_mask_of, in_mask_past}
 no_switch : SwitchRow
 no_switch = record { name = []; ports = 0; room = 0 }
 
-no_port : (port : ℕ) (row : SwitchRow) → IsSwitchRow row → 64 ≤ port → has_port port row ≡ false
+no_port : (port : ℕ) (row : SwitchRow) → IsNetSwitchRow row → 64 ≤ port → has_port port row ≡ false
 no_port port row sound past = in_mask_past row.ports port sound.ports past
 
-pub no_owner : (switches : List SwitchRow) (port : ℕ) → All IsSwitchRow switches → 64 ≤ port
-    → owner_of switches port ≡ None
+pub no_owner : (switches : List SwitchRow) (port : ℕ) → All IsNetSwitchRow switches → 64 ≤ port
+    → net_port_owner switches port ≡ None
 no_owner switches port sound past = position_none (has_port port) switches
     (list_any_none (has_port port) switches (λ k d within. no_port port _ (sound k d within) past))
 
 -- ---- names
 
-plain_byte : (byte : ℕ) → is_name_byte byte ≡ true → IsPlainByte byte
+plain_byte : (byte : ℕ) → is_name_byte byte ≡ true → IsPlainNetByte byte
 plain_byte byte h = record {
   no_comma = λ e. absurd (false≢true (rw e at h));
   no_blank = λ e. absurd (false≢true (rw e at h));
   no_line_feed = λ e. absurd (false≢true (rw e at h));
 }
 
-plain_letter : (byte : ℕ) → is_ascii_alphabetic byte ≡ true → IsPlainByte byte
+plain_letter : (byte : ℕ) → is_ascii_alphabetic byte ≡ true → IsPlainNetByte byte
 plain_letter byte h = record {
   no_comma = λ e. absurd (false≢true (rw e at h));
   no_blank = λ e. absurd (false≢true (rw e at h));
   no_line_feed = λ e. absurd (false≢true (rw e at h));
 }
 
-plain_bytes : (bytes : List ℕ) → are_name_bytes bytes ≡ true → All IsPlainByte bytes
+plain_bytes : (bytes : List ℕ) → are_name_bytes bytes ≡ true → All IsPlainNetByte bytes
 plain_bytes [] h k d within = absurd (omega arith)
 plain_bytes (b ∷ bytes) h zero d within =
     plain_byte b (and_parts (is_name_byte b) (are_name_bytes bytes) h).0
 plain_bytes (b ∷ bytes) h (suc k) d within = plain_bytes bytes
     (and_parts (is_name_byte b) (are_name_bytes bytes) h).1 k d (omega arith)
 
-plain_label : (name : List ℕ) → is_label name ≡ true → All IsPlainByte name
+plain_label : (name : List ℕ) → is_net_label name ≡ true → All IsPlainNetByte name
 plain_label [] h = absurd (false≢true h)
 plain_label (b ∷ more) h = at where
   parts : (is_ascii_alphabetic b && are_name_bytes more ≡ true) × (nat_le (length more) 15 ≡ true)
@@ -52,11 +52,11 @@ plain_label (b ∷ more) h = at where
   letters : (is_ascii_alphabetic b ≡ true) × (are_name_bytes more ≡ true)
   letters = and_parts (is_ascii_alphabetic b) (are_name_bytes more) parts.0
 
-  at : All IsPlainByte (b ∷ more)
+  at : All IsPlainNetByte (b ∷ more)
   at zero d within = plain_letter b letters.0
   at (suc k) d within = plain_bytes more letters.1 k d (omega arith)
 
-label_size : (name : List ℕ) → is_label name ≡ true → (1 ≤ length name) × (length name ≤ 16)
+label_size : (name : List ℕ) → is_net_label name ≡ true → (1 ≤ length name) × (length name ≤ 16)
 label_size [] h = absurd (false≢true h)
 label_size (b ∷ more) h =
     let few = leb-true (length more) 15
@@ -66,10 +66,10 @@ label_size (b ∷ more) h =
 same_bytes : (bytes : List ℕ) → bytes_eq bytes bytes ≡ true
 same_bytes bytes = (bytes_eq-Decides bytes bytes).1 refl
 
-name_parts : (name : List ℕ) → is_name name ≡ true → (is_label name ≡ true)
+name_parts : (name : List ℕ) → is_name name ≡ true → (is_net_label name ≡ true)
     × (bytes_eq name (codes "controller") ≡ false)
 name_parts name h =
-    let (label, other) = and_parts (is_label name) (not (bytes_eq name (codes "controller"))) h in
+    let (label, other) = and_parts (is_net_label name) (not (bytes_eq name (codes "controller"))) h in
     (label, not-true _ other)
 
 earlier_apart : (net : Net) (s k : ℕ) (row : SwitchRow) → IsNet net
@@ -97,7 +97,7 @@ names = record {
 
 -- ---- ports
 
-port_small : (net : Net) (port s : ℕ) → IsNet net → owner_of net.switches port ≡ Some s → port < 64
+port_small : (net : Net) (port s : ℕ) → IsNet net → net_port_owner net.switches port ≡ Some s → port < 64
 port_small net port s sound e = elim (cases_lt port 64) [
   | inl small ↦ small
   | inr past ↦ absurd (none_is_some (sym (no_owner net.switches port sound.switches past) ∙ e))
@@ -106,7 +106,7 @@ port_small net port s sound e = elim (cases_lt port 64) [
   none_is_some h = false≢true (ap is_some h)
 
 port_bits : (net : Net) (port : ℕ) → IsNet net → in_mask (port_mask net.switches) port ≡ is_some
-    (owner_of net.switches port)
+    (net_port_owner net.switches port)
 port_bits net port sound = elim (cases_lt port 64) [
   | inl small ↦ in_mask_of (have_port net.switches) port small
       ∙ sym (some_position (has_port port) net.switches)
@@ -114,7 +114,7 @@ port_bits net port sound = elim (cases_lt port 64) [
       ∙ sym (ap is_some (no_owner net.switches port sound.switches past))
 ]
 
-pub ports : PortLaws
+pub ports : NetPortLaws
 ports = record {
   owner = λ net port s row sound there has. position_at (has_port port) net.switches s row there has
       (λ k before. false_from_ne_true _ (λ shared. both_ways _

@@ -7,8 +7,8 @@ use Rattle.net_file.specs.declared.error.NetRefusal.TheVariants as refusal
 use Rattle.net_file.specs.declared.net.SwitchRow.{SwitchRow}
 use Rattle.net_file.specs.declared.net.LinkRow.{LinkRow}
 use Rattle.net_file.specs.declared.net.Net.{Net}
-use Rattle.net_file.specs.Exports.{AreApart, AreOther, IsNetLink, IsNet, IsSwitchRow, are_distinct_ports, are_linked, are_new, toml_array_in, at_key, toml_document_of, link_end_read, toml_ends_in, has_port, have_switch_name, have_port, is_name, joins, link_array, net_link_of, net_link_with, toml_name_in, net_of, net_read, number_or_default, toml_number_stated, toml_number_within, of_type, toml_ports_in, require_net_value, net_rows_read, switch_array, switch_number, switch_read, switch_with, with_toml_value}
-use Rattle.base.specs.Exports.{in_row, mask_of}
+use Rattle.net_file.specs.Exports.{AreApart, AreOther, IsNetLink, IsNet, IsNetSwitchRow, are_distinct_ports, are_linked, are_new_net_ports, toml_array_in, at_key, toml_document_of, link_end_read, toml_ends_in, has_port, have_net_switch_name, have_port, is_name, joins, net_link_array, net_link_of, net_link_with, toml_name_in, net_of, net_read, net_number_or_default, toml_number_stated, toml_number_within, net_value_of_type, toml_ports_in, require_net_value, net_rows_read, net_switch_array, switch_number, net_switch_read, net_switch_with, with_toml_value}
+use Rattle.base.specs.Exports.{in_row, small_number_mask}
 use Rattle.net_file.proofs.NetFilePortMasks.{in_mask, in_mask_of, in_mask_past}
 
 -- ---- what led to a value
@@ -52,11 +52,11 @@ within_range low high (negsuc m) n e = not_ok refusal.Range n e
 number_range : (low high : ℕ) (d : Data) (n : ℕ) → toml_number_stated low high d ≡ Ok n → (low ≤ n)
     × (n ≤ high)
 number_range low high d n e =
-    let (z, is, rest) = with_value_ok (of_type (as_integer d)) (toml_number_within low high) n e in
+    let (z, is, rest) = with_value_ok (net_value_of_type (as_integer d)) (toml_number_within low high) n e in
     within_range low high z n rest
 
 setting_range : (table : Members) (key : List ℕ) (low high default n : ℕ) → low ≤ default
-    → default ≤ high → number_or_default table key low high default ≡ Ok n → (low ≤ n) × (n ≤ high)
+    → default ≤ high → net_number_or_default table key low high default ≡ Ok n → (low ≤ n) × (n ≤ high)
 setting_range table key low high default n from to e = at (get_member key table) e where
   at : (o : Option Data) → option_map_or (toml_number_stated low high) o (Ok default) ≡ Ok n → (low ≤ n)
       × (n ≤ high)
@@ -70,7 +70,7 @@ name_is keys key name e = at (get_member key keys) e where
       → is_name name ≡ true
   at None e = not_ok refusal.MissingKey name e
   at (Some d) e =
-      let (text, is, rest) = with_value_ok (of_type (as_str d))
+      let (text, is, rest) = with_value_ok (net_value_of_type (as_str d))
       (λ text. require_net_value (is_name text) refusal.Range (Ok text)) name e in
       let (valid, same) = require_ok (is_name text) refusal.Range (Ok text) name rest in
       rw (← ok_value text name same) valid
@@ -116,8 +116,8 @@ rows_count {X} base read earlier (d ∷ ds) rows e = elim (read earlier d) as
 
 -- a switch that shares nothing with the earlier ones
 pub record IsNew (earlier : List SwitchRow) (row : SwitchRow) : Type 0 where
-  pub switch : IsSwitchRow row
-  pub name : have_switch_name earlier row.name ≡ false
+  pub switch : IsNetSwitchRow row
+  pub name : have_net_switch_name earlier row.name ≡ false
   pub ports : (port : ℕ) → has_port port row ≡ true → have_port earlier port ≡ false
 
 member_fails : (test : ℕ → Bool) (xs : List ℕ) (x : ℕ) → list_any test xs ≡ false
@@ -130,8 +130,8 @@ member_fails test (y ∷ xs) x none there =
       | inr later ↦ member_fails test xs x more later
     ]
 
-new_ports : (earlier : List SwitchRow) (ports : List ℕ) (port : ℕ) → are_new earlier ports ≡ true
-    → in_mask (mask_of (λ port. list_any (nat_eq port) ports)) port ≡ true
+new_ports : (earlier : List SwitchRow) (ports : List ℕ) (port : ℕ) → are_new_net_ports earlier ports ≡ true
+    → in_mask (small_number_mask (λ port. list_any (nat_eq port) ports)) port ≡ true
     → have_port earlier port ≡ false
 new_ports earlier ports port new has =
     let (distinct, none) = and_parts (are_distinct_ports ports) (not (list_any (have_port earlier) ports))
@@ -144,15 +144,15 @@ new_ports earlier ports port new has =
     ]
 
 switch_with_new : (earlier : List SwitchRow) (keys : Members) (row : SwitchRow)
-    → switch_with earlier keys ≡ Ok row → IsNew earlier row
+    → net_switch_with earlier keys ≡ Ok row → IsNew earlier row
 switch_with_new earlier keys row e =
     let (name, named, e1) = with_value_ok
     (at_key toml_name_in (Err refusal.MissingKey) keys (codes "name")) _ row e in
     let (ports, read, e2) = with_value_ok (at_key toml_ports_in (Ok []) keys (codes "ports")) _ row e1 in
-    let (room, sized, e3) = with_value_ok (number_or_default keys (codes "authority") 0 8192 0) _
+    let (room, sized, e3) = with_value_ok (net_number_or_default keys (codes "authority") 0 8192 0) _
     row e2 in
-    let (other, e4) = require_ok (not (have_switch_name earlier name)) refusal.DuplicateName _ row e3 in
-    let (new, e5) = require_ok (are_new earlier ports) refusal.DuplicatePort _ row e4 in
+    let (other, e4) = require_ok (not (have_net_switch_name earlier name)) refusal.DuplicateName _ row e3 in
+    let (new, e5) = require_ok (are_new_net_ports earlier ports) refusal.DuplicatePort _ row e4 in
     subst (IsNew earlier) (ok_value _ row e5) (record {
       switch = record {
         name = name_is keys (codes "name") name named;
@@ -164,19 +164,19 @@ switch_with_new earlier keys row e =
       ports = λ port has. new_ports earlier ports port new has;
     })
 
-switch_new : (earlier : List SwitchRow) (d : Data) (row : SwitchRow) → switch_read earlier d ≡ Ok row
+switch_new : (earlier : List SwitchRow) (d : Data) (row : SwitchRow) → net_switch_read earlier d ≡ Ok row
     → IsNew earlier row
 switch_new earlier d row e =
-    let (keys, is, rest) = with_value_ok (of_type (as_table d)) (switch_with earlier) row e in
+    let (keys, is, rest) = with_value_ok (net_value_of_type (as_table d)) (net_switch_with earlier) row e in
     switch_with_new earlier keys row rest
 
 abbrev AreSwitches : List SwitchRow → Type 0
-AreSwitches rows = All IsSwitchRow rows × AllPairs AreApart rows
+AreSwitches rows = All IsNetSwitchRow rows × AllPairs AreApart rows
 
 switches_push : (earlier : List SwitchRow) (d : Data) (row : SwitchRow) → AreSwitches earlier
-    → switch_read earlier d ≡ Ok row → AreSwitches (earlier ++ row ∷ [])
+    → net_switch_read earlier d ≡ Ok row → AreSwitches (earlier ++ row ∷ [])
 switches_push earlier d row sound e = let new = switch_new earlier d row e in (
-  All-push IsSwitchRow earlier row sound.0 new.switch,
+  All-push IsNetSwitchRow earlier row sound.0 new.switch,
   all_pairs_push AreApart earlier row sound.1 (λ k x within. record {
     names = none_passes (λ other. bytes_eq other.name row.name) earlier k x within new.name;
     ports = λ port has. false_from_ne_true _ (λ shared. both_ways _ (new.ports port shared)
@@ -209,7 +209,7 @@ record IsNewLink (count : ℕ) (earlier : List LinkRow) (link : LinkRow) : Type 
 link_new : (switches : List SwitchRow) (earlier : List LinkRow) (d : Data) (link : LinkRow)
     → net_link_of switches earlier d ≡ Ok link → IsNewLink (length switches) earlier link
 link_new switches earlier d link e =
-    let (keys, is, e0) = with_value_ok (of_type (as_table d)) (net_link_with switches earlier) link e in
+    let (keys, is, e0) = with_value_ok (net_value_of_type (as_table d)) (net_link_with switches earlier) link e in
     let (ends, read, e1) = with_value_ok
     (at_key toml_ends_in (Err refusal.MissingKey) keys (codes "ends")) _ link e0 in
     let (one, first, e2) = with_value_ok (link_end_read switches ends.0) _ link e1 in
@@ -237,7 +237,7 @@ links_push switches earlier d link sound e = let new = link_new switches earlier
 
 -- ---- documents
 
-switch_array_size : (table : Members) (ds : List Data) → switch_array table ≡ Ok ds
+switch_array_size : (table : Members) (ds : List Data) → net_switch_array table ≡ Ok ds
     → (1 ≤ length ds) × (length ds ≤ 64)
 switch_array_size table ds e =
     let (read, is, e1) = with_value_ok
@@ -246,7 +246,7 @@ switch_array_size table ds e =
     let (some, e3) = require_ok (nat_lt 0 (length read)) refusal.Range _ ds e2 in
     rw (← ok_value read ds e3) (ltb-true 0 (length read) some, leb-true (length read) 64 few)
 
-link_array_size : (table : Members) (ds : List Data) → link_array table ≡ Ok ds → length ds ≤ 256
+link_array_size : (table : Members) (ds : List Data) → net_link_array table ≡ Ok ds → length ds ≤ 256
 link_array_size table ds e =
     let (read, is, e1) = with_value_ok (at_key toml_array_in (Ok []) table (codes "link")) _ ds e in
     let (few, e2) = require_ok (nat_le (length read) 256) refusal.TooMany _ ds e1 in
@@ -255,22 +255,22 @@ link_array_size table ds e =
 pub sound_net : (table : Members) (net : Net) → net_read table ≡ Ok net → IsNet net
 sound_net table net e =
     let (leaf_rules, a, e1) =
-    with_value_ok (in_row 0 (number_or_default table (codes "leaf_rules") 1 8192 64)) _ net e in
+    with_value_ok (in_row 0 (net_number_or_default table (codes "leaf_rules") 1 8192 64)) _ net e in
     let (backups, b, e2) = with_value_ok (in_row 0
-    (number_or_default table (codes "backups") 0 3 0)) _ net
+    (net_number_or_default table (codes "backups") 0 3 0)) _ net
     e1 in
     let (cache, c, e3) = with_value_ok (in_row 0
-    (number_or_default table (codes "cache") 0 65536 256)) _
+    (net_number_or_default table (codes "cache") 0 65536 256)) _
     net e2 in
-    let (switch_values, d, e4) = with_value_ok (in_row 0 (switch_array table)) _ net e3 in
-    let (switches, f, e5) = with_value_ok (net_rows_read 0 switch_read [] switch_values) _ net e4 in
-    let (link_values, g, e6) = with_value_ok (in_row 0 (link_array table)) _ net e5 in
+    let (switch_values, d, e4) = with_value_ok (in_row 0 (net_switch_array table)) _ net e3 in
+    let (switches, f, e5) = with_value_ok (net_rows_read 0 net_switch_read [] switch_values) _ net e4 in
+    let (link_values, g, e6) = with_value_ok (in_row 0 (net_link_array table)) _ net e5 in
     let (links, h, e7) = with_value_ok (net_rows_read 100 (net_link_of switches) [] link_values) _ net e6 in
     let rules = setting_range table (codes "leaf_rules") 1 8192 64 leaf_rules (omega arith)
     (omega arith) (in_row_ok 0 _ leaf_rules a) in
     let size = switch_array_size table switch_values (in_row_ok 0 _ switch_values d) in
-    let count = rows_count 0 switch_read [] switch_values switches f in
-    let sound = rows_kept AreSwitches 0 switch_read switches_push [] switch_values switches none_yet
+    let count = rows_count 0 net_switch_read [] switch_values switches f in
+    let sound = rows_kept AreSwitches 0 net_switch_read switches_push [] switch_values switches none_yet
     f in
     let sound_links = rows_kept (AreLinks (length switches)) 100 (net_link_of switches)
     (links_push switches) [] link_values links no_links_yet h in

@@ -8,8 +8,8 @@ abbrev pub has_port : ℕ → SwitchRow → Bool
 has_port port row = bit_at row.ports port == 1
 
 -- the number of the switch that has the port
-abbrev pub owner_of : List SwitchRow → ℕ → Option ℕ
-owner_of switches port = position (has_port port) switches
+abbrev pub net_port_owner : List SwitchRow → ℕ → Option ℕ
+net_port_owner switches port = position (has_port port) switches
 
 -- the link joins these two switches, in either order
 abbrev pub joins : ℕ → ℕ → LinkRow → Bool

@@ -12,9 +12,9 @@ toml_items_list no_items = []
 toml_items_list (item d ds) = d ∷ toml_items_list ds
 
 -- a value of the type, or the refusal of another type
-abbrev pub of_type : {X : Type 0} → Option X → Result X NetRefusal
-of_type (Some value) = Ok value
-of_type None = Err refusal.WrongType
+abbrev pub net_value_of_type : {X : Type 0} → Option X → Result X NetRefusal
+net_value_of_type (Some value) = Ok value
+net_value_of_type None = Err refusal.WrongType
 
 -- what a key's value is read as, or its default if the key is absent
 abbrev pub at_key : {X : Type 0} → (Data → Result X NetRefusal) → Result X NetRefusal → Members
@@ -23,10 +23,10 @@ abbrev pub at_key : {X : Type 0} → (Data → Result X NetRefusal) → Result X
 at_key read absent table key = option_map_or read (get_member key table) absent
 
 -- the integer, if it lies from low to high
-abbrev pub integer_within : ℕ → ℕ → ℤ → Option ℕ
-integer_within low high (pos n) = if nat_le low n && nat_le n high then Some n else None
-integer_within low high (negsuc n) = None
+abbrev pub toml_integer_within : ℕ → ℕ → ℤ → Option ℕ
+toml_integer_within low high (pos n) = if nat_le low n && nat_le n high then Some n else None
+toml_integer_within low high (negsuc n) = None
 
 -- an integer that must lie from low to high
 abbrev pub toml_number_within : ℕ → ℕ → ℤ → Result ℕ NetRefusal
-toml_number_within low high z = option_map_or Ok (integer_within low high z) (Err refusal.Range)
+toml_number_within low high z = option_map_or Ok (toml_integer_within low high z) (Err refusal.Range)

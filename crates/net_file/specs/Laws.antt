@@ -5,17 +5,17 @@ use Rattle.net_file.specs.declared.net.SwitchRow.{SwitchRow}
 use Rattle.net_file.specs.declared.net.LinkRow.{LinkRow}
 use Rattle.net_file.specs.declared.net.Net.{Net}
 use Rattle.net_file.specs.Net.{IsNet, is_name}
-use Rattle.net_file.specs.Owners.{have_switch_name, port_mask, switch_number, links_of}
-use Rattle.net_file.specs.Joins.{are_linked, has_port, owner_of}
+use Rattle.net_file.specs.Owners.{have_net_switch_name, port_mask, switch_number, links_of}
+use Rattle.net_file.specs.Joins.{are_linked, has_port, net_port_owner}
 
 -- the byte is no comma, no blank and no line feed
-pub record IsPlainByte (byte : ℕ) : Type 0 where
+pub record IsPlainNetByte (byte : ℕ) : Type 0 where
   pub no_comma : byte ≢ 44
   pub no_blank : byte ≢ 32
   pub no_line_feed : byte ≢ 10
 
 pub record NameLaws : Type 0 where
-  pub plain : (name : List ℕ) → is_name name ≡ true → All IsPlainByte name
+  pub plain : (name : List ℕ) → is_name name ≡ true → All IsPlainNetByte name
   pub size : (name : List ℕ) → is_name name ≡ true → (1 ≤ length name) × (length name ≤ 16)
   pub not_controller : (name : List ℕ) → is_name name ≡ true → name ≢ codes "controller"
   -- the number of a name is that of the switch that has it
@@ -27,20 +27,20 @@ pub record NameLaws : Type 0 where
   pub below : (switches : List SwitchRow) (name : List ℕ) (s : ℕ)
       → switch_number switches name ≡ Some s → s < length switches
   pub some : (switches : List SwitchRow) (name : List ℕ)
-      → is_some (switch_number switches name) ≡ have_switch_name switches name
+      → is_some (switch_number switches name) ≡ have_net_switch_name switches name
 
-pub record PortLaws : Type 0 where
+pub record NetPortLaws : Type 0 where
   -- the owner of a port is the one switch that has it
   pub owner : (net : Net) (port s : ℕ) (row : SwitchRow) → IsNet net
       → slice_get net.switches s ≡ Some row → has_port port row ≡ true
-      → owner_of net.switches port ≡ Some s
-  pub has : (switches : List SwitchRow) (port s : ℕ) → owner_of switches port ≡ Some s
+      → net_port_owner net.switches port ≡ Some s
+  pub has : (switches : List SwitchRow) (port s : ℕ) → net_port_owner switches port ≡ Some s
       → (row : SwitchRow) × (slice_get switches s ≡ Some row) × (has_port port row ≡ true)
-  pub below : (switches : List SwitchRow) (port s : ℕ) → owner_of switches port ≡ Some s
+  pub below : (switches : List SwitchRow) (port s : ℕ) → net_port_owner switches port ≡ Some s
       → s < length switches
-  pub small : (net : Net) (port s : ℕ) → IsNet net → owner_of net.switches port ≡ Some s → port < 64
+  pub small : (net : Net) (port s : ℕ) → IsNet net → net_port_owner net.switches port ≡ Some s → port < 64
   pub mask : (net : Net) (port : ℕ) → IsNet net
-      → (bit_at (port_mask net.switches) port == 1) ≡ is_some (owner_of net.switches port)
+      → (bit_at (port_mask net.switches) port == 1) ≡ is_some (net_port_owner net.switches port)
 
 -- the mask has exactly the bits for which the test is true
 abbrev pub IsPortMask : ℕ → (ℕ → Bool) → Type 0

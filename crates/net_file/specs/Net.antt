@@ -15,19 +15,19 @@ abbrev pub are_name_bytes : List ℕ → Bool
 are_name_bytes bytes = list_all is_name_byte bytes
 
 -- a letter, then up to 15 letters, digits, `_` or `-`
-abbrev pub is_label : List ℕ → Bool
-is_label [] = false
-is_label (first ∷ more) = is_ascii_alphabetic first && are_name_bytes more
+abbrev pub is_net_label : List ℕ → Bool
+is_net_label [] = false
+is_net_label (first ∷ more) = is_ascii_alphabetic first && are_name_bytes more
     && nat_le (length more) 15
 
 -- a label, but not the controller's name
 abbrev pub is_name : List ℕ → Bool
-is_name name = is_label name && not (bytes_eq name (codes "controller"))
+is_name name = is_net_label name && not (bytes_eq name (codes "controller"))
 
 -- ---- networks
 
 -- a switch that a network can have
-pub record IsSwitchRow (row : SwitchRow) : Type 0 where
+pub record IsNetSwitchRow (row : SwitchRow) : Type 0 where
   pub name : IsTrue (is_name row.name)
   pub ports : row.ports < 2 ^ 64
   pub room : row.room ≤ 8192
@@ -51,7 +51,7 @@ AreOther a b = IsFalse (joins b.one b.two a)
 pub record IsNet (net : Net) : Type 0 where
   pub some_switch : 1 ≤ length net.switches
   pub few_switches : length net.switches ≤ 64
-  pub switches : All IsSwitchRow net.switches
+  pub switches : All IsNetSwitchRow net.switches
   pub apart : AllPairs AreApart net.switches
   pub few_links : length net.links ≤ 256
   pub links : All (IsNetLink (length net.switches)) net.links

@@ -1,9 +1,9 @@
 -- The network that a text states: a TOML 1.1 document, checked in the order of the network file.
 use Rattle.std.specs.Prelude.{[], if◌then◌else◌, ◌&&◌, ◌++◌, ◌+◌, ◌==◌, ◌∷◌, Bool, Err, List, None, Ok, Option, Result, Some, codes, filter_map, is_some, length, nat_eq, nat_le, nat_lt, not, ok_or, option_and_then, true, ℕ}
-use Rattle.base.specs.Exports.{in_row, is_utf8, list_all, list_any, mask_of}
+use Rattle.base.specs.Exports.{in_row, is_utf8, list_all, list_any, small_number_mask}
 use Rattle.toml.specs.Data.{Data, Members, as_integer, as_str, as_array, as_table}
 use Rattle.toml.specs.Parse.{parse_document}
-use Rattle.net_file.specs.Keys.{at_key, toml_items_list, toml_number_within, of_type, integer_within}
+use Rattle.net_file.specs.Keys.{at_key, toml_items_list, toml_number_within, net_value_of_type, toml_integer_within}
 use Rattle.net_file.specs.Net.{is_name}
 use Rattle.net_file.specs.Refusals.{require_net_value, with_toml_value}
 use Rattle.base.specs.declared.row.InRow.{InRow}
@@ -12,23 +12,23 @@ use Rattle.net_file.specs.declared.error.NetRefusal.TheVariants as refusal
 use Rattle.net_file.specs.declared.net.SwitchRow.{SwitchRow}
 use Rattle.net_file.specs.declared.net.LinkRow.{LinkRow}
 use Rattle.net_file.specs.declared.net.Net.{Net}
-use Rattle.net_file.specs.Owners.{have_switch_name, have_port, switch_number}
+use Rattle.net_file.specs.Owners.{have_net_switch_name, have_port, switch_number}
 use Rattle.net_file.specs.Joins.{are_linked}
 
 -- ---- kinds of values
 
 abbrev pub toml_number_stated : ℕ → ℕ → Data → Result ℕ NetRefusal
-toml_number_stated low high d = with_toml_value (of_type (as_integer d)) (toml_number_within low high)
+toml_number_stated low high d = with_toml_value (net_value_of_type (as_integer d)) (toml_number_within low high)
 
 abbrev pub toml_array_in : Data → Result (List Data) NetRefusal
-toml_array_in d = with_toml_value (of_type (as_array d)) (λ items. Ok (toml_items_list items))
+toml_array_in d = with_toml_value (net_value_of_type (as_array d)) (λ items. Ok (toml_items_list items))
 
 abbrev pub toml_name_in : Data → Result (List ℕ) NetRefusal
-toml_name_in d = with_toml_value (of_type (as_str d)) (λ text. require_net_value (is_name text) refusal.Range (Ok text))
+toml_name_in d = with_toml_value (net_value_of_type (as_str d)) (λ text. require_net_value (is_name text) refusal.Range (Ok text))
 
 -- a port of the array `ports`
 abbrev pub toml_port_read : Data → Option ℕ
-toml_port_read d = option_and_then (integer_within 0 63) (as_integer d)
+toml_port_read d = option_and_then (toml_integer_within 0 63) (as_integer d)
 
 abbrev pub toml_ports_of : List Data → List ℕ
 toml_ports_of ds = filter_map toml_port_read ds
@@ -48,20 +48,20 @@ texts_of (one ∷ two ∷ []) =
 texts_of _ = None
 
 abbrev pub toml_ends_in : Data → Result (List ℕ × List ℕ) NetRefusal
-toml_ends_in d = with_toml_value (toml_array_in d) (λ ends. of_type (texts_of ends))
+toml_ends_in d = with_toml_value (toml_array_in d) (λ ends. net_value_of_type (texts_of ends))
 
 -- ---- settings
 
 -- a number of the document, or its default if the key is absent
-abbrev pub number_or_default : Members → List ℕ → ℕ → ℕ → ℕ → Result ℕ NetRefusal
-number_or_default table key low high default = at_key (toml_number_stated low high) (Ok default) table
+abbrev pub net_number_or_default : Members → List ℕ → ℕ → ℕ → ℕ → Result ℕ NetRefusal
+net_number_or_default table key low high default = at_key (toml_number_stated low high) (Ok default) table
     key
 
 -- ---- switches
 
 -- the array `switch` itself
-abbrev pub switch_array : Members → Result (List Data) NetRefusal
-switch_array table =
+abbrev pub net_switch_array : Members → Result (List Data) NetRefusal
+net_switch_array table =
     with_toml_value (at_key toml_array_in (Err refusal.MissingKey) table (codes "switch")) (λ switches.
     require_net_value (nat_le (length switches) 64) refusal.TooMany (
     require_net_value (nat_lt 0 (length switches)) refusal.Range (
@@ -73,8 +73,8 @@ are_distinct_ports [] = true
 are_distinct_ports (x ∷ xs) = not (list_any (nat_eq x) xs) && are_distinct_ports xs
 
 -- the ports occur neither twice nor in an earlier switch
-abbrev pub are_new : List SwitchRow → List ℕ → Bool
-are_new earlier ports = are_distinct_ports ports && not (list_any (have_port earlier) ports)
+abbrev pub are_new_net_ports : List SwitchRow → List ℕ → Bool
+are_new_net_ports earlier ports = are_distinct_ports ports && not (list_any (have_port earlier) ports)
 
 abbrev pub switch_name_at : Members → Result (List ℕ) NetRefusal
 switch_name_at keys = at_key toml_name_in (Err refusal.MissingKey) keys (codes "name")
@@ -84,24 +84,24 @@ switch_ports_at keys = at_key toml_ports_in (Ok []) keys (codes "ports")
 
 -- a list of ports as a mask
 abbrev pub port_bits : List ℕ → ℕ
-port_bits ports = mask_of (λ port. list_any (nat_eq port) ports)
+port_bits ports = small_number_mask (λ port. list_any (nat_eq port) ports)
 
 -- the switch that these keys state, after the earlier switches
-abbrev pub switch_with : List SwitchRow → Members → Result SwitchRow NetRefusal
-switch_with earlier keys = with_toml_value (switch_name_at keys) (λ name. with_toml_value (switch_ports_at keys) (λ ports.
-    with_toml_value (number_or_default keys (codes "authority") 0 8192 0) (λ room.
-    require_net_value (not (have_switch_name earlier name)) refusal.DuplicateName (
-    require_net_value (are_new earlier ports) refusal.DuplicatePort (
+abbrev pub net_switch_with : List SwitchRow → Members → Result SwitchRow NetRefusal
+net_switch_with earlier keys = with_toml_value (switch_name_at keys) (λ name. with_toml_value (switch_ports_at keys) (λ ports.
+    with_toml_value (net_number_or_default keys (codes "authority") 0 8192 0) (λ room.
+    require_net_value (not (have_net_switch_name earlier name)) refusal.DuplicateName (
+    require_net_value (are_new_net_ports earlier ports) refusal.DuplicatePort (
     Ok (record { name = name; ports = port_bits ports; room = room }))))))
 
-abbrev pub switch_read : List SwitchRow → Data → Result SwitchRow NetRefusal
-switch_read earlier d = with_toml_value (of_type (as_table d)) (switch_with earlier)
+abbrev pub net_switch_read : List SwitchRow → Data → Result SwitchRow NetRefusal
+net_switch_read earlier d = with_toml_value (net_value_of_type (as_table d)) (net_switch_with earlier)
 
 -- ---- links
 
 -- the array `link` itself
-abbrev pub link_array : Members → Result (List Data) NetRefusal
-link_array table =
+abbrev pub net_link_array : Members → Result (List Data) NetRefusal
+net_link_array table =
     with_toml_value (at_key toml_array_in (Ok []) table (codes "link")) (λ links.
     require_net_value (nat_le (length links) 256) refusal.TooMany (
     Ok links))
@@ -120,7 +120,7 @@ net_link_with switches earlier keys =
     Ok (record { one = one; two = two }))))))
 
 abbrev pub net_link_of : List SwitchRow → List LinkRow → Data → Result LinkRow NetRefusal
-net_link_of switches earlier d = with_toml_value (of_type (as_table d)) (net_link_with switches earlier)
+net_link_of switches earlier d = with_toml_value (net_value_of_type (as_table d)) (net_link_with switches earlier)
 
 -- ---- documents
 
@@ -134,7 +134,7 @@ net_rows_read base read earlier (d ∷ ds) =
     (λ row. net_rows_read base read (earlier ++ row ∷ []) ds)
 
 abbrev pub switches_read : List Data → Result (List SwitchRow) (InRow NetRefusal)
-switches_read ds = net_rows_read 0 switch_read [] ds
+switches_read ds = net_rows_read 0 net_switch_read [] ds
 
 abbrev pub net_links_in : List SwitchRow → List Data → Result (List LinkRow) (InRow NetRefusal)
 net_links_in switches ds = net_rows_read 100 (net_link_of switches) [] ds
@@ -142,12 +142,12 @@ net_links_in switches ds = net_rows_read 100 (net_link_of switches) [] ds
 -- the network that a document states, or its first refusal
 abbrev pub net_read : Members → Result Net (InRow NetRefusal)
 net_read table =
-    with_toml_value (in_row 0 (number_or_default table (codes "leaf_rules") 1 8192 64)) (λ leaf_rules.
-    with_toml_value (in_row 0 (number_or_default table (codes "backups") 0 3 0)) (λ backups.
-    with_toml_value (in_row 0 (number_or_default table (codes "cache") 0 65536 256)) (λ cache.
-    with_toml_value (in_row 0 (switch_array table)) (λ switch_values.
+    with_toml_value (in_row 0 (net_number_or_default table (codes "leaf_rules") 1 8192 64)) (λ leaf_rules.
+    with_toml_value (in_row 0 (net_number_or_default table (codes "backups") 0 3 0)) (λ backups.
+    with_toml_value (in_row 0 (net_number_or_default table (codes "cache") 0 65536 256)) (λ cache.
+    with_toml_value (in_row 0 (net_switch_array table)) (λ switch_values.
     with_toml_value (switches_read switch_values) (λ switches.
-    with_toml_value (in_row 0 (link_array table)) (λ link_values.
+    with_toml_value (in_row 0 (net_link_array table)) (λ link_values.
     with_toml_value (net_links_in switches link_values) (λ links.
     Ok (record {
       switches = switches;

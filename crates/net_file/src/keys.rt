@@ -1,7 +1,7 @@
 ghost use Rattle.std.specs.Prelude.{◌≡◌, option_map};
 ghost use Rattle.toml.specs.Data.{as_str, as_table, get_member};
 ghost use Rattle.toml.specs.View.{table_view, view};
-ghost use Rattle.net_file.specs.Exports.{toml_array_in, toml_number_stated, of_type, number_or_default, integer_within};
+ghost use Rattle.net_file.specs.Exports.{toml_array_in, toml_number_stated, net_value_of_type, net_number_or_default, toml_integer_within};
 ghost use Rattle.net_file.specs.Outcomes.{IsNetRowRead, toml_seen_values};
 
 use crate::error::NetRefusal;
@@ -16,7 +16,7 @@ pub fn toml_value_at<'a>(table: &'a Table, key: &str) -> Option<&'a Value>
 
 /// The number, if it is from `low` to `high`; otherwise `None`.
 pub fn within(low: u32, high: u32, number: i64) -> Option<u32>
-    ensures { result ≡ integer_within low high number }
+    ensures { result ≡ toml_integer_within low high number }
 {
     if number < low as i64 || (high as i64) < number {
         return None;
@@ -25,14 +25,14 @@ pub fn within(low: u32, high: u32, number: i64) -> Option<u32>
 }
 
 /// The integer that a value is; `WrongType` for any other value, `Range` if it is out of range.
-pub fn number_in(low: u32, high: u32, value: &Value) -> Result<u32, NetRefusal>
+pub fn net_switch_number(low: u32, high: u32, value: &Value) -> Result<u32, NetRefusal>
     ensures { result ≡ toml_number_stated low high (view value.now) }
 {
     let number = value.as_integer().ok_or(NetRefusal::WrongType)?;
     within(low, high, number).ok_or(NetRefusal::Range)
 }
 
-/// The number at a key, as `number_in` reads it, or the default if the key is absent.
+/// The number at a key, as `net_switch_number` reads it, or the default if the key is absent.
 pub fn setting_of(
     table: &Table,
     key: &str,
@@ -40,10 +40,10 @@ pub fn setting_of(
     high: u32,
     default: u32,
 ) -> Result<u32, NetRefusal>
-    ensures { result ≡ number_or_default (table_view table.now) key.now low high default }
+    ensures { result ≡ net_number_or_default (table_view table.now) key.now low high default }
 {
     match toml_value_at(table, key) {
-        Some(value) => number_in(low, high, value),
+        Some(value) => net_switch_number(low, high, value),
         None => Ok(default),
     }
 }
@@ -60,7 +60,7 @@ pub fn toml_array_in(value: &Value) -> Result<&[Value], NetRefusal>
 
 /// The keys of a table; `WrongType` for any other value.
 pub fn toml_table_in(value: &Value) -> Result<&Table, NetRefusal>
-    ensures { IsNetRowRead (λ keys. table_view keys.now) (of_type (as_table (view value.now))) result }
+    ensures { IsNetRowRead (λ keys. table_view keys.now) (net_value_of_type (as_table (view value.now))) result }
 {
     match value.as_table() {
         Some(keys) => Ok(keys),
@@ -70,7 +70,7 @@ pub fn toml_table_in(value: &Value) -> Result<&Table, NetRefusal>
 
 /// The text that a value is; `WrongType` for any other value.
 pub fn toml_text_in(value: &Value) -> Result<&str, NetRefusal>
-    ensures { IsNetRowRead (λ text. text.now) (of_type (as_str (view value.now))) result }
+    ensures { IsNetRowRead (λ text. text.now) (net_value_of_type (as_str (view value.now))) result }
 {
     match value.as_str() {
         Some(text) => Ok(text),

@@ -1,5 +1,5 @@
 ghost use Rattle.std.specs.Prelude.{◌≡◌, ℕ, List, Ok};
-ghost use Rattle.net_file.specs.Exports.{IsNet, NameLaws, NetLinkLaws, PortLaws, net_of, solo_net};
+ghost use Rattle.net_file.specs.Exports.{IsNet, NameLaws, NetLinkLaws, NetPortLaws, net_of, solo_net};
 ghost use Rattle.net_file.specs.declared.net.Net.{Net};
 
 /// Names and numbers of switches correspond one to one, and no byte of a name is a comma, a blank
@@ -10,7 +10,7 @@ pub fn switch_name_laws()
 
 /// A port has at most one owner, and the mask of all ports has exactly those with an owner.
 pub fn net_port_laws()
-    ensures { PortLaws }
+    ensures { NetPortLaws }
 {}
 
 /// Links go both ways, between two different switches of the network.

@@ -1,12 +1,12 @@
 ghost use Rattle.std.specs.Prelude.{◌≡◌, ◌≤◌, ◌<◌, Ok, [], IfOk, IfErr, length, map, Err};
 ghost use Rattle.toml.specs.View.{table_view, view};
-ghost use Rattle.net_file.specs.Exports.{are_linked, link_end_read, toml_ends_in, link_array, net_link_of, net_links_in};
+ghost use Rattle.net_file.specs.Exports.{are_linked, link_end_read, toml_ends_in, net_link_array, net_link_of, net_links_in};
 ghost use Rattle.net_file.specs.Outcomes.{IsNetRowRead, toml_seen_values};
-ghost use Rattle.base.specs.Refusals.{IsRefusal};
+ghost use Rattle.base.specs.Refusals.{IsCallRefusal};
 
 use crate::error::{NetError, NetRefusal};
 use crate::keys::{toml_array_in, toml_table_in, toml_value_at};
-use crate::net::{LinkRow, SwitchRow, number_in};
+use crate::net::{LinkRow, SwitchRow, net_switch_number};
 use base::InRow;
 use std::alloc::Global;
 use toml::{Table, Value};
@@ -18,8 +18,8 @@ const LINK_ROWS: u32 = 100;
 const MAX_LINKS: usize = 256;
 
 /// The values of the array `link`; none without the key. `TooMany` if there are more than 256.
-pub fn link_array(table: &Table) -> Result<&[Value], NetRefusal>
-    ensures values { IsNetRowRead toml_seen_values (link_array (table_view table.now)) result }
+pub fn net_link_array(table: &Table) -> Result<&[Value], NetRefusal>
+    ensures values { IsNetRowRead toml_seen_values (net_link_array (table_view table.now)) result }
     ensures few { IfOk result (λ values. length values.now ≤ 256) }
 {
     let Some(value) = toml_value_at(table, "link") else {
@@ -50,7 +50,7 @@ fn end_of(switches: &[SwitchRow], name: &str) -> Result<u32, NetRefusal>
     requires { length switches.now ≤ 64 }
     ensures { result ≡ link_end_read switches.now name.now }
 {
-    number_in(switches, name.as_bytes()).ok_or(NetRefusal::UnknownName)
+    net_switch_number(switches, name.as_bytes()).ok_or(NetRefusal::UnknownName)
 }
 
 // Whether one of the links joins these two switches.
@@ -97,7 +97,7 @@ pub fn read_links(
     requires few_links { length values.now ≤ 256 }
     ensures links { IfOk result (λ rows.
         net_links_in switches.now (map view values.now) ≡ Ok rows.items) }
-    ensures refused { IfErr result (IsRefusal (net_links_in switches.now (map view values.now))) }
+    ensures refused { IfErr result (IsCallRefusal (net_links_in switches.now (map view values.now))) }
 {
     let mut rows = Vec::new(alloc);
     let mut row = LINK_ROWS;

@@ -1,5 +1,5 @@
 ghost use Rattle.std.specs.Prelude.{◌≡◌, ◌≤◌, ◌<◌, ◌==◌, ℕ, false, IfOk, IfNone, IfSome, length};
-ghost use Rattle.net_file.specs.Exports.{ArePortOwners, IsNetLink, IsNet, joins, links_of, owner_of, port_mask, solo_net, switch_number};
+ghost use Rattle.net_file.specs.Exports.{ArePortOwners, IsNetLink, IsNet, joins, links_of, net_port_owner, port_mask, solo_net, switch_number};
 
 use crate::ports::{Ports, owners};
 use base::{Items, has, with};
@@ -110,7 +110,7 @@ fn place_of(switches: &[SwitchRow], name: &[u8]) -> Option<usize>
 }
 
 /// The number of the switch with this name; `None` if no switch has it.
-pub(crate) fn number_in(switches: &[SwitchRow], name: &[u8]) -> Option<u32>
+pub(crate) fn net_switch_number(switches: &[SwitchRow], name: &[u8]) -> Option<u32>
     requires { length switches.now ≤ 64 }
     ensures { result ≡ switch_number switches.now name.now }
 {
@@ -123,7 +123,7 @@ pub(crate) fn number_in(switches: &[SwitchRow], name: &[u8]) -> Option<u32>
 // The place of the switch that has the port; `None` if no switch has it.
 fn port_owner_place(switches: &[SwitchRow], port: u32) -> Option<usize>
     requires { port < 64 }
-    ensures place { result ≡ owner_of switches.now port }
+    ensures place { result ≡ net_port_owner switches.now port }
     ensures there { IfSome result (λ place. place < length switches.now) }
 {
     switches.iter().position(|row| has(row.ports, port))
@@ -133,7 +133,7 @@ fn port_owner_place(switches: &[SwitchRow], port: u32) -> Option<usize>
 pub(crate) fn port_owner_in(switches: &[SwitchRow], port: u32) -> Option<u32>
     requires few { length switches.now ≤ 64 }
     requires port { port < 64 }
-    ensures owner { result ≡ owner_of switches.now port }
+    ensures owner { result ≡ net_port_owner switches.now port }
     ensures small { IfSome result (λ owner. owner < 64) }
 {
     match port_owner_place(switches, port) {
@@ -171,7 +171,7 @@ impl Net {
         requires { IsNet self.now }
         ensures { result ≡ switch_number self.now.switches name.now }
     {
-        number_in(self.switches.items(), name)
+        net_switch_number(self.switches.items(), name)
     }
 
     /// The switches that a link joins to this one, as a mask of their numbers.

@@ -1,5 +1,5 @@
 ghost use Rattle.std.specs.Prelude.{◌≡◌, ◌<◌, ◌≤◌, ℕ, None, length};
-ghost use Rattle.net_file.specs.Exports.{owner_of, port_owner};
+ghost use Rattle.net_file.specs.Exports.{net_port_owner, port_owner};
 
 use crate::net::{SwitchRow, port_owner_in};
 
@@ -28,7 +28,7 @@ impl Ports {
 /// Which of the switches has each port.
 pub(crate) fn owners(switches: &[SwitchRow]) -> Ports
     requires { length switches.now ≤ 64 }
-    ensures owners { (port : ℕ) → port < 64 → port_owner result port ≡ owner_of switches.now port }
+    ensures owners { (port : ℕ) → port < 64 → port_owner result port ≡ net_port_owner switches.now port }
     ensures past { (port : ℕ) → 64 ≤ port → port_owner result port ≡ None }
 {
     let mut owners = [None; PORTS];

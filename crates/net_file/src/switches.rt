@@ -2,9 +2,9 @@ ghost use Rattle.std.specs.Prelude.{◌≡◌, ◌≤◌, ◌<◌, Ok, [], IfOk,
 ghost use Rattle.std.specs.List.{list_all};
 ghost use Rattle.toml.specs.Data.{as_integer};
 ghost use Rattle.toml.specs.View.{table_view, view};
-ghost use Rattle.net_file.specs.Exports.{IsPortMask, are_name_bytes, are_new, have_switch_name, have_port, is_label, is_name, is_name_byte, switch_name_at, port_bits, toml_port_read, switch_ports_at, toml_ports_of, net_row_stated, switch_array, switch_read, switch_with, switches_read};
+ghost use Rattle.net_file.specs.Exports.{IsPortMask, are_name_bytes, are_new_net_ports, have_net_switch_name, have_port, is_net_label, is_name, is_name_byte, switch_name_at, port_bits, toml_port_read, switch_ports_at, toml_ports_of, net_row_stated, net_switch_array, net_switch_read, net_switch_with, switches_read};
 ghost use Rattle.net_file.specs.Outcomes.{IsNetRowRead, toml_seen_values};
-ghost use Rattle.base.specs.Refusals.{IsRefusal, in_row};
+ghost use Rattle.base.specs.Refusals.{IsCallRefusal, in_row};
 
 use crate::error::{NetError, NetRefusal};
 use crate::keys::{setting_of, toml_array_in, toml_table_in, toml_text_in, toml_value_at, within};
@@ -21,8 +21,8 @@ const MAX_MORE: usize = 15;
 
 /// The values of the array `switch`. `MissingKey` without the key, `TooMany` if there are more than
 /// 64, `Range` if there are none.
-pub fn switch_array(table: &Table) -> Result<&[Value], NetRefusal>
-    ensures values { IsNetRowRead toml_seen_values (switch_array (table_view table.now)) result }
+pub fn net_switch_array(table: &Table) -> Result<&[Value], NetRefusal>
+    ensures values { IsNetRowRead toml_seen_values (net_switch_array (table_view table.now)) result }
     ensures few { IfOk result (λ values. length values.now ≤ 64) }
 {
     let Some(value) = toml_value_at(table, "switch") else {
@@ -53,8 +53,8 @@ fn are_name_bytes(bytes: &[u8]) -> bool
 }
 
 // Whether the bytes are a letter and then up to 15 letters, digits, `_` or `-`.
-fn is_label(name: &[u8]) -> bool
-    ensures { result ≡ is_label name.now }
+fn is_net_label(name: &[u8]) -> bool
+    ensures { result ≡ is_net_label name.now }
 {
     match name {
         [first, more @ ..] => {
@@ -69,7 +69,7 @@ fn is_label(name: &[u8]) -> bool
 pub fn is_name(name: &[u8]) -> bool
     ensures { result ≡ is_name name.now }
 {
-    is_label(name) && name != b"controller".as_slice()
+    is_net_label(name) && name != b"controller".as_slice()
 }
 
 // The name of a switch; `MissingKey` without the key, `Range` if it can't be a name.
@@ -127,8 +127,8 @@ fn read_ports(keys: &Table) -> Result<&[Value], NetRefusal>
 }
 
 // Whether one of the switches has the name.
-fn have_switch_name(rows: &[SwitchRow], name: &[u8]) -> bool
-    ensures { result ≡ have_switch_name rows.now name.now }
+fn have_net_switch_name(rows: &[SwitchRow], name: &[u8]) -> bool
+    ensures { result ≡ have_net_switch_name rows.now name.now }
 {
     rows.iter().any(|row| row.name.bytes() == name)
 }
@@ -136,7 +136,7 @@ fn have_switch_name(rows: &[SwitchRow], name: &[u8]) -> bool
 // The mask of the ports; `None` if one occurs twice or is in `taken`, the earlier ports.
 fn new_ports(values: &[Value], earlier: &[SwitchRow], taken: u64) -> Option<u64>
     requires { IsPortMask taken (have_port earlier.now) }
-    ensures new { is_some result ≡ are_new earlier.now (toml_ports_of (map view values.now)) }
+    ensures new { is_some result ≡ are_new_net_ports earlier.now (toml_ports_of (map view values.now)) }
     ensures mask { IfSome result (λ mask. mask ≡ port_bits (toml_ports_of (map view values.now))) }
 {
     let mut seen = taken;
@@ -167,12 +167,12 @@ fn read_switch_keys<'a>(
     keys: &'a Table,
 ) -> Result<Stated<'a>, NetRefusal>
     requires { IsPortMask taken (have_port earlier.now) }
-    ensures { IsNetRowRead net_row_stated (switch_with earlier.now (table_view keys.now)) result }
+    ensures { IsNetRowRead net_row_stated (net_switch_with earlier.now (table_view keys.now)) result }
 {
     let name = read_name(keys)?;
     let values = read_ports(keys)?;
     let room = setting_of(keys, "authority", 0, MAX_ROOM, 0)?;
-    if have_switch_name(earlier, name.as_bytes()) {
+    if have_net_switch_name(earlier, name.as_bytes()) {
         return Err(NetRefusal::DuplicateName);
     }
     let ports = new_ports(values, earlier, taken).ok_or(NetRefusal::DuplicatePort)?;
@@ -188,8 +188,8 @@ fn read_switch(
     row: u32,
 ) -> Result<SwitchRow, NetError>
     requires { IsPortMask taken (have_port earlier.now) }
-    ensures switch { IfOk result (λ switch. switch_read earlier.now (view value.now) ≡ Ok switch) }
-    ensures refused { IfErr result (IsRefusal (in_row row (switch_read earlier.now
+    ensures switch { IfOk result (λ switch. net_switch_read earlier.now (view value.now) ≡ Ok switch) }
+    ensures refused { IfErr result (IsCallRefusal (in_row row (net_switch_read earlier.now
         (view value.now)))) }
 {
     let keys = match toml_table_in(value) {
@@ -212,7 +212,7 @@ pub fn read_switches(alloc: Global, values: &[Value]) -> Result<Vec<SwitchRow>, 
     requires { length values.now ≤ 64 }
     ensures few { IfOk result (λ rows. vec_len rows ≤ 64) }
     ensures switches { IfOk result (λ rows. switches_read (map view values.now) ≡ Ok rows.items) }
-    ensures refused { IfErr result (IsRefusal (switches_read (map view values.now))) }
+    ensures refused { IfErr result (IsCallRefusal (switches_read (map view values.now))) }
 {
     let mut rows = Vec::new(alloc);
     let mut taken = 0;

@@ -4,9 +4,9 @@
 use Rattle.std.proofs.Common.{[], ◌<◌, ◌==◌, ◌∙◌, ◌∷◌, ◌≡◌, All, Contains, IsFalse, IsTrue, List, None, Some, arith, eqb-true, false, get_or, inr, refl, subst, sym, true, ℕ, rules}
 use Rattle.base.proofs.Exports.{All-from_recursion, nat_tests}
 use Rattle.failover.specs.Exports.{no_links}
-use Rattle.base.specs.Exports.{has, mask_of, mask_where, switches}
+use Rattle.base.specs.Exports.{has, small_number_mask, number_set_where, switches}
 use Rattle.partition.specs.Plan.{Hosted}
-use Rattle.update_machine.specs.Exports.{AreTargets, Authority, Crash, Deliver, Drop, Exit, HasCause, Hop, IsPlanOf, Item, Leads, LinkDown, NoAuthority, NoRoute, Out, Packet, Restart, Rule, Seek, Setting, Update, acked_stamp, claim_of, controller_heard, current_mark, decision_of, header_in, is_link_up, is_member, is_open, is_over, is_up, known_boot, message_of, near, next_policy, next_retired, next_switch, opened_at, present_step, retired_mark, route_in, route_place, serves, standing}
+use Rattle.update_machine.specs.Exports.{AreMachineLegTargets, Authority, Crash, Deliver, Drop, Exit, HasCause, Hop, IsSettingPlanOf, Item, Leads, LinkDown, NoAuthority, NoRoute, Out, Packet, Restart, Rule, Seek, Setting, Update, acked_stamp, journal_claim_of, controller_heard, journal_current_mark, journal_decision_of, journal_packet_header, is_link_up_in_journal, is_member, is_open, is_over, is_up, journal_known_boot, message_of, near, journal_next_policy, journal_next_retired, next_switch, opened_at, journal_present_step, journal_retired_mark, journal_route_in, route_place, serves, standing}
 use Rattle.ternary.specs.Exports.{holds}
 use Rattle.update_machine.proofs.Exports.{all_dropped, any_word, ends_within, first_alone, line_of_three, of_first, of_second, on, one, open_net, other, plan_p, ring, rule}
 use Rattle.packet_laws.specs.Exports.{PacketMovesOver, StrongCause, entry_mark}
@@ -36,25 +36,25 @@ abbrev seeking : ℕ → Item
 seeking version = Item.Stuck 1 0 NoAuthority (Seek version 0) no_links
 
 -- no link that it knows leads away
-none_left : (journal : List Item) (two : ℕ) → IsFalse (is_link_up journal 0 1)
+none_left : (journal : List Item) (two : ℕ) → IsFalse (is_link_up_in_journal journal 0 1)
     → IsTrue (is_open open_net journal 1 0 0 two) → ⊥
 none_left journal two down is = grind (arith, nat_tests)
 
-stays_there : (journal : List Item) → IsFalse (is_link_up journal 0 1) → (one two : ℕ)
+stays_there : (journal : List Item) → IsFalse (is_link_up_in_journal journal 0 1) → (one two : ℕ)
     → IsTrue (one == 0) → IsTrue (is_open open_net journal 1 0 one two) → IsTrue (two == 0)
 stays_there journal down one two at is = search (rules, eqb-true)
 
 abbrev no_way_to : List Item → ℕ → Type 0
 no_way_to journal target = (path : List ℕ) → ¬ Leads (is_open open_net journal 1 0) 0 path target
 
-no_way : (journal : List Item) → IsFalse (is_link_up journal 0 1) → no_way_to journal 1
+no_way : (journal : List Item) → IsFalse (is_link_up_in_journal journal 0 1) → no_way_to journal 1
 no_way journal down path leads = absurd (cc (ends_within _ _ (stays_there _ down) 0 _ 1 refl leads))
 
 -- the plan of the version has one partition, on b
 own_targets : (journal : List Item) (version : ℕ) (rules : List Rule)
-    → decision_of journal 1 ≡ None → header_in journal 1 ≡ Some one
-    → IsPlanOf open_net journal version (on (1 ∷ []) rules)
-    → AreTargets open_net journal 1 (Seek version 0) (1 ∷ [])
+    → journal_decision_of journal 1 ≡ None → journal_packet_header journal 1 ≡ Some one
+    → IsSettingPlanOf open_net journal version (on (1 ∷ []) rules)
+    → AreMachineLegTargets open_net journal 1 (Seek version 0) (1 ∷ [])
 unfolding holds
 own_targets journal version rules undecided entered planned = (
   undecided,
@@ -70,8 +70,8 @@ own_targets journal version rules undecided entered planned = (
 )
 
 stuck_at : (journal : List Item) (version : ℕ) → standing journal 1 ≡ Some 0
-    → IsTrue (serves journal 0) → IsFalse (is_link_up journal 0 1)
-    → AreTargets open_net journal 1 (Seek version 0) (1 ∷ [])
+    → IsTrue (serves journal 0) → IsFalse (is_link_up_in_journal journal 0 1)
+    → AreMachineLegTargets open_net journal 1 (Seek version 0) (1 ∷ [])
     → HasCause open_net journal (seeking version)
 stuck_at journal version stands serving down own = record {
   stands = stands;
@@ -85,7 +85,7 @@ abbrev lets_out : List Rule
 lets_out = rule any_word 0 (Some 100) (Out 2) ∷ rule any_word 1 None Drop ∷ []
 
 stuck_have_causes : HasCause open_net retired (seeking 1) × HasCause open_net to_come (seeking 2)
-unfolding standing serves is_link_up header_in decision_of
+unfolding standing serves is_link_up_in_journal journal_packet_header journal_decision_of
 stuck_have_causes = (
   stuck_at retired 1 refl refl refl (own_targets retired 1 lets_out refl refl (of_first retired)),
   stuck_at to_come 2 refl refl refl (own_targets to_come 2 all_dropped refl refl
@@ -93,26 +93,26 @@ stuck_have_causes = (
 )
 
 not_stuck_by_a_retired_version : StrongCause open_net retired (seeking 1) → ⊥
-unfolding entry_mark retired_mark
+unfolding entry_mark journal_retired_mark
 not_stuck_by_a_retired_version cause = absurd (omega (arith, cause.1.rightly.not_retired))
 
 not_stuck_by_a_version_to_come : StrongCause open_net to_come (seeking 2) → ⊥
-unfolding current_mark
+unfolding journal_current_mark
 not_stuck_by_a_version_to_come cause = absurd (omega (arith, cause.1.rightly.current))
 
 -- nor by one that never was
 not_stuck_by_no_version : StrongCause open_net to_come (seeking 7) → ⊥
-unfolding current_mark
+unfolding journal_current_mark
 not_stuck_by_no_version cause = absurd (omega (arith, cause.1.rightly.current))
 
 not_stuck_seeking_once_decided : HasCause open_net decided (seeking 1) → ⊥
-unfolding decision_of
+unfolding journal_decision_of
 not_stuck_seeking_once_decided cause = let none = cause.own_leg.0 in absurd cc
 
 -- on its way out, on the leg of another port than its decision's
 not_stuck_on_another_leg : StrongCause open_net decided
     (Item.Stuck 1 0 NoRoute (Exit 1) no_links) → ⊥
-unfolding decision_of
+unfolding journal_decision_of
 not_stuck_on_another_leg cause = search rules
 
 -- ---- packets that are stuck, though their switch knows a way: no cause of either sort
@@ -124,7 +124,7 @@ its_part : (k : ℕ) (hosted : Hosted) → k < 1 → get_or plan_p k hosted ≡ 
 its_part k hosted within e = search rules
 
 not_stuck_where_a_way_is_known : HasCause open_net entered (seeking 1) → ⊥
-unfolding is_link_up serves claim_of message_of
+unfolding is_link_up_in_journal serves journal_claim_of message_of
 not_stuck_where_a_way_is_known cause =
     let own = cause.own_leg in
     let plan : own.3 ≡ plan_p = first_alone entered own.3 own.4 in
@@ -137,18 +137,18 @@ not_stuck_where_a_way_is_known cause =
 -- with another header than its row's
 not_with_another_header : StrongCause open_net (Item.Row 1 (Packet 0 one) ∷ [])
     (Item.Entered 1 0 other) → ⊥
-unfolding present_step
+unfolding journal_present_step
 not_with_another_header cause = search rules
 
 -- at another switch than its row's
 not_at_another_switch : StrongCause open_net (Item.Row 1 (Packet 0 one) ∷ [])
     (Item.Entered 1 1 one) → ⊥
-unfolding present_step
+unfolding journal_present_step
 not_at_another_switch cause = let row = cause.0.0.row in absurd cc
 
 -- in the row of no packet
 not_in_another_row : StrongCause open_net (Item.Row 1 (Deliver 7) ∷ []) (Item.Entered 1 0 one) → ⊥
-unfolding present_step
+unfolding journal_present_step
 not_in_another_row cause = let row = cause.0.0.row in absurd cc
 
 -- at a switch that is down
@@ -176,7 +176,7 @@ hops_over_usable : (setting : Setting) (before : List Item) (packet s next : ℕ
 hops_over_usable setting before packet s next moves at = rw at moves.usable
 
 not_hopped_where_no_link_leads : StrongCause line_of_three leap (Item.Hopped 1 2) → ⊥
-unfolding near standing has mask_of mask_where switches is_link_up serves
+unfolding near standing has small_number_mask number_set_where switches is_link_up_in_journal serves
 not_hopped_where_no_link_leads cause = search (rules, hops_over_usable)
 
 not_found_down_where_no_link_is : HasCause line_of_three leap (Item.FoundDown 1 0 2) → ⊥
@@ -188,18 +188,18 @@ failing = Item.Row 1 (Packet 0 one) ∷ Item.Entered 1 0 one ∷ Item.Seeking 1 
     ∷ Item.Row 2 (LinkDown 0 1) ∷ Item.LinkIs 0 1 false ∷ Item.Row 3 (Hop 1) ∷ []
 
 not_hopped_over_a_failed_link : StrongCause open_net failing (Item.Hopped 1 1) → ⊥
-unfolding near standing has mask_of mask_where switches is_link_up serves
+unfolding near standing has small_number_mask number_set_where switches is_link_up_in_journal serves
 not_hopped_over_a_failed_link cause = search (rules, hops_over_usable)
 
 -- ---- what fails
 
 -- a switch that no row crashes doesn't go down, and a link that no row fails doesn't change
 not_down_for_nothing : HasCause open_net (Item.Row 1 (Deliver 7) ∷ []) (Item.Down 0) → ⊥
-unfolding present_step
+unfolding journal_present_step
 not_down_for_nothing crashes = absurd cc
 
 not_booted_for_nothing : HasCause open_net (Item.Row 1 (Crash 0) ∷ []) (Item.Booted 0 2) → ⊥
-unfolding present_step
+unfolding journal_present_step
 not_booted_for_nothing cause = let restarts = cause.0 in absurd cc
 
 not_booted_while_it_serves : HasCause open_net (Item.Row 1 (Restart 0) ∷ []) (Item.Booted 0 2) → ⊥
@@ -208,22 +208,22 @@ not_booted_while_it_serves cause = let closed : true ≡ false = cause.1 in absu
 
 -- nor is a policy submitted that no row updates to
 not_submitted_for_nothing : HasCause open_net (Item.Row 1 (Deliver 7) ∷ []) (Item.Submitted 2 2) → ⊥
-unfolding present_step
+unfolding journal_present_step
 not_submitted_for_nothing updates = absurd cc
 
 not_failed_for_nothing : HasCause open_net (Item.Row 1 (LinkDown 0 2) ∷ [])
     (Item.LinkIs 0 1 false) → ⊥
-unfolding present_step
+unfolding journal_present_step
 not_failed_for_nothing h0 = search rules
 
 failed_by_its_row : HasCause open_net (Item.Row 1 (LinkDown 1 0) ∷ []) (Item.LinkIs 0 1 false)
-unfolding present_step
+unfolding journal_present_step
 failed_by_its_row = inr refl
 
 -- by another way than its route
 not_hopped_off_its_route : StrongCause ring (Item.Row 1 (Packet 0 one) ∷ Item.Entered 1 0 one
     ∷ Item.Seeking 1 1 0 (0 ∷ 1 ∷ 3 ∷ []) ∷ Item.Row 2 (Hop 1) ∷ []) (Item.Hopped 1 2) → ⊥
-unfolding next_switch route_in route_place
+unfolding next_switch journal_route_in route_place
 not_hopped_off_its_route cause = search rules
 
 -- ---- decisions and losses
@@ -231,7 +231,7 @@ not_hopped_off_its_route cause = search rules
 -- by a version that isn't current yet
 not_decided_by_a_version_to_come : StrongCause open_net to_come
     (Item.Decided 1 2 (Some 100) Drop (Authority 0 0)) → ⊥
-unfolding current_mark
+unfolding journal_current_mark
 not_decided_by_a_version_to_come cause = absurd (omega (arith, cause.1.0.current))
 
 -- in the row of a crash that didn't happen
@@ -239,11 +239,11 @@ abbrev uncrashed : List Item
 uncrashed = Item.Row 1 (Packet 0 one) ∷ Item.Entered 1 0 one ∷ Item.Row 2 (Crash 0) ∷ []
 
 lost_has_cause : HasCause open_net uncrashed (Item.Lost 1)
-unfolding present_step standing
+unfolding journal_present_step standing
 lost_has_cause = inr (record { switch = 0; crashes = refl; stands = refl })
 
 not_lost_without_a_crash : StrongCause open_net uncrashed (Item.Lost 1) → ⊥
-unfolding present_step is_up standing
+unfolding journal_present_step is_up standing
 not_lost_without_a_crash cause = search rules
 
 -- ---- the controller's items
@@ -251,12 +251,12 @@ not_lost_without_a_crash cause = search rules
 -- a version of a file that isn't there
 not_submitted_without_a_file : StrongCause open_net (Item.Row 1 (Update 7) ∷ [])
     (Item.Submitted 7 2) → ⊥
-unfolding next_policy
+unfolding journal_next_policy
 not_submitted_without_a_file cause = cc cause.1.policy
 
 -- a mark that isn't below the stamp that each member acknowledged
 not_retired_while_stamped : StrongCause open_net
     (Item.Row 1 (Update 2) ∷ Item.Submitted 2 2 ∷ Item.Current 2 ∷ []) (Item.Retired 1) → ⊥
-unfolding next_retired acked_stamp is_member is_over known_boot opened_at controller_heard
-    current_mark
+unfolding journal_next_retired acked_stamp is_member is_over journal_known_boot opened_at controller_heard
+    journal_current_mark
 not_retired_while_stamped cause = let least : 1 ≡ 0 = cause.1.least in absurd (omega (arith, least))

@@ -1,21 +1,21 @@
 -- The cache rule of the rule by which a partition of a plan decides a header is right: the policy
 -- decides each header of its word so.
 use Rattle.std.proofs.Common.{[], ◌&&◌, ◌++◌, ◌<◌, ◌==◌, ◌^◌, ◌||◌, ◌∙◌, ◌∷◌, ◌≡◌, ◌≤◌, ◌⊎◌, All, Bool, Contains, IsNone, IsSomeAnd, IsTrue, List, None, Option, Some, ap, arith, cond, drop, eqb-true, false, find, if◌then◌else◌, inl, inr, length, map, mod-eq_of_lt, nat_le, nat_lt, option_map, refl, slice_get, subst, suc, sym, take, true, zero, ℕ, rules}
-use Rattle.update_machine.specs.Exports.{Action, Body, CacheEntry, CacheRule, Exit, HasPlan, HaveCauses, Header, Hit, IsSetting, Item, Leg, OpenAt, Partition, Row, Rule, Seek, Setting, Stamp, VersionsAreNumbered, body_to_switch, cache_after, cache_of, cache_carried_from, changes_cache, current_mark, plan_at, policy_at, policy_in, raised_from, retired_mark, stamp_of, touched_by, version_count}
-use Rattle.policy_rules.specs.Exports.{IsFirstMatch, first_rule, hit_of_rule, is_held, is_in, scan}
-use Rattle.policy_rules.proofs.CallerLemmas.{first_match-only, first_match-scan, none_from_not_some}
+use Rattle.update_machine.specs.Exports.{Action, Body, CacheEntry, CacheRule, Exit, SettingHasPlan, JournalItemsHaveCauses, Header, Hit, IsSetting, Item, Leg, OpenAt, Partition, Row, Rule, Seek, Setting, Stamp, VersionsAreNumbered, journal_body_to_switch, machine_cache_after, journal_cache_of, machine_cache_carried_from, changes_journal_cache, journal_current_mark, journal_plan_at, policy_at, policy_in, raised_from, journal_retired_mark, journal_stamp_of, touched_by, journal_version_count}
+use Rattle.policy_rules.specs.Exports.{IsFirstMatch, first_rule, policy_hit_of_rule, is_held, is_in_policy_partition, scan}
+use Rattle.policy_rules.proofs.PolicyRulesCallerLemmas.{first_match-only, first_match-scan, none_from_not_some}
 use Rattle.update_machine.proofs.Exports.{folded_append, plan_stays, policy_stays, touched_apart, versions_own}
 use Rattle.base.proofs.Exports.{All-append, All-contains, All-drop, All-filter, All-push, All-tail, All-take, All-weaker, and_mask, get_or_from_slice_get, list_any, option_map_or, same_Some, slice_get-map, slice_get_within}
-use Rattle.cache_maker.specs.Independent.{IsIndependent, is_independent, widen, widening_of}
+use Rattle.cache_maker.specs.Independent.{IsIndependentCacheWord, is_independent, widen, widening_of}
 use Rattle.cache_maker.proofs.IndependentCacheWords.{test_true}
 use Rattle.five_tuple.specs.Exports.{IsHeader, number_of}
-use Rattle.switch_table.specs.Exports.{CacheValue, Hosted, WasCarried, after_carry, cache_after_raise, meets_any_touched, newest_cache_entries, part_of, same_key}
-use Rattle.ternary.specs.Exports.{WordValue, covers_of, exact_word, free_of, holds, meet_of}
-use Rattle.ternary.proofs.CallerLemmas.{covers_held, meet_disjoint}
+use Rattle.switch_table.specs.Exports.{CacheValue, Hosted, WasCacheEntryCarried, cache_after_carry, cache_after_raise, cache_word_meets_touched, newest_cache_entries, part_of, same_key}
+use Rattle.ternary.specs.Exports.{WordValue, word_covers_of, exact_word, free_of, holds, meet_of}
+use Rattle.ternary.proofs.TernaryCallerLemmas.{covers_held, meet_disjoint}
 use Rattle.packet_laws.proofs.PacketHeaderLookups.{Finds, IsPlanned}
 use Rattle.switch_table.proofs.CacheCarryLemmas.{only_carried}
-use Rattle.packet_laws.specs.Exports.{HasKeptFacts, IsOnLeg, IsOnWay, IsPartitionOf, IsRightEntry, IsRightRule, IsRightlyDecided, IsSought, IsToldStamp, IsUnderWay, PacketFacts, Stage}
-use Rattle.control_laws.specs.Exports.{HasItemCause}
+use Rattle.packet_laws.specs.Exports.{HasKeptPacketFacts, IsPacketOnLeg, IsPacketOnWay, IsPacketPartitionOf, IsRightEntry, IsRightPacketRule, IsRightlyDecided, IsSoughtByPacket, IsToldStamp, IsPacketUnderWay, PacketFacts, PacketStage}
+use Rattle.control_laws.specs.Exports.{HasControlItemCause}
 use Rattle.control_laws.proofs.Exports.{bounded, caused_numbered, current_rises, retired_rises}
 
 -- ---- first matches, and what scans of policies find
@@ -38,7 +38,7 @@ scan_of_version setting journal version header hit is first =
 
 -- the rule that covers a word, which no earlier rule meets, is the first to hold what it holds
 first_found : (rules : List Rule) (index : ℕ) (rule : Rule) (word : WordValue) (number : ℕ)
-    → slice_get rules index ≡ Some rule → IsTrue (covers_of rule.word word)
+    → slice_get rules index ≡ Some rule → IsTrue (word_covers_of rule.word word)
     → All (λ earlier. IsNone (meet_of word earlier.word)) (take index rules) →
     IsTrue (holds word number) → find (is_held number) rules ≡ Some rule
 first_found [] index rule word number at covered earlier held = absurd cc
@@ -67,13 +67,13 @@ number_bound header sound = search rules
 -- the first rule of a partition of a plan decides each header of its region
 region_decides : (setting : Setting) (rows : List Row) (plan : List Hosted)
     (number : ℕ) (hosted : Hosted) (header : Header) → IsPlanned setting rows plan → IsHeader header
-    → slice_get plan number ≡ Some hosted → IsTrue (is_in header (part_of hosted))
-    → option_map hit_of_rule (first_rule hosted.0.rules header) ≡ Some (scan rows header)
+    → slice_get plan number ≡ Some hosted → IsTrue (is_in_policy_partition header (part_of hosted))
+    → option_map policy_hit_of_rule (first_rule hosted.0.rules header) ≡ Some (scan rows header)
 region_decides setting rows plan number hosted header is sound at =
     let parts : List Partition = map part_of plan in
     let there = slice_get-map part_of plan number ∙ ap (option_map part_of) at in
-    subst (λ (p : Partition). IsTrue (is_in header p)
-    → option_map hit_of_rule (first_rule p.rules header) ≡ Some (scan rows header))
+    subst (λ (p : Partition). IsTrue (is_in_policy_partition header p)
+    → option_map policy_hit_of_rule (first_rule p.rules header) ≡ Some (scan rows header))
     (get_or_from_slice_get parts number (part_of hosted) (part_of hosted) there)
     (is.parts.sound.decides header sound number (part_of hosted)
     (slice_get_within parts number (part_of hosted) there))
@@ -81,7 +81,7 @@ region_decides setting rows plan number hosted header is sound at =
 -- the policy decides each header of the word by this rule
 abbrev Settles : List Row → Rule → WordValue → Type 0
 Settles rows rule word = (header : Header) → IsHeader header
-    → IsTrue (holds word (number_of header)) → scan rows header ≡ hit_of_rule rule
+    → IsTrue (holds word (number_of header)) → scan rows header ≡ policy_hit_of_rule rule
 
 exact_settles : (setting : Setting) (rows : List Row) (plan : List Hosted) (header : Header)
     (hosted : Hosted) (finds : Finds rows plan header hosted) → IsPlanned setting rows plan → IsHeader header
@@ -90,20 +90,20 @@ exact_settles setting rows plan header hosted finds is sound other fits held =
     let same = exact_number _ _ (number_bound header sound) (number_bound other fits) held in
     same_Some _ _ (sym (region_decides setting rows plan hosted.0.number hosted other is fits finds.at
     (subst (λ n. IsTrue (holds hosted.0.region n)) (sym same) finds.holds))
-    ∙ ap (λ n. option_map hit_of_rule (find (is_held n) hosted.0.rules)) same
+    ∙ ap (λ n. option_map policy_hit_of_rule (find (is_held n) hosted.0.rules)) same
     ∙ region_decides setting rows plan hosted.0.number hosted header is sound finds.at finds.holds)
     ∙ sym finds.decides
 
 independent_settles : (setting : Setting) (rows : List Row) (plan : List Hosted) (header : Header)
     (hosted : Hosted) (finds : Finds rows plan header hosted) (word : WordValue) → IsPlanned setting rows plan
-    → IsIndependent hosted.0.region hosted.0.rules finds.place word →
+    → IsIndependentCacheWord hosted.0.region hosted.0.rules finds.place word →
     Settles rows finds.rule word
 independent_settles setting rows plan header hosted finds word is apart other fits held =
     let first = first_found hosted.0.rules finds.place finds.rule word (number_of other) finds.ruled
-    (subst (λ o. IsSomeAnd o (λ (rule : Rule). IsTrue (covers_of rule.word word))) finds.ruled
+    (subst (λ o. IsSomeAnd o (λ (rule : Rule). IsTrue (word_covers_of rule.word word))) finds.ruled
     apart.in_rule) apart.earlier held in
     same_Some _ _ (sym (region_decides setting rows plan _ hosted other is fits finds.at
-    (covers_held hosted.0.region word _ apart.in_region held)) ∙ ap (option_map hit_of_rule) first)
+    (covers_held hosted.0.region word _ apart.in_region held)) ∙ ap (option_map policy_hit_of_rule) first)
 
 -- each bit is freed where that keeps the word independent
 widened_settles : (setting : Setting) (rows : List Row) (plan : List Hosted) (header : Header)
@@ -138,8 +138,8 @@ cache_rule_right setting rows plan header hosted finds is sound = search (rules,
 -- ---- cache rules that are carried to a version decide as its policy does
 
 module _ (setting : Setting) (before : List Item) (version : ℕ) (cache : CacheValue)
-    (is : IsSetting setting) (has : HasPlan setting before version)
-    (current : version ≤ current_mark before)
+    (is : IsSetting setting) (has : SettingHasPlan setting before version)
+    (current : version ≤ journal_current_mark before)
     (all : All (IsRightEntry setting before) cache.entries) where
   abbrev touched : List WordValue
   touched = touched_by setting before version
@@ -148,12 +148,12 @@ module _ (setting : Setting) (before : List Item) (version : ℕ) (cache : Cache
   there old inside = All-contains (IsRightEntry setting before) cache.entries old all inside
 
   -- an entry of the version before whose word meets no touched word
-  over : (entry : CacheEntry) → WasCarried version touched cache entry
+  over : (entry : CacheEntry) → WasCacheEntryCarried version touched cache entry
       → IsRightEntry setting before entry
   over entry went =
       let old = went.old in
       let next : suc old.version ≡ version = omega (arith, went.before) in
-      let apart = subst (λ v. meets_any_touched (touched_by setting before v) old.word ≡ false) (sym next)
+      let apart = subst (λ v. cache_word_meets_touched (touched_by setting before v) old.word ≡ false) (sym next)
       went.apart in
       subst (IsRightEntry setting before) (sym went.is) (record {
         known = omega (arith, went.before);
@@ -168,28 +168,28 @@ module _ (setting : Setting) (before : List Item) (version : ℕ) (cache : Cache
       })
 
   each : (entry : CacheEntry) → ((version ≤ entry.version) × Contains cache.entries entry)
-      ⊎ WasCarried version touched cache entry → IsRightEntry setting before entry
+      ⊎ WasCacheEntryCarried version touched cache entry → IsRightEntry setting before entry
   each entry (inl stays) = there entry stays.1
   each entry (inr went) = over entry went
 
-  pub carried_right : All (IsRightEntry setting before) (after_carry version touched cache).entries
+  pub carried_right : All (IsRightEntry setting before) (cache_after_carry version touched cache).entries
   carried_right = All-weaker (λ entry. ((version ≤ entry.version) × Contains cache.entries entry)
-      ⊎ WasCarried version touched cache entry) (IsRightEntry setting before) each _
+      ⊎ WasCacheEntryCarried version touched cache entry) (IsRightEntry setting before) each _
       (only_carried version touched cache)
 
 -- ---- what is known of packets and of cache rules is known behind one more item, too
 
 -- marks rise, and the versions that are current or were keep their policies and plans
 pub record Grows (setting : Setting) (before after : List Item) : Type 0 where
-  pub retired : retired_mark before ≤ retired_mark after
-  pub current : current_mark before ≤ current_mark after
-  pub policy : (v : ℕ) → 1 ≤ v → v ≤ current_mark before
+  pub retired : journal_retired_mark before ≤ journal_retired_mark after
+  pub current : journal_current_mark before ≤ journal_current_mark after
+  pub policy : (v : ℕ) → 1 ≤ v → v ≤ journal_current_mark before
       → policy_at setting after v ≡ policy_at setting before v
-  pub plan : (v : ℕ) → 1 ≤ v → v ≤ current_mark before
-      → plan_at setting after v ≡ plan_at setting before v
+  pub plan : (v : ℕ) → 1 ≤ v → v ≤ journal_current_mark before
+      → journal_plan_at setting after v ≡ journal_plan_at setting before v
 
 pub grows : (setting : Setting) (before : List Item) (next : Item)
-    → HaveCauses (HasItemCause setting) [] before → HasItemCause setting before next
+    → JournalItemsHaveCauses (HasControlItemCause setting) [] before → HasControlItemCause setting before next
     → Grows setting before (before ++ next ∷ [])
 grows setting before next have cause = record {
   retired = retired_rises setting before next cause;
@@ -200,26 +200,26 @@ grows setting before next have cause = record {
   numbers : VersionsAreNumbered before
   numbers = caused_numbered setting before have
 
-  there : (v : ℕ) → v ≤ current_mark before → v ≤ version_count before
+  there : (v : ℕ) → v ≤ journal_current_mark before → v ≤ journal_version_count before
   there v below = omega (arith, below, (bounded setting before have).there)
 
 pub right_on : (setting : Setting) (before after : List Item) (version : ℕ) (word : WordValue)
     (rule : Option ℕ) (action : Action) → Grows setting before after
-    → IsRightRule setting before version word rule action
-    → IsRightRule setting after version word rule action
+    → IsRightPacketRule setting before version word rule action
+    → IsRightPacketRule setting after version word rule action
 right_on setting before after version word rule action grow right = search rules
 
 part_on : (setting : Setting) (before after : List Item) (header : Header)
     (version partition : ℕ) (hosted : Hosted) → Grows setting before after → 1 ≤ version
-    → version ≤ current_mark before
-    → IsPartitionOf setting before header version partition hosted
-    → IsPartitionOf setting after header version partition hosted
+    → version ≤ journal_current_mark before
+    → IsPacketPartitionOf setting before header version partition hosted
+    → IsPacketPartitionOf setting after header version partition hosted
 part_on setting before after header version partition hosted grow above below own = search rules
 
 sought_on : (setting : Setting) (before after : List Item) (mark : ℕ) (header : Header)
     (version partition : ℕ) → Grows setting before after
-    → IsSought setting before mark header version partition
-    → IsSought setting after mark header version partition
+    → IsSoughtByPacket setting before mark header version partition
+    → IsSoughtByPacket setting after mark header version partition
 sought_on setting before after mark header version partition grow sought = record {
   not_retired = sought.not_retired;
   current = omega (arith, sought.current, grow.current);
@@ -228,8 +228,8 @@ sought_on setting before after mark header version partition grow sought = recor
 }
 
 leg_on : (setting : Setting) (before after : List Item) (facts : PacketFacts) (header : Header)
-    (leg : Leg) → Grows setting before after → IsOnLeg setting before facts header leg
-    → IsOnLeg setting after facts header leg
+    (leg : Leg) → Grows setting before after → IsPacketOnLeg setting before facts header leg
+    → IsPacketOnLeg setting after facts header leg
 unfolding sought_on
 leg_on setting before after facts header (Seek version partition) grow on = record {
   undecided = on.undecided;
@@ -239,7 +239,7 @@ leg_on setting before after facts header (Seek version partition) grow on = reco
 leg_on setting before after facts header (Exit port) grow on = on
 
 under_on : (setting : Setting) (before after : List Item) (facts : PacketFacts) → Grows setting
-    before after → IsUnderWay setting before facts → IsUnderWay setting after facts
+    before after → IsPacketUnderWay setting before facts → IsPacketUnderWay setting after facts
 under_on setting before after facts grow under = record {
   entry = under.entry;
   place = under.place;
@@ -247,7 +247,7 @@ under_on setting before after facts grow under = record {
 }
 
 way_on : (setting : Setting) (before after : List Item) (facts : PacketFacts)
-    → Grows setting before after → IsOnWay setting before facts → IsOnWay setting after facts
+    → Grows setting before after → IsPacketOnWay setting before facts → IsPacketOnWay setting after facts
 unfolding under_on
 way_on setting before after facts grow way = record {
   under_way = under_on setting before after facts grow way.under_way;
@@ -274,8 +274,8 @@ judged_on setting before after facts header grow judged = record {
 }
 
 pub kept_on : (setting : Setting) (before after : List Item) (facts : PacketFacts)
-    (stage : Option Stage) → Grows setting before after → HasKeptFacts setting before facts stage
-    → HasKeptFacts setting after facts stage
+    (stage : Option PacketStage) → Grows setting before after → HasKeptPacketFacts setting before facts stage
+    → HasKeptPacketFacts setting after facts stage
 kept_on setting before after facts stage grow kept = record {
   under_way = λ travels. under_on setting before after facts grow (kept.under_way travels);
   came_in = kept.came_in;
@@ -317,11 +317,11 @@ raised_holds P earlier stamp cache all = by_test (nat_lt earlier stamp) where
 -- what is true of a cache's entries is true of what is left of them when it is carried
 abbrev pub IsCarried : (CacheEntry → Type 0) → ℕ → List WordValue → Type 0
 IsCarried P version touched = (cache : CacheValue) → All P cache.entries
-    → All P (after_carry version touched cache).entries
+    → All P (cache_after_carry version touched cache).entries
 
 carried_holds : (P : CacheEntry → Type 0) (touched : List WordValue) (earlier version : ℕ)
     (cache : CacheValue) → IsCarried P version touched → Holds P cache
-    → Holds P (cache_carried_from touched earlier version cache)
+    → Holds P (machine_cache_carried_from touched earlier version cache)
 carried_holds P touched earlier version cache carries all = search rules
 
 -- the stamps that the switch is told of carry it
@@ -333,13 +333,13 @@ StampsCarry P setting before s = (number boot version : ℕ) (touched : List Wor
 -- and the cache rules that are said to it bring it
 abbrev pub RulesBring : (CacheEntry → Type 0) → List Item → ℕ → Type 0
 RulesBring P before s = (number version : ℕ) (word : WordValue) (rule : Option ℕ) (action : Action)
-    → body_to_switch before s number ≡ Some (CacheRule version word rule action)
+    → journal_body_to_switch before s number ≡ Some (CacheRule version word rule action)
     → P (entry_of number version word rule action)
 
 told_holds : (P : CacheEntry → Type 0) (setting : Setting) (s : ℕ) (before : List Item)
-    (stamp number : ℕ) (cache : CacheValue) (body : Body) → body_to_switch before s number
+    (stamp number : ℕ) (cache : CacheValue) (body : Body) → journal_body_to_switch before s number
     ≡ Some body → StampsCarry P setting before s → RulesBring P before s → Holds P cache
-    → Holds P (cache_after (touched_by setting before) (stamp_of before s) stamp number cache body)
+    → Holds P (machine_cache_after (touched_by setting before) (journal_stamp_of before s) stamp number cache body)
 told_holds P setting s before stamp number cache (CacheRule version word rule action) said carries
     brings all = by_test (nat_lt version stamp
     || list_any (same_key (entry_of number version word rule action)) cache.entries)
@@ -353,14 +353,14 @@ told_holds P setting s before stamp number cache (CacheRule version word rule ac
         (All-push P cache.entries (entry_of number version word rule action) all
         (brings number version word rule action said))
 told_holds P setting s before stamp number cache (OpenAt boot version) said carries brings all =
-    raised_holds P (stamp_of before s) stamp cache all
+    raised_holds P (journal_stamp_of before s) stamp cache all
 told_holds P setting s before stamp number cache (Stamp boot version touched) said carries brings
     all = search (rules, carried_holds)
 told_holds P setting s before stamp number cache _ said carries brings all = all
 
 changed_holds : (P : CacheEntry → Type 0) (setting : Setting) (s : ℕ) (before : List Item)
     (cache : CacheValue) (next : Item) → StampsCarry P setting before s → RulesBring P before s
-    → Holds P cache → Holds P (changes_cache setting s before cache next)
+    → Holds P cache → Holds P (changes_journal_cache setting s before cache next)
 changed_holds P setting s before cache (Item.Down switch) carries brings all = search rules
 changed_holds P setting s before cache (Item.Booted switch boot) carries brings all = search rules
 changed_holds P setting s before cache (Item.Expired switch place message) carries brings all =
@@ -374,17 +374,17 @@ changed_holds P setting s before cache (Item.Expired switch place message) carri
     by_switch false = all
 changed_holds P setting s before cache (Item.Delivered number) carries brings all = by_said _ refl
   where
-    by_said : (o : Option Body) → body_to_switch before s number ≡ o → Holds P (option_map_or
-        (cache_after (touched_by setting before) (stamp_of before s)
-        (stamp_of (before ++ Item.Delivered number ∷ []) s) number cache) o cache)
+    by_said : (o : Option Body) → journal_body_to_switch before s number ≡ o → Holds P (option_map_or
+        (machine_cache_after (touched_by setting before) (journal_stamp_of before s)
+        (journal_stamp_of (before ++ Item.Delivered number ∷ []) s) number cache) o cache)
     by_said None e = all
     by_said (Some body) e = told_holds P setting s before _ number cache body e carries brings all
 changed_holds P setting s before cache _ carries brings all = all
 
 pub cache_holds : (P : CacheEntry → Type 0) (setting : Setting) (s : ℕ) (before : List Item)
     (next : Item) → StampsCarry P setting before s → RulesBring P before s
-    → All P (cache_of setting before s).entries
-    → All P (cache_of setting (before ++ next ∷ []) s).entries
-unfolding cache_of
-cache_holds P setting s before next carries brings all = rw (folded_append (changes_cache setting s)
+    → All P (journal_cache_of setting before s).entries
+    → All P (journal_cache_of setting (before ++ next ∷ []) s).entries
+unfolding journal_cache_of
+cache_holds P setting s before next carries brings all = rw (folded_append (changes_journal_cache setting s)
     _ before (next ∷ [])) (changed_holds P setting s before _ next carries brings all)

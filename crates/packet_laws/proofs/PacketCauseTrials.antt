@@ -2,9 +2,9 @@
 use Rattle.std.proofs.Common.{[], ◌∷◌, ◌≡◌, IsTrue, List, None, Some, arith, false, inr, refl, rules, subst, sym, true}
 use Rattle.failover.specs.Exports.{has_link, no_links, with_link}
 use Rattle.base.specs.Exports.{has}
-use Rattle.update_machine.specs.Exports.{Cached, Crash, Drop, Exit, Item, NoAuthority, NoRoute, Out, Packet, Seek, boot_of, found_down, header_in, heard, is_up, leg_of, next_packet, next_switch, present_step, route_in, route_place, serves, stamp_of, standing, travels}
+use Rattle.update_machine.specs.Exports.{Cached, Crash, Drop, Exit, Item, NoAuthority, NoRoute, Out, Packet, Seek, journal_boot_of, journal_found_down, journal_packet_header, heard, is_up, journal_leg_of, journal_next_packet, next_switch, journal_present_step, journal_route_in, route_place, serves, journal_stamp_of, standing, travels}
 use Rattle.update_machine.proofs.Exports.{one, open_net}
-use Rattle.packet_laws.specs.Exports.{AreResting, IsAtEnd, IsLookedUp, PacketCause, StrongCause, ends_with_row, fallen_switch, stage_of}
+use Rattle.packet_laws.specs.Exports.{ArePacketsResting, IsAtEnd, IsPacketLookedUp, HasPacketItemCause, StrongCause, ends_with_row, fallen_switch, packet_stage_of}
 
 -- a packet entered at switch 0
 abbrev in_at_0 : List Item
@@ -17,58 +17,58 @@ decided = Item.Row 1 (Packet 0 one) ∷ Item.Entered 1 0 one
 
 -- ---- entries
 
-not_under_another_number : PacketCause open_net (Item.Row 1 (Packet 0 one) ∷ [])
+not_under_another_number : HasPacketItemCause open_net (Item.Row 1 (Packet 0 one) ∷ [])
     (Item.Entered 2 0 one) → ⊥
-unfolding next_packet
+unfolding journal_next_packet
 not_under_another_number way = omega (arith, way.0.number)
 
 -- ---- decisions
 
-looked_up_once : IsLookedUp decided 1 0 → ⊥
-unfolding stage_of
+looked_up_once : IsPacketLookedUp decided 1 0 → ⊥
+unfolding packet_stage_of
 looked_up_once h0 = search rules
 
-not_decided_twice : PacketCause open_net decided (Item.Decided 1 1 None Drop (Cached 1)) → ⊥
+not_decided_twice : HasPacketItemCause open_net decided (Item.Decided 1 1 None Drop (Cached 1)) → ⊥
 unfolding standing
 not_decided_twice way = search (rules, looked_up_once)
 
 -- ---- packets that are stuck
 
 -- by a version that isn't the stamp's
-not_stuck_by_another_version : PacketCause open_net in_at_0
+not_stuck_by_another_version : HasPacketItemCause open_net in_at_0
     (Item.Stuck 1 0 NoRoute (Seek 7 0) no_links) → ⊥
-unfolding stamp_of heard is_up boot_of stage_of
+unfolding journal_stamp_of heard is_up journal_boot_of packet_stage_of
 not_stuck_by_another_version way = search rules
 
 -- on its way to an authority once it was decided
-not_stuck_seeking_when_decided : PacketCause open_net decided
+not_stuck_seeking_when_decided : HasPacketItemCause open_net decided
     (Item.Stuck 1 0 NoRoute (Seek 1 0) no_links) → ⊥
-unfolding stage_of
+unfolding packet_stage_of
 not_stuck_seeking_when_decided way = search (rules, looked_up_once)
 
 -- with the cause that there is no authority, on its way out
-not_without_authority_on_its_way_out : PacketCause open_net decided
+not_without_authority_on_its_way_out : HasPacketItemCause open_net decided
     (Item.Stuck 1 0 NoAuthority (Exit 3) no_links) → ⊥
 not_without_authority_on_its_way_out way = let why = way.why in cc
 
 -- ---- ways
 
-not_sought_by_another_version : PacketCause open_net in_at_0 (Item.Seeking 1 2 0 (0 ∷ 1 ∷ [])) → ⊥
-unfolding standing stamp_of heard is_up boot_of
+not_sought_by_another_version : HasPacketItemCause open_net in_at_0 (Item.Seeking 1 2 0 (0 ∷ 1 ∷ [])) → ⊥
+unfolding standing journal_stamp_of heard is_up journal_boot_of
 not_sought_by_another_version way = search rules
 
-not_rerouted_unless_blocked : PacketCause open_net in_at_0 (Item.Rerouted 1 (0 ∷ [])) → ⊥
-unfolding stage_of
+not_rerouted_unless_blocked : HasPacketItemCause open_net in_at_0 (Item.Rerouted 1 (0 ∷ [])) → ⊥
+unfolding packet_stage_of
 not_rerouted_unless_blocked way = let stage = way.blocked.blocked in cc
 
-not_moved_before_it_is_looked_up : PacketCause open_net in_at_0 (Item.Hopped 1 1) → ⊥
-unfolding stage_of
+not_moved_before_it_is_looked_up : HasPacketItemCause open_net in_at_0 (Item.Hopped 1 1) → ⊥
+unfolding packet_stage_of
 not_moved_before_it_is_looked_up way = let stage = way.moving in cc
 
 -- ---- crashes
 
 -- a packet doesn't survive the crash of its switch
-none_survives : AreResting (Item.Row 1 (Packet 0 one) ∷ Item.Entered 1 0 one
+none_survives : ArePacketsResting (Item.Row 1 (Packet 0 one) ∷ Item.Entered 1 0 one
     ∷ Item.Row 2 (Crash 0) ∷ Item.Down 0 ∷ []) → ⊥
 unfolding travels standing serves
 none_survives rests =
@@ -84,13 +84,13 @@ none_survives rests =
 -- a lookup on the way by an older version
 not_looked_up_by_an_older_version : StrongCause open_net (Item.Entered 1 0 one
     ∷ Item.Seeking 1 2 0 (0 ∷ 1 ∷ []) ∷ Item.Hopped 1 1 ∷ []) (Item.Seeking 1 1 0 (1 ∷ 0 ∷ [])) → ⊥
-unfolding leg_of
+unfolding journal_leg_of
 not_looked_up_by_an_older_version causes = omega (arith, causes.1.0 2 0 refl)
 
 -- a new route over a link that was found down
 not_rerouted_over_a_link_found_down : StrongCause open_net (Item.Entered 1 0 one ∷ Item.Seeking 1 1
     0 (0 ∷ 1 ∷ []) ∷ Item.FoundDown 1 0 1 ∷ []) (Item.Rerouted 1 (0 ∷ 1 ∷ [])) → ⊥
-unfolding found_down with_link has_link has
+unfolding journal_found_down with_link has_link has
 not_rerouted_over_a_link_found_down causes =
     let up : true ≡ false = causes.1.by.avoids 0 0 1 refl refl in cc
 
@@ -102,14 +102,14 @@ seeking = Item.Entered 1 0 one ∷ Item.Seeking 1 1 0 (0 ∷ 1 ∷ []) ∷ []
 
 -- it goes on from switch 0
 not_at_first : IsAtEnd seeking 1 0 one (Seek 1 0) → ⊥
-unfolding next_switch route_in route_place
+unfolding next_switch journal_route_in route_place
 not_at_first at = let last : Some 1 ≡ None = at.arrives.last in cc
 
 abbrev moved : List Item
 moved = Item.Entered 1 0 one ∷ Item.Seeking 1 1 0 (0 ∷ 1 ∷ []) ∷ Item.Hopped 1 1 ∷ []
 
 at_end : IsAtEnd moved 1 1 one (Seek 1 0)
-unfolding travels stage_of next_switch route_in route_place standing header_in leg_of
+unfolding travels packet_stage_of next_switch journal_route_in route_place standing journal_packet_header journal_leg_of
 at_end = search rules
 
 -- in the middle of a hop: it found the link down, and switch 0 is another target
@@ -118,17 +118,17 @@ rerouted = Item.Entered 1 0 one ∷ Item.Seeking 1 1 0 (0 ∷ 1 ∷ []) ∷ Item
     ∷ Item.Rerouted 1 (0 ∷ []) ∷ []
 
 at_another_target : IsAtEnd rerouted 1 0 one (Seek 1 0)
-unfolding travels stage_of next_switch route_in route_place standing header_in leg_of
+unfolding travels packet_stage_of next_switch journal_route_in route_place standing journal_packet_header journal_leg_of
 at_another_target = search rules
 
 -- ---- packets enter by a row of their own, and are lost in a crash that happened: on journals of
 -- few items.
 
-in_by_its_row : PacketCause open_net (Item.Row 1 (Packet 0 one) ∷ []) (Item.Entered 1 0 one)
-unfolding next_packet present_step ends_with_row serves
+in_by_its_row : HasPacketItemCause open_net (Item.Row 1 (Packet 0 one) ∷ []) (Item.Entered 1 0 one)
+unfolding journal_next_packet journal_present_step ends_with_row serves
 in_by_its_row = (record { number = refl; row = refl; behind = refl }, refl)
 
-not_two_by_one_row : PacketCause open_net (Item.Row 1 (Packet 0 one) ∷ Item.Entered 1 0 one ∷ [])
+not_two_by_one_row : HasPacketItemCause open_net (Item.Row 1 (Packet 0 one) ∷ Item.Entered 1 0 one ∷ [])
     (Item.Entered 2 0 one) → ⊥
 unfolding ends_with_row
 not_two_by_one_row way = let last : false ≡ true = way.0.behind in cc
@@ -137,8 +137,8 @@ not_two_by_one_row way = let last : false ≡ true = way.0.behind in cc
 abbrev crashed : List Item
 crashed = Item.Row 1 (Packet 0 one) ∷ Item.Entered 1 0 one ∷ Item.Row 2 (Crash 0) ∷ Item.Down 0 ∷ []
 
-lost_with_it : PacketCause open_net crashed (Item.Lost 1)
-unfolding travels present_step fallen_switch is_up standing
+lost_with_it : HasPacketItemCause open_net crashed (Item.Lost 1)
+unfolding travels journal_present_step fallen_switch is_up standing
 lost_with_it = record {
   travelling = refl;
   how = inr (record { switch = 0; crashes = refl; fell = refl; down = refl; stands = refl });
@@ -149,6 +149,6 @@ abbrev down_already : List Item
 down_already = Item.Row 1 (Packet 0 one) ∷ Item.Entered 1 0 one ∷ Item.Row 2 (Crash 0) ∷ Item.Down 0
     ∷ Item.Row 3 (Crash 0) ∷ Item.Nothing ∷ []
 
-not_lost_when_it_was_down : PacketCause open_net down_already (Item.Lost 1) → ⊥
-unfolding present_step fallen_switch
+not_lost_when_it_was_down : HasPacketItemCause open_net down_already (Item.Lost 1) → ⊥
+unfolding journal_present_step fallen_switch
 not_lost_when_it_was_down way = search rules

@@ -1,7 +1,7 @@
 -- Each hop of a drain leaves fewer to be taken, and so a drain ends.
 use Rattle.std.proofs.Common.{[], ◌&&◌, ◌*◌, ◌++◌, ◌+◌, ◌-◌, ◌<◌, ◌==◌, ◌∙◌, ◌∷◌, ◌≡◌, ◌≢◌, ◌≤◌, Bool, List, None, Option, Some, ap, append_assoc, arith, eq-eqb, eqb-true, false, find, length, ne_eqb, option_map, refl, subst, sum_by, sym, true, ℕ, rules}
 use Rattle.base.proofs.Exports.{and_parts, cases_eq, length-range_with_len, range_with_len, sum_by-cons}
-use Rattle.update_machine.specs.Exports.{AreAllEventSteps, AreFirstEventSteps, HaveCauses, Hop, IsReached, IsSetting, Item, Setting, Step, StepOfRow, journal_after_steps, concerns_steps, count_of, gives_step, hop_items, is_packet, next_hop, next_packet, next_travelling, packets_in, piece, present_step, step_items, travels}
+use Rattle.update_machine.specs.Exports.{AreAllMachineEventSteps, AreFirstMachineEventSteps, JournalItemsHaveCauses, Hop, IsJournalReached, IsSetting, Item, Setting, Step, StepOfRow, journal_after_steps, concerns_steps, count_of, item_gives_step, machine_hop_items, is_packet, journal_next_hop, journal_next_packet, next_travelling, journal_packets, piece, journal_present_step, step_items, travels}
 use Rattle.update_machine.proofs.Exports.{AreOf, Nears, have_append, last_given_append, loop_ends, packet_keeps, step_stays}
 use Rattle.control_laws.specs.Exports.{HoldsReached}
 use Rattle.control_laws.proofs.Exports.{AreKept, Both, IsCarried, NamesOwn, OfSettings, behind_piece, carried_on, fact_on, have_both, have_weaker, reached_by, reached_carries, setting_carries}
@@ -9,7 +9,7 @@ use Rattle.packet_laws.proofs.PacketsSpared.{IsNoRow, piece_ways, row_rests}
 use Rattle.packet_laws.proofs.PacketsAtRest.{IsSettled, IsWayItem, no_rows, piece_causes, piece_settled, settled_at_first}
 use Rattle.packet_laws.proofs.PacketHopAnswers.{hop_names}
 use Rattle.packet_laws.proofs.PacketRouteHops.{BeginsRested, IsHopItem, NamesFirst, asked_more, changes_asked, hops_few, hops_more, is_asked, stays_off, turns_off}
-use Rattle.packet_laws.specs.Exports.{PacketCause, changes_taken, drain_left, hops_left, hops_taken, most_hops}
+use Rattle.packet_laws.specs.Exports.{HasPacketItemCause, changes_packet_hops_taken, packet_drain_left, packet_hops_left, packet_hops_taken, most_packet_hops}
 use Rattle.packet_laws.proofs.PacketFlushMessages.{count_more, least}
 
 -- ---- between steps no packet was asked to hop and didn't: so each step begins rested
@@ -17,11 +17,11 @@ use Rattle.packet_laws.proofs.PacketFlushMessages.{count_more, least}
 -- what holds between steps
 pub record IsReady (setting : Setting) (journal : List Item) : Type 0 where
   pub settled : IsSettled setting journal
-  pub begins : HaveCauses BeginsRested [] journal
+  pub begins : JournalItemsHaveCauses BeginsRested [] journal
   pub off : (i : ℕ) → is_asked journal i ≡ false
 
 pub hop_causes : (setting : Setting) (journal : List Item) → IsReady setting journal
-    → HaveCauses (IsHopItem setting) [] journal
+    → JournalItemsHaveCauses (IsHopItem setting) [] journal
 hop_causes setting journal ready = search (rules, have_both)
 
 -- ---- a piece
@@ -31,7 +31,7 @@ no_row_begins before (Item.Row row step) none = absurd none
 no_row_begins before next none = tt
 
 piece_begins : (setting : Setting) (journal : List Item) (row : ℕ) (step : Step)
-    → IsReady setting journal → HaveCauses BeginsRested journal (piece setting journal row step)
+    → IsReady setting journal → JournalItemsHaveCauses BeginsRested journal (piece setting journal row step)
 unfolding piece
 piece_begins setting journal row step ready = (
   record { rests = ready.settled.rests; off = ready.off },
@@ -41,7 +41,7 @@ piece_begins setting journal row step ready = (
 -- the journal behind the row has its causes
 row_causes : (setting : Setting) (journal : List Item) (row : ℕ) (step : Step)
     → NamesOwn setting step → IsSettled setting journal
-    → HaveCauses (IsWayItem setting) [] (journal ++ Item.Row row step ∷ [])
+    → JournalItemsHaveCauses (IsWayItem setting) [] (journal ++ Item.Row row step ∷ [])
 unfolding piece
 row_causes setting journal row step own settled = search (rules, have_append, piece_causes)
 
@@ -68,7 +68,7 @@ step_off setting journal row (Hop i) j is own ready = by_test ((i == j) && trave
         let keeps = packet_keeps j journal (Item.Row row (Hop i) ∷ []) (refl, tt) in
         turns_off j here (step_items setting journal (Hop i) here)
         (no_rows setting journal row (Hop i))
-        (subst (λ k. NamesFirst j (hop_items setting k here)) (sym (eqb-true i j parts.0))
+        (subst (λ k. NamesFirst j (machine_hop_items setting k here)) (sym (eqb-true i j parts.0))
         (hop_names setting j here is (row_causes setting journal row (Hop i) own ready.settled)
         (row_rests journal row (Hop i) ready.settled.rests) (keeps.travels ∙ parts.1)))
 step_off setting journal row step j is own ready = stays_off j (journal ++ Item.Row row step ∷ []) _
@@ -99,13 +99,13 @@ pub steps_ready : (setting : Setting) (before : List Item) (steps : List StepOfR
 steps_ready setting before steps is own ready = carried_on setting (OfSettings IsReady setting)
     (ready_carried setting) before steps own (λ is. ready) is
 
-pub reached_ready : (setting : Setting) (journal : List Item) → IsReached setting journal
+pub reached_ready : (setting : Setting) (journal : List Item) → IsJournalReached setting journal
     → IsSetting setting → IsReady setting journal
 reached_ready setting = reached_carries setting (OfSettings IsReady setting) (ready_carried setting)
 
 -- what follows from the causes of all items is true of each reached journal, within a step too
 pub reached : (Holds : Setting → List Item → Type 0) → ((setting : Setting) (journal : List Item)
-    → IsSetting setting → HaveCauses (IsHopItem setting) [] journal → Holds setting journal)
+    → IsSetting setting → JournalItemsHaveCauses (IsHopItem setting) [] journal → Holds setting journal)
     → HoldsReached (λ setting journal. IsSetting setting → Holds setting journal)
 reached Holds = reached_by IsReady Holds IsHopItem ready_carried hop_causes
 
@@ -115,15 +115,15 @@ reached Holds = reached_by IsReady Holds IsHopItem ready_carried hop_causes
 
 -- a hop is taken when its row is there
 not_taken : (j n : ℕ) (before : List Item) (next : Item) → IsNoRow next
-    → changes_taken j before n next ≡ n
+    → changes_packet_hops_taken j before n next ≡ n
 not_taken j n before next none = search rules
 
-taken_stays : (j n : ℕ) → AreKept (λ js next. IsNoRow next) (λ js. hops_taken js j ≡ n)
+taken_stays : (j n : ℕ) → AreKept (λ js next. IsNoRow next) (λ js. packet_hops_taken js j ≡ n)
 taken_stays j n before next none same = search (rules, hops_more, not_taken)
 
 -- a step that brings no packet in
 record IsHopping (i count : ℕ) (journal : List Item) : Type 0 where
-  present : present_step journal ≡ Some (Hop i)
+  present : journal_present_step journal ≡ Some (Hop i)
   packets : count_of is_packet journal ≡ count
 
 no_row_concerns : (before : List Item) (next : Item) → IsNoRow next
@@ -131,23 +131,23 @@ no_row_concerns : (before : List Item) (next : Item) → IsNoRow next
 no_row_concerns before next none = search rules
 
 still_present : (before : List Item) (next : Item) (i : ℕ) → IsNoRow next
-    → present_step before ≡ Some (Hop i) → present_step (before ++ next ∷ []) ≡ Some (Hop i)
+    → journal_present_step before ≡ Some (Hop i) → journal_present_step (before ++ next ∷ []) ≡ Some (Hop i)
 still_present before next i none present = search (rules, step_stays, no_row_concerns)
 
 hopping_kept : (setting : Setting) (i count : ℕ)
-    → AreKept (Both (PacketCause setting) (λ js next. IsNoRow next)) (IsHopping i count)
+    → AreKept (Both (HasPacketItemCause setting) (λ js next. IsNoRow next)) (IsHopping i count)
 hopping_kept setting i count before next both are = search (rules, still_present, count_more)
 
 -- one more hop of its packet, and none of another
 record IsHopped (i : ℕ) (before after : List Item) : Type 0 where
-  own : hops_taken after i ≡ hops_taken before i + 1
-  others : (j : ℕ) → j ≢ i → hops_taken after j ≡ hops_taken before j
-  packets : packets_in after ≡ packets_in before
+  own : packet_hops_taken after i ≡ packet_hops_taken before i + 1
+  others : (j : ℕ) → j ≢ i → packet_hops_taken after j ≡ packet_hops_taken before j
+  packets : journal_packets after ≡ journal_packets before
 
 row_present : (journal : List Item) (row i : ℕ)
-    → present_step (journal ++ Item.Row row (Hop i) ∷ []) ≡ Some (Hop i)
-unfolding present_step
-row_present journal row i = last_given_append gives_step journal (Item.Row row (Hop i) ∷ [])
+    → journal_present_step (journal ++ Item.Row row (Hop i) ∷ []) ≡ Some (Hop i)
+unfolding journal_present_step
+row_present journal row i = last_given_append item_gives_step journal (Item.Row row (Hop i) ∷ [])
 
 hop_is : (setting : Setting) (journal : List Item) (row i : ℕ) → IsReady setting journal
     → travels journal i ≡ true → IsHopped i journal (journal ++ piece setting journal row (Hop i))
@@ -166,7 +166,7 @@ hop_is setting journal row i ready on =
     items : List Item
     items = step_items setting journal (Hop i) here
 
-    behind : (j n : ℕ) → hops_taken here j ≡ n → hops_taken (here ++ items) j ≡ n
+    behind : (j n : ℕ) → packet_hops_taken here j ≡ n → packet_hops_taken (here ++ items) j ≡ n
     behind j n is = fact_on _ _ (taken_stays j n) here items (no_rows _ journal row (Hop i)) is
 
     hopping : IsHopping i (count_of is_packet journal) (here ++ items)
@@ -203,14 +203,14 @@ unfolding next_travelling
 next_travels journal i is = (least (travels journal) 1 (count_of is_packet journal) i is).holds
 
 fewer_left : (journal after : List Item) (i : ℕ) → IsHopped i journal after
-    → hops_taken after i ≤ most_hops → next_travelling journal ≡ Some i
-    → drain_left after < drain_left journal
-unfolding drain_left next_travelling
+    → packet_hops_taken after i ≤ most_packet_hops → next_travelling journal ≡ Some i
+    → packet_drain_left after < packet_drain_left journal
+unfolding packet_drain_left next_travelling
 fewer_left journal after i hopped few is = search (rules, sum_falls, cases_eq)
 
 pub drain_falls : (setting : Setting) (journal : List Item) (row i : ℕ) → IsSetting setting
     → IsReady setting journal → next_travelling journal ≡ Some i
-    → drain_left (journal ++ piece setting journal row (Hop i)) < drain_left journal
+    → packet_drain_left (journal ++ piece setting journal row (Hop i)) < packet_drain_left journal
 drain_falls setting journal row i is ready least =
     let after : List Item = journal ++ piece setting journal row (Hop i) in
     fewer_left journal after i
@@ -225,18 +225,18 @@ by_next None acts step P each is = absurd cc
 by_next (Some n) acts step P each is = let same : acts n ≡ step = cc in subst P same (each n refl)
 
 pub drain_nears : (setting : Setting) (row : ℕ) → IsSetting setting
-    → Nears setting next_hop row (IsReady setting) drain_left
+    → Nears setting journal_next_hop row (IsReady setting) packet_drain_left
 drain_nears setting row is = record {
   kept = λ journal step ready next. by_next (next_travelling journal) Hop step
       (λ s. IsReady setting (journal ++ piece setting journal row s))
       (λ i least. piece_ready setting journal row (Hop i) is tt ready) next;
   nearer = λ journal step ready next. by_next (next_travelling journal) Hop step
-      (λ s. drain_left (journal ++ piece setting journal row s) < drain_left journal)
+      (λ s. packet_drain_left (journal ++ piece setting journal row s) < packet_drain_left journal)
       (λ i least. drain_falls setting journal row i is ready least) next;
 }
 
 pub drain_ends : (setting : Setting) (journal : List Item) (row : ℕ) → IsSetting setting
-    → IsReady setting journal → (steps : List StepOfRow) × AreAllEventSteps setting next_hop row journal steps
+    → IsReady setting journal → (steps : List StepOfRow) × AreAllMachineEventSteps setting journal_next_hop row journal steps
 drain_ends setting journal row is ready = loop_ends _ _ row _ _ (drain_nears setting row is) _ ready
 
 -- ---- how many hops
@@ -245,7 +245,7 @@ drain_ends setting journal row is ready = loop_ends _ _ row _ _ (drain_nears set
 few_steps : (setting : Setting) (next : List Item → Option Step) (row : ℕ)
     (holds : List Item → Type 0) (left : List Item → ℕ) → Nears setting next row holds left
     → (journal : List Item) (steps : List StepOfRow) → holds journal
-    → AreFirstEventSteps setting next row journal steps → length steps ≤ left journal
+    → AreFirstMachineEventSteps setting next row journal steps → length steps ≤ left journal
 few_steps setting next row holds left nears journal [] here are = omega arith
 few_steps setting next row holds left nears journal (first ∷ steps) here are =
     let after : ℕ → List Item = λ k. journal ++ piece setting journal k first.step in
@@ -256,17 +256,17 @@ few_steps setting next row holds left nears journal (first ∷ steps) here are =
     omega (arith, nearer, rest)
 
 sum_few : (journal : List Item) (xs : List ℕ)
-    → sum_by (hops_left journal) xs ≤ most_hops * length xs
+    → sum_by (packet_hops_left journal) xs ≤ most_packet_hops * length xs
 sum_few journal [] = omega arith
-sum_few journal (x ∷ xs) = omega (arith, sum_by-cons (hops_left journal) x xs, sum_few journal xs)
+sum_few journal (x ∷ xs) = omega (arith, sum_by-cons (packet_hops_left journal) x xs, sum_few journal xs)
 
-few_left : (journal : List Item) → drain_left journal ≤ most_hops * (next_packet journal - 1)
-unfolding drain_left next_packet
+few_left : (journal : List Item) → packet_drain_left journal ≤ most_packet_hops * (journal_next_packet journal - 1)
+unfolding packet_drain_left journal_next_packet
 few_left journal = omega (arith, sum_few, length-range_with_len)
 
 pub drain_short : (setting : Setting) (journal : List Item) (row : ℕ) (steps : List StepOfRow)
-    → IsSetting setting → IsReady setting journal → AreFirstEventSteps setting next_hop row journal steps
-    → length steps ≤ most_hops * (next_packet journal - 1)
+    → IsSetting setting → IsReady setting journal → AreFirstMachineEventSteps setting journal_next_hop row journal steps
+    → length steps ≤ most_packet_hops * (journal_next_packet journal - 1)
 drain_short setting journal row steps is ready are =
     let most = few_steps setting _ row _ _ (drain_nears setting row is) journal steps ready are in
     omega (arith, most, few_left journal)

@@ -4,20 +4,20 @@ use Rattle.base.proofs.Exports.{All-from_recursion, All-weaker, cases_lt, get_or
 use Rattle.failover.specs.Exports.{IsReachable}
 use Rattle.failover.proofs.RouteSearch.{length-known_links}
 use Rattle.base.specs.Exports.{has}
-use Rattle.net_file.specs.Exports.{are_linked, owner_of}
-use Rattle.update_machine.specs.Exports.{Action, AreTargets, Cause, Decision, Exit, FindsDown, FindsNoPath, HasCause, IsLostRightly, IsStuckRightly, Item, Leads, LeavesRightly, Leaving, Leg, Seek, SeeksOwn, Setting, can_use, decision_of, found_down, packet_header_at, header_in, is_open, is_up, links_known, near, no_switch, owner, plan_at, serves, standing, targets_of}
+use Rattle.net_file.specs.Exports.{are_linked, net_port_owner}
+use Rattle.update_machine.specs.Exports.{Action, AreMachineLegTargets, Cause, Decision, Exit, MachineFindsDown, MachineFindsNoPath, HasCause, IsRightMachineLoss, IsRightMachineStuck, Item, Leads, MachineLeavesRightly, Leaving, Leg, Seek, SeeksOwnInJournal, Setting, journal_can_use, journal_decision_of, journal_found_down, journal_packet_header_at, journal_packet_header, is_open, is_up, journal_links_known, near, no_switch, owner, journal_plan_at, serves, standing, targets_of}
 use Rattle.switch_table.specs.Exports.{Hosted}
 use Rattle.update_machine.proofs.Exports.{plan_is, unreached}
-use Rattle.control_laws.specs.Exports.{HasItemCause}
+use Rattle.control_laws.specs.Exports.{HasControlItemCause}
 use Rattle.control_laws.proofs.Exports.{IsKnown, linked_by_mask, own_end}
-use Rattle.packet_laws.specs.Exports.{FindsNoRoute, PacketRouteFollowsLinks, IsAt, IsAtPort, IsBlockedOn, IsLostHere, IsOnWay, IsPartitionOf, PacketLeavesHere, PacketMeetsDown, PacketCause, PacketFacts, PacketSeeksRightly, TakesLeg, entry_mark, stage_of, what_is_known}
+use Rattle.packet_laws.specs.Exports.{PacketFindsNoRoute, PacketRouteFollowsLinks, IsPacketAt, IsPacketAtPort, IsPacketBlockedOn, IsLostHere, IsPacketOnWay, IsPacketPartitionOf, PacketLeavesHere, PacketMeetsDown, HasPacketItemCause, PacketFacts, PacketSeeksRightly, PacketTakesLeg, entry_mark, packet_stage_of, packet_facts_of}
 use Rattle.packet_laws.proofs.PacketHeaderLookups.{IsHere, decision_in, exiting_of, header_in_facts, leg_in, next_in, stands_in, seeking_of}
 use Rattle.packet_laws.proofs.KeptPacketFacts.{Knows, here_known, port_named, redirected_to, stage_looked, undecided_of}
 use Rattle.packet_laws.proofs.PacketKnownRoutes.{Sees, none_leads, open_joined}
 
 pub decision_out : (journal : List Item) (i : ℕ) (decision : Option Decision)
-    → (what_is_known journal i).decision ≡ decision → decision_of journal i ≡ decision
-unfolding what_is_known
+    → (packet_facts_of journal i).decision ≡ decision → journal_decision_of journal i ≡ decision
+unfolding packet_facts_of
 decision_out journal i decision is = is
 
 stands_at : (setting : Setting) (before : List Item) (i s : ℕ) → IsHere setting before i s
@@ -25,25 +25,25 @@ stands_at : (setting : Setting) (before : List Item) (i s : ℕ) → IsHere sett
 stands_at setting before i s here = search (rules, stands_in)
 
 pub stands_known : (setting : Setting) (before : List Item) (i s : ℕ)
-    → Knows setting before i (stage_of before i) → IsAt before i s → standing before i ≡ Some s
+    → Knows setting before i (packet_stage_of before i) → IsPacketAt before i s → standing before i ≡ Some s
 stands_known setting before i s knows at = stands_at _ before i s (here_known _ before i s knows at)
 
 entered_as : (setting : Setting) (before : List Item) (i s : ℕ)
-    → (here : IsHere setting before i s) → header_in before i ≡ Some here.under.header
+    → (here : IsHere setting before i s) → journal_packet_header before i ≡ Some here.under.header
 entered_as setting before i s here = header_in_facts before i here.under.header here.under.entered
 
 -- ---- links found down
 
-follows : (setting : Setting) (journal : List Item) (facts : PacketFacts) (way : IsOnWay setting journal facts)
+follows : (setting : Setting) (journal : List Item) (facts : PacketFacts) (way : IsPacketOnWay setting journal facts)
     → PacketRouteFollowsLinks setting facts.route
 follows setting journal facts way = search rules
 
 -- a link that a packet finds down is one of the network, since its route follows links
 pub meets_link : (setting : Setting) (before : List Item) (i one two : ℕ)
-    → Knows setting before i (stage_of before i) → PacketMeetsDown setting before i one two
+    → Knows setting before i (packet_stage_of before i) → PacketMeetsDown setting before i one two
     → IsTrue (are_linked setting.net.links one two)
 meets_link setting before i one two knows meets =
-    let facts : PacketFacts = what_is_known before i in
+    let facts : PacketFacts = packet_facts_of before i in
     let here = here_known setting before i one knows meets.at in
     let way = knows.kept.on_way here.travelling (inl meets.moving) in
     linked_by_mask setting.net.links one two
@@ -53,31 +53,31 @@ meets_link setting before i one two knows meets =
 
 -- ---- losses
 
-lost_rightly : (before : List Item) (i : ℕ) → IsLostHere before i → IsLostRightly before i
+lost_rightly : (before : List Item) (i : ℕ) → IsLostHere before i → IsRightMachineLoss before i
 lost_rightly before i lost = search rules
 
 -- ---- packets that are stuck
 
 -- the partition that it seeks, which has its header
 seeks_part : (setting : Setting) (before : List Item) (i s version partition : ℕ)
-    → Knows setting before i (stage_of before i) → (here : IsHere setting before i s)
-    → TakesLeg setting before i s (Seek version partition)
-    ⊎ IsBlockedOn before i (Seek version partition)
-    → (hosted : Hosted) × IsPartitionOf setting before here.under.header version partition hosted
+    → Knows setting before i (packet_stage_of before i) → (here : IsHere setting before i s)
+    → PacketTakesLeg setting before i s (Seek version partition)
+    ⊎ IsPacketBlockedOn before i (Seek version partition)
+    → (hosted : Hosted) × IsPacketPartitionOf setting before here.under.header version partition hosted
 seeks_part setting before i s version partition knows here h8 =
     search (rules, redirected_to, seeking_of, leg_in)
 
 -- its decision, by the port to which it exits
 exits_by : (setting : Setting) (before : List Item) (i s port : ℕ)
-    → Knows setting before i (stage_of before i) → IsHere setting before i s
-    → TakesLeg setting before i s (Exit port) ⊎ IsBlockedOn before i (Exit port)
-    → (decision : Decision) × (decision_of before i ≡ Some decision)
+    → Knows setting before i (packet_stage_of before i) → IsHere setting before i s
+    → PacketTakesLeg setting before i s (Exit port) ⊎ IsPacketBlockedOn before i (Exit port)
+    → (decision : Decision) × (journal_decision_of before i ≡ Some decision)
     × (decision.action ≡ Action.Out port)
 exits_by setting before i s port knows here h7 = search (rules, exiting_of, leg_in, decision_out)
 
 own_leg : (setting : Setting) (before : List Item) (i s : ℕ) (leg : Leg)
-    → Knows setting before i (stage_of before i) → IsHere setting before i s
-    → TakesLeg setting before i s leg ⊎ IsBlockedOn before i leg → SeeksOwn setting before i leg
+    → Knows setting before i (packet_stage_of before i) → IsHere setting before i s
+    → PacketTakesLeg setting before i s leg ⊎ IsPacketBlockedOn before i leg → SeeksOwnInJournal setting before i leg
 own_leg setting before i s (Seek version partition) knows here on =
     let part = seeks_part setting before i s version partition knows here on in (
       here.under.header,
@@ -86,16 +86,16 @@ own_leg setting before i s (Seek version partition) knows here on =
     )
 own_leg setting before i s (Exit port) knows here on = exits_by _ before i s port knows here on
 
-pub mark_in : (journal : List Item) (i : ℕ) → (what_is_known journal i).mark ≡ entry_mark journal i
-unfolding what_is_known
+pub mark_in : (journal : List Item) (i : ℕ) → (packet_facts_of journal i).mark ≡ entry_mark journal i
+unfolding packet_facts_of
 mark_in journal i = refl
 
 pub seeks_rightly : (setting : Setting) (before : List Item) (i s : ℕ) (version partition : ℕ)
-    → Knows setting before i (stage_of before i) → IsHere setting before i s
-    → TakesLeg setting before i s (Seek version partition)
-    ⊎ IsBlockedOn before i (Seek version partition) → PacketSeeksRightly before i version
+    → Knows setting before i (packet_stage_of before i) → IsHere setting before i s
+    → PacketTakesLeg setting before i s (Seek version partition)
+    ⊎ IsPacketBlockedOn before i (Seek version partition) → PacketSeeksRightly before i version
 seeks_rightly setting before i s version partition knows here (inl takes) = record {
-  undecided = decision_out before i None (undecided_of setting before i s (stage_of before i)
+  undecided = decision_out before i None (undecided_of setting before i s (packet_stage_of before i)
       knows.kept here (stage_looked before i s takes.looked_up));
   not_retired = omega (
     arith,
@@ -115,16 +115,16 @@ seeks_rightly setting before i s version partition knows here (inr blocked) =
     }
 
 pub stuck_rightly : (setting : Setting) (before : List Item) (i s : ℕ) (cause : Cause) (leg : Leg)
-    (down : List ℕ) → Knows setting before i (stage_of before i)
-    → FindsNoRoute setting before i s cause leg down
-    → FindsNoPath setting before i s leg
+    (down : List ℕ) → Knows setting before i (packet_stage_of before i)
+    → PacketFindsNoRoute setting before i s cause leg down
+    → MachineFindsNoPath setting before i s leg
 stuck_rightly setting before i s cause leg down knows finds =
     let here : IsHere setting before i s = here_known setting before i s knows finds.at in record {
       stands = stands_at setting before i s here;
       own_leg = own_leg setting before i s leg knows here finds.on;
-      no_path = let down : List ℕ = found_down before i in
+      no_path = let down : List ℕ = journal_found_down before i in
           All-from_recursion
-          (λ target. ¬ IsReachable (links_known setting before s down) s target)
+          (λ target. ¬ IsReachable (journal_links_known setting before s down) s target)
           (targets_of setting before leg)
           (unreached setting before s (targets_of setting before leg) down finds.none);
     }
@@ -132,13 +132,13 @@ stuck_rightly setting before i s cause leg down knows finds =
 -- ---- by what the switch knows of links, as relations
 
 pub finds_down : (setting : Setting) (before : List Item) (i one two : ℕ) → Knows setting before i
-    (stage_of before i) → PacketMeetsDown setting before i one two → FindsDown setting before i one two
+    (packet_stage_of before i) → PacketMeetsDown setting before i one two → MachineFindsDown setting before i one two
 finds_down setting before i one two knows meets = record {
   stands = stands_known setting before i one knows meets.at;
   linked = meets_link setting before i one two knows meets;
-  unusable = unusable (can_use setting before one two) refl;
+  unusable = unusable (journal_can_use setting before one two) refl;
 } where
-  unusable : (b : Bool) → can_use setting before one two ≡ b → IsFalse b
+  unusable : (b : Bool) → journal_can_use setting before one two ≡ b → IsFalse b
   unusable false e = refl
   unusable true e =
       let usable : has (near setting before one) two ≡ true =
@@ -163,18 +163,18 @@ home_cut_off setting before i s home cut = search rules
 -- the targets of its leg, all cut off
 record HasTargets (setting : Setting) (before : List Item) (i s : ℕ) (leg : Leg) : Type 0 where
   targets : List ℕ
-  own_leg : AreTargets setting before i leg targets
+  own_leg : AreMachineLegTargets setting before i leg targets
   cut_off : AreCutOff setting before i s targets
 
 targets_cut_off : (setting : Setting) (before : List Item) (i s : ℕ) (leg : Leg)
-    → Knows setting before i (stage_of before i) → IsHere setting before i s
-    → TakesLeg setting before i s leg ⊎ IsBlockedOn before i leg
+    → Knows setting before i (packet_stage_of before i) → IsHere setting before i s
+    → PacketTakesLeg setting before i s leg ⊎ IsPacketBlockedOn before i leg
     → AreCutOff setting before i s (targets_of setting before leg)
     → HasTargets setting before i s leg
 targets_cut_off setting before i s (Seek version partition) knows here on cut =
     let part = seeks_part setting before i s version partition knows here on in
     let hosted : Hosted = part.0 in
-    let plan : List Hosted = plan_at setting before version in record {
+    let plan : List Hosted = journal_plan_at setting before version in record {
       targets = hosted.1;
       own_leg = (
         (seeks_rightly setting before i s version partition knows here on).undecided,
@@ -193,25 +193,25 @@ targets_cut_off setting before i s (Seek version partition) knows here on cut =
     }
 targets_cut_off setting before i s (Exit port) knows here on cut =
     let by = exits_by setting before i s port knows here on in record {
-      targets = option_to_list (owner_of setting.net.switches port);
+      targets = option_to_list (net_port_owner setting.net.switches port);
       own_leg = (by.0, by.1, by.2, refl);
-      cut_off = home_cut_off setting before i s (owner_of setting.net.switches port) cut;
+      cut_off = home_cut_off setting before i s (net_port_owner setting.net.switches port) cut;
     }
 
 pub stuck_by_claims : (setting : Setting) (before : List Item) (i s : ℕ) (cause : Cause)
-    (leg : Leg) (down : List ℕ) → Knows setting before i (stage_of before i)
-    → FindsNoRoute setting before i s cause leg down → IsStuckRightly setting before i s leg
+    (leg : Leg) (down : List ℕ) → Knows setting before i (packet_stage_of before i)
+    → PacketFindsNoRoute setting before i s cause leg down → IsRightMachineStuck setting before i s leg
 stuck_by_claims setting before i s cause leg down knows finds =
     let here : IsHere setting before i s = here_known setting before i s knows finds.at in
     let exact = stuck_rightly setting before i s cause leg down knows finds in
-    let links : List ℕ = links_known setting before s (found_down before i) in
+    let links : List ℕ = journal_links_known setting before s (journal_found_down before i) in
     let sees : Sees setting before s =
     record { net = knows.is.net; have = knows.both; serving = finds.at.serving } in
     let cut : AreCutOff setting before i s (targets_of setting before leg) =
     All-weaker (λ target. ¬ IsReachable links s target)
     (λ target. (path : List ℕ) → ¬ Leads (is_open setting before i s) s path target)
     (λ target unreached. none_leads (is_open setting before i s) links s target
-    (length-known_links _ s (near setting before s) (found_down before i)) (open_joined setting
+    (length-known_links _ s (near setting before s) (journal_found_down before i)) (open_joined setting
     before i s sees) (omega (arith, here.at, here.under.now, knows.is.net.few_switches)) unreached)
     (targets_of setting before leg) exact.no_path in
     let own = targets_cut_off setting before i s leg knows here finds.on cut in record {
@@ -246,19 +246,19 @@ one_target target home own = grind (arith, nat_tests)
 
 -- the port's switch, and the decision by that port
 record LeavesBy (setting : Setting) (before : List Item) (i s port : ℕ) : Type 0 where
-  has_port : owner_of setting.net.switches port ≡ Some s
+  has_port : net_port_owner setting.net.switches port ≡ Some s
   decision : Decision
-  decided : decision_of before i ≡ Some decision
+  decided : journal_decision_of before i ≡ Some decision
   action : decision.action ≡ Action.Out port
 
 leaves_by : (setting : Setting) (before : List Item) (i port : ℕ) (leaving : Leaving)
-    → Knows setting before i (stage_of before i) → (way : PacketLeavesHere setting before i port leaving)
+    → Knows setting before i (packet_stage_of before i) → (way : PacketLeavesHere setting before i port leaving)
     → IsHere setting before i way.switch → LeavesBy setting before i way.switch port
 leaves_by setting before i port leaving knows way here = by_port way.at_port where
   facts : PacketFacts
-  facts = what_is_known before i
+  facts = packet_facts_of before i
 
-  by_port : IsAtPort setting before i way.switch port → LeavesBy setting before i way.switch port
+  by_port : IsPacketAtPort setting before i way.switch port → LeavesBy setting before i way.switch port
   by_port (inl now) =
       let decision : Decision = now.2.0 in
       let judged = knows.kept.judged here.travelling now.0 here.under.header here.under.entered in
@@ -289,9 +289,9 @@ leaves_by setting before i port leaving knows way here = by_port way.at_port whe
 abbrev leaving_of : List Item → ℕ → Leaving
 leaving_of before i = record {
   packet = i;
-  header = packet_header_at before i;
-  version = unwrap_or (option_map (λ (d : Decision). d.version) (decision_of before i)) 0;
-  rule = unwrap_or (option_map (λ (d : Decision). d.rule) (decision_of before i)) None;
+  header = journal_packet_header_at before i;
+  version = unwrap_or (option_map (λ (d : Decision). d.version) (journal_decision_of before i)) 0;
+  rule = unwrap_or (option_map (λ (d : Decision). d.rule) (journal_decision_of before i)) None;
 }
 
 leaving_is : (one other : Leaving) (i port : ℕ)
@@ -299,8 +299,8 @@ leaving_is : (one other : Leaving) (i port : ℕ)
 leaving_is one other i port e = cc
 
 pub leaves_rightly : (setting : Setting) (before : List Item) (i port : ℕ) (leaving : Leaving)
-    → Knows setting before i (stage_of before i) → PacketLeavesHere setting before i port leaving
-    → LeavesRightly setting before i port leaving
+    → Knows setting before i (packet_stage_of before i) → PacketLeavesHere setting before i port leaving
+    → MachineLeavesRightly setting before i port leaving
 leaves_rightly setting before i port leaving knows way =
     let s : ℕ = way.switch in
     let here : IsHere setting before i s = here_known setting before i s knows way.at in
@@ -313,7 +313,7 @@ leaves_rightly setting before i port leaving knows way =
     } =
     ap (λ (a : Action). record { version = decision.version; rule = decision.rule; action = a })
     by.action in
-    subst (LeavesRightly setting before i port)
+    subst (MachineLeavesRightly setting before i port)
     (sym (leaving_is leaving (leaving_of before i) i port way.own)) (record {
       switch = s;
       stands = stands_at setting before i s here;
@@ -338,8 +338,8 @@ not_serving before s known down = by_serving (serves before s) refl where
   by_serving true e = let clash : true ≡ false = sym ((known.serving s).up e) ∙ down in absurd cc
 
 pub end_caused : (setting : Setting) (before : List Item) (next : Item)
-    → ((i : ℕ) → Knows setting before i (stage_of before i)) → IsKnown before
-    → HasItemCause setting before next → PacketCause setting before next
+    → ((i : ℕ) → Knows setting before i (packet_stage_of before i)) → IsKnown before
+    → HasControlItemCause setting before next → HasPacketItemCause setting before next
     → HasCause setting before next
 end_caused setting before (Item.Left packet port leaving) knows served own way =
     leaves_rightly setting before packet port leaving (knows packet) way

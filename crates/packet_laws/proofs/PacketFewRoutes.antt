@@ -1,12 +1,12 @@
 -- Each item leaves the routes of each packet few: one induction by items.
 use Rattle.std.proofs.Common.{[], if◌then◌else◌, ◌++◌, ◌+◌, ◌<◌, ◌∙◌, ◌∷◌, ◌≡◌, ◌≤◌, Bool, List, None, Option, Some, ap, arith, eqb-true, false, inl, inr, length, refl, subst, sym, true, ℕ, rules}
 use Rattle.base.proofs.Exports.{option_or, some_same, ⊤}
-use Rattle.failover.specs.Exports.{IsLinkSet, no_links}
+use Rattle.failover.specs.Exports.{IsDownLinkSet, no_links}
 use Rattle.failover.proofs.FailoverLinkSets.{none_is_link_set}
-use Rattle.update_machine.specs.Exports.{Decision, HaveCauses, IsSetting, Item, Leg, Seek, Setting, current_mark, decision_of, found_down, leg_of, most_versions, retired_mark}
-use Rattle.control_laws.specs.Exports.{HasItemCause}
+use Rattle.update_machine.specs.Exports.{Decision, JournalItemsHaveCauses, IsSetting, Item, Leg, Seek, Setting, journal_current_mark, journal_decision_of, journal_found_down, journal_leg_of, most_journal_versions, journal_retired_mark}
+use Rattle.control_laws.specs.Exports.{HasControlItemCause}
 use Rattle.control_laws.proofs.Exports.{Behind, Both, bounded, current_rises, fact_on, have_both, versions_planned}
-use Rattle.packet_laws.specs.Exports.{AllKept, Blocked, FindsLinkDown, FurtherCause, IsLookedUp, IsOnWay, Judged, PacketMeetsDown, PacketCause, PacketFacts, Stage, StrongCause, PacketTakesRoute, detour_count, exit_count, packet_facts_after, finding_count, gives_stage, is_detour, is_exit, is_finding_link_down, is_of_packet, is_search, most_routes, routes_taken, search_count, stage_of, what_is_known}
+use Rattle.packet_laws.specs.Exports.{AllPacketFactsKept, Blocked, PacketFindsLinkDown, FurtherCause, IsPacketLookedUp, IsPacketOnWay, Judged, PacketMeetsDown, HasPacketItemCause, PacketFacts, PacketStage, StrongCause, PacketTakesRoute, detour_count, exit_count, packet_facts_after, packet_finding_count, gives_packet_stage, is_packet_detour, is_packet_exit, is_packet_finding_down, is_item_of_packet, is_packet_search, most_packet_routes, packet_routes_taken, search_count, packet_stage_of, packet_facts_of}
 use Rattle.packet_laws.proofs.PacketsAllKept.{Before, facts_grow, kept_before, knows}
 use Rattle.packet_laws.proofs.PacketHeaderLookups.{IsHere, decision_in, here_of, leg_in, next_in, seeking_of}
 use Rattle.packet_laws.proofs.KeptPacketFacts.{Knows, seeking_after}
@@ -32,19 +32,19 @@ pub record ExitsAreFew (decision : Option Decision) (exit_count : ℕ) : Type 0 
 -- the links that it didn't find down leave room for its detours; each was found down once
 pub record DetoursAreFew (setting : Setting) (found : List ℕ) (detour_count finds : ℕ)
     : Type 0 where
-  pub set : IsLinkSet found
+  pub set : IsDownLinkSet found
   pub detoured : detour_count + unfound setting.net.links found ≤ length setting.net.links
   pub once : finds + unfound setting.net.links found ≤ length setting.net.links
 
 -- where it was just decided it left by no port yet, and where it just found a link down there is
 -- room for one more detour
-abbrev pub HasRoom : Setting → List ℕ → ℕ → ℕ → Option Stage → Type 0
+abbrev pub HasRoom : Setting → List ℕ → ℕ → ℕ → Option PacketStage → Type 0
 HasRoom setting found exit_count detour_count (Some Judged) = exit_count ≡ 0
 HasRoom setting found exit_count detour_count (Some Blocked) =
     detour_count + unfound setting.net.links found < length setting.net.links
 HasRoom setting found exit_count detour_count _ = ⊤
 
-abbrev pub IsFew : Setting → ℕ → PacketFacts → Option Stage → ℕ → ℕ → ℕ → ℕ → Type 0
+abbrev pub IsFew : Setting → ℕ → PacketFacts → Option PacketStage → ℕ → ℕ → ℕ → ℕ → Type 0
 IsFew setting current held stage search_count exit_count detour_count finds = record {
   seeking : SearchesAreFew current held.leg search_count;
   leaving : ExitsAreFew held.decision exit_count;
@@ -53,27 +53,27 @@ IsFew setting current held stage search_count exit_count detour_count finds = re
 }
 
 abbrev pub IsFewOf : Setting → List Item → ℕ → Type 0
-IsFewOf setting journal i = IsFew setting (current_mark journal) (what_is_known journal i)
-    (stage_of journal i) (search_count journal i) (exit_count journal i) (detour_count journal i)
-    (finding_count journal i)
+IsFewOf setting journal i = IsFew setting (journal_current_mark journal) (packet_facts_of journal i)
+    (packet_stage_of journal i) (search_count journal i) (exit_count journal i) (detour_count journal i)
+    (packet_finding_count journal i)
 
 -- ---- lookups
 
 -- the version of a lookup is one that the packet didn't seek yet
 record IsRaised (setting : Setting) (before : List Item) (i version : ℕ) : Type 0 where
   raised : search_count before i + 1 ≤ version
-  current : version ≤ current_mark before
+  current : version ≤ journal_current_mark before
 
 is_raised : (setting : Setting) (before : List Item) (i version partition : ℕ) (route : List ℕ)
     → Before setting before → IsFewOf setting before i
     → PacketTakesRoute setting before i (Seek version partition) route
-    → ((earlier part : ℕ) → leg_of before i ≡ Some (Seek earlier part) → earlier < version)
+    → ((earlier part : ℕ) → journal_leg_of before i ≡ Some (Seek earlier part) → earlier < version)
     → IsRaised setting before i version
 is_raised setting before i version partition route known few takes raises =
-    let knows_it : Knows setting before i (stage_of before i) = knows setting before i known in
+    let knows_it : Knows setting before i (packet_stage_of before i) = knows setting before i known in
     let here = here_of setting before i _ _ knows_it.is knows_it.have knows_it.kept takes.at in
-    let after = packet_facts_after 0 (Item.Seeking i version partition route) (what_is_known before i) in
-    let way : IsOnWay setting before after =
+    let after = packet_facts_after 0 (Item.Seeking i version partition route) (packet_facts_of before i) in
+    let way : IsPacketOnWay setting before after =
     (seeking_after _ before i 0 version _ route knows_it takes).on_way here.travelling (inl refl) in
     let on = seeking_of setting before after _ version _ way here.under.entered refl in record {
       raised = by_lookup here (omega (arith, on.not_retired)) takes.takes.looked_up;
@@ -81,9 +81,9 @@ is_raised setting before i version partition route known few takes raises =
     }
   where
     by_lookup : IsHere setting before i takes.switch → 1 ≤ version
-        → IsLookedUp before i takes.switch → search_count before i + 1 ≤ version
+        → IsPacketLookedUp before i takes.switch → search_count before i + 1 ≤ version
     by_lookup here first (inl came) =
-        let none : (what_is_known before i).leg ≡ None =
+        let none : (packet_facts_of before i).leg ≡ None =
         ((known.kept.packets i).came_in here.travelling came).1 in
         omega (arith, few.seeking.none none, first)
     by_lookup here first (inr misses) = omega (
@@ -97,11 +97,11 @@ is_raised setting before i version partition route known few takes raises =
 -- a link that is found down is one of the network, which the packet didn't find yet
 finds : (setting : Setting) (before : List Item) (i one two : ℕ) → Before setting before
     → IsFewOf setting before i → PacketMeetsDown setting before i one two
-    → FindsLinkDown setting before i one two
-    → FindsOne setting.net (what_is_known before i).found one two
+    → PacketFindsLinkDown setting before i one two
+    → FindsOne setting.net (packet_facts_of before i).found one two
 finds setting before i one two known few meets down =
-    let knows_it : Knows setting before i (stage_of before i) = knows setting before i known in
-    let held : PacketFacts = what_is_known before i in
+    let knows_it : Knows setting before i (packet_stage_of before i) = knows setting before i known in
+    let held : PacketFacts = packet_facts_of before i in
     let here = here_of setting before i one _ knows_it.is knows_it.have knows_it.kept meets.at in
     let way = knows_it.kept.on_way here.travelling (inl meets.moving) in
     finds_one setting.net held.found one two known.is.net few.turning.set down.linked
@@ -114,7 +114,7 @@ finds setting before i one two known few meets down =
 -- what is true before the item, of the packet that it names
 record Premises (setting : Setting) (before : List Item) (next : Item) : Type 0 where
   known : Before setting before
-  way : PacketCause setting before next
+  way : HasPacketItemCause setting before next
   further : FurtherCause setting before next
 
 risen : {leg : Option Leg} {search_count was current : ℕ} → was ≤ current
@@ -126,27 +126,27 @@ risen more few = record {
 }
 
 -- an item that leaves the leg, the decision, the links found and the counts as they were
-kept_few : (setting : Setting) (before : List Item) (i current : ℕ) (stage : Option Stage)
-    → current_mark before ≤ current → IsFewOf setting before i → HasRoom setting
-    (what_is_known before i).found (exit_count before i) (detour_count before i) stage
-    → IsFew setting current (what_is_known before i) stage (search_count before i)
-    (exit_count before i) (detour_count before i) (finding_count before i)
+kept_few : (setting : Setting) (before : List Item) (i current : ℕ) (stage : Option PacketStage)
+    → journal_current_mark before ≤ current → IsFewOf setting before i → HasRoom setting
+    (packet_facts_of before i).found (exit_count before i) (detour_count before i) stage
+    → IsFew setting current (packet_facts_of before i) stage (search_count before i)
+    (exit_count before i) (detour_count before i) (packet_finding_count before i)
 kept_few setting before i current stage more few room = search rules
 
 -- and the stage too
-still_few : (setting : Setting) (before : List Item) (i current : ℕ) → current_mark before ≤ current
-    → IsFewOf setting before i → IsFew setting current (what_is_known before i) (stage_of before i)
-    (search_count before i) (exit_count before i) (detour_count before i) (finding_count before i)
+still_few : (setting : Setting) (before : List Item) (i current : ℕ) → journal_current_mark before ≤ current
+    → IsFewOf setting before i → IsFew setting current (packet_facts_of before i) (packet_stage_of before i)
+    (search_count before i) (exit_count before i) (detour_count before i) (packet_finding_count before i)
 still_few setting before i current more few = search (rules, kept_few)
 
 named_few : (setting : Setting) (before : List Item) (next : Item) (i current : ℕ)
-    → Premises setting before next → current_mark before ≤ current → (b : Bool)
-    → is_of_packet i next ≡ b → IsFewOf setting before i → IsFew setting current
-    (if b then packet_facts_after (retired_mark before) next (what_is_known before i)
-    else what_is_known before i) (option_or (gives_stage i next) (stage_of before i))
-    (one_more (is_search i next) (search_count before i)) (one_more (is_exit i next)
-    (exit_count before i)) (one_more (is_detour i next) (detour_count before i))
-    (one_more (is_finding_link_down i next) (finding_count before i))
+    → Premises setting before next → journal_current_mark before ≤ current → (b : Bool)
+    → is_item_of_packet i next ≡ b → IsFewOf setting before i → IsFew setting current
+    (if b then packet_facts_after (journal_retired_mark before) next (packet_facts_of before i)
+    else packet_facts_of before i) (option_or (gives_packet_stage i next) (packet_stage_of before i))
+    (one_more (is_packet_search i next) (search_count before i)) (one_more (is_packet_exit i next)
+    (exit_count before i)) (one_more (is_packet_detour i next) (detour_count before i))
+    (one_more (is_packet_finding_down i next) (packet_finding_count before i))
 named_few setting before (Item.Entered packet s header) i current facts more true e few =
     rw e (kept_few setting before i current None more few tt)
 named_few setting before (Item.Seeking packet v p route) i current facts more true e few =
@@ -167,11 +167,11 @@ named_few setting before (Item.Seeking packet v p route) i current facts more tr
     })
 named_few setting before (Item.Exiting packet route) i current facts more true e few =
     let same : packet ≡ i = eqb-true packet i e in
-    let judged = subst (λ k. stage_of before k ≡ Some Judged) same facts.way.by.takes.judged in
+    let judged = subst (λ k. packet_stage_of before k ≡ Some Judged) same facts.way.by.takes.judged in
     let first : exit_count before i ≡ 0 = rw judged at few.room in
     let decision : Decision = facts.way.by.takes.decision in
     let decided = decision_in before i (Some decision)
-    (subst (λ k. decision_of before k ≡ Some decision) same facts.way.by.takes.decided) in
+    (subst (λ k. journal_decision_of before k ≡ Some decision) same facts.way.by.takes.decided) in
     rw e (record {
       seeking = record {
         none = λ is. absurd cc;
@@ -183,8 +183,8 @@ named_few setting before (Item.Exiting packet route) i current facts more true e
       room = tt;
     })
 named_few setting before (Item.Rerouted packet route) i current facts more true e few =
-    let blocked : stage_of before i ≡ Some Blocked =
-    subst (λ k. stage_of before k ≡ Some Blocked) (eqb-true packet i e) facts.way.blocked.blocked in
+    let blocked : packet_stage_of before i ≡ Some Blocked =
+    subst (λ k. packet_stage_of before k ≡ Some Blocked) (eqb-true packet i e) facts.way.blocked.blocked in
     let room = rw blocked at few.room in
     rw e (record {
       seeking = risen more few.seeking;
@@ -196,8 +196,8 @@ named_few setting before (Item.Hopped packet s) i current facts more true e few 
     rw e (kept_few setting before i current None more few tt)
 named_few setting before (Item.FoundDown packet one two) i current facts more true e few =
     let same : packet ≡ i = eqb-true packet i e in
-    let one_less : FindsOne setting.net (what_is_known before i).found one two =
-    subst (λ k. FindsOne setting.net (what_is_known before k).found one two) same
+    let one_less : FindsOne setting.net (packet_facts_of before i).found one two =
+    subst (λ k. FindsOne setting.net (packet_facts_of before k).found one two) same
     (finds setting before packet one two facts.known
     (subst (IsFewOf setting before) (sym same) few) facts.way facts.further) in
     rw e (record {
@@ -211,8 +211,8 @@ named_few setting before (Item.FoundDown packet one two) i current facts more tr
       room = omega (arith, few.turning.detoured, one_less.fewer);
     })
 named_few setting before (Item.Decided packet v rule act by) i current facts more true e few =
-    let undecided : (what_is_known before i).decision ≡ None = decision_in before i None
-    (subst (λ k. decision_of before k ≡ None) (eqb-true packet i e) facts.further.0.undecided) in
+    let undecided : (packet_facts_of before i).decision ≡ None = decision_in before i None
+    (subst (λ k. journal_decision_of before k ≡ None) (eqb-true packet i e) facts.further.0.undecided) in
     rw e (record {
       seeking = risen more few.seeking;
       leaving = record { undecided = λ is. absurd cc; exited = few.leaving.exited };
@@ -248,19 +248,19 @@ named_few setting before next i current facts more false e few =
 -- ---- all items
 
 few_more : (setting : Setting) (before : List Item) (next : Item) (i : ℕ)
-    → Premises setting before next → HasItemCause setting before next
+    → Premises setting before next → HasControlItemCause setting before next
     → IsFewOf setting before i → IsFewOf setting (before ++ next ∷ []) i
-unfolding search_count exit_count detour_count finding_count
+unfolding search_count exit_count detour_count packet_finding_count
 few_more setting before next i facts cause few = rw (
   facts_grow i before next,
   stage_next before next i,
-  count_more (is_search i) before next,
-  count_more (is_exit i) before next,
-  count_more (is_detour i) before next,
-  count_more (is_finding_link_down i) before next,
+  count_more (is_packet_search i) before next,
+  count_more (is_packet_exit i) before next,
+  count_more (is_packet_detour i) before next,
+  count_more (is_packet_finding_down i) before next,
 )
-    (named_few setting before next i (current_mark (before ++ next ∷ [])) facts
-    (current_rises setting before next cause) (is_of_packet i next) refl few)
+    (named_few setting before next i (journal_current_mark (before ++ next ∷ [])) facts
+    (current_rises setting before next cause) (is_item_of_packet i next) refl few)
 
 abbrev pub RoutesAreFew : Setting → List Item → Type 0
 RoutesAreFew setting journal = (i : ℕ) → IsFewOf setting journal i
@@ -268,15 +268,15 @@ RoutesAreFew setting journal = (i : ℕ) → IsFewOf setting journal i
 -- what is known before an item, and its causes
 abbrev IsKnown : Setting → List Item → Item → Type 0
 IsKnown setting before next =
-    Both (Behind (Past (IsWayItem setting)) (AllKept setting)) (StrongCause setting) before next
+    Both (Behind (Past (IsWayItem setting)) (AllPacketFactsKept setting)) (StrongCause setting) before next
 
 premises_of : (setting : Setting) (before : List Item) (next : Item) → IsSetting setting
     → IsKnown setting before next → Premises setting before next
 premises_of setting before next is both = search rules
 
 few_at_first : (setting : Setting) → RoutesAreFew setting []
-unfolding what_is_known stage_of leg_of decision_of found_down search_count exit_count detour_count
-    finding_count
+unfolding packet_facts_of packet_stage_of journal_leg_of journal_decision_of journal_found_down search_count exit_count detour_count
+    packet_finding_count
 few_at_first setting i = record {
   seeking = record {
     none = λ is. refl;
@@ -293,7 +293,7 @@ few_at_first setting i = record {
 }
 
 pub routes_few : (setting : Setting) (journal : List Item) → IsSetting setting
-    → HaveCauses (IsWayItem setting) [] journal → RoutesAreFew setting journal
+    → JournalItemsHaveCauses (IsWayItem setting) [] journal → RoutesAreFew setting journal
 routes_few setting journal is have = fact_on (IsKnown setting) (RoutesAreFew setting)
     (λ before next both few i. few_more setting before next i
     (premises_of setting before next is both) both.first.caused.caused.switches (few i)) [] journal
@@ -303,7 +303,7 @@ routes_few setting journal is have = fact_on (IsKnown setting) (RoutesAreFew set
 -- ---- laws
 
 pub searched_few : (setting : Setting) (journal : List Item) → IsSetting setting
-    → HaveCauses (IsWayItem setting) [] journal → (i : ℕ) → search_count journal i ≤ most_versions
+    → JournalItemsHaveCauses (IsWayItem setting) [] journal → (i : ℕ) → search_count journal i ≤ most_journal_versions
 searched_few setting journal is have i = let switches = switches_of_all setting [] journal have in
     omega (
       arith,
@@ -313,17 +313,17 @@ searched_few setting journal is have i = let switches = switches_of_all setting 
     )
 
 pub detoured_few : (setting : Setting) (journal : List Item) → IsSetting setting
-    → HaveCauses (IsWayItem setting) [] journal → (i : ℕ)
+    → JournalItemsHaveCauses (IsWayItem setting) [] journal → (i : ℕ)
     → detour_count journal i ≤ length setting.net.links
 detoured_few setting journal is have i = omega (arith, (routes_few _ _ is have i).turning.detoured)
 
 pub finds_few : (setting : Setting) (journal : List Item) → IsSetting setting
-    → HaveCauses (IsWayItem setting) [] journal → (i : ℕ)
-    → finding_count journal i ≤ length setting.net.links
+    → JournalItemsHaveCauses (IsWayItem setting) [] journal → (i : ℕ)
+    → packet_finding_count journal i ≤ length setting.net.links
 finds_few setting journal is have i = omega (arith, (routes_few _ journal is have i).turning.once)
 
 pub taken_few : (setting : Setting) (journal : List Item) → IsSetting setting
-    → HaveCauses (IsWayItem setting) [] journal → (i : ℕ) → routes_taken journal i ≤ most_routes
+    → JournalItemsHaveCauses (IsWayItem setting) [] journal → (i : ℕ) → packet_routes_taken journal i ≤ most_packet_routes
 taken_few setting journal is have i = omega (
   arith,
   searched_few setting journal is have i,

@@ -1,10 +1,10 @@
 -- A flush delivers messages of rising numbers.
 use Rattle.std.proofs.Common.{[], ◌&&◌, ◌++◌, ◌+◌, ◌<◌, ◌==◌, ◌||◌, ◌∙◌, ◌∷◌, ◌≡◌, ◌≢◌, ◌≤◌, Bool, IsFalse, IsTrue, List, Some, add-zero, ap, append_assoc, arith, cond, count_by, eq-eqb, eqb-true, false, find, if◌then◌else◌, inl, inr, length, lt-ltb, nat_lt, not, refl, subst, suc, sym, true, zero, ℕ, rules}
 use Rattle.base.proofs.Exports.{Any-from_list_any, and_parts, and_right, cases_eq, cases_lt, count_by-le-length, list_any, nat_tests, range_with_len, sum_by-cons}
-use Rattle.failover.specs.Exports.{IsLinkSet, has_link, is_link_of, with_link}
+use Rattle.failover.specs.Exports.{IsDownLinkSet, has_link, is_failover_link_of, with_link}
 use Rattle.failover.proofs.FailoverLinkSets.{has_link-turned, has_link-with_link, with_link_is_link_set}
 use Rattle.net_file.specs.Exports.{IsNetLink, IsNet, are_linked, joins}
-use Rattle.update_machine.specs.Exports.{Deliver, HaveCauses, Item, LinkRow, Net, Setting, TakesNextNumber, concerns_message, count_of, deliver_items, delivery_items, is_deliverable, is_delivery, is_forgetting, is_forgotten, is_sending, is_waiting, next_message, next_waiting, piece, was_delivered}
+use Rattle.update_machine.specs.Exports.{Deliver, JournalItemsHaveCauses, Item, LinkRow, Net, Setting, MachineTakesNextNumber, concerns_message, count_of, deliver_items, machine_delivery_items, is_deliverable, is_delivery_item, is_forgetting, is_forgotten_in_journal, is_sending, is_waiting, journal_next_message, next_waiting, piece, was_delivered}
 use Rattle.update_machine.proofs.Exports.{count_of_append, message_keeps, next_rises, piece_next}
 use Rattle.control_laws.proofs.Exports.{AreKept, fact_on}
 
@@ -23,8 +23,8 @@ unfound links found = count_by (is_unfound found) links
 
 -- the set holds one more link, which it didn't hold
 record IsOneMore (before after : List ℕ) (one two : ℕ) : Type 0 where
-  added : (x y : ℕ) → has_link after x y ≡ (has_link before x y || is_link_of one two x y)
-  new : (x y : ℕ) → is_link_of one two x y ≡ true → has_link before x y ≡ false
+  added : (x y : ℕ) → has_link after x y ≡ (has_link before x y || is_failover_link_of one two x y)
+  new : (x y : ℕ) → is_failover_link_of one two x y ≡ true → has_link before x y ≡ false
 
 part : (b c : Bool) → cond (not (b || c)) 1 0 ≤ cond (not b) 1 0
 part b c = search rules
@@ -45,7 +45,7 @@ stays before after one two more (link ∷ links) = omega (
 )
 
 this_link : (before after : List ℕ) (one two : ℕ) (link : LinkRow)
-    → IsOneMore before after one two → is_link_of one two link.one link.two ≡ true
+    → IsOneMore before after one two → is_failover_link_of one two link.one link.two ≡ true
     → cond (is_unfound after link) 1 0 + 1 ≤ cond (is_unfound before link) 1 0
 this_link before after one two link more is = search rules
 
@@ -91,15 +91,15 @@ ends : (net : Net) (one two : ℕ) → IsNet net → IsTrue (are_linked net.link
 ends net one two is linked = search (rules, Any-from_list_any, joined_ends)
 
 same_ends : (found : List ℕ) (one two x y : ℕ) → has_link found one two ≡ false
-    → is_link_of one two x y ≡ true → has_link found x y ≡ false
+    → is_failover_link_of one two x y ≡ true → has_link found x y ≡ false
 same_ends found one two x y none is = search (rules, eqb-true, has_link-turned)
 
 -- what one more link of the network leaves of a set
 pub record FindsOne (net : Net) (found : List ℕ) (one two : ℕ) : Type 0 where
-  pub set : IsLinkSet (with_link found one two)
+  pub set : IsDownLinkSet (with_link found one two)
   pub fewer : unfound net.links (with_link found one two) + 1 ≤ unfound net.links found
 
-pub finds_one : (net : Net) (found : List ℕ) (one two : ℕ) → IsNet net → IsLinkSet found
+pub finds_one : (net : Net) (found : List ℕ) (one two : ℕ) → IsNet net → IsDownLinkSet found
     → IsTrue (are_linked net.links one two) → IsFalse (has_link found one two)
     → FindsOne net found one two
 finds_one net found one two is set linked none =
@@ -145,12 +145,12 @@ least test from (suc count) n is = search (rules, cases_eq, least test (from + 1
 
 pub record IsNext (journal : List Item) (n : ℕ) : Type 0 where
   pub first : 1 ≤ n
-  pub sent : n < next_message journal
+  pub sent : n < journal_next_message journal
   pub waits : is_waiting journal n ≡ true
   pub least : (k : ℕ) → 1 ≤ k → k < n → is_waiting journal k ≡ false
 
 pub next_is : (journal : List Item) (n : ℕ) → next_waiting journal ≡ Some n → IsNext journal n
-unfolding next_waiting next_message
+unfolding next_waiting journal_next_message
 next_is journal n is = let at = least (is_waiting journal) 1 (count_of is_sending journal) n is in
     record { first = at.above; sent = omega (arith, at.below); waits = at.holds; least = at.before }
 
@@ -158,7 +158,7 @@ next_is journal n is = let at = least (is_waiting journal) 1 (count_of is_sendin
 
 -- the messages below the bound were sent, and none of them waits
 record AreOver (bound : ℕ) (journal : List Item) : Type 0 where
-  sent : bound ≤ next_message journal
+  sent : bound ≤ journal_next_message journal
   over : (k : ℕ) → 1 ≤ k → k < bound → is_waiting journal k ≡ false
 
 counted_now : (test : Item → Bool) (before : List Item) (next : Item) → test next ≡ true
@@ -166,27 +166,27 @@ counted_now : (test : Item → Bool) (before : List Item) (next : Item) → test
 counted_now test before next is = search (rules, count_more, lt-ltb)
 
 forgotten_now : (before : List Item) (number k : ℕ) → (number == k) ≡ true
-    → is_forgotten (before ++ Item.Forgotten number ∷ []) k ≡ true
-unfolding is_forgotten
+    → is_forgotten_in_journal (before ++ Item.Forgotten number ∷ []) k ≡ true
+unfolding is_forgotten_in_journal
 forgotten_now before number k e = counted_now (is_forgetting k) before (Item.Forgotten number) e
 
 delivered_now : (before : List Item) (number k : ℕ) → (number == k) ≡ true
     → was_delivered (before ++ Item.Delivered number ∷ []) k ≡ true
 unfolding was_delivered
-delivered_now before number k e = counted_now (is_delivery k) before (Item.Delivered number) e
+delivered_now before number k e = counted_now (is_delivery_item k) before (Item.Delivered number) e
 
 inner_not : (b c : Bool) → ((b && not true) && c) ≡ false
 inner_not b c = search rules
 
 -- what an item leaves of a message that it concerns
-over_by : (bound k : ℕ) (before : List Item) (next : Item) → TakesNextNumber before next
+over_by : (bound k : ℕ) (before : List Item) (next : Item) → MachineTakesNextNumber before next
     → AreOver bound before → k < bound → concerns_message k before next ≡ true
     → is_waiting (before ++ next ∷ []) k ≡ false
 unfolding is_deliverable
 over_by bound k before next takes are below e =
     search (rules, eqb-true, forgotten_now, inner_not, delivered_now)
 
-over_kept : (bound : ℕ) → AreKept TakesNextNumber (AreOver bound)
+over_kept : (bound : ℕ) → AreKept MachineTakesNextNumber (AreOver bound)
 over_kept bound before next takes are = record {
   sent = omega (arith, are.sent, next_rises before next);
   over = λ k first below. by_concern k first below (concerns_message k before next) refl;
@@ -201,12 +201,12 @@ over_kept bound before next takes are = record {
 
 -- what a delivery writes behind its row and itself
 abbrev rest_of : Setting → List Item → ℕ → ℕ → List Item
-rest_of setting journal row n = delivery_items setting journal n
+rest_of setting journal row n = machine_delivery_items setting journal n
     ((journal ++ Item.Row row (Deliver n) ∷ []) ++ Item.Delivered n ∷ [])
 
 deliver_is : (setting : Setting) (before journal : List Item) (n : ℕ) → is_deliverable before n
     ≡ true → deliver_items setting before n journal
-    ≡ Item.Delivered n ∷ delivery_items setting before n (journal ++ Item.Delivered n ∷ [])
+    ≡ Item.Delivered n ∷ machine_delivery_items setting before n (journal ++ Item.Delivered n ∷ [])
 unfolding deliver_items
 deliver_is setting before journal n may = rw (may, deliver_items) refl
 
@@ -243,8 +243,8 @@ over_behind setting journal row n next =
     ∙ append_assoc journal (row_item ∷ []) (Item.Delivered n ∷ rest)
     ∙ ap (λ items. journal ++ items) (sym is) in
     subst (AreOver (n + 1)) whole
-    (fact_on TakesNextNumber (AreOver (n + 1)) (over_kept (n + 1)) _ rest
-    (subst (HaveCauses TakesNextNumber journal) is (piece_next setting journal row (Deliver n))).1.1
+    (fact_on MachineTakesNextNumber (AreOver (n + 1)) (over_kept (n + 1)) _ rest
+    (subst (JournalItemsHaveCauses MachineTakesNextNumber journal) is (piece_next setting journal row (Deliver n))).1.1
     (over_now setting journal row n next))
 
 pub numbers_rise : (setting : Setting) (journal : List Item) (row n m : ℕ) → next_waiting journal

@@ -2,15 +2,15 @@
 use Rattle.std.proofs.Common.{[], ◌+◌, ◌<◌, ◌∙◌, ◌≡◌, ◌≤◌, All, Bool, Contains, IsTrue, List, None, Option, Some, ap, arith, false, filter, find, if◌then◌else◌, inl, inr, length, map, option_and_then, option_map, position, refl, slice_get, subst, sym, true, unwrap_or, ℕ, rules}
 use Rattle.base.proofs.Exports.{All-filter, find-position, find-there, get_or-map, length-map, option_map_or, slice_get-get_or, some_of_map, some_of_then, some_same}
 use Rattle.five_tuple.specs.Exports.{IsHeader, fields_of, number_of}
-use Rattle.update_machine.specs.Exports.{AuthorityRule, CacheEntry, Decision, Exit, Found, HasPlan, HaveCauses, Header, IsSetting, Item, Leg, NamesOwnPort, Partition, Row, Rule, Seek, Setting, authority_rule, current_mark, decision_of, first_place, found_down, packet_header_at, header_in, leg_of, lookup_at, next_switch, plan_at, policy_at, retired_mark, serves, stamp_of, standing, tables_at, travels}
+use Rattle.update_machine.specs.Exports.{AuthorityRule, CacheEntry, Decision, Exit, Found, SettingHasPlan, JournalItemsHaveCauses, Header, IsSetting, Item, Leg, NamesSettingPort, Partition, Row, Rule, Seek, Setting, journal_authority_rule, journal_current_mark, journal_decision_of, first_place, journal_found_down, journal_packet_header_at, journal_packet_header, journal_leg_of, lookup_at, next_switch, journal_plan_at, policy_at, journal_retired_mark, serves, journal_stamp_of, standing, journal_tables_at, travels}
 use Rattle.partition.specs.Plan.{IsPartitionPlan}
-use Rattle.policy_rules.specs.Exports.{first_rule, hit_of, hit_of_rule, is_held, is_highest_row, is_in, row_matches, scan}
-use Rattle.switch_table.specs.Exports.{Hosted, authority_of, has_target, lookup_in, part_of, table_lookup, tables_of}
+use Rattle.policy_rules.specs.Exports.{first_rule, hit_of, policy_hit_of_rule, is_held, is_highest_row, is_in_policy_partition, row_matches, scan}
+use Rattle.switch_table.specs.Exports.{Hosted, table_authority_of, has_target, lookup_in, part_of, table_lookup, tables_of}
 use Rattle.switch_table.proofs.SwitchTableLemmas.{tables_planned}
 use Rattle.update_machine.proofs.Exports.{begins_planned, version_is_planned, versions_own}
-use Rattle.control_laws.specs.Exports.{HasItemCause, HoldsStampedVersions}
+use Rattle.control_laws.specs.Exports.{HasControlItemCause, HoldsStampedVersions}
 use Rattle.control_laws.proofs.Exports.{bounded, serving_hold, versions_planned}
-use Rattle.packet_laws.specs.Exports.{AuthorityFinds, HasKeptFacts, IsAt, IsOnLeg, IsOnWay, IsSought, IsUnderWay, PacketFacts, Stage, what_is_known}
+use Rattle.packet_laws.specs.Exports.{AuthorityFinds, HasKeptPacketFacts, IsPacketAt, IsPacketOnLeg, IsPacketOnWay, IsSoughtByPacket, IsPacketUnderWay, PacketFacts, PacketStage, packet_facts_of}
 
 -- ---- what the plan of a version says of a header: the partition whose region holds it, and the
 -- rule there that decides it as the version's policy does.
@@ -20,12 +20,12 @@ use Rattle.packet_laws.specs.Exports.{AuthorityFinds, HasKeptFacts, IsAt, IsOnLe
 -- rows that name ports of the network alone, and their plan on it
 pub record IsPlanned (setting : Setting) (rows : List Row) (plan : List Hosted) : Type 0 where
   pub parts : IsPartitionPlan rows setting.net plan
-  pub ports : All (λ row. NamesOwnPort setting row.action) rows
+  pub ports : All (λ row. NamesSettingPort setting row.action) rows
 
 -- a version with a plan is planned
 pub version_planned : (setting : Setting) (journal : List Item) (version : ℕ) → IsSetting setting
-    → HasPlan setting journal version
-    → IsPlanned setting (policy_at setting journal version) (plan_at setting journal version)
+    → SettingHasPlan setting journal version
+    → IsPlanned setting (policy_at setting journal version) (journal_plan_at setting journal version)
 version_planned setting journal version is has = record {
   parts = version_is_planned setting journal version is has;
   ports = (versions_own setting journal version is).1;
@@ -37,18 +37,18 @@ abbrev rows_that_match : List Row → Header → List Row
 rows_that_match rows header = filter (λ row. row_matches row (fields_of header)) rows
 
 hit_named : (setting : Setting) (rows : List Row) (best : Option Row)
-    → All (λ row. NamesOwnPort setting row.action) rows → find (is_highest_row rows) rows ≡ best →
-    NamesOwnPort setting (hit_of best).action
+    → All (λ row. NamesSettingPort setting row.action) rows → find (is_highest_row rows) rows ≡ best →
+    NamesSettingPort setting (hit_of best).action
 hit_named setting rows None all e = tt
 hit_named setting rows (Some row) all e =
     let there : Contains rows row = (find-there (is_highest_row rows) rows row e).0 in
-    subst (λ (r : Row). NamesOwnPort setting r.action) there.2 (all there.0 row there.1)
+    subst (λ (r : Row). NamesSettingPort setting r.action) there.2 (all there.0 row there.1)
 
 -- the action of a first match names a port of the network, if it names one
 pub scan_named : (setting : Setting) (rows : List Row) (plan : List Hosted) (header : Header)
-    → IsPlanned setting rows plan → NamesOwnPort setting (scan rows header).action
+    → IsPlanned setting rows plan → NamesSettingPort setting (scan rows header).action
 scan_named setting rows plan header is = hit_named setting (rows_that_match rows header) _
-    (All-filter (λ row. row_matches row (fields_of header)) (λ row. NamesOwnPort setting row.action)
+    (All-filter (λ row. row_matches row (fields_of header)) (λ row. NamesSettingPort setting row.action)
     rows is.ports) refl
 
 -- ---- the partition of a header
@@ -57,19 +57,19 @@ scan_named setting rows plan header is = hit_named setting (rows_that_match rows
 pub record Finds (rows : List Row) (plan : List Hosted) (header : Header) (hosted : Hosted) : Type 0 where
   pub place : ℕ
   pub rule : Rule
-  pub first : find (λ other. is_in header (part_of other)) plan ≡ Some hosted
-  pub holds : IsTrue (is_in header (part_of hosted))
+  pub first : find (λ other. is_in_policy_partition header (part_of other)) plan ≡ Some hosted
+  pub holds : IsTrue (is_in_policy_partition header (part_of hosted))
   pub at : slice_get plan hosted.0.number ≡ Some hosted
   pub position : unwrap_or (position (is_held (number_of header)) hosted.0.rules) 0 ≡ place
   pub ruled : slice_get hosted.0.rules place ≡ Some rule
-  pub decides : hit_of_rule rule ≡ scan rows header
+  pub decides : policy_hit_of_rule rule ≡ scan rows header
 
 pub in_plan : (setting : Setting) (rows : List Row) (plan : List Hosted)
     (header : Header) (hosted : Hosted) → IsPlanned setting rows plan → IsHeader header
-    → find (λ other. is_in header (part_of other)) plan ≡ Some hosted
+    → find (λ other. is_in_policy_partition header (part_of other)) plan ≡ Some hosted
     → Finds rows plan header hosted
 in_plan setting rows plan header hosted is sound found =
-    let there = find-there (λ other. is_in header (part_of other)) plan hosted found in
+    let there = find-there (λ other. is_in_policy_partition header (part_of other)) plan hosted found in
     let k : ℕ = there.0.0 in
     let within : k < length (map part_of plan) =
     omega (arith, length-map plan part_of, there.0.1) in
@@ -77,12 +77,12 @@ in_plan setting rows plan header hosted is sound found =
     ∙ ap part_of there.0.2 in
     let got : slice_get plan k ≡ Some hosted = slice_get-get_or plan
     k hosted there.0.1 ∙ ap Some there.0.2 in
-    let decided : option_map hit_of_rule (first_rule hosted.0.rules header)
-    ≡ Some (scan rows header) = subst (λ (p : Partition). IsTrue (is_in header p)
-    → option_map hit_of_rule (first_rule p.rules header) ≡ Some (scan rows header)) mapped
+    let decided : option_map policy_hit_of_rule (first_rule hosted.0.rules header)
+    ≡ Some (scan rows header) = subst (λ (p : Partition). IsTrue (is_in_policy_partition header p)
+    → option_map policy_hit_of_rule (first_rule p.rules header) ≡ Some (scan rows header)) mapped
     (is.parts.sound.decides header sound k (part_of hosted) within) there.1 in
     let rule : (rule : Rule) × (first_rule hosted.0.rules header ≡ Some rule)
-    × (hit_of_rule rule ≡ scan rows header) = some_of_map hit_of_rule _ _ decided in
+    × (policy_hit_of_rule rule ≡ scan rows header) = some_of_map policy_hit_of_rule _ _ decided in
     let position_of : (place : ℕ)
     × (position (is_held (number_of header)) hosted.0.rules ≡ Some place)
     × (slice_get hosted.0.rules place ≡ Some rule.0) = some_of_then (slice_get hosted.0.rules) _
@@ -109,7 +109,7 @@ pub looks_up : (setting : Setting) (rows : List Row) (plan : List Hosted) (versi
     → LooksUp rows plan version switch header
 looks_up setting rows plan version switch header is sound =
     let own = some_of_map (lookup_in switch header)
-    (find (λ other. is_in header (part_of other)) plan) _
+    (find (λ other. is_in_policy_partition header (part_of other)) plan) _
     (tables_planned rows plan version switch header is.parts.sound sound) in
     record { hosted = own.0; finds = in_plan setting rows plan header own.0 is sound own.1; says = sym own.2 }
 
@@ -119,21 +119,21 @@ looks_up setting rows plan version switch header is sound =
 
 -- each version up to the current one has a policy and its plan
 pub current_planned : (setting : Setting) (journal : List Item) (version : ℕ) → IsSetting setting
-    → HaveCauses (HasItemCause setting) [] journal → 1 ≤ version → version ≤ current_mark journal
-    → IsPlanned setting (policy_at setting journal version) (plan_at setting journal version)
+    → JournalItemsHaveCauses (HasControlItemCause setting) [] journal → 1 ≤ version → version ≤ journal_current_mark journal
+    → IsPlanned setting (policy_at setting journal version) (journal_plan_at setting journal version)
 current_planned setting journal version is have above below = version_planned setting journal
     version is ((versions_planned setting journal have).planned (begins_planned setting is) version
     above (omega (arith, below, (bounded setting journal have).there)))
 
 -- the stamp of a serving switch is such a version, and isn't retired
 pub record IsStamped (setting : Setting) (journal : List Item) (s : ℕ) : Type 0 where
-  pub retired : retired_mark journal < stamp_of journal s
-  pub current : stamp_of journal s ≤ current_mark journal
-  pub planned : IsPlanned setting (policy_at setting journal (stamp_of journal s))
-      (plan_at setting journal (stamp_of journal s))
+  pub retired : journal_retired_mark journal < journal_stamp_of journal s
+  pub current : journal_stamp_of journal s ≤ journal_current_mark journal
+  pub planned : IsPlanned setting (policy_at setting journal (journal_stamp_of journal s))
+      (journal_plan_at setting journal (journal_stamp_of journal s))
 
 pub stamped : (setting : Setting) (journal : List Item) (s : ℕ) → IsSetting setting
-    → HaveCauses (HasItemCause setting) [] journal → s < length setting.net.switches
+    → JournalItemsHaveCauses (HasControlItemCause setting) [] journal → s < length setting.net.switches
     → IsTrue (serves journal s) → IsStamped setting journal s
 stamped setting journal s is have there serving =
     let holds : HoldsStampedVersions journal s = serving_hold setting journal have s there serving in record {
@@ -148,8 +148,8 @@ stamped setting journal s is have there serving =
 pub record FindsPart (setting : Setting) (journal : List Item) (s : ℕ) (header : Header)
     (partition : ℕ) : Type 0 where
   pub hosted : Hosted
-  pub finds : Finds (policy_at setting journal (stamp_of journal s))
-      (plan_at setting journal (stamp_of journal s)) header hosted
+  pub finds : Finds (policy_at setting journal (journal_stamp_of journal s))
+      (journal_plan_at setting journal (journal_stamp_of journal s)) header hosted
   pub number : hosted.0.number ≡ partition
 
 by_tables : (entries : Option CacheEntry) (said other : Found) → option_map_or Found.Cached entries
@@ -159,14 +159,14 @@ by_tables entries said other e none = search rules
 table_says : (setting : Setting) (journal : List Item) (s : ℕ) (header : Header) (other : Found)
     → lookup_at setting journal s header ≡ other
     → ((entry : CacheEntry) → Found.Cached entry ≡ other → ⊥)
-    → table_lookup (tables_at setting journal (stamp_of journal s) s) header ≡ other
+    → table_lookup (journal_tables_at setting journal (journal_stamp_of journal s) s) header ≡ other
 unfolding lookup_at
 table_says setting journal s header other answer none = search (rules, by_tables)
 
 -- what a lookup says that no cached rule answers, by a partition of the plan of the stamp
 abbrev LooksUpAt : Setting → List Item → ℕ → Header → Type 0
-LooksUpAt setting journal s header = LooksUp (policy_at setting journal (stamp_of journal s))
-    (plan_at setting journal (stamp_of journal s)) (stamp_of journal s) s header
+LooksUpAt setting journal s header = LooksUp (policy_at setting journal (journal_stamp_of journal s))
+    (journal_plan_at setting journal (journal_stamp_of journal s)) (journal_stamp_of journal s) s header
 
 record SaysOf (setting : Setting) (journal : List Item) (s : ℕ) (header : Header) (what : Found)
     : Type 0 where
@@ -177,8 +177,8 @@ says_of : (setting : Setting) (journal : List Item) (s : ℕ) (header : Header) 
     → IsStamped setting journal s → IsHeader header → lookup_at setting journal s header ≡ what
     → ((entry : CacheEntry) → Found.Cached entry ≡ what → ⊥) → SaysOf setting journal s header what
 says_of setting journal s header what stamped sound answer none =
-    let looks = looks_up setting _ (plan_at setting journal (stamp_of journal s))
-    (stamp_of journal s) s header stamped.planned sound in record {
+    let looks = looks_up setting _ (journal_plan_at setting journal (journal_stamp_of journal s))
+    (journal_stamp_of journal s) s header stamped.planned sound in record {
       looks = looks;
       is = sym looks.says ∙ table_says setting journal s header what answer none;
     }
@@ -198,7 +198,7 @@ authority_found setting journal s header partition at stamped sound answer =
     by_target says.looks (has_target s says.looks.hosted) refl says.is
   where
     by_target : (looks : LooksUpAt setting journal s header) (b : Bool)
-        → has_target s looks.hosted ≡ b → (if b then authority_of header (part_of looks.hosted)
+        → has_target s looks.hosted ≡ b → (if b then table_authority_of header (part_of looks.hosted)
         else Found.Redirect looks.hosted.0.number looks.hosted.1) ≡ Found.Authority partition at
         → FindsRule setting journal s header partition at
     by_target looks true is e = record {
@@ -222,7 +222,7 @@ redirect_found setting journal s header partition targets stamped sound answer =
     by_target says.looks (has_target s says.looks.hosted) says.is
   where
     by_target : (looks : LooksUpAt setting journal s header) (b : Bool)
-        → (if b then authority_of header (part_of looks.hosted)
+        → (if b then table_authority_of header (part_of looks.hosted)
         else Found.Redirect looks.hosted.0.number looks.hosted.1) ≡ Found.Redirect partition targets
         → FindsTargets setting journal s header partition targets
     by_target looks true e = absurd cc
@@ -244,8 +244,8 @@ deciding {hosted = hosted} version finds = record {
 
 pub rule_there : (setting : Setting) (journal : List Item) (header : Header) (hosted : Hosted)
     (version partition : ℕ) (finds : Finds (policy_at setting journal version)
-    (plan_at setting journal version) header hosted) → hosted.0.number ≡ partition
-    → authority_rule setting journal version partition finds.place ≡ Some (deciding version finds)
+    (journal_plan_at setting journal version) header hosted) → hosted.0.number ≡ partition
+    → journal_authority_rule setting journal version partition finds.place ≡ Some (deciding version finds)
 rule_there setting journal header hosted version partition finds number = search rules
 
 -- ---- what is known of a packet at its switch, where something is kept of each packet
@@ -253,56 +253,56 @@ rule_there setting journal header hosted version partition finds number = search
 -- ---- facts
 
 pub travels_in : (journal : List Item) (i : ℕ) → IsTrue (travels journal i)
-    → IsTrue (what_is_known journal i).travels
-unfolding what_is_known
+    → IsTrue (packet_facts_of journal i).travels
+unfolding packet_facts_of
 travels_in journal i is = is
 
-pub leg_in : (journal : List Item) (i : ℕ) (leg : Option Leg) → leg_of journal i ≡ leg
-    → (what_is_known journal i).leg ≡ leg
-unfolding what_is_known
+pub leg_in : (journal : List Item) (i : ℕ) (leg : Option Leg) → journal_leg_of journal i ≡ leg
+    → (packet_facts_of journal i).leg ≡ leg
+unfolding packet_facts_of
 leg_in journal i leg is = is
 
 pub decision_in : (journal : List Item) (i : ℕ) (decision : Option Decision)
-    → decision_of journal i ≡ decision → (what_is_known journal i).decision ≡ decision
-unfolding what_is_known
+    → journal_decision_of journal i ≡ decision → (packet_facts_of journal i).decision ≡ decision
+unfolding packet_facts_of
 decision_in journal i decision is = is
 
-pub found_in : (journal : List Item) (i : ℕ) → found_down journal i ≡ (what_is_known journal i).found
-unfolding what_is_known
+pub found_in : (journal : List Item) (i : ℕ) → journal_found_down journal i ≡ (packet_facts_of journal i).found
+unfolding packet_facts_of
 found_in journal i = refl
 
 pub next_in : (journal : List Item) (i : ℕ) → next_switch journal i
-    ≡ slice_get (what_is_known journal i).route ((what_is_known journal i).hops + 1)
-unfolding what_is_known next_switch
+    ≡ slice_get (packet_facts_of journal i).route ((packet_facts_of journal i).hops + 1)
+unfolding packet_facts_of next_switch
 next_in journal i = refl
 
-pub stands_in : (journal : List Item) (i : ℕ) (s : ℕ) → (what_is_known journal i).stands ≡ Some s
+pub stands_in : (journal : List Item) (i : ℕ) (s : ℕ) → (packet_facts_of journal i).stands ≡ Some s
     → standing journal i ≡ Some s
-unfolding what_is_known
+unfolding packet_facts_of
 stands_in journal i s is = is
 
 pub header_in_facts : (journal : List Item) (i : ℕ) (header : Header)
-    → (what_is_known journal i).header ≡ Some header → header_in journal i ≡ Some header
-unfolding what_is_known
+    → (packet_facts_of journal i).header ≡ Some header → journal_packet_header journal i ≡ Some header
+unfolding packet_facts_of
 header_in_facts journal i header is = is
 
 -- ---- at a switch
 
 -- the packet is under way at the serving switch, whose stamp is of a planned version
 pub record IsHere (setting : Setting) (before : List Item) (i s : ℕ) : Type 0 where
-  pub travelling : IsTrue (what_is_known before i).travels
-  pub under : IsUnderWay setting before (what_is_known before i)
+  pub travelling : IsTrue (packet_facts_of before i).travels
+  pub under : IsPacketUnderWay setting before (packet_facts_of before i)
   pub at : s ≡ under.switch
-  pub header : packet_header_at before i ≡ under.header
+  pub header : journal_packet_header_at before i ≡ under.header
   pub stamped : IsStamped setting before s
 
-pub here_of : (setting : Setting) (before : List Item) (i s : ℕ) (stage : Option Stage)
-    → IsSetting setting → HaveCauses (HasItemCause setting) [] before
-    → HasKeptFacts setting before (what_is_known before i) stage → IsAt before i s
+pub here_of : (setting : Setting) (before : List Item) (i s : ℕ) (stage : Option PacketStage)
+    → IsSetting setting → JournalItemsHaveCauses (HasControlItemCause setting) [] before
+    → HasKeptPacketFacts setting before (packet_facts_of before i) stage → IsPacketAt before i s
     → IsHere setting before i s
 here_of setting before i s stage is have kept at =
-    let travelling : IsTrue (what_is_known before i).travels = travels_in before i at.travelling in
-    let under : IsUnderWay setting before (what_is_known before i) = kept.under_way travelling in
+    let travelling : IsTrue (packet_facts_of before i).travels = travels_in before i at.travelling in
+    let under : IsPacketUnderWay setting before (packet_facts_of before i) = kept.under_way travelling in
     let same : s ≡ under.switch =
     sym at.stands ∙ ap (λ o. unwrap_or o 0) (stands_in before i under.switch under.stands) in
     record {
@@ -320,15 +320,15 @@ leg_is : (one other : Leg) (facts : PacketFacts) → facts.leg ≡ Some one
 leg_is one other facts p q = some_same facts.leg one other p q
 
 pub seeking_of : (setting : Setting) (journal : List Item) (facts : PacketFacts) (header : Header)
-    (version partition : ℕ) → IsOnWay setting journal facts → facts.header ≡ Some header
+    (version partition : ℕ) → IsPacketOnWay setting journal facts → facts.header ≡ Some header
     → facts.leg ≡ Some (Seek version partition)
-    → IsOnLeg setting journal facts header (Seek version partition)
+    → IsPacketOnLeg setting journal facts header (Seek version partition)
 seeking_of setting journal facts header version partition way entered seeks =
     search (rules, some_same, leg_is)
 
 pub exiting_of : (setting : Setting) (journal : List Item) (facts : PacketFacts) (port : ℕ)
-    (way : IsOnWay setting journal facts) → facts.leg ≡ Some (Exit port)
-    → IsOnLeg setting journal facts way.under_way.header (Exit port)
+    (way : IsPacketOnWay setting journal facts) → facts.leg ≡ Some (Exit port)
+    → IsPacketOnLeg setting journal facts way.under_way.header (Exit port)
 exiting_of setting journal facts port way exits = search (rules, leg_is)
 
 -- ---- authority rules
@@ -337,11 +337,11 @@ exiting_of setting journal facts port way exits = search (rules, leg_is)
 pub record Rules (setting : Setting) (before : List Item) (facts : PacketFacts) (header : Header)
     (version : ℕ) (found : AuthorityRule) : Type 0 where
   pub not_retired : facts.mark < version
-  pub current : version ≤ current_mark before
+  pub current : version ≤ journal_current_mark before
   pub planned : IsPlanned setting (policy_at setting before version)
-      (plan_at setting before version)
+      (journal_plan_at setting before version)
   pub hosted : Hosted
-  pub finds : Finds (policy_at setting before version) (plan_at setting before version) header
+  pub finds : Finds (policy_at setting before version) (journal_plan_at setting before version) header
       hosted
   pub same : found ≡ deciding version finds
 
@@ -350,21 +350,21 @@ rule_is : (o : Option AuthorityRule) (one other : AuthorityRule) → o ≡ Some 
 rule_is o one other p q = cc
 
 pub rules_of : (setting : Setting) (before : List Item) (i s version : ℕ) (found : AuthorityRule)
-    → IsSetting setting → HaveCauses (HasItemCause setting) [] before
+    → IsSetting setting → JournalItemsHaveCauses (HasControlItemCause setting) [] before
     → (here : IsHere setting before i s)
-    → ((v p : ℕ) → (what_is_known before i).leg ≡ Some (Seek v p)
-    → IsSought setting before (what_is_known before i).mark here.under.header v p)
+    → ((v p : ℕ) → (packet_facts_of before i).leg ≡ Some (Seek v p)
+    → IsSoughtByPacket setting before (packet_facts_of before i).mark here.under.header v p)
     → AuthorityFinds setting before i s version found
-    → Rules setting before (what_is_known before i) here.under.header version found
+    → Rules setting before (packet_facts_of before i) here.under.header version found
 rules_of setting before i s version found is have here sought finds = elim finds.says [
-  | inl says ↦ let stamp : ℕ = stamp_of before s in
+  | inl says ↦ let stamp : ℕ = journal_stamp_of before s in
       let own : FindsRule setting before s here.under.header finds.partition finds.place =
       authority_found setting before s here.under.header finds.partition finds.place here.stamped
       here.under.sound (ap (lookup_at setting before s) (sym here.header) ∙ says.answer) in
-      let rule = ap (authority_rule setting before stamp finds.partition) own.found_at
-      ∙ subst (λ v. authority_rule setting before v finds.partition finds.place ≡ Some found)
+      let rule = ap (journal_authority_rule setting before stamp finds.partition) own.found_at
+      ∙ subst (λ v. journal_authority_rule setting before v finds.partition finds.place ≡ Some found)
       says.stamp finds.rule in
-      subst (λ v. Rules setting before (what_is_known before i) here.under.header v found)
+      subst (λ v. Rules setting before (packet_facts_of before i) here.under.header v found)
       (sym says.stamp) (record {
         not_retired = omega (arith, here.under.mark, here.stamped.retired);
         current = here.stamped.current;
@@ -387,7 +387,7 @@ rules_of setting before i s version found is have here sought finds = elim finds
         hosted = leg.hosted;
         finds = own;
         same = rule_is _ found (deciding version own)
-            (ap (authority_rule setting before version finds.partition) (sym place) ∙ finds.rule)
+            (ap (journal_authority_rule setting before version finds.partition) (sym place) ∙ finds.rule)
             (rule_there setting before here.under.header leg.hosted version finds.partition own
             leg.own.number);
       }

@@ -1,7 +1,7 @@
 -- What held on the way, by the laws that say it one by one.
 use Rattle.std.proofs.Common.{[], ◌++◌, ◌∙◌, ◌∷◌, ◌≡◌, ◌≤◌, List, Option, ap, append-nil, append_assoc, drop, length, refl, subst, suc, sym, take, zero, ℕ, rules}
-use Rattle.update_machine.specs.Exports.{AreSettled, BeginsAnswer, Event, HasCause, HaveCauses, IsPlay, IsRun, IsSetting, Item, Setting, StepOfRow, journal_after_steps, most_versions, piece, step_items}
-use Rattle.packet_laws.specs.Exports.{BeginStep, EndsStep, HeldOnTheWay, HoldsBetween, HoldsSoFar, IsKeptBehind, KeepVersionsWhole, PacketsTravel, StrongCause, detour_count, exit_count, hops_on_route, hops_taken, most_hops, most_routes, most_switches, routes_taken, search_count, packet_steps_played}
+use Rattle.update_machine.specs.Exports.{AreMachineMarksSettled, JournalBeginsAnswer, Event, HasCause, JournalItemsHaveCauses, IsMachinePlay, IsRun, IsSetting, Item, Setting, StepOfRow, journal_after_steps, most_journal_versions, piece, step_items}
+use Rattle.packet_laws.specs.Exports.{BeginStep, EndsStep, HeldOnTheWay, HoldsBetween, HoldsSoFar, ArePacketsKeptBehind, KeepVersionsWholeForPackets, PacketsTravel, StrongCause, detour_count, exit_count, packet_route_hops, packet_hops_taken, most_packet_hops, most_packet_routes, most_switches, packet_routes_taken, search_count, packet_steps_played}
 use Rattle.packet_laws.proofs.PacketsSpared.{IsNoRow}
 use Rattle.packet_laws.proofs.PacketsAtRest.{no_rows, play_begins}
 use Rattle.control_laws.specs.Exports.{AreNetworkEvents, HoldsAtEnds, HoldsReached}
@@ -35,7 +35,7 @@ record Past (own rest : List Item) (n : ℕ) : Type 0 where
   taken : take n (own ++ rest) ≡ own ++ take count rest
   begins : BeginStep (drop count rest)
 
-past : (before own rest : List Item) (n : ℕ) → HaveCauses (λ js next. IsNoRow next) before own
+past : (before own rest : List Item) (n : ℕ) → JournalItemsHaveCauses (λ js next. IsNoRow next) before own
     → BeginStep (drop n (own ++ rest)) → Past own rest n
 past before [] rest n none begins = record { count = n; taken = refl; begins = begins }
 past before (first ∷ own) rest zero none begins = absurd (no_row_begins first _ none.0 begins)
@@ -86,16 +86,16 @@ ends_at setting steps n ends =
 -- the laws of journals that may end within a step
 pub record Laws : Type 0 where
   pub run : OfReached (λ setting journal. IsRun setting journal)
-  pub causes : OfReached (λ setting journal. HaveCauses (HasCause setting) [] journal)
-  pub strong : OfReached (λ setting journal. HaveCauses (StrongCause setting) [] journal)
-  pub versions : OfReached KeepVersionsWhole
-  pub searches : OfReached (λ setting journal. (i : ℕ) → search_count journal i ≤ most_versions)
+  pub causes : OfReached (λ setting journal. JournalItemsHaveCauses (HasCause setting) [] journal)
+  pub strong : OfReached (λ setting journal. JournalItemsHaveCauses (StrongCause setting) [] journal)
+  pub versions : OfReached KeepVersionsWholeForPackets
+  pub searches : OfReached (λ setting journal. (i : ℕ) → search_count journal i ≤ most_journal_versions)
   pub exits : OfReached (λ setting journal. (i : ℕ) → exit_count journal i ≤ 1)
   pub detours : OfReached (λ setting journal.
       (i : ℕ) → detour_count journal i ≤ length setting.net.links)
-  pub routes : OfReached (λ setting journal. (i : ℕ) → routes_taken journal i ≤ most_routes)
-  pub on_route : OfReached (λ setting journal. (i : ℕ) → hops_on_route journal i ≤ most_switches)
-  pub hops : OfReached (λ setting journal. (i : ℕ) → hops_taken journal i ≤ most_hops)
+  pub routes : OfReached (λ setting journal. (i : ℕ) → packet_routes_taken journal i ≤ most_packet_routes)
+  pub on_route : OfReached (λ setting journal. (i : ℕ) → packet_route_hops journal i ≤ most_switches)
+  pub hops : OfReached (λ setting journal. (i : ℕ) → packet_hops_taken journal i ≤ most_packet_hops)
 
 -- whatever gives each of the laws gives all
 all_so_far : Laws → (setting : Setting) (journal : List Item) → IsSetting setting
@@ -120,11 +120,11 @@ holds_so_far laws = record {
 abbrev pub OfSteps : (Setting → List Item → Type 0) → Type 0
 OfSteps Holds = HoldsBetween (λ setting journal. IsSetting setting → Holds setting journal)
 
-pub kept_behind : OfSteps PacketsTravel → HoldsAtEnds AreSettled → OfSteps IsKeptBehind
+pub kept_behind : OfSteps PacketsTravel → HoldsAtEnds AreMachineMarksSettled → OfSteps ArePacketsKeptBehind
 kept_behind travel settle = record {
   reached = λ setting journal at is. record {
     packets = travel.reached setting journal at is;
-    settled = subst (AreSettled setting) (sym at.written) (settle.stepped setting at.steps);
+    settled = subst (AreMachineMarksSettled setting) (sym at.written) (settle.stepped setting at.steps);
   };
   answered = λ setting events journal own answers is. record {
     packets = travel.answered setting events journal own answers is;
@@ -144,7 +144,7 @@ kept_behind travel settle = record {
 
 -- the first items of what begins an answer begin it too
 fewer_begin : (setting : Setting) (events : List Event) (journal : List Item) (n : ℕ)
-    → BeginsAnswer setting events journal → BeginsAnswer setting events (take n journal)
+    → JournalBeginsAnswer setting events journal → JournalBeginsAnswer setting events (take n journal)
 fewer_begin setting events journal n begins =
     let less = fewer n begins.length begins.whole in record {
       whole = begins.whole;
@@ -161,13 +161,13 @@ fewer_begin setting events journal n begins =
         let less = fewer n m items in (suc less.0, ap (λ (js : List Item). first ∷ js) less.1)
 
 written_of : (setting : Setting) (events : List Event) (journal : List Item) (full : Option ℕ)
-    → (play : IsPlay setting events journal full)
+    → (play : IsMachinePlay setting events journal full)
     → journal ≡ journal_after_steps setting [] (packet_steps_played setting events journal full play)
 written_of setting events journal full play = search rules
 
-pub held_on_the_way : OfReached HoldsSoFar → OfSteps IsKeptBehind
+pub held_on_the_way : OfReached HoldsSoFar → OfSteps ArePacketsKeptBehind
     → (setting : Setting) (events : List Event) (journal : List Item) (full : Option ℕ)
-    → IsSetting setting → AreNetworkEvents setting events → IsPlay setting events journal full
+    → IsSetting setting → AreNetworkEvents setting events → IsMachinePlay setting events journal full
     → HeldOnTheWay setting journal
 held_on_the_way so_far behind setting events journal full is own play =
     let steps : List StepOfRow = packet_steps_played setting events journal full play in
@@ -176,6 +176,6 @@ held_on_the_way so_far behind setting events journal full is own play =
           (fewer_begin setting events journal n (play_begins setting events journal full play)) is;
       kept = λ n ends.
           let found = ends_at setting steps n (subst (λ (js : List Item). EndsStep js n) written ends) in
-          subst (IsKeptBehind setting) (sym (ap (take n) written ∙ found.1))
+          subst (ArePacketsKeptBehind setting) (sym (ap (take n) written ∙ found.1))
           (behind.played setting events journal full own play found.0 is);
     }

@@ -2,17 +2,17 @@
 -- none of the links that the packet found down.
 use Rattle.std.proofs.Common.{[], ◌&&◌, ◌++◌, ◌+◌, ◌-◌, ◌<◌, ◌∙◌, ◌∷◌, ◌≡◌, ◌≢◌, ◌≤◌, Bool, IsFalse, IsTrue, List, None, Option, Some, ap, arith, eq-eqb, false, get_or, get_or-set_other, get_or-set_same, inl, inr, length, length-set, map, nat_eq, not, refl, replicate, set, slice_get, slice_index, subst, suc, sym, true, zero, ℕ, rules}
 use Rattle.base.proofs.Exports.{cases_eq, get_or-map, get_or_past, has-zero, length-map, list_any, or_left}
-use Rattle.failover.specs.Exports.{AreJoinedByLinks, IsPath, IsReachable, IsRoute, LinksLeadTo, has_link, held_advert, is_link, named_links, names_neighbour, neighbours_named}
+use Rattle.failover.specs.Exports.{AreJoinedByLinks, IsPath, IsReachable, IsRoute, LinksLeadTo, has_link, held_advert, is_link, neighbours_by_adverts, names_neighbour, neighbours_named}
 use Rattle.base.specs.Exports.{has}
-use Rattle.update_machine.specs.Exports.{Advert, HaveCauses, Hop, Item, Leads, Setting, adverts_of_others, found_down, is_end, is_open, links_known, near, route_from, serves, travels}
+use Rattle.update_machine.specs.Exports.{Advert, JournalItemsHaveCauses, Hop, Item, Leads, Setting, journal_adverts_of_others, journal_found_down, is_end, is_open, journal_links_known, near, journal_route_from, serves, travels}
 use Rattle.update_machine.proofs.Exports.{has_known_link, heard_by_origin, known_link_laws, link_not_found, one}
 use Rattle.control_laws.proofs.Exports.{HasBothCauses, IsNamed, names_end, own_end, second}
 use Rattle.failover.proofs.FailoverKnownLinks.{has_known}
 use Rattle.failover.proofs.RouteSearch.{path_is_route_list, straight_path}
 use Rattle.net_file.specs.Exports.{IsNet, links_of}
 use Rattle.net_file.proofs.NetFilePortMasks.{in_mask_of}
-use Rattle.control_laws.specs.Exports.{LinksAreThere}
-use Rattle.packet_laws.specs.Exports.{PacketRouteAvoidsFound, PacketRouteLeadsToTarget, PacketRouteStartsAt, finding_count, hops_on_route, hops_taken, most_switches}
+use Rattle.control_laws.specs.Exports.{AdvertisedLinksAreThere}
+use Rattle.packet_laws.specs.Exports.{PacketRouteAvoidsFound, PacketRouteLeadsToTarget, PacketRouteStartsAt, packet_finding_count, packet_route_hops, packet_hops_taken, most_switches}
 
 -- ---- the first link of a route that a switch knows is one that it can use
 
@@ -22,9 +22,9 @@ own_row : (rows : List ℕ) (at own other : ℕ) → IsTrue (has (get_or (set ro
 own_row rows at own other is = search (rules, get_or-set_same, has-zero, get_or_past, length-set)
 
 joined_sees : (setting : Setting) (journal : List Item) (s next : ℕ) (down : List ℕ) → s < 64
-    → next < 64 → AreJoinedByLinks (links_known setting journal s down) s next
+    → next < 64 → AreJoinedByLinks (journal_links_known setting journal s down) s next
     → IsTrue (has (near setting journal s) next)
-unfolding is_link named_links
+unfolding is_link neighbours_by_adverts
 joined_sees setting journal s next down small fits joined = own_row _ s (near setting journal s)
     next (second _ _ _ _ (sym (has_known_link setting journal s down s next small fits) ∙ joined))
 
@@ -47,10 +47,10 @@ route_begins links from next (target ∷ targets) route (inr later) begins =
     route_begins links from next targets route later.1 begins
 
 pub first_usable : (setting : Setting) (journal : List Item) (s next : ℕ)
-    (targets down route : List ℕ) → route_from setting journal s targets down ≡ Some route
+    (targets down route : List ℕ) → journal_route_from setting journal s targets down ≡ Some route
     → slice_get route 1 ≡ Some next → IsTrue (has (near setting journal s) next)
 first_usable setting journal s next targets down route is begins =
-    let way = route_begins _ s _ _ _ (subst (IsRoute (links_known setting journal s down) s targets)
+    let way = route_begins _ s _ _ _ (subst (IsRoute (journal_links_known setting journal s down) s targets)
     is (known_link_laws.route setting journal s targets down)) begins in
     joined_sees setting journal s next down way.0 way.1 way.2
 
@@ -80,27 +80,27 @@ none_leads joined links from target rows over small unreached path leads = unrea
 -- what a switch is told of the links of one
 abbrev claimed_mask : Setting → List Item → ℕ → ℕ → ℕ
 claimed_mask setting before s one = slice_index
-    (named_links (adverts_of_others setting before s) s (near setting before s)) one
+    (neighbours_by_adverts (journal_adverts_of_others setting before s) s (near setting before s)) one
 
 -- what is known of a journal in which a switch serves
 pub record Sees (setting : Setting) (before : List Item) (s : ℕ) : Type 0 where
   pub net : IsNet setting.net
-  pub have : HaveCauses (HasBothCauses setting) [] before
+  pub have : JournalItemsHaveCauses (HasBothCauses setting) [] before
   pub serving : IsTrue (serves before s)
 
 -- to a serving switch one has a link to two, so the row of one has two
 end_has : (setting : Setting) (before : List Item) (s one two : ℕ) → Sees setting before s
     → IsTrue (is_end setting before s one two)
     → IsNamed one two (IsTrue (has (claimed_mask setting before s one) two))
-unfolding named_links names_neighbour
+unfolding neighbours_by_adverts names_neighbour
 end_has setting before s one two sees is = elim (cases_eq one s) [
   | inl same ↦ own same (own_end setting before sees.net s two (rw same at is))
   | inr apart ↦ told apart (names_end _ before sees.have sees.net s one two apart sees.serving is)
 ] where
   adverts : List (Option Advert)
-  adverts = adverts_of_others setting before s
+  adverts = journal_adverts_of_others setting before s
 
-  places : length (adverts_of_others setting before s) ≡ 64
+  places : length (journal_adverts_of_others setting before s) ≡ 64
   places = (heard_by_origin setting before s).places
 
   rows : List ℕ
@@ -140,7 +140,7 @@ all_four a b c d p q r s = rw (p, q, r, s) refl
 -- a link that the switch knows, and that the packet didn't find down, is in the masks
 pub open_joined : (setting : Setting) (before : List Item) (i s : ℕ) → Sees setting before s
     → (one two : ℕ) → IsTrue (is_open setting before i s one two)
-    → (two < 64) × AreJoinedByLinks (links_known setting before s (found_down before i)) one two
+    → (two < 64) × AreJoinedByLinks (journal_links_known setting before s (journal_found_down before i)) one two
 unfolding is_link
 open_joined setting before i s sees one two is =
     search (rules, all_parts, end_has, has_known, all_four, link_not_found)
@@ -161,8 +161,8 @@ unfolding is_link
 not_down neighbours down one two is = search (rules, last_false)
 
 good_link : (setting : Setting) (journal : List Item) (at one two : ℕ) (down : List ℕ)
-    → LinksAreThere setting journal → one < 64 → two < 64
-    → AreJoinedByLinks (links_known setting journal at down) one two → IsGoodLink setting down one two
+    → AdvertisedLinksAreThere setting journal → one < 64 → two < 64
+    → AreJoinedByLinks (journal_links_known setting journal at down) one two → IsGoodLink setting down one two
 unfolding has
 good_link setting journal at one two down there one_small two_small joined = record {
   linked = in_mask_of _ two two_small ∙ there.known at one two down one_small two_small joined;
@@ -193,13 +193,13 @@ pub record IsWay (setting : Setting) (at : ℕ) (targets down route : List ℕ) 
   pub avoids : PacketRouteAvoidsFound down route
 
 path_way : (setting : Setting) (journal : List Item) (at target : ℕ) (targets down route : List ℕ)
-    → LinksAreThere setting journal → IsTrue (list_any (nat_eq target) targets)
-    → IsPath (links_known setting journal at down) at target route
+    → AdvertisedLinksAreThere setting journal → IsTrue (list_any (nat_eq target) targets)
+    → IsPath (journal_links_known setting journal at down) at target route
     → IsWay setting at targets down route
 unfolding IsPath
 path_way setting journal at target targets down [] there own path = absurd path
 path_way setting journal at target targets down (first ∷ rest) there own path =
-    let links : List ℕ = links_known setting journal at down in
+    let links : List ℕ = journal_links_known setting journal at down in
     let good : (k one two : ℕ) → slice_get (first ∷ rest) k ≡ Some one
     → slice_get (first ∷ rest) (k + 1) ≡ Some two → IsGoodLink setting down one two =
     λ k one two here next. let more : k + 1 ≡ suc k = omega arith in
@@ -224,8 +224,8 @@ widen : (setting : Setting) (at first : ℕ) (targets down route : List ℕ)
 widen setting at first targets down route way = search rules
 
 is_way : (setting : Setting) (journal : List Item) (at : ℕ) (targets down route : List ℕ)
-    → LinksAreThere setting journal
-    → IsRoute (links_known setting journal at down) at targets (Some route)
+    → AdvertisedLinksAreThere setting journal
+    → IsRoute (journal_links_known setting journal at down) at targets (Some route)
     → IsWay setting at targets down route
 unfolding IsRoute
 is_way setting journal at [] down route there is = absurd cc
@@ -235,7 +235,7 @@ is_way setting journal at (target ∷ targets) down route there (inr later) = wi
     targets down route (is_way setting journal at targets down route there later.1)
 
 pub route_way : (setting : Setting) (journal : List Item) (at : ℕ) (targets down route : List ℕ)
-    → LinksAreThere setting journal → route_from setting journal at targets down ≡ Some route
+    → AdvertisedLinksAreThere setting journal → journal_route_from setting journal at targets down ≡ Some route
     → IsWay setting at targets down route
 route_way setting journal at targets down route there is = is_way setting journal at targets down
     route there (rw is at (known_link_laws.route setting journal at targets down))
@@ -250,27 +250,27 @@ abbrev around : List Item
 around = seeking ++ Item.Row 2 (Hop 1) ∷ Item.FoundDown 1 0 1
     ∷ Item.Rerouted 1 (0 ∷ 2 ∷ 1 ∷ []) ∷ Item.Hopped 1 2 ∷ Item.Row 3 (Hop 1) ∷ Item.Hopped 1 1 ∷ []
 
-two_hops : hops_taken around 1 ≡ 2
-unfolding hops_taken travels
+two_hops : packet_hops_taken around 1 ≡ 2
+unfolding packet_hops_taken travels
 two_hops = refl
 
 -- the first of them was on the route before
-one_on_this_route : hops_on_route around 1 ≡ 1
-unfolding hops_on_route travels
+one_on_this_route : packet_route_hops around 1 ≡ 1
+unfolding packet_route_hops travels
 one_on_this_route = refl
 
-one_link : finding_count around 1 ≡ 1
-unfolding finding_count
+one_link : packet_finding_count around 1 ≡ 1
+unfolding packet_finding_count
 one_link = refl
 
-none_of_another : finding_count around 2 ≡ 0
-unfolding finding_count
+none_of_another : packet_finding_count around 2 ≡ 0
+unfolding packet_finding_count
 none_of_another = refl
 
 -- 65 hops on a route are one too many
 abbrev too_many : List Item
 too_many = seeking ++ replicate 65 (Item.Row 2 (Hop 1))
 
-not_65 : hops_on_route too_many 1 ≤ most_switches → ⊥
-unfolding hops_on_route travels
+not_65 : packet_route_hops too_many 1 ≤ most_switches → ⊥
+unfolding packet_route_hops travels
 not_65 few = let limit : 65 ≤ 64 = few in omega (arith, limit)

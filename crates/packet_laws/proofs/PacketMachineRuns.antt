@@ -1,14 +1,14 @@
 -- A journal whose items have their causes is a run of the machine.
 use Rattle.std.proofs.Common.{[], if◌then◌else◌, ◌++◌, ◌<◌, ◌∙◌, ◌∷◌, ◌≡◌, ◌≢◌, ◌≤◌, Bool, IsTrue, List, None, Option, Some, ap, arith, eq-eqb, false, ne_eqb, option_map, refl, subst, sym, true, ℕ, rules}
 use Rattle.base.proofs.Exports.{cases_eq, some_same, ⊤}
-use Rattle.update_machine.specs.Exports.{Action, Decision, Dropped, End, Ends, HaveCauses, Header, Hit, How, IsRun, IsSetting, Item, Leaving, LeftBy, Lost, Machine, PacketMayEnd, PoliciesKeep, Row, Runs, Setting, Stuck, Takes, first_machine, gives_retired, header_in, is_submission, next_packet, policy_at, retired_mark, travels, version_count, with_packet}
+use Rattle.update_machine.specs.Exports.{Action, Decision, Dropped, End, Ends, JournalItemsHaveCauses, Header, Hit, How, IsRun, IsSetting, Item, Leaving, LeftBy, Lost, Machine, MachinePacketMayEnd, JournalPoliciesKeep, Row, Runs, Setting, Stuck, Takes, first_machine, item_gives_retired, journal_packet_header, is_submission, journal_next_packet, policy_at, journal_retired_mark, travels, journal_version_count, machine_with_packet}
 use Rattle.policy_rules.specs.Exports.{scan}
-use Rattle.policy_rules.proofs.CallerLemmas.{first_match-scan}
+use Rattle.policy_rules.proofs.PolicyRulesCallerLemmas.{first_match-scan}
 use Rattle.update_machine.specs.Machine.{Packet}
 use Rattle.update_machine.proofs.Exports.{ArePolicies, have_append, policies_begin, policies_keep, policies_stay, policy_there, start_laws, takes_version}
-use Rattle.control_laws.specs.Exports.{HasItemCause, RetirementHasCause, SubmissionHasCause}
+use Rattle.control_laws.specs.Exports.{HasControlItemCause, ControlRetirementHasCause, ControlSubmissionHasCause}
 use Rattle.control_laws.proofs.Exports.{Behind, bounded, caused_numbered, retired_more}
-use Rattle.packet_laws.specs.Exports.{AllKept, IsDecided, IsUnknownPacket, PacketCause, PacketFacts, packet_facts_after, is_of_packet, stage_of, what_is_known}
+use Rattle.packet_laws.specs.Exports.{AllPacketFactsKept, IsPacketDecided, IsUnknownPacket, HasPacketItemCause, PacketFacts, packet_facts_after, is_item_of_packet, packet_stage_of, packet_facts_of}
 use Rattle.packet_laws.proofs.PacketsAllKept.{Before, facts_grow, facts_named, facts_other, kept_before, known_before, knows, other_number}
 use Rattle.packet_laws.proofs.PacketHeaderLookups.{IsHere, decision_in, here_of, travels_in}
 use Rattle.packet_laws.proofs.PacketEnds.{leaves_rightly}
@@ -33,8 +33,8 @@ SeenAs (Some packet) facts = IsSeen packet facts
 -- the machine has the policies of all versions, the retired mark and the packets
 record Matches (setting : Setting) (machine : Machine) (journal : List Item) : Type 0 where
   policies : ArePolicies setting machine.policies journal
-  mark : machine.mark ≡ retired_mark journal
-  packets : (i : ℕ) → SeenAs (machine.packets i) (what_is_known journal i)
+  mark : machine.mark ≡ journal_retired_mark journal
+  packets : (i : ℕ) → SeenAs (machine.packets i) (packet_facts_of journal i)
 
 known : (o : Option Packet) (facts : PacketFacts) (header : Header) → SeenAs o facts
     → facts.header ≡ Some header → (packet : Packet) × (o ≡ Some packet) × IsSeen packet facts
@@ -71,7 +71,7 @@ unseen_facts mark item facts o is seen = search rules
 no_submission : (next : Item) → IsUnseen next → is_submission next ≡ false
 no_submission next is = search rules
 
-no_retirement : (next : Item) → IsUnseen next → gives_retired next ≡ None
+no_retirement : (next : Item) → IsUnseen next → item_gives_retired next ≡ None
 no_retirement next is = search rules
 
 unseen_matches : (setting : Setting) (machine : Machine) (journal : List Item) (next : Item)
@@ -80,14 +80,14 @@ unseen_matches : (setting : Setting) (machine : Machine) (journal : List Item) (
 unseen_matches setting machine journal next is matches = record {
   policies = policies_stay setting machine.policies journal _ keep matches.policies;
   mark = matches.mark ∙ sym (rw (retired_more journal next, no_retirement next is) refl);
-  packets = λ i. rw (facts_grow i journal next) (by_name i (is_of_packet i next));
+  packets = λ i. rw (facts_grow i journal next) (by_name i (is_item_of_packet i next));
 } where
-  keep : PoliciesKeep journal (journal ++ next ∷ [])
+  keep : JournalPoliciesKeep journal (journal ++ next ∷ [])
   keep = policies_keep journal (next ∷ []) (no_submission next is, tt)
 
   by_name : (i : ℕ) (b : Bool)
       → SeenAs (machine.packets i)
-      (if b then packet_facts_after (retired_mark journal) next (what_is_known journal i) else what_is_known journal i)
+      (if b then packet_facts_after (journal_retired_mark journal) next (packet_facts_of journal i) else packet_facts_of journal i)
   by_name i true = unseen_facts _ next _ (machine.packets i) is (matches.packets i)
   by_name i false = matches.packets i
 
@@ -95,11 +95,11 @@ unseen_matches setting machine journal next is matches = record {
 
 -- an item that moves no mark and submits no policy
 record KeepsMarks (setting : Setting) (journal after : List Item) : Type 0 where
-  keep : PoliciesKeep journal after
-  mark : retired_mark after ≡ retired_mark journal
+  keep : JournalPoliciesKeep journal after
+  mark : journal_retired_mark after ≡ journal_retired_mark journal
 
 keeps_marks : (setting : Setting) (journal : List Item) (next : Item) → is_submission next ≡ false
-    → gives_retired next ≡ None → KeepsMarks setting journal (journal ++ next ∷ [])
+    → item_gives_retired next ≡ None → KeepsMarks setting journal (journal ++ next ∷ [])
 keeps_marks setting journal next submits retires = record {
   keep = policies_keep journal (next ∷ []) (submits, tt);
   mark = rw (retired_more journal next, retires) refl;
@@ -107,9 +107,9 @@ keeps_marks setting journal next submits retires = record {
 
 changed_matches : (setting : Setting) (machine : Machine) (journal : List Item)
     (next : Item) (i : ℕ) (packet : Packet) → Matches setting machine journal → KeepsMarks setting
-    journal (journal ++ next ∷ []) → ((j : ℕ) → j ≢ i → is_of_packet j next ≡ false) → IsSeen packet
-    (what_is_known (journal ++ next ∷ []) i)
-    → Matches setting (with_packet machine i packet) (journal ++ next ∷ [])
+    journal (journal ++ next ∷ []) → ((j : ℕ) → j ≢ i → is_item_of_packet j next ≡ false) → IsSeen packet
+    (packet_facts_of (journal ++ next ∷ []) i)
+    → Matches setting (machine_with_packet machine i packet) (journal ++ next ∷ [])
 changed_matches setting machine journal next i packet matches keeps others seen =
     search (rules, policies_stay, cases_eq, eq-eqb, ne_eqb, facts_other)
 
@@ -135,18 +135,18 @@ action_of packet facts decision seen decided = search rules
 goes_end : (setting : Setting) (machine : Machine) (journal : List Item) (next : Item) (i : ℕ)
     (end : End) → Before setting journal → Matches setting machine journal
     → IsTrue (travels journal i)
-    → ((packet : Packet) → IsSeen packet (what_is_known journal i) → PacketMayEnd packet end)
-    → what_is_known (journal ++ next ∷ []) i ≡ record (what_is_known journal i) { travels = false }
-    → ((j : ℕ) → j ≢ i → is_of_packet j next ≡ false)
+    → ((packet : Packet) → IsSeen packet (packet_facts_of journal i) → MachinePacketMayEnd packet end)
+    → packet_facts_of (journal ++ next ∷ []) i ≡ record (packet_facts_of journal i) { travels = false }
+    → ((j : ℕ) → j ≢ i → is_item_of_packet j next ≡ false)
     → KeepsMarks setting journal (journal ++ next ∷ [])
     → ((new : Machine) → Ends machine i end new → Takes setting machine next new)
     → Goes setting machine journal next
 goes_end setting machine journal next i end before matches travelling may after others keeps takes =
-    let on : IsTrue (what_is_known journal i).travels = travels_in journal i travelling in
+    let on : IsTrue (packet_facts_of journal i).travels = travels_in journal i travelling in
     let under = (before.kept.packets i).under_way on in
     let at = known (machine.packets i) _ under.header (matches.packets i) under.entered in record {
-      new = with_packet machine i (record at.0 { end = Some end });
-      takes = takes (with_packet machine i (record at.0 { end = Some end })) (record {
+      new = machine_with_packet machine i (record at.0 { end = Some end });
+      takes = takes (machine_with_packet machine i (record at.0 { end = Some end })) (record {
         packet = at.0;
         entered = at.1;
         not_ended = at.2.end on;
@@ -160,7 +160,7 @@ goes_end setting machine journal next i end before matches travelling may after 
 
 goes_in : (setting : Setting) (machine : Machine) (journal : List Item) (i s : ℕ)
     (header : Header) → Before setting journal → Matches setting machine journal
-    → i ≡ next_packet journal → Goes setting machine journal (Item.Entered i s header)
+    → i ≡ journal_next_packet journal → Goes setting machine journal (Item.Entered i s header)
 goes_in setting machine journal i s header before matches number =
     let entered : Item = Item.Entered i s header in
     let packet : Packet = record {
@@ -169,9 +169,9 @@ goes_in setting machine journal i s header before matches number =
       decision = None;
       end = None;
     } in
-    let none : IsUnknownPacket (what_is_known journal i) = before.kept.unknown i (omega (arith, number)) in
+    let none : IsUnknownPacket (packet_facts_of journal i) = before.kept.unknown i (omega (arith, number)) in
     let after = facts_named i journal entered (eq-eqb i i refl) in record {
-      new = with_packet machine i packet;
+      new = machine_with_packet machine i packet;
       takes = record {
         unknown = not_known (machine.packets i) _ (matches.packets i) none.header;
         after = refl;
@@ -187,19 +187,19 @@ goes_in setting machine journal i s header before matches number =
 
 goes_decided : (setting : Setting) (machine : Machine) (journal : List Item) (i version : ℕ)
     (rule : Option ℕ) (act : Action) (by : How) → Before setting journal
-    → Matches setting machine journal → IsDecided setting journal i version rule act by
+    → Matches setting machine journal → IsPacketDecided setting journal i version rule act by
     → Goes setting machine journal (Item.Decided i version rule act by)
 goes_decided setting machine journal i version rule act by before matches way =
     let decided : Item = Item.Decided i version rule act by in
-    let knows_it : Knows setting journal i (stage_of journal i) = knows setting journal i before in
-    let facts : PacketFacts = what_is_known journal i in
+    let knows_it : Knows setting journal i (packet_stage_of journal i) = knows setting journal i before in
+    let facts : PacketFacts = packet_facts_of journal i in
     let s : ℕ = way.switch in
     let here : IsHere setting journal i s =
-    here_of setting journal i s (stage_of journal i) before.is knows_it.have knows_it.kept way.at in
+    here_of setting journal i s (packet_stage_of journal i) before.is knows_it.have knows_it.kept way.at in
     let header : Header = here.under.header in
     let now = decided_now _ _ i s version rule act by knows_it here (before.kept.cached s) way.by in
     let at = known (machine.packets i) facts header (matches.packets i) here.under.entered in
-    let there : version ≤ version_count journal =
+    let there : version ≤ journal_version_count journal =
     omega (arith, now.rightly.current, (bounded setting journal knows_it.have).there) in
     let policy : List Row = policy_at setting journal version in
     let hit : scan policy at.0.header ≡ record { rule = rule; action = act } = ap (scan policy)
@@ -208,13 +208,13 @@ goes_decided setting machine journal i version rule act by before matches way =
     let after = facts_named i journal decided (eq-eqb i i refl) in
     let new : Packet = record at.0 { decision = Some (record { rule = rule; action = act }) } in
     record {
-      new = with_packet machine i new;
+      new = machine_with_packet machine i new;
       takes = record {
         packet = at.0;
         policy = policy;
         entered = at.1;
         undecided = at.2.decision ∙ ap (option_map hit_in) (undecided_of setting journal i s
-            (stage_of journal i) knows_it.kept here (stage_when journal i s version now.when));
+            (packet_stage_of journal i) knows_it.kept here (stage_when journal i s version now.when));
         not_ended = at.2.end here.travelling;
         not_retired = subst (λ m. m < version) (sym at.2.mark) now.rightly.not_retired;
         submitted = policy_there setting machine.policies journal version matches.policies
@@ -231,19 +231,19 @@ goes_decided setting machine journal i version rule act by before matches way =
 
 -- facts of packets don't change with what names none
 packets_same : (machine : Machine) (journal : List Item) (next : Item)
-    → ((i : ℕ) → is_of_packet i next ≡ false)
-    → ((i : ℕ) → SeenAs (machine.packets i) (what_is_known journal i))
-    → (i : ℕ) → SeenAs (machine.packets i) (what_is_known (journal ++ next ∷ []) i)
+    → ((i : ℕ) → is_item_of_packet i next ≡ false)
+    → ((i : ℕ) → SeenAs (machine.packets i) (packet_facts_of journal i))
+    → (i : ℕ) → SeenAs (machine.packets i) (packet_facts_of (journal ++ next ∷ []) i)
 packets_same machine journal next none seen i = rw (facts_other i journal next (none i)) (seen i)
 
 goes_retired : (setting : Setting) (machine : Machine) (journal : List Item) (version : ℕ)
-    → HaveCauses (HasItemCause setting) [] journal → Matches setting machine journal
-    → RetirementHasCause setting journal version → Goes setting machine journal (Item.Retired version)
+    → JournalItemsHaveCauses (HasControlItemCause setting) [] journal → Matches setting machine journal
+    → ControlRetirementHasCause setting journal version → Goes setting machine journal (Item.Retired version)
 goes_retired setting machine journal version have matches retires =
     let next : Item = Item.Retired version in
     let keep = policies_keep journal (next ∷ []) (refl, tt) in
     let marks = bounded setting (journal ++ next ∷ []) (have_append _ [] _ _ have (retires, tt)) in
-    let mark : retired_mark (journal ++ next ∷ []) ≡ version = rw (retired_more journal next) refl in
+    let mark : journal_retired_mark (journal ++ next ∷ []) ≡ version = rw (retired_more journal next) refl in
     record {
       new = record machine { mark = version };
       takes = record {
@@ -266,8 +266,8 @@ goes_retired setting machine journal version have matches retires =
     }
 
 goes_submitted : (setting : Setting) (machine : Machine) (journal : List Item)
-    (file version : ℕ) → HaveCauses (HasItemCause setting) [] journal
-    → Matches setting machine journal → SubmissionHasCause setting journal file version
+    (file version : ℕ) → JournalItemsHaveCauses (HasControlItemCause setting) [] journal
+    → Matches setting machine journal → ControlSubmissionHasCause setting journal file version
     → Goes setting machine journal (Item.Submitted file version)
 goes_submitted setting machine journal file version have matches submits =
     let next : Item = Item.Submitted file version in
@@ -286,14 +286,14 @@ goes_submitted setting machine journal file version have matches submits =
 
 -- the cause of the item, where all is kept before it
 abbrev KeptItem : Setting → List Item → Item → Type 0
-KeptItem setting = Behind (Past (IsWayItem setting)) (AllKept setting)
+KeptItem setting = Behind (Past (IsWayItem setting)) (AllPacketFactsKept setting)
 
 left_action : (setting : Setting) (journal : List Item) (i port : ℕ) (leaving : Leaving)
-    → Before setting journal → PacketCause setting journal (Item.Left i port leaving)
-    → (packet : Packet) → IsSeen packet (what_is_known journal i) → PacketMayEnd packet (LeftBy port)
+    → Before setting journal → HasPacketItemCause setting journal (Item.Left i port leaving)
+    → (packet : Packet) → IsSeen packet (packet_facts_of journal i) → MachinePacketMayEnd packet (LeftBy port)
 left_action setting journal i port leaving before way packet seen =
     let rightly = leaves_rightly _ journal i port leaving (knows setting journal i before) way in
-    action_of packet (what_is_known journal i) _ seen (decision_in journal i _ rightly.decided)
+    action_of packet (packet_facts_of journal i) _ seen (decision_in journal i _ rightly.decided)
 
 goes : (setting : Setting) (machine : Machine) (journal : List Item) (next : Item)
     → Before setting journal → IsWayItem setting journal next → Matches setting machine journal
@@ -316,7 +316,7 @@ goes setting machine journal (Item.Left i port leaving) before cause matches =
 goes setting machine journal (Item.Dropped i) before cause matches =
     let next : Item = Item.Dropped i in
     goes_end setting machine journal next i Dropped before matches cause.way.at.travelling
-    (λ packet seen. action_of packet (what_is_known journal i) cause.way.decision seen
+    (λ packet seen. action_of packet (packet_facts_of journal i) cause.way.decision seen
     (decision_in journal i (Some cause.way.decision) cause.way.decided) ∙ ap Some cause.way.action)
     (facts_named i journal next (eq-eqb i i refl)) (λ j apart. other_number i j apart)
     (keeps_marks setting journal next refl refl) (λ new ends. ends)
@@ -335,7 +335,7 @@ goes setting machine journal next before cause matches =
     record { new = machine; takes = refl; matches = unseen_matches setting machine journal next tt matches }
 
 runs_from : (setting : Setting) (machine : Machine) (before items : List Item) → IsSetting setting
-    → HaveCauses (KeptItem setting) before items → Matches setting machine before
+    → JournalItemsHaveCauses (KeptItem setting) before items → Matches setting machine before
     → (new : Machine) × Runs setting machine items new
 runs_from setting machine before [] is have matches = (machine, refl)
 runs_from setting machine before (next ∷ items) is have matches =
@@ -345,10 +345,10 @@ runs_from setting machine before (next ∷ items) is have matches =
 
 matches_at_first : (setting : Setting) → IsSetting setting
     → Matches setting (first_machine setting) []
-unfolding what_is_known header_in
+unfolding packet_facts_of journal_packet_header
 matches_at_first setting is = search (rules, policies_begin, start_laws)
 
 pub caused_is_run : (setting : Setting) (journal : List Item) → IsSetting setting
-    → HaveCauses (IsWayItem setting) [] journal → IsRun setting journal
+    → JournalItemsHaveCauses (IsWayItem setting) [] journal → IsRun setting journal
 caused_is_run setting journal is have = runs_from setting (first_machine setting) [] journal is
     (kept_before setting journal is have) (matches_at_first setting is)

@@ -2,9 +2,9 @@
 use Rattle.std.proofs.Common.{[], ◌++◌, ◌∙◌, ◌∷◌, ◌≡◌, Bool, IsTrue, List, None, Option, Some, append-nil, append_assoc, arith, false, map, max, min, refl, subst, sym, true, ℕ, rules}
 use Rattle.control_laws.proofs.Exports.{Control, IsCommand, IsControl, controller_control, deliver_has, each_by_controller, each_by_switch, each_to_member, have_weaker, later_versions, own, resent_has, sends_each, switch_cases, update_has}
 use Rattle.base.specs.Exports.{has}
-use Rattle.update_machine.specs.Exports.{Action, AuthorityRule, Body, CacheRule, Found, HaveCauses, Header, How, IsLinkStep, Item, Leg, LinkDown, LinkUp, Message, Restart, Setting, Step, Update, advert_to, arrive_items, authority_items, authority_rule, deliver_items, end_items, expire_items, forget_items, found_items, gives_travelling, go_on, packet_header_at, hop_items, journal_items_then, leg_items, leg_of, link_changes, link_items, lookup_at, lookup_items, messages_of, messages_over_link, move_items, near, next_switch, nothing, packet_items, present_step, reroute_items, resend_items, restart_items, packet_route_for, send_items, serves, stamp_of, stuck_on_leg_items, switch_items, switches_in, travels, journal_unacked_installs, update_items, versions_from_current}
+use Rattle.update_machine.specs.Exports.{Action, AuthorityRule, Body, CacheRule, Found, JournalItemsHaveCauses, Header, How, IsMachineLinkStep, Item, Leg, LinkDown, LinkUp, Message, Restart, Setting, Step, Update, advert_to, machine_arrive_items, machine_authority_items, journal_authority_rule, deliver_items, end_items, machine_expire_items, forget_items, found_items, item_gives_travelling, go_on, journal_packet_header_at, machine_hop_items, journal_items_then, machine_leg_items, journal_leg_of, journal_link_changes, machine_link_items, lookup_at, lookup_items, machine_messages_of, machine_messages_over_link, move_items, near, next_switch, nothing, packet_items, journal_present_step, reroute_items, resend_items, restart_items, journal_packet_route, send_items, serves, journal_stamp_of, stuck_on_leg_items, journal_switch_items, setting_switches_in, travels, journal_unacked_installs, update_items, journal_versions_from_current}
 use Rattle.update_machine.proofs.Exports.{folded_append, have_first}
-use Rattle.packet_laws.specs.Exports.{IsPacketMoving, OnWay, PacketCause, gives_stage}
+use Rattle.packet_laws.specs.Exports.{IsPacketMoving, OnWay, HasPacketItemCause, gives_packet_stage}
 use Rattle.packet_laws.proofs.PacketBlocks.{ended, stage_more, stage_stays, travels_more}
 use Rattle.base.proofs.Exports.{⊤, AllByRecursion, each_always, each_flat_map, each_map}
 
@@ -13,17 +13,17 @@ use Rattle.base.proofs.Exports.{⊤, AllByRecursion, each_always, each_flat_map,
 -- ---- one item
 
 -- an item with which the switch is done with the packet
-ends_done : (journal : List Item) (next : Item) (i : ℕ) → gives_travelling i next ≡ Some false
+ends_done : (journal : List Item) (next : Item) (i : ℕ) → item_gives_travelling i next ≡ Some false
     → IsPacketMoving (journal ++ next ∷ []) i
 ends_done journal next i ends travelling = absurd (cc (ended journal next i ends))
 
-moves_done : (journal : List Item) (next : Item) (i : ℕ) → gives_stage i next ≡ Some OnWay
+moves_done : (journal : List Item) (next : Item) (i : ℕ) → gives_packet_stage i next ≡ Some OnWay
     → IsPacketMoving (journal ++ next ∷ []) i
 moves_done journal next i moves travelling = stage_more journal next i OnWay moves
 
 -- one that says nothing of it
-pub silent_done : (journal : List Item) (next : Item) (i : ℕ) → gives_travelling i next ≡ None
-    → gives_stage i next ≡ None → IsPacketMoving journal i → IsPacketMoving (journal ++ next ∷ []) i
+pub silent_done : (journal : List Item) (next : Item) (i : ℕ) → item_gives_travelling i next ≡ None
+    → gives_packet_stage i next ≡ None → IsPacketMoving journal i → IsPacketMoving (journal ++ next ∷ []) i
 silent_done journal next i travels_on stays done travelling = stage_stays journal next i stays
     ∙ done (rw (travels_more journal next i, travels_on) at travelling)
 
@@ -39,8 +39,8 @@ put_done items rest journal i done = search (rules, append_assoc)
 -- ---- blocks
 
 leg_done : (setting : Setting) (journal : List Item) (i s : ℕ) (leg : Leg)
-    → IsPacketMoving (journal ++ leg_items setting journal i s leg) i
-unfolding leg_items
+    → IsPacketMoving (journal ++ machine_leg_items setting journal i s leg) i
+unfolding machine_leg_items
 leg_done setting journal i s leg = search (rules, ends_done, moves_done)
 
 end_done : (setting : Setting) (i s : ℕ) (act : Action) (journal : List Item)
@@ -50,23 +50,23 @@ end_done setting i s act journal = search (rules, ends_done, leg_done)
 
 authority_done : (setting : Setting) (i s : ℕ) (o : Option AuthorityRule) (journal : List Item)
     → (o ≡ None → IsPacketMoving journal i)
-    → IsPacketMoving (journal ++ authority_items setting i s o journal) i
-unfolding authority_items
+    → IsPacketMoving (journal ++ machine_authority_items setting i s o journal) i
+unfolding machine_authority_items
 authority_done setting i s None journal none = none_done journal i (none refl)
 authority_done setting i s (Some rule) journal none = search (rules, put_done, none_done, end_done)
 
 -- where the lookup gives a rule that isn't there, nothing is written
 abbrev NoRule : Setting → List Item → ℕ → ℕ → Type 0
 NoRule setting journal i s = (partition place : ℕ)
-    → lookup_at setting journal s (packet_header_at journal i) ≡ Found.Authority partition place
-    → authority_rule setting journal (stamp_of journal s) partition place ≡ None
+    → lookup_at setting journal s (journal_packet_header_at journal i) ≡ Found.Authority partition place
+    → journal_authority_rule setting journal (journal_stamp_of journal s) partition place ≡ None
     → IsPacketMoving journal i
 
 lookup_done : (setting : Setting) (i s : ℕ) (journal : List Item) → NoRule setting journal i s
     → IsPacketMoving (journal ++ lookup_items setting i s journal) i
 unfolding lookup_items
 lookup_done setting i s journal none = by_found _ refl where
-  by_found : (what : Found) → lookup_at setting journal s (packet_header_at journal i) ≡ what
+  by_found : (what : Found) → lookup_at setting journal s (journal_packet_header_at journal i) ≡ what
       → IsPacketMoving (journal ++ found_items setting i s what journal) i
   by_found (Found.Cached entry) e =
       let decided : Item =
@@ -78,8 +78,8 @@ lookup_done setting i s journal none = by_found _ refl where
   by_found (Found.Redirect partition targets) e = leg_done setting journal i s _
 
 arrive_done : (setting : Setting) (i s : ℕ) (journal : List Item) → IsPacketMoving journal i
-    → IsPacketMoving (journal ++ arrive_items setting i s journal) i
-unfolding arrive_items
+    → IsPacketMoving (journal ++ machine_arrive_items setting i s journal) i
+unfolding machine_arrive_items
 arrive_done setting i s journal done =
     grind (arith, none_done, ends_done, own, lookup_done, authority_done, done)
 
@@ -88,9 +88,9 @@ go_on_done : (setting : Setting) (i s : ℕ) (journal : List Item) → IsPacketM
 go_on_done setting i s journal done = grind (arith, arrive_done, moves_done, own, done)
 
 reroute_done : (setting : Setting) (i s : ℕ) (leg : Leg) (journal : List Item)
-    → leg_of journal i ≡ Some leg → IsPacketMoving (journal ++ reroute_items setting i s journal) i
+    → journal_leg_of journal i ≡ Some leg → IsPacketMoving (journal ++ reroute_items setting i s journal) i
 unfolding reroute_items
-reroute_done setting i s leg journal takes = rw takes (by_route (packet_route_for setting journal i s leg))
+reroute_done setting i s leg journal takes = rw takes (by_route (journal_packet_route setting journal i s leg))
   where
     by_route : (o : Option (List ℕ)) → IsPacketMoving (journal ++ elim o [
       | None ↦ stuck_on_leg_items setting journal i s leg ∷ []
@@ -101,12 +101,12 @@ reroute_done setting i s leg journal takes = rw takes (by_route (packet_route_fo
         (go_on_done setting i s _ (moves_done journal (Item.Rerouted i route) i (rw (own i) refl)))
 
 leg_stays : (journal : List Item) (i s next : ℕ)
-    → leg_of (journal ++ Item.FoundDown i s next ∷ []) i ≡ leg_of journal i
-unfolding leg_of
+    → journal_leg_of (journal ++ Item.FoundDown i s next ∷ []) i ≡ journal_leg_of journal i
+unfolding journal_leg_of
 leg_stays journal i s next = folded_append _ None journal (Item.FoundDown i s next ∷ [])
 
 move_done : (setting : Setting) (i s : ℕ) (leg : Leg) (journal : List Item)
-    → leg_of journal i ≡ Some leg → IsPacketMoving journal i
+    → journal_leg_of journal i ≡ Some leg → IsPacketMoving journal i
     → IsPacketMoving (journal ++ move_items setting i s journal) i
 unfolding move_items
 move_done setting i s leg journal takes done = by_next (next_switch journal i) where
@@ -119,7 +119,7 @@ move_done setting i s leg journal takes done = by_next (next_switch journal i) w
       (reroute_done setting i s leg _ (leg_stays journal i s next ∙ takes))
 
   by_next : (o : Option ℕ) → IsPacketMoving (journal ++ elim o [
-    | None ↦ arrive_items setting i s journal
+    | None ↦ machine_arrive_items setting i s journal
     | Some next ↦ elim (has (near setting journal s) next) [
       | true ↦ Item.Hopped i next ∷ []
       | false ↦ journal_items_then (Item.FoundDown i s next ∷ []) (reroute_items setting i s) journal
@@ -131,17 +131,17 @@ move_done setting i s leg journal takes done = by_next (next_switch journal i) w
 -- ---- steps
 
 pub hop_done : (setting : Setting) (i : ℕ) (journal : List Item)
-    → (IsTrue (travels journal i) → (leg : Leg) × (leg_of journal i ≡ Some leg))
-    → IsPacketMoving journal i → IsPacketMoving (journal ++ hop_items setting i journal) i
-unfolding hop_items
+    → (IsTrue (travels journal i) → (leg : Leg) × (journal_leg_of journal i ≡ Some leg))
+    → IsPacketMoving journal i → IsPacketMoving (journal ++ machine_hop_items setting i journal) i
+unfolding machine_hop_items
 hop_done setting i journal takes done = search (rules, silent_done, move_done)
 
 -- a packet that enters is done with where each rule of its lookup is there
 pub packet_done : (setting : Setting) (i s : ℕ) (header : Header) (journal : List Item)
     → (IsTrue (serves journal s) → (partition place : ℕ)
     → let entered = journal ++ Item.Entered i s header ∷ [] in
-    lookup_at setting entered s (packet_header_at entered i) ≡ Found.Authority partition place
-    → authority_rule setting entered (stamp_of entered s) partition place ≡ None → ⊥)
+    lookup_at setting entered s (journal_packet_header_at entered i) ≡ Found.Authority partition place
+    → journal_authority_rule setting entered (journal_stamp_of entered s) partition place ≡ None → ⊥)
     → IsPacketMoving journal i → IsPacketMoving (journal ++ packet_items setting i s header journal) i
 unfolding packet_items
 packet_done setting i s header journal there done = by_serving (serves journal s) refl where
@@ -168,11 +168,11 @@ IsAside before (Item.Sent number message) = IsOther message.body
 IsAside before (Item.Delivered number) = ⊤
 IsAside before (Item.Forgotten number) = ⊤
 IsAside before (Item.Expired s place number) = ⊤
-IsAside before (Item.Booted s boot) = present_step before ≡ Some (Restart s)
+IsAside before (Item.Booted s boot) = journal_present_step before ≡ Some (Restart s)
 IsAside before (Item.Opened s version) = ⊤
 IsAside before (Item.OverNow s) = ⊤
-IsAside before (Item.LinkIs one two up) = IsLinkStep (present_step before) one two up
-IsAside before (Item.Submitted file version) = present_step before ≡ Some (Update file)
+IsAside before (Item.LinkIs one two up) = IsMachineLinkStep (journal_present_step before) one two up
+IsAside before (Item.Submitted file version) = journal_present_step before ≡ Some (Update file)
 IsAside before (Item.Refused file code) = ⊤
 IsAside before (Item.Current version) = ⊤
 IsAside before (Item.Retired version) = ⊤
@@ -180,13 +180,13 @@ IsAside before Item.Nothing = ⊤
 IsAside before _ = ⊥
 
 abbrev pub AreAside : List Item → List Item → Type 0
-AreAside journal items = HaveCauses IsAside journal items
+AreAside journal items = JournalItemsHaveCauses IsAside journal items
 
 aside_way : (setting : Setting) (before : List Item) (next : Item) → IsAside before next
-    → PacketCause setting before next
+    → HasPacketItemCause setting before next
 aside_way setting before (Item.Sent number message) aside = by_body message.body aside where
   by_body : (body : Body) → IsOther body
-      → PacketCause setting before (Item.Sent number (record { to = message.to; body = body }))
+      → HasPacketItemCause setting before (Item.Sent number (record { to = message.to; body = body }))
   by_body (CacheRule version word rule action) other = absurd other
   by_body _ other = tt
 aside_way setting before (Item.Delivered number) aside = tt
@@ -204,7 +204,7 @@ aside_way setting before Item.Nothing aside = tt
 aside_way setting before _ aside = absurd aside
 
 pub aside_ways : (setting : Setting) (journal items : List Item) → AreAside journal items
-    → HaveCauses (PacketCause setting) journal items
+    → JournalItemsHaveCauses (HasPacketItemCause setting) journal items
 aside_ways setting journal items aside = search (rules, have_weaker)
 
 -- ---- messages
@@ -239,23 +239,23 @@ pub control_aside : (journal items : List Item) → Control journal items → Ar
 control_aside = have_weaker IsControl IsAside control_is_aside
 
 pub update_aside : (setting : Setting) (file : ℕ) (journal : List Item)
-    → present_step journal ≡ Some (Update file)
+    → journal_present_step journal ≡ Some (Update file)
     → AreAside journal (update_items setting file journal)
 update_aside setting file journal is = search (rules, update_has, control_is_aside)
 
 -- ---- links and switches
 
 over_other : (setting : Setting) (before journal : List Item) (s neighbour : ℕ)
-    → AreOther (messages_over_link setting before journal s neighbour)
+    → AreOther (machine_messages_over_link setting before journal s neighbour)
 over_other setting before journal s neighbour = search (rules, each_other)
 
 pub changes_aside : (setting : Setting) (before journal : List Item)
-    → AreAside journal (link_changes setting before journal)
-unfolding link_changes
+    → AreAside journal (journal_link_changes setting before journal)
+unfolding journal_link_changes
 changes_aside setting before journal = sends_aside journal _
-    (each_flat_map TellsOther (messages_of setting before journal)
-    (λ s. each_flat_map TellsOther (messages_over_link setting before journal s) (λ neighbour. over_other
-    setting before journal s neighbour) (switches_in setting (near setting journal s))) _)
+    (each_flat_map TellsOther (machine_messages_of setting before journal)
+    (λ s. each_flat_map TellsOther (machine_messages_over_link setting before journal s) (λ neighbour. over_other
+    setting before journal s neighbour) (setting_switches_in setting (near setting journal s))) _)
 
 -- the row that brings a link back, or fails it
 abbrev pub link_step : ℕ → ℕ → Bool → Step
@@ -263,17 +263,17 @@ link_step one two true = LinkUp one two
 link_step one two false = LinkDown one two
 
 link_named : (step : Option Step) (one two : ℕ) (up : Bool) → step ≡ Some (link_step one two up)
-    → IsLinkStep step (min one two) (max one two) up
+    → IsMachineLinkStep step (min one two) (max one two) up
 link_named step one two up is = search rules
 
 pub link_aside : (setting : Setting) (before : List Item) (one two : ℕ) (up : Bool)
-    (journal : List Item) → present_step journal ≡ Some (link_step one two up)
-    → AreAside journal (link_items setting before one two up journal)
-unfolding link_items
+    (journal : List Item) → journal_present_step journal ≡ Some (link_step one two up)
+    → AreAside journal (machine_link_items setting before one two up journal)
+unfolding machine_link_items
 link_aside setting before one two up journal is =
-    grind (arith, have_first, changes_aside, link_named (present_step journal) one two up is)
+    grind (arith, have_first, changes_aside, link_named (journal_present_step journal) one two up is)
 
-pub restart_aside : (s : ℕ) (journal : List Item) → present_step journal ≡ Some (Restart s)
+pub restart_aside : (s : ℕ) (journal : List Item) → journal_present_step journal ≡ Some (Restart s)
     → AreAside journal (restart_items s journal)
 unfolding restart_items
 restart_aside s journal is = grind (arith, have_first, sends_aside)
@@ -284,14 +284,14 @@ unfolding forget_items
 forget_aside number journal = grind arith
 
 pub expire_aside : (setting : Setting) (s place : ℕ) (journal : List Item)
-    → AreAside journal (expire_items setting s place journal)
-unfolding expire_items
+    → AreAside journal (machine_expire_items setting s place journal)
+unfolding machine_expire_items
 expire_aside setting s place journal = grind arith
 
 -- ---- deliveries
 
 switch_aside : (setting : Setting) (before : List Item) (s : ℕ) (body : Body)
-    (journal : List Item) → AreAside journal (switch_items setting before s body journal)
+    (journal : List Item) → AreAside journal (journal_switch_items setting before s body journal)
 switch_aside setting before s body journal = switch_cases (AreAside journal) setting before s body
     journal (λ boot version. sends_aside journal _ (tt, tt))
     (λ boot version. sends_aside journal _ (tt, tt))
@@ -315,7 +315,7 @@ pub resend_aside : (setting : Setting) (s : ℕ) (journal : List Item)
 resend_aside setting s journal = resent_has IsAside TellsOther setting s journal tt
     (sends_aside journal) (each_by_switch TellsOther setting journal s (λ up. tt)
     (each_flat_map TellsOther _ (λ neighbour. each_other (advert_to neighbour) (λ advert. tt) _)
-    (switches_in setting (near setting journal s))))
+    (setting_switches_in setting (near setting journal s))))
     (each_by_controller TellsOther setting journal s (λ none member. each_to_member TellsOther
     setting journal s tt (unacked_other setting journal s (later_versions journal)) tt (λ some. tt))
-    (λ none. unacked_other setting journal s (versions_from_current journal)))
+    (λ none. unacked_other setting journal s (journal_versions_from_current journal)))

@@ -1,9 +1,9 @@
 -- Each list of events has a play: all their steps, or those before the first that would begin full.
 use Rattle.std.proofs.Common.{[], ◌++◌, ◌+◌, ◌<◌, ◌∙◌, ◌∷◌, ◌≡◌, ◌≤◌, ◌⊎◌, All, List, None, Option, Some, ap, append_assoc, arith, get_or, inl, inr, length, option_map, refl, subst, suc, sym, take, zero, ℕ, rules}
 use Rattle.base.proofs.Exports.{cases_lt, take-append_seam}
-use Rattle.update_machine.specs.Exports.{AreAllEventSteps, AreFirstSteps, AreFirstStepsOf, AreFirstEventSteps, AreSteps, AreStepsOf, Deliver, Drain, Event, Flush, HasPlay, HaveCauses, JournalsHaveRoom, IsFull, IsSetting, Item, One, Setting, Step, StepOfRow, journal_after_steps, journal_full_at, next_delivery, next_hop, next_message, next_waiting, piece}
-use Rattle.control_laws.specs.Exports.{AcksHold, AreNetworkEvents, BootsAreKnown, HasItemCause, HoldsAlways, HoldsReached, IsAckedFirst, MarksAreBounded, MembersAcknowledged, OpensAtOneVersion, ServingHoldVersions, ServingIsKnown, StampsSayTouched, TablesArePlanned}
-use Rattle.packet_laws.specs.Exports.{ChangesLeaveOthers, GoesOrStops, KeepVersionsWhole, RulesAreRight, UntouchedStay}
+use Rattle.update_machine.specs.Exports.{AreAllMachineEventSteps, AreJournalFirstSteps, AreFirstStepsOf, AreFirstMachineEventSteps, AreMachineSteps, AreMachineStepsOf, Deliver, Drain, Event, Flush, HasMachinePlay, JournalItemsHaveCauses, MachineJournalsHaveRoom, IsJournalFull, IsSetting, Item, One, Setting, Step, StepOfRow, journal_after_steps, machine_journal_full_at, journal_next_delivery, journal_next_hop, journal_next_message, next_waiting, piece}
+use Rattle.control_laws.specs.Exports.{AcksHold, AreNetworkEvents, BootsAreKnown, HasControlItemCause, HoldsAlways, HoldsReached, IsAckedFirst, MarksAreBounded, MembersAcknowledged, OpeningMessagesNameOneVersion, ServingHoldVersions, ServingIsKnown, StampsSayTouched, TablesArePlanned}
+use Rattle.packet_laws.specs.Exports.{ChangesLeaveOtherPackets, GoesOrStops, KeepVersionsWholeForPackets, PacketRulesAreRight, UntouchedCacheRulesStay}
 use Rattle.packet_laws.proofs.PacketFlushMessages.{next_is, numbers_rise}
 use Rattle.update_machine.proofs.Exports.{IsEventOf, after_append, event_steps_are, rooms_append}
 use Rattle.control_laws.proofs.Exports.{NamesOwn, has_nexts, own_event}
@@ -30,26 +30,26 @@ OfReached Holds = HoldsReached (λ setting journal. IsSetting setting → Holds 
 
 -- the laws of boots, versions and marks, and of cache rules
 pub record Laws : Type 0 where
-  pub causes : HoldsAlways (λ setting journal. HaveCauses (HasItemCause setting) [] journal)
+  pub causes : HoldsAlways (λ setting journal. JournalItemsHaveCauses (HasControlItemCause setting) [] journal)
   pub boots : HoldsAlways (λ setting journal. BootsAreKnown journal)
   pub serving : HoldsAlways (λ setting journal. ServingIsKnown journal)
   pub heard : HoldsAlways (λ setting journal. (s : ℕ) → AcksHold journal s)
-  pub acknowledged : HoldsAlways (λ setting journal. HaveCauses (IsAckedFirst setting) [] journal)
-  pub opened : HoldsAlways (λ setting journal. OpensAtOneVersion journal)
+  pub acknowledged : HoldsAlways (λ setting journal. JournalItemsHaveCauses (IsAckedFirst setting) [] journal)
+  pub opened : HoldsAlways (λ setting journal. OpeningMessagesNameOneVersion journal)
   pub tables : HoldsAlways (λ setting journal. TablesArePlanned setting journal)
   pub members : HoldsAlways (λ setting journal. MembersAcknowledged setting journal)
   pub marks : HoldsAlways (λ setting journal. MarksAreBounded setting journal)
   pub holding : HoldsAlways (λ setting journal. ServingHoldVersions setting journal)
   pub touched : HoldsAlways (λ setting journal. StampsSayTouched setting journal)
-  pub rules : OfReached RulesAreRight
-  pub untouched : OfReached UntouchedStay
-  pub alike : OfReached ChangesLeaveOthers
+  pub rules : OfReached PacketRulesAreRight
+  pub untouched : OfReached UntouchedCacheRulesStay
+  pub alike : OfReached ChangesLeaveOtherPackets
 
 module _ (laws : Laws) (setting : Setting) (journal : List Item) where
   -- each item has its cause, and most of it follows
-  whole : HaveCauses (HasItemCause setting) [] journal → RulesAreRight setting journal
-      → UntouchedStay setting journal → ChangesLeaveOthers setting journal
-      → KeepVersionsWhole setting journal
+  whole : JournalItemsHaveCauses (HasControlItemCause setting) [] journal → PacketRulesAreRight setting journal
+      → UntouchedCacheRulesStay setting journal → ChangesLeaveOtherPackets setting journal
+      → KeepVersionsWholeForPackets setting journal
   whole causes rules untouched alike = record {
     causes = causes;
     boots = laws.boots.caused setting journal causes;
@@ -67,7 +67,7 @@ module _ (laws : Laws) (setting : Setting) (journal : List Item) where
     alike = alike;
   }
 
-pub together : Laws → OfReached KeepVersionsWhole
+pub together : Laws → OfReached KeepVersionsWholeForPackets
 together laws = let causes = always_reached _ laws.causes in record {
   reached = λ setting journal at is. whole laws setting journal
       (causes.reached setting journal at) (laws.rules.reached setting journal at is)
@@ -92,14 +92,14 @@ together laws = let causes = always_reached _ laws.causes in record {
 
 -- the next message that waits is among the last of those that a journal with room may number
 abbrev IsAmong : ℕ → List Item → Type 0
-IsAmong most journal = (n : ℕ) → next_waiting journal ≡ Some n → journal_full_at < n + most
+IsAmong most journal = (n : ℕ) → next_waiting journal ≡ Some n → machine_journal_full_at < n + most
 
 none_left : (setting : Setting) (row : ℕ) (before : List Item) → next_waiting before ≡ None
-    → GoesOrStops setting next_delivery row before
+    → GoesOrStops setting journal_next_delivery row before
 none_left setting row before none = search rules
 
 stops_here : (setting : Setting) (row : ℕ) (before : List Item) (n : ℕ) → next_waiting before
-    ≡ Some n → IsFull before → GoesOrStops setting next_delivery row before
+    ≡ Some n → IsJournalFull before → GoesOrStops setting journal_next_delivery row before
 stops_here setting row before n is full = record {
   steps = [];
   room = tt;
@@ -111,9 +111,9 @@ stops_here setting row before n is full = record {
 }
 
 one_more : (setting : Setting) (row : ℕ) (before : List Item) (n : ℕ)
-    → next_waiting before ≡ Some n → next_message before ≤ journal_full_at
-    → GoesOrStops setting next_delivery row (before ++ piece setting before row (Deliver n))
-    → GoesOrStops setting next_delivery row before
+    → next_waiting before ≡ Some n → journal_next_message before ≤ machine_journal_full_at
+    → GoesOrStops setting journal_next_delivery row (before ++ piece setting before row (Deliver n))
+    → GoesOrStops setting journal_next_delivery row before
 one_more setting row before n is room rest =
     let first : StepOfRow = record { row = row; step = Deliver n } in
     let goes = ap (option_map Deliver) is in record {
@@ -130,28 +130,28 @@ one_more setting row before n is room rest =
     }
 
 flush_within : (setting : Setting) (row most : ℕ) (before : List Item) → IsAmong most before
-    → GoesOrStops setting next_delivery row before
+    → GoesOrStops setting journal_next_delivery row before
 flush_within setting row zero before among = by_next (next_waiting before) refl where
-  by_next : (o : Option ℕ) → next_waiting before ≡ o → GoesOrStops setting next_delivery row before
+  by_next : (o : Option ℕ) → next_waiting before ≡ o → GoesOrStops setting journal_next_delivery row before
   by_next None e = none_left setting row before e
   by_next (Some n) e = stops_here _ row _ n e (omega (arith, among n e, (next_is before n e).sent))
 flush_within setting row (suc most) before among =
     by_next (next_waiting before) refl (flush_within setting row most)
   where
     by_next : (o : Option ℕ) → next_waiting before ≡ o → ((journal : List Item)
-        → IsAmong most journal → GoesOrStops setting next_delivery row journal)
-        → GoesOrStops setting next_delivery row before
+        → IsAmong most journal → GoesOrStops setting journal_next_delivery row journal)
+        → GoesOrStops setting journal_next_delivery row before
     by_next None e rest = none_left setting row before e
-    by_next (Some n) e rest = elim (cases_lt journal_full_at (next_message before)) [
+    by_next (Some n) e rest = elim (cases_lt machine_journal_full_at (journal_next_message before)) [
       | inl full ↦ stops_here setting row before n e full
       | inr room ↦ one_more _ row _ n e room (rest (before ++ piece setting before row (Deliver n))
           (λ m later. omega (arith, among n e, numbers_rise setting before row n m e later)))
     ]
 
 pub flush_goes : (setting : Setting) (journal : List Item) (row : ℕ)
-    → GoesOrStops setting next_delivery row journal
+    → GoesOrStops setting journal_next_delivery row journal
 flush_goes setting journal row =
-    flush_within setting row (journal_full_at + 1) journal (λ n is. omega arith)
+    flush_within setting row (machine_journal_full_at + 1) journal (λ n is. omega arith)
 
 -- ---- play existence
 
@@ -159,13 +159,13 @@ flush_goes setting journal row =
 
 -- all steps of a loop, as far as there is room
 goes : (setting : Setting) (next : List Item → Option Step) (row : ℕ) (before : List Item)
-    (steps : List StepOfRow) → AreAllEventSteps setting next row before steps
+    (steps : List StepOfRow) → AreAllMachineEventSteps setting next row before steps
     → GoesOrStops setting next row before
 goes setting next row before [] all = record { steps = []; room = tt; how = inl all }
-goes setting next row before (first ∷ steps) all = by_room (cases_lt journal_full_at (next_message before))
+goes setting next row before (first ∷ steps) all = by_room (cases_lt machine_journal_full_at (journal_next_message before))
     (goes setting next row (before ++ piece setting before first.row first.step) steps all.2)
   where
-    by_room : (journal_full_at < next_message before) ⊎ (next_message before ≤ journal_full_at)
+    by_room : (machine_journal_full_at < journal_next_message before) ⊎ (journal_next_message before ≤ machine_journal_full_at)
         → GoesOrStops setting next row (before ++ piece setting before first.row first.step)
         → GoesOrStops setting next row before
     by_room (inl full) rest = record {
@@ -191,25 +191,25 @@ record EventStops (setting : Setting) (row : ℕ) (event : Event) (before : List
     (steps : List StepOfRow) : Type 0 where
   more : StepOfRow
   allowed : AreFirstStepsOf setting row event before (steps ++ more ∷ [])
-  full : IsFull (journal_after_steps setting before steps)
+  full : IsJournalFull (journal_after_steps setting before steps)
 
 record EventGoes (setting : Setting) (row : ℕ) (event : Event) (before : List Item) : Type 0 where
   steps : List StepOfRow
-  room : JournalsHaveRoom setting before steps
-  how : AreStepsOf setting row event before steps ⊎ EventStops setting row event before steps
+  room : MachineJournalsHaveRoom setting before steps
+  how : AreMachineStepsOf setting row event before steps ⊎ EventStops setting row event before steps
 
 -- as a flush or a drain goes whose steps such a loop's are
 goes_as : (setting : Setting) (next : List Item → Option Step) (row : ℕ) (event : Event)
-    (before : List Item) → ((steps : List StepOfRow) → AreAllEventSteps setting next row before steps
-    → AreStepsOf setting row event before steps)
-    → ((steps : List StepOfRow) → AreFirstEventSteps setting next row before steps
+    (before : List Item) → ((steps : List StepOfRow) → AreAllMachineEventSteps setting next row before steps
+    → AreMachineStepsOf setting row event before steps)
+    → ((steps : List StepOfRow) → AreFirstMachineEventSteps setting next row before steps
     → AreFirstStepsOf setting row event before steps)
     → GoesOrStops setting next row before → EventGoes setting row event before
 goes_as setting next row event before all_of some_of goes = search rules
 
 event_goes : (setting : Setting) (row : ℕ) (event : Event) (before : List Item)
     → IsSetting setting → IsReady setting before → EventGoes setting row event before
-event_goes setting row (One step) before is ready = elim (cases_lt journal_full_at (next_message before)) [
+event_goes setting row (One step) before is ready = elim (cases_lt machine_journal_full_at (journal_next_message before)) [
   | inl full ↦ record {
     steps = [];
     room = tt;
@@ -225,28 +225,28 @@ event_goes setting row (One step) before is ready = elim (cases_lt journal_full_
     how = inl refl;
   }
 ]
-event_goes setting row Flush before is ready = goes_as setting next_delivery row Flush before
+event_goes setting row Flush before is ready = goes_as setting journal_next_delivery row Flush before
     (λ steps all. all) (λ steps some. some) (flush_goes setting before row)
 event_goes setting row Drain before is ready = let hops = drain_ends setting before row is ready in
-    goes_as setting next_hop row Drain before (λ steps all. all) (λ steps some. some)
-    (goes setting next_hop row before hops.0 hops.1)
+    goes_as setting journal_next_hop row Drain before (λ steps all. all) (λ steps some. some)
+    (goes setting journal_next_hop row before hops.0 hops.1)
 
 -- ---- events
 
 record EventsStop (setting : Setting) (row : ℕ) (events : List Event) (before : List Item)
     (steps : List StepOfRow) : Type 0 where
   more : StepOfRow
-  allowed : AreFirstSteps setting row events before (steps ++ more ∷ [])
-  full : IsFull (journal_after_steps setting before steps)
+  allowed : AreJournalFirstSteps setting row events before (steps ++ more ∷ [])
+  full : IsJournalFull (journal_after_steps setting before steps)
 
 record EventsGo (setting : Setting) (row : ℕ) (events : List Event) (before : List Item)
     : Type 0 where
   steps : List StepOfRow
-  room : JournalsHaveRoom setting before steps
-  how : AreSteps setting row events before steps ⊎ EventsStop setting row events before steps
+  room : MachineJournalsHaveRoom setting before steps
+  how : AreMachineSteps setting row events before steps ⊎ EventsStop setting row events before steps
 
 stop_first : (setting : Setting) (row : ℕ) (event : Event) (events : List Event)
-    (before : List Item) (mine : List StepOfRow) → JournalsHaveRoom setting before mine
+    (before : List Item) (mine : List StepOfRow) → MachineJournalsHaveRoom setting before mine
     → EventStops setting row event before mine → EventsGo setting row (event ∷ events) before
 stop_first setting row event events before mine room stop = record {
   steps = mine;
@@ -255,8 +255,8 @@ stop_first setting row event events before mine room stop = record {
 }
 
 go_on : (setting : Setting) (row : ℕ) (event : Event) (events : List Event) (before : List Item)
-    (mine : List StepOfRow) → JournalsHaveRoom setting before mine
-    → AreStepsOf setting row event before mine
+    (mine : List StepOfRow) → MachineJournalsHaveRoom setting before mine
+    → AreMachineStepsOf setting row event before mine
     → EventsGo setting (row + 1) events (journal_after_steps setting before mine)
     → EventsGo setting row (event ∷ events) before
 go_on setting row event events before mine room all rest = record {
@@ -273,7 +273,7 @@ go_on setting row event events before mine room all rest = record {
         all,
         stop.allowed,
       );
-      full = subst IsFull (sym (after_append setting before mine rest.steps)) stop.full;
+      full = subst IsJournalFull (sym (after_append setting before mine rest.steps)) stop.full;
     })
   ];
 }
@@ -298,9 +298,9 @@ events_go setting row (event ∷ events) before is own ready =
 -- ---- plays
 
 pub has_play : (setting : Setting) (events : List Event) → IsSetting setting
-    → AreNetworkEvents setting events → HasPlay setting events
+    → AreNetworkEvents setting events → HasMachinePlay setting events
 has_play setting events is own =
-    let by : EventsGo setting 1 events [] → HasPlay setting events = λ all. elim all.how [
+    let by : EventsGo setting 1 events [] → HasMachinePlay setting events = λ all. elim all.how [
       | inl answers ↦ (
         journal_after_steps setting [] all.steps,
         None,

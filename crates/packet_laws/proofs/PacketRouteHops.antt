@@ -1,9 +1,9 @@
 -- Each item leaves the hops of each packet within its routes: one induction by items.
 use Rattle.std.proofs.Common.{[], ◌&&◌, ◌*◌, ◌++◌, ◌+◌, ◌-◌, ◌<◌, ◌==◌, ◌∙◌, ◌∷◌, ◌≡◌, ◌≤◌, Any, Bool, Contains, IsFalse, IsTrue, List, Option, Some, ap, append_assoc, arith, eqb-true, false, filter, filter_map, if◌then◌else◌, inl, length, map, refl, subst, sym, true, ℕ, rules}
-use Rattle.update_machine.specs.Exports.{CacheEntry, HaveCauses, Hop, IsSetting, Item, Setting, cache_of, folded_value, retired_mark, stamp_of, touched_by, travels}
+use Rattle.update_machine.specs.Exports.{CacheEntry, JournalItemsHaveCauses, Hop, IsSetting, Item, Setting, journal_cache_of, journal_folded_value, journal_retired_mark, journal_stamp_of, touched_by, travels}
 use Rattle.update_machine.proofs.Exports.{folded_append}
 use Rattle.control_laws.proofs.Exports.{AreKept, Behind, Both, fact_on, have_both, have_weaker, one_if}
-use Rattle.packet_laws.specs.Exports.{AllKept, AreResting, HasKeptFacts, CacheHasUnder, IsOnWay, IsRightEntry, IsToldStamp, OnWay, PacketCause, PacketFacts, Stage, UntouchedStay, at_least, changes_on_route, changes_taken, detour_count, exit_count, packet_facts_after, gives_stage, hops_on_route, hops_taken, is_detour, is_exit, is_of_packet, is_search, most_hops, most_switches, cached_entry_outlives, routes_taken, search_count, stage_of, what_is_known}
+use Rattle.packet_laws.specs.Exports.{AllPacketFactsKept, ArePacketsResting, HasKeptPacketFacts, CacheHasEntryUnder, IsPacketOnWay, IsRightEntry, IsToldStamp, OnWay, HasPacketItemCause, PacketFacts, PacketStage, UntouchedCacheRulesStay, at_least, changes_packet_route_hops, changes_packet_hops_taken, detour_count, exit_count, packet_facts_after, gives_packet_stage, packet_route_hops, packet_hops_taken, is_packet_detour, is_packet_exit, is_item_of_packet, is_packet_search, most_packet_hops, most_switches, brought_entry_outlives, packet_routes_taken, search_count, packet_stage_of, packet_facts_of}
 use Rattle.packet_laws.proofs.PacketsSpared.{IsNoRow}
 use Rattle.base.proofs.Exports.{⊤, All-contains, nat_tests, option_or, slice_get_within}
 use Rattle.packet_laws.proofs.PacketsAllKept.{Before, all_kept, cached_on, facts_grow, kept_before, known_before, knows}
@@ -13,7 +13,7 @@ use Rattle.packet_laws.proofs.PacketsAtRest.{IsWayItem, Past, switches_of_all}
 use Rattle.packet_laws.proofs.PacketFewRoutes.{taken_few}
 use Rattle.packet_laws.proofs.PacketBlocks.{stage_next}
 use Rattle.packet_laws.proofs.PacketFlushMessages.{count_more, one_more}
-use Rattle.switch_table.specs.Exports.{CacheValue, after_carry, carried_entry, meets_any_touched}
+use Rattle.switch_table.specs.Exports.{CacheValue, cache_after_carry, carried_entry, cache_word_meets_touched}
 use Rattle.switch_table.proofs.CacheCarryLemmas.{untouched_stays}
 use Rattle.ternary.specs.Exports.{WordValue}
 use Rattle.packet_laws.proofs.PacketCacheRules.{grows}
@@ -24,10 +24,10 @@ use Rattle.packet_laws.proofs.PacketCacheRules.{grows}
 abbrev pub changes_asked : ℕ → List Item → Bool → Item → Bool
 changes_asked i before asked (Item.Row row (Hop packet)) =
     if packet == i && travels before i then true else asked
-changes_asked i before asked item = if is_of_packet i item then false else asked
+changes_asked i before asked item = if is_item_of_packet i item then false else asked
 
 unfoldable pub is_asked : List Item → ℕ → Bool
-is_asked journal i = folded_value (changes_asked i) false journal
+is_asked journal i = journal_folded_value (changes_asked i) false journal
 
 pub asked_more : (before : List Item) (next : Item) (i : ℕ)
     → is_asked (before ++ next ∷ []) i ≡ changes_asked i before (is_asked before i) next
@@ -46,25 +46,25 @@ off_kept i before next none off = cc (asked_more before next i, off, still_off i
 
 -- items that begin no step tell it to hop no more
 pub stays_off : (i : ℕ) (before items : List Item)
-    → HaveCauses (λ js next. IsNoRow next) before items
+    → JournalItemsHaveCauses (λ js next. IsNoRow next) before items
     → is_asked before i ≡ false → is_asked (before ++ items) i ≡ false
 stays_off i before items none off = fact_on _ _ (off_kept i) before items none off
 
 -- the first of the items names the packet
 abbrev pub NamesFirst : ℕ → List Item → Type 0
 NamesFirst i [] = ⊥
-NamesFirst i (next ∷ items) = IsTrue (is_of_packet i next)
+NamesFirst i (next ∷ items) = IsTrue (is_item_of_packet i next)
 
 turned : (b asked : Bool) → IsTrue b → (if b then false else asked) ≡ false
 turned b asked e = search rules
 
 named_off : (i : ℕ) (before : List Item) (asked : Bool) (next : Item) → IsNoRow next
-    → IsTrue (is_of_packet i next) → changes_asked i before asked next ≡ false
+    → IsTrue (is_item_of_packet i next) → changes_asked i before asked next ≡ false
 named_off i before asked next none named = search rules
 
 -- so it hops with the first item that names it
 pub turns_off : (i : ℕ) (before items : List Item)
-    → HaveCauses (λ js next. IsNoRow next) before items
+    → JournalItemsHaveCauses (λ js next. IsNoRow next) before items
     → NamesFirst i items → is_asked (before ++ items) i ≡ false
 turns_off i before [] none first = absurd first
 turns_off i before (next ∷ items) none first = rw (append_assoc before (next ∷ []) items) at
@@ -74,7 +74,7 @@ turns_off i before (next ∷ items) none first = rw (append_assoc before (next �
 
 -- a step begins where all packets rest, and none was asked to hop
 pub record IsRested (journal : List Item) : Type 0 where
-  pub rests : AreResting journal
+  pub rests : ArePacketsResting journal
   pub off : (i : ℕ) → is_asked journal i ≡ false
 
 abbrev pub BeginsRested : List Item → Item → Type 0
@@ -85,7 +85,7 @@ BeginsRested before _ = ⊤
 
 -- the packet took at most 64 hops for each route, and what is left of its route fits too, without
 -- the hop that it was asked. On its last route it took as many as its place says, at most 64
-record IsWithin (held : PacketFacts) (stage : Option Stage) (asked : Bool)
+record IsWithin (held : PacketFacts) (stage : Option PacketStage) (asked : Bool)
     (routes taken on : ℕ) : Type 0 where
   all : taken ≤ most_switches * routes
   each : on ≤ most_switches
@@ -94,21 +94,21 @@ record IsWithin (held : PacketFacts) (stage : Option Stage) (asked : Bool)
       ≤ most_switches * routes + (if asked then 1 else 0)
 
 abbrev IsWithinOf : List Item → ℕ → Type 0
-IsWithinOf journal i = IsWithin (what_is_known journal i) (stage_of journal i) (is_asked journal i)
-    (routes_taken journal i) (hops_taken journal i) (hops_on_route journal i)
+IsWithinOf journal i = IsWithin (packet_facts_of journal i) (packet_stage_of journal i) (is_asked journal i)
+    (packet_routes_taken journal i) (packet_hops_taken journal i) (packet_route_hops journal i)
 
 none_asked : (b : Bool) → b ≡ false → (if b then 1 else 0) ≤ 0
 none_asked b e = search rules
 
 route_few : (setting : Setting) (before : List Item) (held : PacketFacts)
-    → IsOnWay setting before held → length held.route ≤ 64
+    → IsPacketOnWay setting before held → length held.route ≤ 64
 route_few setting before held way = search rules
 
 -- as one is that the packet begins
 begun_few : (setting : Setting) (before : List Item) (packet i : ℕ) (held : PacketFacts)
-    → (packet == i) ≡ true → HasKeptFacts setting before held (Some OnWay)
-    → held.travels ≡ (what_is_known before packet).travels
-    → IsTrue (what_is_known before i).travels → length held.route ≤ 64
+    → (packet == i) ≡ true → HasKeptPacketFacts setting before held (Some OnWay)
+    → held.travels ≡ (packet_facts_of before packet).travels
+    → IsTrue (packet_facts_of before i).travels → length held.route ≤ 64
 begun_few setting before packet i held e kept same tr = search (rules, route_few, eqb-true)
 
 -- ---- items
@@ -116,37 +116,37 @@ begun_few setting before packet i held e kept same tr = search (rules, route_few
 -- what is true before the item
 record Premises (setting : Setting) (before : List Item) (next : Item) : Type 0 where
   known : Before setting before
-  way : PacketCause setting before next
+  way : HasPacketItemCause setting before next
   begins : BeginsRested before next
 
 -- a packet that isn't on its way
-rests : {held : PacketFacts} {stage : Option Stage} {asked : Bool} {routes taken on : ℕ}
+rests : {held : PacketFacts} {stage : Option PacketStage} {asked : Bool} {routes taken on : ℕ}
     → taken ≤ most_switches * routes → on ≤ most_switches
     → (IsTrue held.travels → stage ≡ Some OnWay → ⊥) → IsWithin held stage asked routes taken on
 rests all each elsewhere = search rules
 
 -- or that begins a route
-begins_route : {held : PacketFacts} {stage : Option Stage} {asked : Bool} {routes taken : ℕ}
+begins_route : {held : PacketFacts} {stage : Option PacketStage} {asked : Bool} {routes taken : ℕ}
     → taken + most_switches ≤ most_switches * routes
     → (IsTrue held.travels → length held.route ≤ 64) → IsWithin held stage asked routes taken 0
 begins_route room few = search rules
 
 row_within : (setting : Setting) (before : List Item) (packet i : ℕ) → Before setting before
     → IsRested before → IsWithinOf before i → (b : Bool) → ((packet == i) && travels before i) ≡ b
-    → IsWithin (what_is_known before i) (stage_of before i) (if b then true else is_asked before i)
-    (routes_taken before i) (if b then hops_taken before i + 1 else hops_taken before i)
-    (if b then hops_on_route before i + 1 else hops_on_route before i)
+    → IsWithin (packet_facts_of before i) (packet_stage_of before i) (if b then true else is_asked before i)
+    (packet_routes_taken before i) (if b then packet_hops_taken before i + 1 else packet_hops_taken before i)
+    (if b then packet_route_hops before i + 1 else packet_route_hops before i)
 row_within setting before packet i known rested within b e =
     search (rules, travels_in, slice_get_within, none_asked, route_few)
 
 within_by : (setting : Setting) (before : List Item) (next : Item) (i : ℕ)
-    → Premises setting before next → (b : Bool) → is_of_packet i next ≡ b → IsWithinOf before i
-    → IsWithin (if b then packet_facts_after (retired_mark before) next (what_is_known before i)
-    else what_is_known before i) (option_or (gives_stage i next) (stage_of before i))
+    → Premises setting before next → (b : Bool) → is_item_of_packet i next ≡ b → IsWithinOf before i
+    → IsWithin (if b then packet_facts_after (journal_retired_mark before) next (packet_facts_of before i)
+    else packet_facts_of before i) (option_or (gives_packet_stage i next) (packet_stage_of before i))
     (changes_asked i before (is_asked before i) next)
-    (one_more (is_search i next) (search_count before i) + one_more (is_exit i next)
-    (exit_count before i) + one_more (is_detour i next) (detour_count before i)) (changes_taken i
-    before (hops_taken before i) next) (changes_on_route i before (hops_on_route before i) next)
+    (one_more (is_packet_search i next) (search_count before i) + one_more (is_packet_exit i next)
+    (exit_count before i) + one_more (is_packet_detour i next) (detour_count before i)) (changes_packet_hops_taken i
+    before (packet_hops_taken before i) next) (changes_packet_route_hops i before (packet_route_hops before i) next)
 within_by setting before (Item.Row row (Hop packet)) i facts true e within = absurd cc
 within_by setting before (Item.Row row (Hop packet)) i facts false e within = row_within setting
     before packet i facts.known facts.begins within ((packet == i) && travels before i) refl
@@ -163,11 +163,11 @@ within_by setting before (Item.Rerouted packet route) i facts true e within = rw
     (begins_route (omega (arith, within.all)) (begun_few setting before packet i _ e (rerouted_after
     setting before packet 0 route (knows setting before packet facts.known) facts.way) refl))
 within_by setting before (Item.Hopped packet s) i facts true e within =
-    let moving : stage_of before i ≡ Some OnWay =
-    subst (λ k. stage_of before k ≡ Some OnWay) (eqb-true packet i e) facts.way.moving in
-    let held : PacketFacts = what_is_known before i in
+    let moving : packet_stage_of before i ≡ Some OnWay =
+    subst (λ k. packet_stage_of before k ≡ Some OnWay) (eqb-true packet i e) facts.way.moving in
+    let held : PacketFacts = packet_facts_of before i in
     let inside : IsTrue held.travels → held.hops < length held.route = λ tr.
-    let way : IsOnWay setting before held =
+    let way : IsPacketOnWay setting before held =
     (facts.known.kept.packets i).on_way tr (inl moving) in
     slice_get_within held.route held.hops way.under_way.switch way.stands in
     rw e (record {
@@ -207,14 +207,14 @@ within_by setting before next i facts false e within = within
 -- ---- all items
 
 pub hops_more : (before : List Item) (next : Item) (i : ℕ)
-    → hops_taken (before ++ next ∷ []) i ≡ changes_taken i before (hops_taken before i) next
-unfolding hops_taken
-hops_more before next i = folded_append (changes_taken i) 0 before (next ∷ [])
+    → packet_hops_taken (before ++ next ∷ []) i ≡ changes_packet_hops_taken i before (packet_hops_taken before i) next
+unfolding packet_hops_taken
+hops_more before next i = folded_append (changes_packet_hops_taken i) 0 before (next ∷ [])
 
-on_route_more : (before : List Item) (next : Item) (i : ℕ) → hops_on_route (before ++ next ∷ []) i
-    ≡ changes_on_route i before (hops_on_route before i) next
-unfolding hops_on_route
-on_route_more before next i = folded_append (changes_on_route i) 0 before (next ∷ [])
+on_route_more : (before : List Item) (next : Item) (i : ℕ) → packet_route_hops (before ++ next ∷ []) i
+    ≡ changes_packet_route_hops i before (packet_route_hops before i) next
+unfolding packet_route_hops
+on_route_more before next i = folded_append (changes_packet_route_hops i) 0 before (next ∷ [])
 
 within_more : (setting : Setting) (before : List Item) (next : Item) (i : ℕ)
     → Premises setting before next → IsWithinOf before i → IsWithinOf (before ++ next ∷ []) i
@@ -223,7 +223,7 @@ within_more setting before next i facts within = search
     (rules, facts_grow, stage_next, asked_more, count_more, hops_more, on_route_more, within_by)
 
 within_at_first : (i : ℕ) → IsWithinOf [] i
-unfolding what_is_known stage_of is_asked hops_taken hops_on_route travels search_count exit_count
+unfolding packet_facts_of packet_stage_of is_asked packet_hops_taken packet_route_hops travels search_count exit_count
     detour_count
 within_at_first i = record {
   all = omega arith;
@@ -235,18 +235,18 @@ within_at_first i = record {
 -- what is known before an item, and its causes
 abbrev IsKnown : Setting → List Item → Item → Type 0
 IsKnown setting before next =
-    Both (Behind (Past (IsWayItem setting)) (AllKept setting)) BeginsRested before next
+    Both (Behind (Past (IsWayItem setting)) (AllPacketFactsKept setting)) BeginsRested before next
 
 -- an item of a network whose steps begin rested
 abbrev pub IsHopItem : Setting → List Item → Item → Type 0
 IsHopItem setting before next = Both (IsWayItem setting) BeginsRested before next
 
 ways_of : (setting : Setting) (before items : List Item)
-    → HaveCauses (IsHopItem setting) before items → HaveCauses (IsWayItem setting) before items
+    → JournalItemsHaveCauses (IsHopItem setting) before items → JournalItemsHaveCauses (IsWayItem setting) before items
 ways_of setting before items have = search (rules, have_weaker)
 
 all_within : (setting : Setting) (journal : List Item) → IsSetting setting
-    → HaveCauses (IsHopItem setting) [] journal → (i : ℕ) → IsWithinOf journal i
+    → JournalItemsHaveCauses (IsHopItem setting) [] journal → (i : ℕ) → IsWithinOf journal i
 all_within setting journal is have i = fact_on (IsKnown setting) (λ js. IsWithinOf js i)
     (λ before next both within. within_more setting before next i (record {
       known = known_before setting is before next both.first;
@@ -260,16 +260,16 @@ all_within setting journal is have i = fact_on (IsKnown setting) (λ js. IsWithi
 -- ---- laws
 
 pub within_routes : (setting : Setting) (journal : List Item) → IsSetting setting
-    → HaveCauses (IsHopItem setting) [] journal → (i : ℕ)
-    → hops_taken journal i ≤ most_switches * routes_taken journal i
+    → JournalItemsHaveCauses (IsHopItem setting) [] journal → (i : ℕ)
+    → packet_hops_taken journal i ≤ most_switches * packet_routes_taken journal i
 within_routes setting journal is have i = (all_within setting journal is have i).all
 
 pub within_each : (setting : Setting) (journal : List Item) → IsSetting setting
-    → HaveCauses (IsHopItem setting) [] journal → (i : ℕ) → hops_on_route journal i ≤ most_switches
+    → JournalItemsHaveCauses (IsHopItem setting) [] journal → (i : ℕ) → packet_route_hops journal i ≤ most_switches
 within_each setting journal is have i = (all_within setting journal is have i).each
 
 pub hops_few : (setting : Setting) (journal : List Item) → IsSetting setting
-    → HaveCauses (IsHopItem setting) [] journal → (i : ℕ) → hops_taken journal i ≤ most_hops
+    → JournalItemsHaveCauses (IsHopItem setting) [] journal → (i : ℕ) → packet_hops_taken journal i ≤ most_packet_hops
 hops_few setting journal is have i = omega (
   arith,
   within_routes setting journal is have i,
@@ -283,7 +283,7 @@ hops_few setting journal is have i = omega (
 -- entries that go over are those that outlive it
 left_in_order : (version : ℕ) (touched : List WordValue) (entries rest : List CacheEntry)
     → filter_map (carried_entry version touched entries) rest
-    ≡ map (at_least version) (filter (cached_entry_outlives version touched entries) rest)
+    ≡ map (at_least version) (filter (brought_entry_outlives version touched entries) rest)
 left_in_order version touched entries [] = refl
 left_in_order version touched entries (entry ∷ rest) =
     search (rules, left_in_order version touched entries rest)
@@ -294,25 +294,25 @@ left_in_order version touched entries (entry ∷ rest) =
 stamped_cache : (setting : Setting) (before : List Item)
     (s number boot version : ℕ) (touched : List WordValue)
     → IsToldStamp before s number boot version touched
-    → stamp_of before s < version → cache_of setting (before ++ Item.Delivered number ∷ []) s
-    ≡ after_carry version (touched_by setting before version) (cache_of setting before s)
-unfolding cache_of
+    → journal_stamp_of before s < version → journal_cache_of setting (before ++ Item.Delivered number ∷ []) s
+    ≡ cache_after_carry version (touched_by setting before version) (journal_cache_of setting before s)
+unfolding journal_cache_of
 stamped_cache setting before s number boot version touched said rises =
     search (rules, nat_tests, folded_append)
 
 -- each that isn't touched has its word there, by a rule that is right
 under_it : (setting : Setting) (before : List Item)
     (s number boot version : ℕ) (touched : List WordValue) (entry : CacheEntry) → IsSetting setting
-    → HaveCauses (IsWayItem setting) [] before → IsToldStamp before s number boot version touched
-    → stamp_of before s < version → Contains (cache_of setting before s).entries entry
+    → JournalItemsHaveCauses (IsWayItem setting) [] before → IsToldStamp before s number boot version touched
+    → journal_stamp_of before s < version → Contains (journal_cache_of setting before s).entries entry
     → entry.version + 1 ≡ version
-    → IsFalse (meets_any_touched (touched_by setting before version) entry.word)
-    → CacheHasUnder setting (before ++ Item.Delivered number ∷ []) s version entry
+    → IsFalse (cache_word_meets_touched (touched_by setting before version) entry.word)
+    → CacheHasEntryUnder setting (before ++ Item.Delivered number ∷ []) s version entry
 under_it setting before s number boot version touched entry is have said rises there previous
     apart =
     let next : Item = Item.Delivered number in
     let now : List Item = before ++ next ∷ [] in
-    let cache : CacheValue = cache_of setting before s in
+    let cache : CacheValue = journal_cache_of setting before s in
     let known : Before setting before = record {
       is = is;
       have = have;
@@ -331,16 +331,16 @@ under_it setting before s number boot version touched entry is have said rises t
         kept.4.0,
         (
           kept.4.1,
-          All-contains (IsRightEntry setting now) (cache_of setting now s).entries kept.1 right
+          All-contains (IsRightEntry setting now) (journal_cache_of setting now s).entries kept.1 right
               (kept.0, kept.2, kept.3),
         ),
       ),
     )
 
 pub untouched_stay : (setting : Setting) (before : List Item) → IsSetting setting
-    → HaveCauses (IsWayItem setting) [] before → UntouchedStay setting before
+    → JournalItemsHaveCauses (IsWayItem setting) [] before → UntouchedCacheRulesStay setting before
 untouched_stay setting before is have s number boot version touched said rises =
-    let cache : CacheValue = cache_of setting before s in record {
+    let cache : CacheValue = journal_cache_of setting before s in record {
       in_order = ap (λ (c : CacheValue). c.entries)
           (stamped_cache _ before s number boot _ touched said rises) ∙ left_in_order version _ _ _;
       untouched = λ entry there previous apart. under_it setting before s number boot version

@@ -1,17 +1,17 @@
 -- The packet rows of the steps of events are those of the events.
 use Rattle.std.proofs.Common.{[], ◌++◌, ◌+◌, ◌-◌, ◌∙◌, ◌∷◌, ◌≡◌, ◌≤◌, ◌⊎◌, Bool, List, None, Option, Some, ap, append-nil, append_assoc, arith, false, inl, inr, refl, subst, suc, sym, take, true, ℕ, rules}
-use Rattle.update_machine.specs.Exports.{Answers, AreFirstSteps, AreFirstStepsOf, AreFirstEventSteps, AreSteps, AreStepsOf, Drain, Event, Flush, HaveCauses, Header, IsPlay, Item, One, Packet, Setting, Step, StepOfRow, journal_after_steps, journal_items_then, lookup_items, next_delivery, next_hop, next_packet, packet_items, piece, serves}
+use Rattle.update_machine.specs.Exports.{Answers, AreJournalFirstSteps, AreFirstStepsOf, AreFirstMachineEventSteps, AreMachineSteps, AreMachineStepsOf, Drain, Event, Flush, JournalItemsHaveCauses, Header, IsMachinePlay, Item, One, Packet, Setting, Step, StepOfRow, journal_after_steps, journal_items_then, lookup_items, journal_next_delivery, journal_next_hop, journal_next_packet, packet_items, piece, serves}
 use Rattle.update_machine.proofs.Exports.{AreOf, HasNexts, all_first, all_given_append, event_steps_are, firsts_are}
 use Rattle.packet_laws.proofs.PacketsSpared.{IsInStep, IsNoRow, lookup_in_step}
 use Rattle.packet_laws.proofs.PacketsAtRest.{no_entries, no_rows}
 use Rattle.packet_laws.specs.Exports.{AreEntered, EachPacketRowEnters, StepRow, event_row, gives_step_row, rows_played, step_row, step_rows, step_rows_in}
-use Rattle.policy_rules.proofs.CallerLemmas.{append_not_nil}
+use Rattle.policy_rules.proofs.PolicyRulesCallerLemmas.{append_not_nil}
 
 -- ---- what the pieces of steps have of packet rows and their entries
 
 -- none of the items is a row
 abbrev NoRows : List Item → List Item → Type 0
-NoRows before items = HaveCauses (λ js next. IsNoRow next) before items
+NoRows before items = JournalItemsHaveCauses (λ js next. IsNoRow next) before items
 
 -- ---- the rows
 
@@ -44,7 +44,7 @@ steps_rows setting before (next ∷ steps) =
 -- ---- the entries
 
 none_enter : (before journal items : List Item)
-    → HaveCauses (λ js next. IsInStep next) journal items → EachPacketRowEnters before items
+    → JournalItemsHaveCauses (λ js next. IsInStep next) journal items → EachPacketRowEnters before items
 none_enter before journal [] none = tt
 none_enter before journal (Item.Row row step ∷ items) none = absurd none.0
 none_enter before journal (Item.Entered packet switch header ∷ items) none = absurd none.0
@@ -56,7 +56,7 @@ packet_enters : (setting : Setting) (before : List Item) (row s : ℕ) (header :
 unfolding piece packet_items
 packet_enters setting before row s header = by_serving (serves here s) refl where
   i : ℕ
-  i = next_packet before
+  i = journal_next_packet before
 
   here : List Item
   here = before ++ Item.Row row (Packet s header) ∷ []
@@ -118,7 +118,7 @@ none_rows (next ∷ steps) none = cc (none.0 next.row, none_rows steps none.1)
 -- ---- one event
 
 event_rows : (setting : Setting) (row : ℕ) (event : Event) (before : List Item)
-    (steps : List StepOfRow) → AreStepsOf setting row event before steps
+    (steps : List StepOfRow) → AreMachineStepsOf setting row event before steps
     → rows_of steps ≡ event_row row event
 event_rows setting row (One step) before steps all = cc (all, append-nil (step_row row step))
 event_rows setting row Flush before steps all = none_rows steps
@@ -145,7 +145,7 @@ one_front row one (first ∷ steps) last is e = absurd (append_not_nil steps las
 
 some_last : (setting : Setting) (next : List Item → Option Step) (row : ℕ) (before : List Item)
     (steps : List StepOfRow) (last : StepOfRow)
-    → AreFirstEventSteps setting next row before (steps ++ last ∷ []) → last.row ≡ row
+    → AreFirstMachineEventSteps setting next row before (steps ++ last ∷ []) → last.row ≡ row
 some_last setting next row before [] last some = some.0
 some_last setting next row before (first ∷ steps) last some = some_last setting next row
     (before ++ piece setting before first.row first.step) steps last some.2
@@ -168,15 +168,15 @@ event_front setting row (One step) before steps last (inr e) =
     one_front row (record { row = row; step = step }) steps last refl e
 event_front setting row Flush before steps last some = none_front row steps last
     (firsts_are BringsNone nexts_bring_none setting row Flush before (steps ++ last ∷ []) tt some)
-    (some_last setting next_delivery row before steps last some)
+    (some_last setting journal_next_delivery row before steps last some)
 event_front setting row Drain before steps last some = none_front row steps last
     (firsts_are BringsNone nexts_bring_none setting row Drain before (steps ++ last ∷ []) tt some)
-    (some_last setting next_hop row before steps last some)
+    (some_last setting journal_next_hop row before steps last some)
 
 -- ---- all events
 
 pub all_steps_rows : (setting : Setting) (row : ℕ) (events : List Event) (before : List Item)
-    (steps : List StepOfRow) → AreSteps setting row events before steps
+    (steps : List StepOfRow) → AreMachineSteps setting row events before steps
     → rows_of steps ≡ step_rows row events
 all_steps_rows setting row [] before steps all = ap rows_of all
 all_steps_rows setting row (event ∷ events) before steps (mine, rest, split, all, others) =
@@ -228,7 +228,7 @@ of_front row events steps last front =
 -- the last step is of this event, or of one behind it
 front_played : (setting : Setting) (row : ℕ) (event : Event) (events : List Event)
     (before : List Item) (steps : List StepOfRow) (last : StepOfRow) (mine rest : List StepOfRow)
-    → AreStepsOf setting row event before mine
+    → AreMachineStepsOf setting row event before mine
     → ((front : List StepOfRow) → rest ≡ front ++ last ∷ [] → PlayedTo (row + 1) events front last)
     → EndsOthers steps last mine rest → PlayedTo row (event ∷ events) steps last
 front_played setting row event events before steps last mine rest all others (inl is) = of_front row
@@ -247,7 +247,7 @@ front_played setting row event events before steps last mine rest all others
     }
 
 pub steps_in_front : (setting : Setting) (row : ℕ) (events : List Event) (before : List Item)
-    (steps : List StepOfRow) (last : StepOfRow) → AreFirstSteps setting row events before
+    (steps : List StepOfRow) (last : StepOfRow) → AreJournalFirstSteps setting row events before
     (steps ++ last ∷ []) → PlayedTo row events steps last
 steps_in_front setting row [] before steps last first = absurd (append_not_nil steps last first)
 steps_in_front setting row (event ∷ events) before steps last (inl first) = of_front row
@@ -275,7 +275,7 @@ pub answer_entered : (setting : Setting) (events : List Event) (journal : List I
 answer_entered setting events journal answers = search (rules, steps_entered, all_steps_rows)
 
 pub play_entered : (setting : Setting) (events : List Event) (journal : List Item) (full : Option ℕ)
-    → IsPlay setting events journal full → AreEntered (rows_played full events) journal
+    → IsMachinePlay setting events journal full → AreEntered (rows_played full events) journal
 play_entered setting events journal None play = answer_entered setting events journal play.answers
 play_entered setting events journal (Some row) play = steps_entered setting play.steps journal _
     play.written ((steps_in_front setting 1 events [] play.steps play.next play.allowed).rows

@@ -1,16 +1,16 @@
 -- The strong causes follow from those that are read off the items, and from what is kept.
 use Rattle.std.proofs.Common.{[], ◌++◌, ◌+◌, ◌<◌, ◌==◌, ◌∙◌, ◌∷◌, ◌≡◌, ◌≤◌, ◌⊎◌, Bool, IsFalse, IsTrue, List, None, Option, Some, ap, arith, eqb-true, false, if◌then◌else◌, inl, inr, length, nat_eq, refl, subst, sym, true, unwrap_or, ℕ, rules}
 use Rattle.base.proofs.Exports.{list_any, option_or, some_same}
-use Rattle.update_machine.specs.Exports.{Action, Cause, Decision, Exit, HasCause, HaveCauses, Header, How, IsSetting, Item, Leg, Row, Seek, Setting, current_mark, decision_of, found_down, gives_decision, gives_header, header_in, holds_version, leg_of, next_packet, policy_at, policy_in, packet_route_for, stamp_of, targets_of}
-use Rattle.control_laws.specs.Exports.{LegEndsAt, HasItemCause}
-use Rattle.packet_laws.specs.Exports.{AllKept, ChangesLeaveOthers, EndsAtTarget, FindsLinkDown, FindsNoRoute, FurtherCause, IsAt, IsAtEnd, IsBlockedOn, IsDecided, IsLeastRoute, IsLookedUp, IsOnLeg, IsOnRightLeg, IsOnWay, IsPacketRedirected, IsStuckOnLeg, PacketMeetsDown, PacketCause, PacketFacts, PacketsArrive, RaisesOnLeg, PacketRaisesUnheld, PacketRaisesVersion, PacketSeeksRightly, StrongCause, TakesLeg, hit_in, stage_of, what_is_known}
+use Rattle.update_machine.specs.Exports.{Action, Cause, Decision, Exit, HasCause, JournalItemsHaveCauses, Header, How, IsSetting, Item, Leg, Row, Seek, Setting, journal_current_mark, journal_decision_of, journal_found_down, item_gives_decision, item_gives_header, journal_packet_header, holds_version, journal_leg_of, journal_next_packet, policy_at, policy_in, journal_packet_route, journal_stamp_of, targets_of}
+use Rattle.control_laws.specs.Exports.{LegEndsAt, HasControlItemCause}
+use Rattle.packet_laws.specs.Exports.{AllPacketFactsKept, ChangesLeaveOtherPackets, PacketRouteEndsAtTarget, PacketFindsLinkDown, PacketFindsNoRoute, FurtherCause, IsPacketAt, IsAtEnd, IsPacketBlockedOn, IsPacketDecided, IsLeastPacketRoute, IsPacketLookedUp, IsPacketOnLeg, IsPacketOnRightLeg, IsPacketOnWay, IsPacketRedirectedHere, IsPacketStuckOnLeg, PacketMeetsDown, HasPacketItemCause, PacketFacts, PacketsArrive, PacketRaisesOnLeg, PacketRaisesUnheld, PacketRaisesVersion, PacketSeeksRightly, StrongCause, PacketTakesLeg, hit_in, packet_stage_of, packet_facts_of}
 use Rattle.packet_laws.proofs.PacketEnds.{decision_out, end_caused, last_here, leaves_rightly, mark_in, meets_link, one_target, seeks_rightly, stands_known, stuck_rightly}
 use Rattle.packet_laws.proofs.PacketHeaderLookups.{IsHere, header_in_facts, here_of, leg_in, next_in, seeking_of, stands_in, travels_in}
 use Rattle.control_laws.proofs.Exports.{AreKept, Behind, caused_known, fact_on, have_weaker, serving_hold}
 use Rattle.packet_laws.proofs.PacketsAllKept.{Before, kept_before, known_before, knows}
 use Rattle.packet_laws.proofs.PacketsAtRest.{IsWayItem, Past, switches_of_all}
 use Rattle.policy_rules.specs.Exports.{AmendmentLaws, IsPolicy, scan}
-use Rattle.policy_rules.proofs.CallerLemmas.{first_match-scan}
+use Rattle.policy_rules.proofs.PolicyRulesCallerLemmas.{first_match-scan}
 use Rattle.update_machine.proofs.Exports.{known_link_laws, last_given_append, versions_own}
 use Rattle.packet_laws.proofs.PacketCacheRules.{Grows, first_match_by_scan, grows}
 use Rattle.packet_laws.proofs.KeptPacketFacts.{IsDecidedNow, Knows, decided_now, stage_when, undecided_of}
@@ -21,15 +21,15 @@ use Rattle.packet_laws.proofs.PacketKnownRoutes.{route_way}
 
 -- it is at a target of its leg
 at_target : (setting : Setting) (journal : List Item) (i s : ℕ) (header : Header) (leg : Leg)
-    (targets : List ℕ) (way : IsOnWay setting journal (what_is_known journal i))
-    → IsAtEnd journal i s header leg → EndsAtTarget (what_is_known journal i).route targets
+    (targets : List ℕ) (way : IsPacketOnWay setting journal (packet_facts_of journal i))
+    → IsAtEnd journal i s header leg → PacketRouteEndsAtTarget (packet_facts_of journal i).route targets
     → IsTrue (list_any (nat_eq s) targets)
 at_target setting journal i s header leg targets way at ends =
     search (rules, last_here, next_in, some_same, stands_in)
 
 by_leg : (setting : Setting) (journal : List Item) (i s : ℕ) (header : Header) (leg : Leg)
-    (way : IsOnWay setting journal (what_is_known journal i)) → IsAtEnd journal i s header leg
-    → IsOnLeg setting journal (what_is_known journal i) header leg
+    (way : IsPacketOnWay setting journal (packet_facts_of journal i)) → IsAtEnd journal i s header leg
+    → IsPacketOnLeg setting journal (packet_facts_of journal i) header leg
     → LegEndsAt setting journal s header leg
 by_leg setting journal i s header (Seek version partition) way at on = record {
   hosted = on.hosted;
@@ -41,13 +41,13 @@ by_leg setting journal i s header (Seek version partition) way at on = record {
 by_leg setting journal i s header (Exit port) way at on = on.has_port ∙ ap Some (sym (one_target s
     on.owner (at_target setting journal i s header (Exit port) _ way at on.leads.ends)))
 
-pub packets_arrive : (setting : Setting) (journal : List Item) → AllKept setting journal
+pub packets_arrive : (setting : Setting) (journal : List Item) → AllPacketFactsKept setting journal
     → PacketsArrive setting journal
 packets_arrive setting journal kept i s header leg at =
-    let facts : PacketFacts = what_is_known journal i in
-    let way : IsOnWay setting journal facts =
+    let facts : PacketFacts = packet_facts_of journal i in
+    let way : IsPacketOnWay setting journal facts =
     (kept.packets i).on_way (travels_in journal i at.travelling) (inl at.arrives.moving) in
-    let own : way.under_way.header ≡ header = some_same (header_in journal i) way.under_way.header
+    let own : way.under_way.header ≡ header = some_same (journal_packet_header journal i) way.under_way.header
     header (header_in_facts journal i way.under_way.header way.under_way.entered) at.with_header in
     by_leg setting journal i s header leg way at
     (rw own at (rw (some_same _ way.leg leg way.takes (leg_in journal i _ at.takes)) at way.on_leg))
@@ -55,7 +55,7 @@ packets_arrive setting journal kept i s header leg at =
 -- ---- in a journal whose items have their causes the ends of packets do, and what fails
 
 pub ends_caused : (setting : Setting) (journal : List Item) → IsSetting setting
-    → HaveCauses (IsWayItem setting) [] journal → HaveCauses (HasCause setting) [] journal
+    → JournalItemsHaveCauses (IsWayItem setting) [] journal → JournalItemsHaveCauses (HasCause setting) [] journal
 ends_caused setting journal is have = have_weaker _ (HasCause setting)
     (λ before next behind. end_caused setting before next
     (λ i. knows setting before i (known_before setting is before next behind))
@@ -72,13 +72,13 @@ ends_caused setting journal is have = have_weaker _ (HasCause setting)
 pub record IsRightly (setting : Setting) (journal : List Item) (header : Header) (decision : Decision)
     : Type 0 where
   pub known : 1 ≤ decision.version
-  pub current : decision.version ≤ current_mark journal
+  pub current : decision.version ≤ journal_current_mark journal
   pub first_match : scan (policy_at setting journal decision.version) header ≡ hit_in decision
 
 -- of each packet, as long as it has a header and a decision
 abbrev pub AreRight : Setting → List Item → Type 0
 AreRight setting journal = (i : ℕ) (header : Header) (decision : Decision)
-    → header_in journal i ≡ Some header → decision_of journal i ≡ Some decision
+    → journal_packet_header journal i ≡ Some header → journal_decision_of journal i ≡ Some decision
     → IsRightly setting journal header decision
 
 rightly_on : (setting : Setting) (before after : List Item) (header : Header)
@@ -87,32 +87,32 @@ rightly_on : (setting : Setting) (before after : List Item) (header : Header)
 rightly_on setting before after header decision grow right = search rules
 
 header_more : (before : List Item) (next : Item) (i : ℕ)
-    → header_in (before ++ next ∷ []) i ≡ option_or (gives_header i next) (header_in before i)
-unfolding header_in
-header_more before next i = last_given_append (gives_header i) before (next ∷ [])
+    → journal_packet_header (before ++ next ∷ []) i ≡ option_or (item_gives_header i next) (journal_packet_header before i)
+unfolding journal_packet_header
+header_more before next i = last_given_append (item_gives_header i) before (next ∷ [])
 
-decision_more : (before : List Item) (next : Item) (i : ℕ) → decision_of (before ++ next ∷ []) i
-    ≡ option_or (gives_decision i next) (decision_of before i)
-unfolding decision_of
-decision_more before next i = last_given_append (gives_decision i) before (next ∷ [])
+decision_more : (before : List Item) (next : Item) (i : ℕ) → journal_decision_of (before ++ next ∷ []) i
+    ≡ option_or (item_gives_decision i next) (journal_decision_of before i)
+unfolding journal_decision_of
+decision_more before next i = last_given_append (item_gives_decision i) before (next ∷ [])
 
 -- what didn't enter is undecided
 new_undecided : (setting : Setting) (before : List Item) (packet : ℕ) (decision : Decision)
-    → Before setting before → decision_of before packet ≡ Some decision
-    → next_packet before ≤ packet → ⊥
-unfolding what_is_known
+    → Before setting before → journal_decision_of before packet ≡ Some decision
+    → journal_next_packet before ≤ packet → ⊥
+unfolding packet_facts_of
 new_undecided setting before packet decision known decided past = search rules
 
 decides_rightly : (setting : Setting) (before : List Item) (i version : ℕ) (rule : Option ℕ)
     (act : Action) (by : How) (header : Header) → Before setting before
-    → IsDecided setting before i version rule act by → header_in before i ≡ Some header
+    → IsPacketDecided setting before i version rule act by → journal_packet_header before i ≡ Some header
     → IsRightly setting before header (record { version = version; rule = rule; action = act })
-unfolding what_is_known
+unfolding packet_facts_of
 decides_rightly setting before i version rule act by header known way entered =
-    let knows_it : Knows setting before i (stage_of before i) = knows setting before i known in
+    let knows_it : Knows setting before i (packet_stage_of before i) = knows setting before i known in
     let s : ℕ = way.switch in
     let here : IsHere setting before i s =
-    here_of setting before i s (stage_of before i) known.is knows_it.have knows_it.kept way.at in
+    here_of setting before i s (packet_stage_of before i) known.is knows_it.have knows_it.kept way.at in
     let now = decided_now _ _ i s _ _ act by knows_it here (known.kept.cached s) way.by in record {
       known = omega (arith, now.rightly.not_retired);
       current = now.rightly.current;
@@ -121,17 +121,17 @@ decides_rightly setting before i version rule act by header known way entered =
     }
 
 right_next : (setting : Setting) (before : List Item) (next : Item) → Before setting before
-    → PacketCause setting before next → AreRight setting before
+    → HasPacketItemCause setting before next → AreRight setting before
     → (i : ℕ) (header : Header) (decision : Decision)
-    → option_or (gives_header i next) (header_in before i) ≡ Some header
-    → option_or (gives_decision i next) (decision_of before i) ≡ Some decision
+    → option_or (item_gives_header i next) (journal_packet_header before i) ≡ Some header
+    → option_or (item_gives_decision i next) (journal_decision_of before i) ≡ Some decision
     → IsRightly setting before header decision
 right_next setting before (Item.Entered packet s entering) known way are i header decision =
     by (packet == i) refl
   where
     by : (b : Bool) → (packet == i) ≡ b
-        → option_or (if b then Some entering else None) (header_in before i) ≡ Some header
-        → decision_of before i ≡ Some decision → IsRightly setting before header decision
+        → option_or (if b then Some entering else None) (journal_packet_header before i) ≡ Some header
+        → journal_decision_of before i ≡ Some decision → IsRightly setting before header decision
     by true same entered decided = absurd (new_undecided setting before i decision known decided
         (omega (arith, eqb-true packet i same, way.0.number)))
     by false other entered decided = are i header decision entered decided
@@ -141,8 +141,8 @@ right_next setting before (Item.Decided packet version rule act how) known way a
     new : Decision
     new = record { version = version; rule = rule; action = act }
 
-    by : (b : Bool) → (packet == i) ≡ b → header_in before i ≡ Some header
-        → option_or (if b then Some new else None) (decision_of before i) ≡ Some decision
+    by : (b : Bool) → (packet == i) ≡ b → journal_packet_header before i ≡ Some header
+        → option_or (if b then Some new else None) (journal_decision_of before i) ≡ Some decision
         → IsRightly setting before header decision
     by true same entered decided = subst (IsRightly setting before header) (cc decided)
         (decides_rightly _ _ _ _ rule act how _ known way (rw (eqb-true packet i same) entered))
@@ -150,7 +150,7 @@ right_next setting before (Item.Decided packet version rule act how) known way a
 right_next setting before next known way are i header decision = are i header decision
 
 right_kept : (setting : Setting) → IsSetting setting
-    → AreKept (Behind (Past (IsWayItem setting)) (AllKept setting)) (AreRight setting)
+    → AreKept (Behind (Past (IsWayItem setting)) (AllPacketFactsKept setting)) (AreRight setting)
 right_kept setting is before next behind are i header decision entered decided =
     let known : Before setting before = known_before setting is before next behind in
     let past : Past (IsWayItem setting) before next = behind.caused in
@@ -160,11 +160,11 @@ right_kept setting is before next behind are i header decision entered decided =
     (sym (header_more before next i) ∙ entered) (sym (decision_more before next i) ∙ decided))
 
 right_at_first : (setting : Setting) → AreRight setting []
-unfolding decision_of
+unfolding journal_decision_of
 right_at_first setting i header decision entered decided = absurd cc
 
 pub all_right : (setting : Setting) (journal : List Item) → IsSetting setting
-    → HaveCauses (IsWayItem setting) [] journal → AreRight setting journal
+    → JournalItemsHaveCauses (IsWayItem setting) [] journal → AreRight setting journal
 all_right setting journal is have = fact_on _ (AreRight setting) (right_kept setting is) [] journal
     (kept_before setting journal is have) (right_at_first setting)
 
@@ -178,8 +178,8 @@ own_policy setting journal version rows is = ap (λ o. unwrap_or o []) is
 -- ---- changes
 
 module _ (laws : AmendmentLaws) (setting : Setting) (journal : List Item) (is : IsSetting setting)
-    (have : HaveCauses (IsWayItem setting) [] journal) where
-  pub changes_leave : ChangesLeaveOthers setting journal
+    (have : JournalItemsHaveCauses (IsWayItem setting) [] journal) where
+  pub changes_leave : ChangesLeaveOtherPackets setting journal
   changes_leave version header leaves =
       let old : List Row = leaves.rows in
       let new : List Row = leaves.changed in
@@ -212,8 +212,8 @@ module _ (laws : AmendmentLaws) (setting : Setting) (journal : List Item) (is : 
 -- ---- strongly caused
 
 finds_link : (setting : Setting) (before : List Item) (i one two : ℕ)
-    → Knows setting before i (stage_of before i) → PacketMeetsDown setting before i one two
-    → FindsLinkDown setting before i one two
+    → Knows setting before i (packet_stage_of before i) → PacketMeetsDown setting before i one two
+    → PacketFindsLinkDown setting before i one two
 finds_link setting before i one two knows_it meets = record {
   finds = record {
     stands = stands_known setting before i one knows_it meets.at;
@@ -225,14 +225,14 @@ finds_link setting before i one two knows_it meets = record {
 
 -- a version that isn't held is below the stamp
 below_stamp : (setting : Setting) (before : List Item) (i s earlier part : ℕ)
-    → Knows setting before i (stage_of before i) → IsAt before i s → IsLookedUp before i s
-    → leg_of before i ≡ Some (Seek earlier part) → earlier < stamp_of before s
+    → Knows setting before i (packet_stage_of before i) → IsPacketAt before i s → IsPacketLookedUp before i s
+    → journal_leg_of before i ≡ Some (Seek earlier part) → earlier < journal_stamp_of before s
 below_stamp setting before i s earlier part knows_it at looked seeks = by_lookup looked where
   facts : PacketFacts
-  facts = what_is_known before i
+  facts = packet_facts_of before i
 
   here : IsHere setting before i s
-  here = here_of setting before i s (stage_of before i) knows_it.is knows_it.have knows_it.kept at
+  here = here_of setting before i s (packet_stage_of before i) knows_it.is knows_it.have knows_it.kept at
 
   there : s < length setting.net.switches
   there = subst (λ x. x < length setting.net.switches) (sym here.at) here.under.now
@@ -240,28 +240,28 @@ below_stamp setting before i s earlier part knows_it at looked seeks = by_lookup
   sought : facts.leg ≡ Some (Seek earlier part)
   sought = leg_in before i (Some (Seek earlier part)) seeks
 
-  by_held : IsTrue (holds_version before s earlier) ⊎ (earlier < stamp_of before s)
-      → IsFalse (holds_version before s earlier) → earlier < stamp_of before s
+  by_held : IsTrue (holds_version before s earlier) ⊎ (earlier < journal_stamp_of before s)
+      → IsFalse (holds_version before s earlier) → earlier < journal_stamp_of before s
   by_held (inl held) missing = absurd cc
   by_held (inr below) missing = below
 
-  by_lookup : IsLookedUp before i s → earlier < stamp_of before s
+  by_lookup : IsPacketLookedUp before i s → earlier < journal_stamp_of before s
   by_lookup (inl came) =
       let none : facts.leg ≡ None = (knows_it.kept.came_in here.travelling came).1 in
       let clash : None ≡ Some (Seek earlier part) = sym none ∙ sought in absurd cc
   by_lookup (inr misses) =
-      let on : IsOnLeg setting before facts here.under.header (Seek earlier part) = seeking_of _
+      let on : IsPacketOnLeg setting before facts here.under.header (Seek earlier part) = seeking_of _
       before facts _ earlier part (knows_it.kept.on_way here.travelling (inl misses.arrives.moving))
       here.under.entered sought in
-      let same = some_same (leg_of before i) _ (Seek earlier part) misses.seeks seeks in
+      let same = some_same (journal_leg_of before i) _ (Seek earlier part) misses.seeks seeks in
       let version_same : misses.version ≡ earlier = cc in
       by_held
       ((serving_hold setting before knows_it.have s there at.serving).held earlier on.current)
       (subst (λ v. IsFalse (holds_version before s v)) version_same misses.missing)
 
 raises_version : (setting : Setting) (before : List Item) (i s version partition : ℕ)
-    → Knows setting before i (stage_of before i) → IsAt before i s
-    → IsPacketRedirected setting before i s version partition → PacketRaisesVersion before i version
+    → Knows setting before i (packet_stage_of before i) → IsPacketAt before i s
+    → IsPacketRedirectedHere setting before i s version partition → PacketRaisesVersion before i version
 raises_version setting before i s version partition knows_it at takes earlier part seeks = omega (
   arith,
   below_stamp setting before i s earlier part knows_it at takes.looked_up seeks,
@@ -270,7 +270,7 @@ raises_version setting before i s version partition knows_it at takes earlier pa
 
 -- a version that is decided by, and isn't the one that is sought, is the stamp
 raises_unheld : (setting : Setting) (before : List Item) (i s version : ℕ)
-    → Knows setting before i (stage_of before i) → IsAt before i s
+    → Knows setting before i (packet_stage_of before i) → IsPacketAt before i s
     → WhenDecided before i s version → PacketRaisesUnheld before i version
 raises_unheld setting before i s version knows_it at when earlier part switch seeks stands missing =
     by_when when
@@ -282,7 +282,7 @@ raises_unheld setting before i s version knows_it at when earlier part switch se
       looked.1,
     )
     by_when (inr reaches) =
-        let same : Seek version reaches.partition ≡ Seek earlier part = some_same (leg_of before i)
+        let same : Seek version reaches.partition ≡ Seek earlier part = some_same (journal_leg_of before i)
         (Seek version reaches.partition) (Seek earlier part) reaches.seeks seeks in
         let version_same : version ≡ earlier = cc in
         let switch_same : s ≡ switch = some_same _ s _ (stands_known _ _ i s knows_it at) stands in
@@ -292,8 +292,8 @@ raises_unheld setting before i s version knows_it at when earlier part switch se
         absurd cc
 
 raises_on_leg : (setting : Setting) (before : List Item) (i s : ℕ) (leg : Leg)
-    → Knows setting before i (stage_of before i) → IsAt before i s
-    → TakesLeg setting before i s leg ⊎ IsBlockedOn before i leg → RaisesOnLeg before i leg
+    → Knows setting before i (packet_stage_of before i) → IsPacketAt before i s
+    → PacketTakesLeg setting before i s leg ⊎ IsPacketBlockedOn before i leg → PacketRaisesOnLeg before i leg
 raises_on_leg setting before i s (Exit port) knows_it at on = tt
 raises_on_leg setting before i s (Seek version partition) knows_it at (inl takes) =
     λ apart. raises_version setting before i s version partition knows_it at takes
@@ -301,9 +301,9 @@ raises_on_leg setting before i s (Seek version partition) knows_it at (inr block
     λ apart. absurd (apart blocked.blocked)
 
 stuck_on_leg : (setting : Setting) (before : List Item) (i s : ℕ) (cause : Cause) (leg : Leg)
-    (down : List ℕ) → Knows setting before i (stage_of before i)
-    → FindsNoRoute setting before i s cause leg down
-    → IsStuckOnLeg setting before i s cause leg down
+    (down : List ℕ) → Knows setting before i (packet_stage_of before i)
+    → PacketFindsNoRoute setting before i s cause leg down
+    → IsPacketStuckOnLeg setting before i s cause leg down
 stuck_on_leg setting before i s cause leg down knows_it finds = record {
   stuck = stuck_rightly setting before i s cause leg down knows_it finds;
   found = finds.found;
@@ -315,23 +315,23 @@ stuck_on_leg setting before i s cause leg down knows_it finds = record {
   here : IsHere setting before i s
   here = here_of setting before i s _ knows_it.is knows_it.have knows_it.kept finds.at
 
-  by_leg : (leg : Leg) → TakesLeg setting before i s leg ⊎ IsBlockedOn before i leg
-      → IsOnRightLeg before i leg
+  by_leg : (leg : Leg) → PacketTakesLeg setting before i s leg ⊎ IsPacketBlockedOn before i leg
+      → IsPacketOnRightLeg before i leg
   by_leg (Seek version partition) on = seeks_rightly setting before i s version _ knows_it here on
   by_leg (Exit port) on = tt
 
 decided_rightly : (setting : Setting) (before : List Item) (i version : ℕ) (rule : Option ℕ)
-    (act : Action) (by : How) → Before setting before → IsDecided setting before i version rule act by
+    (act : Action) (by : How) → Before setting before → IsPacketDecided setting before i version rule act by
     → PacketSeeksRightly before i version × PacketRaisesUnheld before i version
 decided_rightly setting before i version rule act by known way =
-    let knows_it : Knows setting before i (stage_of before i) = knows setting before i known in
+    let knows_it : Knows setting before i (packet_stage_of before i) = knows setting before i known in
     let s : ℕ = way.switch in
     let here : IsHere setting before i s =
-    here_of setting before i s (stage_of before i) known.is knows_it.have knows_it.kept way.at in
+    here_of setting before i s (packet_stage_of before i) known.is knows_it.have knows_it.kept way.at in
     let now : IsDecidedNow setting before i s version rule act here.under.header =
     decided_now setting before i s version rule act by knows_it here (known.kept.cached s) way.by in (
       record {
-        undecided = decision_out before i None (undecided_of setting before i s (stage_of before i)
+        undecided = decision_out before i None (undecided_of setting before i s (packet_stage_of before i)
             knows_it.kept here (stage_when before i s version now.when));
         not_retired = subst (λ m. m < version) (mark_in before i) now.rightly.not_retired;
         current = now.rightly.current;
@@ -340,11 +340,11 @@ decided_rightly setting before i version rule act by known way =
     )
 
 least_route : (setting : Setting) (before : List Item) (i s : ℕ) (leg : Leg) (route : List ℕ)
-    → Knows setting before i (stage_of before i) → IsAt before i s
-    → packet_route_for setting before i s leg ≡ Some route → IsLeastRoute setting before i leg route
+    → Knows setting before i (packet_stage_of before i) → IsPacketAt before i s
+    → journal_packet_route setting before i s leg ≡ Some route → IsLeastPacketRoute setting before i leg route
 least_route setting before i s leg route knows_it at leads =
     let targets = targets_of setting before leg in
-    let down = found_down before i in record {
+    let down = journal_found_down before i in record {
       switch = s;
       stands = stands_known setting before i s knows_it at;
       least = rw leads at (known_link_laws.route setting before s targets down);
@@ -352,7 +352,7 @@ least_route setting before i s leg route knows_it at leads =
     }
 
 further : (setting : Setting) (before : List Item) (next : Item) → Before setting before
-    → HasItemCause setting before next → PacketCause setting before next
+    → HasControlItemCause setting before next → HasPacketItemCause setting before next
     → FurtherCause setting before next
 further setting before (Item.Submitted file version) known cause way = cause
 further setting before (Item.Retired version) known cause way = cause
@@ -381,7 +381,7 @@ further setting before (Item.Stuck packet switch why leg down) known cause way =
 further setting before next known cause way = tt
 
 pub strongly_caused : (setting : Setting) (journal : List Item) → IsSetting setting
-    → HaveCauses (IsWayItem setting) [] journal → HaveCauses (StrongCause setting) [] journal
+    → JournalItemsHaveCauses (IsWayItem setting) [] journal → JournalItemsHaveCauses (StrongCause setting) [] journal
 strongly_caused setting journal is have = have_weaker _ (StrongCause setting)
     (λ before next behind. (
       behind.caused.caused.way,

@@ -1,11 +1,11 @@
 -- Between steps all packets rest: on their way, at switches that serve. So all items of packets
 -- have their causes.
 use Rattle.std.proofs.Common.{[], ◌++◌, ◌+◌, ◌<◌, ◌==◌, ◌∙◌, ◌∷◌, ◌≡◌, ◌≢◌, ◌⊎◌, All, IsTrue, List, None, Option, Some, ap, arith, drop, eq-eqb, false, get_or, inl, inr, length, ne_eqb, refl, subst, suc, sym, take, take-append-drop, unwrap_or, ℕ, rules}
-use Rattle.update_machine.specs.Exports.{AreSteps, BeginsAnswer, Crash, Event, Found, HaveCauses, Header, Hop, IsPlay, IsReached, IsSetting, Item, Lose, Packet, Setting, Step, StepOfRow, journal_after_steps, authority_rule, packet_header_at, header_in, lookup_at, next_packet, packet_items, piece, serves, stamp_of, step_items, travels}
+use Rattle.update_machine.specs.Exports.{AreMachineSteps, JournalBeginsAnswer, Crash, Event, Found, JournalItemsHaveCauses, Header, Hop, IsMachinePlay, IsJournalReached, IsSetting, Item, Lose, Packet, Setting, Step, StepOfRow, journal_after_steps, journal_authority_rule, journal_packet_header_at, journal_packet_header, lookup_at, journal_next_packet, packet_items, piece, serves, journal_stamp_of, step_items, travels}
 use Rattle.update_machine.proofs.Exports.{AreOf, HasNexts, IsEventOf, answers_so_far, begins_itself, event_steps_are, first_steps_are, have_append, last_given_append, packet_keeps, stop_begins}
-use Rattle.control_laws.specs.Exports.{AreNetworkEvents, HasItemCause, HoldsReached}
+use Rattle.control_laws.specs.Exports.{AreNetworkEvents, HasControlItemCause, HoldsReached}
 use Rattle.control_laws.proofs.Exports.{HasLinkCause, IsCarried, IsTraffic, NamesOwn, OfSettings, Traffic, behind_piece, carried_on, caused_known, fact_on, has_nexts, have_both, have_weaker, own_event, packet_has, pieces_caused, pieces_have, reached_by, reached_carries, serving_known, serving_more, setting_carries, so_far_carries, step_traffic}
-use Rattle.packet_laws.specs.Exports.{AreResting, AreServed, HoldsBetween, IsPacketMoving, PacketCause, stage_of, packet_steps_played}
+use Rattle.packet_laws.specs.Exports.{ArePacketsResting, ArePacketsServed, HoldsBetween, IsPacketMoving, HasPacketItemCause, packet_stage_of, packet_steps_played}
 use Rattle.base.proofs.Exports.{⊤, cases_eq}
 use Rattle.five_tuple.specs.Exports.{IsHeader}
 use Rattle.packet_laws.proofs.PacketsServed.{AreNumbered, HaveLegs, IsCausedUp, NotDown, crash_served, legs_kept, numbered_kept, served_kept}
@@ -21,7 +21,7 @@ are_front Is (x ∷ xs) ys are = (are.0, are_front Is xs ys are.1)
 
 all_steps_are : (Is : Step → Type 0) → HasNexts Is → (setting : Setting) (row : ℕ)
     (events : List Event) (before : List Item) (steps : List StepOfRow)
-    → All (IsEventOf Is) events → AreSteps setting row events before steps → AreOf Is steps
+    → All (IsEventOf Is) events → AreMachineSteps setting row events before steps → AreOf Is steps
 all_steps_are Is has setting row [] before steps is are = subst (AreOf Is) (sym are) tt
 all_steps_are Is has setting row (event ∷ events) before steps is are = subst (AreOf Is)
     (sym are.2.split) (onto are.0 (event_steps_are Is has setting row event before are.0
@@ -37,7 +37,7 @@ own_events : (setting : Setting) (events : List Event) → AreNetworkEvents sett
 own_events setting events own = λ k d within. own_event setting (get_or events k d) (own k d within)
 
 play_steps_are : (setting : Setting) (events : List Event) (journal : List Item)
-    (full : Option ℕ) → AreNetworkEvents setting events → (play : IsPlay setting events journal full)
+    (full : Option ℕ) → AreNetworkEvents setting events → (play : IsMachinePlay setting events journal full)
     → AreOf (NamesOwn setting) (packet_steps_played setting events journal full play)
 play_steps_are setting events journal None own play =
     all_steps_are (NamesOwn setting) (has_nexts setting) setting 1 events [] play.answers.steps
@@ -48,7 +48,7 @@ play_steps_are setting events journal (Some row) own play = are_front (NamesOwn 
 
 pub played_carries : (setting : Setting) (Fact : List Item → Type 0) → IsCarried setting Fact
     → (events : List Event) (journal : List Item) (full : Option ℕ) → AreNetworkEvents setting events
-    → (play : IsPlay setting events journal full) (n : ℕ)
+    → (play : IsMachinePlay setting events journal full) (n : ℕ)
     → Fact (journal_after_steps setting [] (take n (packet_steps_played setting events journal full play)))
 played_carries setting Fact carried events journal full own play n =
     let steps = packet_steps_played setting events journal full play in
@@ -59,7 +59,7 @@ played_carries setting Fact carried events journal full own play n =
 
 -- a play begins an answer
 pub play_begins : (setting : Setting) (events : List Event) (journal : List Item)
-    (full : Option ℕ) → IsPlay setting events journal full → BeginsAnswer setting events journal
+    (full : Option ℕ) → IsMachinePlay setting events journal full → JournalBeginsAnswer setting events journal
 play_begins setting events journal None play =
     begins_itself setting events journal (answers_so_far setting events journal play.answers)
 play_begins setting events journal (Some row) play = stop_begins setting events journal row play
@@ -72,11 +72,11 @@ play_begins setting events journal (Some row) play = stop_begins setting events 
 pub record Past (cause : List Item → Item → Type 0) (before : List Item) (next : Item)
     : Type 0 where
   pub caused : cause before next
-  pub past : HaveCauses cause [] before
+  pub past : JournalItemsHaveCauses cause [] before
 
 pub with_past : (cause : List Item → Item → Type 0) (before items : List Item)
-    → HaveCauses cause [] before → HaveCauses cause before items
-    → HaveCauses (Past cause) before items
+    → JournalItemsHaveCauses cause [] before → JournalItemsHaveCauses cause before items
+    → JournalItemsHaveCauses (Past cause) before items
 with_past cause before [] past have = tt
 with_past cause before (next ∷ items) past have = (
   record { caused = have.0; past = past },
@@ -92,43 +92,43 @@ IsAsked setting before _ = ⊤
 
 -- the causes of an item of a network that is asked for steps of its own
 pub record IsWayItem (setting : Setting) (before : List Item) (next : Item) : Type 0 where
-  pub switches : HasItemCause setting before next
-  pub way : PacketCause setting before next
+  pub switches : HasControlItemCause setting before next
+  pub way : HasPacketItemCause setting before next
   pub links : HasLinkCause setting before next
   pub asked : IsAsked setting before next
 
 pub record IsSettled (setting : Setting) (journal : List Item) : Type 0 where
-  pub causes : HaveCauses (IsWayItem setting) [] journal
-  pub rests : AreResting journal
+  pub causes : JournalItemsHaveCauses (IsWayItem setting) [] journal
+  pub rests : ArePacketsResting journal
 
 pub switches_of_all : (setting : Setting) (before items : List Item)
-    → HaveCauses (IsWayItem setting) before items → HaveCauses (HasItemCause setting) before items
+    → JournalItemsHaveCauses (IsWayItem setting) before items → JournalItemsHaveCauses (HasControlItemCause setting) before items
 switches_of_all setting before items have = search (rules, have_weaker)
 
 pub ways_of_all : (setting : Setting) (before items : List Item)
-    → HaveCauses (IsWayItem setting) before items → HaveCauses (PacketCause setting) before items
+    → JournalItemsHaveCauses (IsWayItem setting) before items → JournalItemsHaveCauses (HasPacketItemCause setting) before items
 ways_of_all setting before items have = search (rules, have_weaker)
 
-pub numbered : (setting : Setting) (journal : List Item) → HaveCauses (PacketCause setting) [] journal
+pub numbered : (setting : Setting) (journal : List Item) → JournalItemsHaveCauses (HasPacketItemCause setting) [] journal
     → AreNumbered journal
 unfolding travels
 numbered setting journal have = fact_on _ _ (numbered_kept _) [] _ have (λ i travelling. absurd cc)
 
-have_legs : (setting : Setting) (journal : List Item) → HaveCauses (IsWayItem setting) [] journal
+have_legs : (setting : Setting) (journal : List Item) → JournalItemsHaveCauses (IsWayItem setting) [] journal
     → HaveLegs journal
-unfolding stage_of
-have_legs setting journal have = fact_on (PacketCause setting) HaveLegs (legs_kept setting) []
+unfolding packet_stage_of
+have_legs setting journal have = fact_on (HasPacketItemCause setting) HaveLegs (legs_kept setting) []
     journal (ways_of_all setting [] journal have) (λ i moving. absurd cc)
 
 -- ---- items behind which packets are served
 
 -- items of which none is of a switch that goes down
 served_on : (setting : Setting) (before items : List Item)
-    → HaveCauses (HasItemCause setting) [] before → HaveCauses (HasItemCause setting) before items
-    → HaveCauses (PacketCause setting) before items
-    → HaveCauses (λ js next. NotDown next) before items → AreServed before
-    → AreServed (before ++ items)
-served_on setting before items past switches ways up served = fact_on (IsCausedUp setting) AreServed
+    → JournalItemsHaveCauses (HasControlItemCause setting) [] before → JournalItemsHaveCauses (HasControlItemCause setting) before items
+    → JournalItemsHaveCauses (HasPacketItemCause setting) before items
+    → JournalItemsHaveCauses (λ js next. NotDown next) before items → ArePacketsServed before
+    → ArePacketsServed (before ++ items)
+served_on setting before items past switches ways up served = fact_on (IsCausedUp setting) ArePacketsServed
     (served_kept setting) before items (have_weaker _ (IsCausedUp setting) (λ js next both. record {
       caused = record {
         switches = both.first.caused;
@@ -152,7 +152,7 @@ aside_up before _ aside = tt
 
 -- the number of the packet that the step brings in or on
 abbrev pub packet_of : List Item → Step → Option ℕ
-packet_of before (Packet s header) = Some (next_packet before)
+packet_of before (Packet s header) = Some (journal_next_packet before)
 packet_of before (Hop i) = Some i
 packet_of before _ = None
 
@@ -168,7 +168,7 @@ IsApart j before step = (i : ℕ) → packet_of before step ≡ Some i → (i ==
 -- it spares all others
 others_spare : (setting : Setting) (j : ℕ) (before : List Item) (row : ℕ) (step : Step)
     → BringsNoPacket step → IsApart j before step → let here = before ++ Item.Row row step ∷ [] in
-    HaveCauses (SparesAll j) here (step_items setting before step here)
+    JournalItemsHaveCauses (SparesAll j) here (step_items setting before step here)
 others_spare setting j before row (Packet s header) none apart = absurd none
 others_spare setting j before row (Hop i) none apart = hop_spares setting j i _ (apart i refl)
 others_spare setting j before row (Lose i) none apart = lose_spares j i _
@@ -178,9 +178,9 @@ others_spare setting j before row step none apart =
 
 step_spares : (setting : Setting) (j : ℕ) (before : List Item) (row : ℕ) (step : Step)
     → IsApart j before step → let here = before ++ Item.Row row step ∷ [] in
-    HaveCauses (Spares j) here (step_items setting before step here)
+    JournalItemsHaveCauses (Spares j) here (step_items setting before step here)
 step_spares setting j before row (Packet s header) apart =
-    packet_spares setting j (next_packet before) s header _ (apart (next_packet before) refl)
+    packet_spares setting j (journal_next_packet before) s header _ (apart (journal_next_packet before) refl)
 step_spares setting j before row step apart =
     spare j _ _ (others_spare setting j before row step tt apart)
 
@@ -192,14 +192,14 @@ another before step i is = search (rules, ne_eqb)
 -- behind its row a step begins no other
 pub no_rows : (setting : Setting) (before : List Item) (row : ℕ) (step : Step)
     → let here = before ++ Item.Row row step ∷ [] in
-    HaveCauses (λ js next. IsNoRow next) here (step_items setting before step here)
+    JournalItemsHaveCauses (λ js next. IsNoRow next) here (step_items setting before step here)
 no_rows setting before row step = have_weaker _ (λ js next. IsNoRow next)
     (λ js next spares. spares.1) _ _ (step_spares setting _ before row step (another before step))
 
 -- and only by that of a packet row one enters or is closed
 pub no_entries : (setting : Setting) (before : List Item) (row : ℕ) (step : Step)
     → BringsNoPacket step → let here = before ++ Item.Row row step ∷ [] in
-    HaveCauses (λ js next. IsInStep next) here (step_items setting before step here)
+    JournalItemsHaveCauses (λ js next. IsInStep next) here (step_items setting before step here)
 no_entries setting before row step none = in_step _ _ _ (others_spare _ _ _ _ _ none (another _ _))
 
 no_row_asked : (setting : Setting) (before : List Item) (next : Item) → IsNoRow next
@@ -209,8 +209,8 @@ no_row_asked setting before next none = search rules
 -- ---- the causes of a piece
 
 pub piece_causes : (setting : Setting) (before : List Item) (row : ℕ) (step : Step)
-    → NamesOwn setting step → AreResting before
-    → HaveCauses (IsWayItem setting) before (piece setting before row step)
+    → NamesOwn setting step → ArePacketsResting before
+    → JournalItemsHaveCauses (IsWayItem setting) before (piece setting before row step)
 unfolding piece
 piece_causes setting before row step own rests =
     let switches = pieces_have setting before row step in
@@ -230,57 +230,57 @@ piece_causes setting before row step own rests =
 -- ---- packets that enter
 
 header_now : (journal : List Item) (i s : ℕ) (header : Header)
-    → header_in (journal ++ Item.Entered i s header ∷ []) i ≡ Some header
-unfolding header_in
+    → journal_packet_header (journal ++ Item.Entered i s header ∷ []) i ≡ Some header
+unfolding journal_packet_header
 header_now journal i s header = rw (last_given_append, eq-eqb) refl
 
 -- the rules of its lookup are there
 rules_there : (setting : Setting) (journal : List Item) (i s : ℕ) (header : Header)
-    → IsSetting setting → HaveCauses (HasItemCause setting) [] journal
+    → IsSetting setting → JournalItemsHaveCauses (HasControlItemCause setting) [] journal
     → s < length setting.net.switches → IsHeader header → IsTrue (serves journal s)
     → (partition place : ℕ) → let entered = journal ++ Item.Entered i s header ∷ [] in
-    lookup_at setting entered s (packet_header_at entered i) ≡ Found.Authority partition place
-    → authority_rule setting entered (stamp_of entered s) partition place ≡ None → ⊥
+    lookup_at setting entered s (journal_packet_header_at entered i) ≡ Found.Authority partition place
+    → journal_authority_rule setting entered (journal_stamp_of entered s) partition place ≡ None → ⊥
 rules_there setting journal i s header is have there sound serving partition place answer none =
     let next : Item = Item.Entered i s header in
     let entered : List Item = journal ++ next ∷ [] in
     let finds : FindsRule setting entered s header partition place = authority_found setting entered
-    s header partition place (stamped setting entered s is (have_append (HasItemCause setting) []
+    s header partition place (stamped setting entered s is (have_append (HasControlItemCause setting) []
     journal (next ∷ []) have (tt, tt)) there (rw (serving_more journal next s) serving)) sound
     (ap (lookup_at setting entered s) (sym (rw (header_now journal i s header) refl)) ∙ answer) in
     let clash : Some _ ≡ None = sym (rule_there setting entered header finds.part.hosted
-    (stamp_of entered s) partition finds.part.finds finds.part.number)
-    ∙ ap (authority_rule setting entered (stamp_of entered s) partition) finds.found_at ∙ none in
+    (journal_stamp_of entered s) partition finds.part.finds finds.part.number)
+    ∙ ap (journal_authority_rule setting entered (journal_stamp_of entered s) partition) finds.found_at ∙ none in
     cc
 
 -- ---- behind a step
 
 step_served : (setting : Setting) (before : List Item) (row : ℕ) (step : Step)
     → IsSettled setting before → let here = before ++ Item.Row row step ∷ [] in
-    AreServed (here ++ step_items setting before step here)
+    ArePacketsServed (here ++ step_items setting before step here)
 unfolding piece
 step_served setting before row step settled = by_kind step where
-  past : (step : Step) → HaveCauses (HasItemCause setting) [] (before ++ Item.Row row step ∷ [])
+  past : (step : Step) → JournalItemsHaveCauses (HasControlItemCause setting) [] (before ++ Item.Row row step ∷ [])
   past step = have_append _ [] before _ (switches_of_all setting [] before settled.causes) (tt, tt)
 
   up_served : (step : Step) → let here = before ++ Item.Row row step ∷ [] in
-      HaveCauses (λ js next. NotDown next) here (step_items setting before step here)
-      → AreServed (here ++ step_items setting before step here)
+      JournalItemsHaveCauses (λ js next. NotDown next) here (step_items setting before step here)
+      → ArePacketsServed (here ++ step_items setting before step here)
   up_served step up = served_on setting _ _ (past step) (pieces_have setting before row step).1
       (piece_ways setting _ row step settled.rests).1 up (row_rests _ row step settled.rests).served
 
   aside_served : (step : Step) → let here = before ++ Item.Row row step ∷ [] in
       AreAside here (step_items setting before step here)
-      → AreServed (here ++ step_items setting before step here)
+      → ArePacketsServed (here ++ step_items setting before step here)
   aside_served step aside = up_served step (have_weaker IsAside _ aside_up _ _ aside)
 
   traffic_served : (step : Step) → let here = before ++ Item.Row row step ∷ [] in
       Traffic setting here (step_items setting before step here)
-      → AreServed (here ++ step_items setting before step here)
+      → ArePacketsServed (here ++ step_items setting before step here)
   traffic_served step traffic = up_served step (have_weaker _ _ (traffic_up setting) _ _ traffic)
 
   by_kind : (step : Step) → let here = before ++ Item.Row row step ∷ [] in
-      AreServed (here ++ step_items setting before step here)
+      ArePacketsServed (here ++ step_items setting before step here)
   by_kind (Packet s header) = up_served _ (packet_has _ _ (traffic_up setting) _ s header _ tt)
   by_kind (Hop i) = traffic_served (Hop i) (step_traffic setting before (Hop i) _ tt)
   by_kind (Lose i) = traffic_served (Lose i) (step_traffic setting before (Lose i) _ tt)
@@ -304,9 +304,9 @@ step_moving setting before row step is own settled j = by_kind step own where
   other step apart = spared j _ _ (step_spares setting j before row step apart) (resting step)
 
   by_packet : (s : ℕ) (header : Header) → s < length setting.net.switches → IsHeader header
-      → (next_packet before ≡ j) ⊎ (next_packet before ≢ j)
+      → (journal_next_packet before ≡ j) ⊎ (journal_next_packet before ≢ j)
       → let here = before ++ Item.Row row (Packet s header) ∷ [] in
-      IsPacketMoving (here ++ packet_items setting (next_packet before) s header here) j
+      IsPacketMoving (here ++ packet_items setting (journal_next_packet before) s header here) j
   by_packet s header there sound (inl same) =
       let here : List Item = before ++ Item.Row row (Packet s header) ∷ [] in
       subst (λ k. IsPacketMoving (here ++ packet_items setting k s header here) j) (sym same)
@@ -328,7 +328,7 @@ step_moving setting before row step is own settled j = by_kind step own where
 
   by_kind : (step : Step) → NamesOwn setting step → let here = before ++ Item.Row row step ∷ [] in
       IsPacketMoving (here ++ step_items setting before step here) j
-  by_kind (Packet s header) own = by_packet s header own.0 own.1 (cases_eq (next_packet before) j)
+  by_kind (Packet s header) own = by_packet s header own.0 own.1 (cases_eq (journal_next_packet before) j)
   by_kind (Hop i) own = by_hop i (cases_eq i j)
   by_kind step own = other step (λ k e. absurd cc)
 
@@ -337,7 +337,7 @@ pub piece_settled : (setting : Setting) (before : List Item) (row : ℕ) (step :
     → IsSettled setting (before ++ piece setting before row step)
 piece_settled setting before row step is own settled = record {
   causes = have_append _ [] _ _ settled.causes (piece_causes _ before row step own settled.rests);
-  rests = behind_piece setting before row step AreResting (record {
+  rests = behind_piece setting before row step ArePacketsResting (record {
     served = step_served setting before row step settled;
     moving = step_moving setting before row step is own settled;
   });
@@ -353,7 +353,7 @@ settled_carried : (setting : Setting) → IsCarried setting (OfSettings IsSettle
 settled_carried = setting_carries IsSettled settled_at_first piece_settled
 
 pub reached_settled : (setting : Setting) (journal : List Item) → IsSetting setting
-    → IsReached setting journal → IsSettled setting journal
+    → IsJournalReached setting journal → IsSettled setting journal
 reached_settled setting journal is reached = reached_carries _ _ (settled_carried _) _ reached is
 
 -- ---- laws
@@ -376,6 +376,6 @@ between Holds settled = record {
 
 -- what follows from the causes of all items is true of each reached journal, within a step too
 pub reached : (Holds : Setting → List Item → Type 0) → ((setting : Setting) (journal : List Item)
-    → IsSetting setting → HaveCauses (IsWayItem setting) [] journal → Holds setting journal)
+    → IsSetting setting → JournalItemsHaveCauses (IsWayItem setting) [] journal → Holds setting journal)
     → HoldsReached (λ setting journal. IsSetting setting → Holds setting journal)
 reached Holds = reached_by _ Holds _ settled_carried (λ setting journal settled. settled.causes)

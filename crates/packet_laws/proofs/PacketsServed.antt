@@ -3,27 +3,27 @@
 use Rattle.std.proofs.Common.{[], ◌++◌, ◌+◌, ◌<◌, ◌==◌, ◌∙◌, ◌∷◌, ◌≡◌, ◌≤◌, ◌⊎◌, Bool, IsFalse, IsTrue, List, None, Some, append-nil, append_assoc, arith, eqb-true, false, if◌then◌else◌, inl, inr, map, refl, subst, sym, true, ℕ, rules}
 use Rattle.base.proofs.Exports.{⊤, list_any, nat_tests}
 use Rattle.base.specs.Exports.{has}
-use Rattle.update_machine.specs.Exports.{Exit, Item, Leg, Message, Seek, Setting, changes_leg, count_of, crash_items, exit_port, gives_serving, gives_standing, gives_travelling, is_packet, is_up, journal_items_then, leg_of, link_changes, next_message, next_packet, nothing, packets_at, sent_from, serves, standing, travels}
+use Rattle.update_machine.specs.Exports.{Exit, Item, Leg, Message, Seek, Setting, changes_journal_leg, count_of, journal_crash_items, journal_exit_port, item_gives_serving, item_gives_standing, item_gives_travelling, is_packet, is_up, journal_items_then, journal_leg_of, journal_link_changes, journal_next_message, journal_next_packet, nothing, journal_packets_at, machine_sent_items_from, serves, standing, travels}
 use Rattle.update_machine.proofs.Exports.{count_of_append, folded_append}
-use Rattle.control_laws.specs.Exports.{HasItemCause, ServingIsKnown}
+use Rattle.control_laws.specs.Exports.{HasControlItemCause, ServingIsKnown}
 use Rattle.control_laws.proofs.Exports.{AreKept, any_picked, ends_serve, losts_keep, serving_more}
-use Rattle.packet_laws.specs.Exports.{AreServed, Blocked, CameIn, IsServed, Judged, OnWay, PacketCause, Stage, gives_stage, stage_of}
+use Rattle.packet_laws.specs.Exports.{ArePacketsServed, Blocked, CameIn, IsPacketServed, Judged, OnWay, HasPacketItemCause, PacketStage, gives_packet_stage, packet_stage_of}
 use Rattle.packet_laws.proofs.PacketsSpared.{ends_or_not}
 use Rattle.packet_laws.proofs.PacketBlocks.{ended, stage_next, standing_more, travels_more}
 
 -- ---- what one more item makes of facts
 
 pub packet_more : (before : List Item) (next : Item)
-    → next_packet (before ++ next ∷ []) ≡ next_packet before + count_of is_packet (next ∷ [])
-unfolding next_packet
+    → journal_next_packet (before ++ next ∷ []) ≡ journal_next_packet before + count_of is_packet (next ∷ [])
+unfolding journal_next_packet
 packet_more before next = rw (count_of_append is_packet before (next ∷ [])) (omega arith)
 
 -- ---- served packets
 
 -- the causes of items of switches and of packets
 pub record IsCaused (setting : Setting) (before : List Item) (next : Item) : Type 0 where
-  pub switches : HasItemCause setting before next
-  pub way : PacketCause setting before next
+  pub switches : HasControlItemCause setting before next
+  pub way : HasPacketItemCause setting before next
   pub known : ServingIsKnown before
 
 abbrev pub NotDown : Item → Type 0
@@ -31,15 +31,15 @@ NotDown (Item.Down s) = ⊥
 NotDown _ = ⊤
 
 -- an item that brings no packet to another switch, behind which its own serves as before
-pub stays_served : (before : List Item) (next : Item) (i : ℕ) → gives_standing i next ≡ None
-    → (gives_travelling i next ≡ None) ⊎ (gives_travelling i next ≡ Some false)
+pub stays_served : (before : List Item) (next : Item) (i : ℕ) → item_gives_standing i next ≡ None
+    → (item_gives_travelling i next ≡ None) ⊎ (item_gives_travelling i next ≡ Some false)
     → ((s : ℕ) → IsTrue (serves before s) → IsTrue (serves (before ++ next ∷ []) s))
-    → (IsTrue (travels before i) → IsServed before i)
-    → IsTrue (travels (before ++ next ∷ []) i) → IsServed (before ++ next ∷ []) i
+    → (IsTrue (travels before i) → IsPacketServed before i)
+    → IsTrue (travels (before ++ next ∷ []) i) → IsPacketServed (before ++ next ∷ []) i
 stays_served before next i stays h4 on served travelling =
     search (rules, travels_more, standing_more)
 
-pub still_serves : (before : List Item) (next : Item) (s : ℕ) → gives_serving s next ≡ None
+pub still_serves : (before : List Item) (next : Item) (s : ℕ) → item_gives_serving s next ≡ None
     → IsTrue (serves before s) → IsTrue (serves (before ++ next ∷ []) s)
 still_serves before next s none serving = rw (serving_more before next s, none) serving
 
@@ -49,15 +49,15 @@ pub record IsCausedUp (setting : Setting) (before : List Item) (next : Item) : T
 
 -- an item that brings a packet to a switch that serves
 brought_served : (before : List Item) (next : Item) (packet s i : ℕ)
-    → ((t : ℕ) → gives_serving t next ≡ None)
-    → gives_standing i next ≡ (if packet == i then Some s else None)
-    → ((packet == i) ≡ false → gives_travelling i next ≡ None) → AreServed before
+    → ((t : ℕ) → item_gives_serving t next ≡ None)
+    → item_gives_standing i next ≡ (if packet == i then Some s else None)
+    → ((packet == i) ≡ false → item_gives_travelling i next ≡ None) → ArePacketsServed before
     → IsTrue (serves before s) → IsTrue (travels (before ++ next ∷ []) i)
-    → IsServed (before ++ next ∷ []) i
+    → IsPacketServed (before ++ next ∷ []) i
 brought_served before next packet s i silent stands moves served serving travelling =
     by_same (packet == i) refl
   where
-    by_same : (b : Bool) → (packet == i) ≡ b → IsServed (before ++ next ∷ []) i
+    by_same : (b : Bool) → (packet == i) ≡ b → IsPacketServed (before ++ next ∷ []) i
     by_same true e = record {
       switch = s;
       stands = rw (standing_more before next i, stands, e) refl;
@@ -79,7 +79,7 @@ opened_serves : (before : List Item) (switch version s : ℕ) → IsTrue (serves
     → IsTrue (serves (before ++ Item.Opened switch version ∷ []) s)
 opened_serves before switch version s serving = grind (arith, serving_more, serving)
 
-pub served_kept : (setting : Setting) → AreKept (IsCausedUp setting) AreServed
+pub served_kept : (setting : Setting) → AreKept (IsCausedUp setting) ArePacketsServed
 served_kept setting before (Item.Entered packet s header) is served i travelling = brought_served _
     _ packet s i (λ t. refl) refl (λ e. rw e refl) served is.caused.way.1 travelling
 served_kept setting before (Item.Hopped packet s) is served i travelling = brought_served _ _ _ s i
@@ -103,35 +103,35 @@ served_kept setting before next is served i travelling = search (rules, stays_se
 
 -- a packet that travels has a number that was given
 abbrev pub AreNumbered : List Item → Type 0
-AreNumbered journal = (i : ℕ) → IsTrue (travels journal i) → (1 ≤ i) × (i < next_packet journal)
+AreNumbered journal = (i : ℕ) → IsTrue (travels journal i) → (1 ≤ i) × (i < journal_next_packet journal)
 
-next_first : (journal : List Item) → 1 ≤ next_packet journal
-unfolding next_packet
+next_first : (journal : List Item) → 1 ≤ journal_next_packet journal
+unfolding journal_next_packet
 next_first journal = omega arith
 
 number_stays : (before : List Item) (next : Item) (i : ℕ)
-    → (gives_travelling i next ≡ None) ⊎ (gives_travelling i next ≡ Some false)
-    → (IsTrue (travels before i) → (1 ≤ i) × (i < next_packet before))
-    → IsTrue (travels (before ++ next ∷ []) i) → (1 ≤ i) × (i < next_packet (before ++ next ∷ []))
+    → (item_gives_travelling i next ≡ None) ⊎ (item_gives_travelling i next ≡ Some false)
+    → (IsTrue (travels before i) → (1 ≤ i) × (i < journal_next_packet before))
+    → IsTrue (travels (before ++ next ∷ []) i) → (1 ≤ i) × (i < journal_next_packet (before ++ next ∷ []))
 number_stays before next i (inr ends) numbered travelling = absurd (cc (ended before next i ends))
 number_stays before next i (inl same) numbered travelling =
     let there = numbered (rw (travels_more before next i, same) at travelling) in
     (there.0, omega (arith, there.1, packet_more before next))
 
-pub numbered_kept : (setting : Setting) → AreKept (PacketCause setting) AreNumbered
+pub numbered_kept : (setting : Setting) → AreKept (HasPacketItemCause setting) AreNumbered
 numbered_kept setting before (Item.Entered packet s header) way numbered i travelling =
     by_same (packet == i) refl
   where
     next : Item
     next = Item.Entered packet s header
 
-    grows : next_packet (before ++ next ∷ []) ≡ next_packet before + 1
+    grows : journal_next_packet (before ++ next ∷ []) ≡ journal_next_packet before + 1
     grows = packet_more before next
 
-    by_same : (b : Bool) → (packet == i) ≡ b → (1 ≤ i) × (i < next_packet (before ++ next ∷ []))
+    by_same : (b : Bool) → (packet == i) ≡ b → (1 ≤ i) × (i < journal_next_packet (before ++ next ∷ []))
     by_same true e =
         let same : packet ≡ i = eqb-true packet i e in
-        let number : packet ≡ next_packet before = way.0.number in (
+        let number : packet ≡ journal_next_packet before = way.0.number in (
           omega (arith, same, number, next_first before),
           omega (arith, same, number, grows),
         )
@@ -151,34 +151,34 @@ numbered_kept setting before next way numbered i travelling = search (rules, num
 
 -- a packet on its way has a leg
 abbrev pub HaveLegs : List Item → Type 0
-HaveLegs journal = (i : ℕ) → stage_of journal i ≡ Some OnWay
-    → (leg : Leg) × (leg_of journal i ≡ Some leg)
+HaveLegs journal = (i : ℕ) → packet_stage_of journal i ≡ Some OnWay
+    → (leg : Leg) × (journal_leg_of journal i ≡ Some leg)
 
 leg_more : (before : List Item) (next : Item) (i : ℕ)
-    → leg_of (before ++ next ∷ []) i ≡ changes_leg i before (leg_of before i) next
-unfolding leg_of
-leg_more before next i = folded_append (changes_leg i) None before (next ∷ [])
+    → journal_leg_of (before ++ next ∷ []) i ≡ changes_journal_leg i before (journal_leg_of before i) next
+unfolding journal_leg_of
+leg_more before next i = folded_append (changes_journal_leg i) None before (next ∷ [])
 
 -- a packet has a leg behind an item: its own one where the item is of another packet
 leg_behind : (before : List Item) (next : Item) (packet i : ℕ) → HaveLegs before
-    → ((packet == i) ≡ true → (leg : Leg) × (leg_of (before ++ next ∷ []) i ≡ Some leg))
-    → ((packet == i) ≡ false → (gives_stage i next ≡ None)
-    × (changes_leg i before (leg_of before i) next ≡ leg_of before i))
-    → stage_of (before ++ next ∷ []) i ≡ Some OnWay
-    → (leg : Leg) × (leg_of (before ++ next ∷ []) i ≡ Some leg)
+    → ((packet == i) ≡ true → (leg : Leg) × (journal_leg_of (before ++ next ∷ []) i ≡ Some leg))
+    → ((packet == i) ≡ false → (gives_packet_stage i next ≡ None)
+    × (changes_journal_leg i before (journal_leg_of before i) next ≡ journal_leg_of before i))
+    → packet_stage_of (before ++ next ∷ []) i ≡ Some OnWay
+    → (leg : Leg) × (journal_leg_of (before ++ next ∷ []) i ≡ Some leg)
 leg_behind before next packet i has own other moving = search (rules, stage_next, leg_more)
 
 -- an item that takes its packet off its way, to another stage
-off_way : (before : List Item) (next : Item) (packet i : ℕ) (stage : Stage)
+off_way : (before : List Item) (next : Item) (packet i : ℕ) (stage : PacketStage)
     → (Some stage ≡ Some OnWay → ⊥)
-    → gives_stage i next ≡ (if packet == i then Some stage else None)
-    → changes_leg i before (leg_of before i) next ≡ leg_of before i → HaveLegs before
-    → stage_of (before ++ next ∷ []) i ≡ Some OnWay
-    → (leg : Leg) × (leg_of (before ++ next ∷ []) i ≡ Some leg)
+    → gives_packet_stage i next ≡ (if packet == i then Some stage else None)
+    → changes_journal_leg i before (journal_leg_of before i) next ≡ journal_leg_of before i → HaveLegs before
+    → packet_stage_of (before ++ next ∷ []) i ≡ Some OnWay
+    → (leg : Leg) × (journal_leg_of (before ++ next ∷ []) i ≡ Some leg)
 off_way before next packet i stage other tells same has moving =
     search (rules, leg_behind, stage_next)
 
-pub legs_kept : (setting : Setting) → AreKept (PacketCause setting) HaveLegs
+pub legs_kept : (setting : Setting) → AreKept (HasPacketItemCause setting) HaveLegs
 legs_kept setting before (Item.Seeking packet version partition route) way has i moving =
     let next : Item = Item.Seeking packet version partition route in
     leg_behind before next packet i has
@@ -187,7 +187,7 @@ legs_kept setting before (Item.Seeking packet version partition route) way has i
 legs_kept setting before (Item.Exiting packet route) way has i moving =
     let next : Item = Item.Exiting packet route in
     leg_behind before next packet i has
-    (λ e. (Exit (exit_port before i), rw (leg_more before next i, e) refl))
+    (λ e. (Exit (journal_exit_port before i), rw (leg_more before next i, e) refl))
     (λ e. (rw e refl, rw e refl)) moving
 legs_kept setting before (Item.Rerouted packet route) way has i moving =
     let next : Item = Item.Rerouted packet route in
@@ -195,7 +195,7 @@ legs_kept setting before (Item.Rerouted packet route) way has i moving =
     (λ e. (
       way.leg,
       leg_more before next i
-          ∙ subst (λ k. leg_of before k ≡ Some way.leg) (eqb-true packet i e) way.blocked.takes,
+          ∙ subst (λ k. journal_leg_of before k ≡ Some way.leg) (eqb-true packet i e) way.blocked.takes,
     ))
     (λ e. (rw e refl, refl)) moving
 legs_kept setting before (Item.Hopped packet s) way has i moving =
@@ -203,7 +203,7 @@ legs_kept setting before (Item.Hopped packet s) way has i moving =
     leg_behind before next packet i has
     (λ e. let there = has packet way.moving in (
       there.0,
-      leg_more _ next i ∙ subst (λ k. leg_of before k ≡ Some there.0) (eqb-true packet i e) there.1,
+      leg_more _ next i ∙ subst (λ k. journal_leg_of before k ≡ Some there.0) (eqb-true packet i e) there.1,
     ))
     (λ e. (rw e refl, refl)) moving
 legs_kept setting before (Item.Entered packet s header) way has i moving =
@@ -218,19 +218,19 @@ legs_kept setting before next way has i moving = search (rules, stage_next, leg_
 
 -- ---- what is sent leaves packets as they are
 
-sent_served : (messages : List Message) (journal : List Item) (n : ℕ) → AreServed journal
-    → AreServed (journal ++ sent_from n messages)
-unfolding sent_from
-sent_served [] journal n served = subst AreServed (sym (append-nil journal)) served
+sent_served : (messages : List Message) (journal : List Item) (n : ℕ) → ArePacketsServed journal
+    → ArePacketsServed (journal ++ machine_sent_items_from n messages)
+unfolding machine_sent_items_from
+sent_served [] journal n served = subst ArePacketsServed (sym (append-nil journal)) served
 sent_served (message ∷ messages) journal n served = let next : Item = Item.Sent n message in
-    subst AreServed (append_assoc journal (next ∷ []) (sent_from (n + 1) messages))
+    subst ArePacketsServed (append_assoc journal (next ∷ []) (machine_sent_items_from (n + 1) messages))
     (sent_served messages (journal ++ next ∷ []) (n + 1) (λ i. stays_served journal next i refl
     (inl refl) (λ s. still_serves journal next s refl) (served i)))
 
-changes_served : (setting : Setting) (before journal : List Item) → AreServed journal
-    → AreServed (journal ++ link_changes setting before journal)
-unfolding link_changes
-changes_served setting before journal served = sent_served _ journal (next_message journal) served
+changes_served : (setting : Setting) (before journal : List Item) → ArePacketsServed journal
+    → ArePacketsServed (journal ++ journal_link_changes setting before journal)
+unfolding journal_link_changes
+changes_served setting before journal served = sent_served _ journal (journal_next_message journal) served
 
 -- ---- the packets that are lost
 
@@ -280,47 +280,47 @@ lost_serves packets journal s =
 -- a packet that isn't lost is elsewhere
 left_elsewhere : (before : List Item) (s i t : ℕ) → IsTrue (travels before i)
     → standing before i ≡ Some t → 1 ≤ i → i < 1 + count_of is_packet before
-    → IsFalse (among i (packets_at before s)) → (s == t) ≡ false
+    → IsFalse (among i (journal_packets_at before s)) → (s == t) ≡ false
 unfolding among
 left_elsewhere before s i t travelling stands first last apart =
     search (rules, nat_tests, any_picked)
 
-fallen_served : (before journal : List Item) (s : ℕ) → AreNumbered before → AreServed journal
+fallen_served : (before journal : List Item) (s : ℕ) → AreNumbered before → ArePacketsServed journal
     → ((i : ℕ) → (travels journal i ≡ travels before i) × (standing journal i ≡ standing before i))
-    → AreServed (journal ++ Item.Down s ∷ map Item.Lost (packets_at before s))
-unfolding next_packet among
+    → ArePacketsServed (journal ++ Item.Down s ∷ map Item.Lost (journal_packets_at before s))
+unfolding journal_next_packet among
 fallen_served before journal s numbered served same i travelling =
     let down : Item = Item.Down s in
-    let packets : List ℕ = packets_at before s in
+    let packets : List ℕ = journal_packets_at before s in
     let whole = append_assoc journal (down ∷ []) (map Item.Lost packets) in
     let spared = spared_by _ _ i (subst (λ js. IsTrue (travels js i)) (sym whole) travelling) in
     let here_travels = rw (travels_more journal down i) at spared.travelling in
-    let here : IsServed journal i = served i here_travels in
+    let here : IsPacketServed journal i = served i here_travels in
     let own : IsTrue (travels before i) = sym (same i).0 ∙ here_travels in
     let stands : standing before i ≡ Some here.switch = sym (same i).1 ∙ here.stands in
     let number = numbered i own in
     let elsewhere = left_elsewhere before s i here.switch own stands number.0
     (omega (arith, number.1)) spared.apart in
-    subst (λ js. IsServed js i) whole (record {
+    subst (λ js. IsPacketServed js i) whole (record {
       switch = here.switch;
       stands = lost_standing packets _ i ∙ standing_more journal down i ∙ here.stands;
       serving = lost_serves packets _ _ ∙ rw (serving_more journal down _, elsewhere) here.serving;
     })
 
 pub crash_served : (setting : Setting) (before : List Item) (s : ℕ) (journal : List Item)
-    → AreNumbered before → AreServed journal
+    → AreNumbered before → ArePacketsServed journal
     → ((i : ℕ) → (travels journal i ≡ travels before i) × (standing journal i ≡ standing before i))
-    → AreServed (journal ++ crash_items setting before s journal)
-unfolding crash_items
+    → ArePacketsServed (journal ++ journal_crash_items setting before s journal)
+unfolding journal_crash_items
 crash_served setting before s journal numbered served same = by_up (is_up before s) where
-  by_up : (b : Bool) → AreServed (journal ++ elim b [
+  by_up : (b : Bool) → ArePacketsServed (journal ++ elim b [
     | false ↦ nothing
-    | true ↦ journal_items_then (Item.Down s ∷ map Item.Lost (packets_at before s))
-        (link_changes setting before) journal
+    | true ↦ journal_items_then (Item.Down s ∷ map Item.Lost (journal_packets_at before s))
+        (journal_link_changes setting before) journal
   ])
   by_up false = λ i. stays_served journal Item.Nothing i refl (inl refl)
       (λ other. still_serves journal Item.Nothing other refl) (served i)
-  by_up true = let fallen : List Item = Item.Down s ∷ map Item.Lost (packets_at before s) in
-      subst AreServed
-      (append_assoc journal fallen (link_changes setting before (journal ++ fallen)))
+  by_up true = let fallen : List Item = Item.Down s ∷ map Item.Lost (journal_packets_at before s) in
+      subst ArePacketsServed
+      (append_assoc journal fallen (journal_link_changes setting before (journal ++ fallen)))
       (changes_served setting before _ (fallen_served before journal s numbered served same))

@@ -1,10 +1,10 @@
 -- What a step leaves of packets that it isn't about: they are on their way as before.
 use Rattle.std.proofs.Common.{[], ◌++◌, ◌+◌, ◌==◌, ◌∙◌, ◌∷◌, ◌≡◌, ◌≤◌, ◌⊎◌, Bool, IsFalse, List, None, Option, Some, arith, eq-eqb, eqb-true, false, filter, if◌then◌else◌, inr, map, ne_eqb, refl, suc, sym, true, unwrap_or, zero, ℕ, rules}
 use Rattle.base.proofs.Exports.{⊤, and_parts, option_or, range_with_len}
-use Rattle.update_machine.specs.Exports.{Action, AuthorityRule, Confirm, Crash, Deliver, Expire, Forget, Found, HaveCauses, Header, Hop, Item, Leg, LinkDown, LinkUp, Lose, Packet, PacketKeeps, Resend, Restart, Setting, Step, Update, arrive_items, authority_items, cache_items, count_of, crash_items, end_items, found_items, gives_step, gives_travelling, hop_items, is_at, is_packet, is_up, journal_items_then, last_given, leg_items, link_changes, lookup_items, lose_items, move_items, nothing, packet_items, packets_at, piece, present_step, reroute_items, sent_from, standing, step_items, travels, travels_at}
+use Rattle.update_machine.specs.Exports.{Action, AuthorityRule, Confirm, Crash, Deliver, Expire, Forget, Found, JournalItemsHaveCauses, Header, Hop, Item, Leg, LinkDown, LinkUp, Lose, Packet, JournalPacketKeeps, Resend, Restart, Setting, Step, Update, machine_arrive_items, machine_authority_items, journal_cache_items, count_of, journal_crash_items, end_items, found_items, item_gives_step, item_gives_travelling, machine_hop_items, is_at, is_packet, is_up, journal_items_then, journal_last_given, machine_leg_items, journal_link_changes, lookup_items, lose_items, move_items, nothing, packet_items, journal_packets_at, piece, journal_present_step, reroute_items, machine_sent_items_from, standing, step_items, travels, journal_travels_at}
 use Rattle.update_machine.proofs.Exports.{have_append, have_first, have_put, last_given_append, packet_keeps, packets_keep, step_stays}
 use Rattle.control_laws.proofs.Exports.{AreKept, confirm_control, fact_on, have_weaker, serving_more, up_more}
-use Rattle.packet_laws.specs.Exports.{AreResting, IsPacketMoving, IsServed, PacketCause, ends_with_row, fallen_switch, gives_fall, gives_row_test, gives_stage}
+use Rattle.packet_laws.specs.Exports.{ArePacketsResting, IsPacketMoving, IsPacketServed, HasPacketItemCause, ends_with_row, fallen_switch, gives_fall, gives_row_test, gives_packet_stage}
 use Rattle.packet_laws.proofs.PacketOtherBlocks.{AreAside, IsAside, aside_ways, changes_aside, control_aside, deliver_aside, expire_aside, forget_aside, link_aside, resend_aside, restart_aside, update_aside}
 use Rattle.packet_laws.proofs.PacketBlocks.{Ways, hop_ways, lose_ways, packet_ways, stage_stays, travels_more}
 
@@ -20,7 +20,7 @@ AsBefore before journal k = (j : ℕ) → k ≤ j
 
 -- the switch went down in its crash
 record WentDown (journal : List Item) (s : ℕ) : Type 0 where
-  crashes : present_step journal ≡ Some (Crash s)
+  crashes : journal_present_step journal ≡ Some (Crash s)
   fell : fallen_switch journal ≡ Some s
   down : IsFalse (is_up journal s)
 
@@ -28,7 +28,7 @@ at_switch : (s : ℕ) (at : Option ℕ) → is_at s at ≡ true → at ≡ Some 
 at_switch s at is = search (rules, eqb-true)
 
 fallen_more : (journal : List Item) (next : Item) → fallen_switch (journal ++ next ∷ [])
-    ≡ unwrap_or (option_or (gives_fall next) (last_given gives_fall journal)) None
+    ≡ unwrap_or (option_or (gives_fall next) (journal_last_given gives_fall journal)) None
 unfolding fallen_switch
 fallen_more journal next = cc (last_given_append gives_fall journal (next ∷ []))
 
@@ -47,15 +47,15 @@ lost_on journal s k went = record {
 
 losts_ways : (setting : Setting) (before : List Item) (s k n : ℕ) (journal : List Item)
     → WentDown journal s → AsBefore before journal k
-    → Ways setting journal (map Item.Lost (filter (travels_at before s) (range_with_len k n)))
+    → Ways setting journal (map Item.Lost (filter (journal_travels_at before s) (range_with_len k n)))
 losts_ways setting before s k zero journal went same = tt
-losts_ways setting before s k (suc n) journal went same = by_test (travels_at before s k) refl
+losts_ways setting before s k (suc n) journal went same = by_test (journal_travels_at before s k) refl
     (λ now down equal. losts_ways setting before s (k + 1) n now down equal)
   where
     rest : List ℕ
-    rest = filter (travels_at before s) (range_with_len (k + 1) n)
+    rest = filter (journal_travels_at before s) (range_with_len (k + 1) n)
 
-    by_test : (b : Bool) → travels_at before s k ≡ b → ((now : List Item) → WentDown now s
+    by_test : (b : Bool) → journal_travels_at before s k ≡ b → ((now : List Item) → WentDown now s
         → AsBefore before now (k + 1) → Ways setting now (map Item.Lost rest))
         → Ways setting journal (map Item.Lost (if b then k ∷ rest else rest))
     by_test false e later = later journal went (λ j above. same j (omega (arith, above)))
@@ -72,14 +72,14 @@ losts_ways setting before s k (suc n) journal went same = by_test (travels_at be
             });
           },
           later (journal ++ Item.Lost k ∷ []) (lost_on journal s k went) (λ j above. let
-              keeps : PacketKeeps j journal (journal ++ Item.Lost k ∷ []) = packet_keeps j journal
+              keeps : JournalPacketKeeps j journal (journal ++ Item.Lost k ∷ []) = packet_keeps j journal
               (Item.Lost k ∷ []) (ne_eqb k j (λ equal. omega (arith, equal, above)), tt) in (
                 keeps.travels ∙ (same j (omega (arith, above))).0,
                 keeps.stands ∙ (same j (omega (arith, above))).1,
               )),
         )
 
-down_now : (journal : List Item) (s : ℕ) → present_step journal ≡ Some (Crash s)
+down_now : (journal : List Item) (s : ℕ) → journal_present_step journal ≡ Some (Crash s)
     → WentDown (journal ++ Item.Down s ∷ []) s
 down_now journal s crashes = record {
   crashes = step_stays journal (Item.Down s ∷ []) (refl, tt) ∙ crashes;
@@ -88,21 +88,21 @@ down_now journal s crashes = record {
 }
 
 crash_ways : (setting : Setting) (before : List Item) (s : ℕ) (journal : List Item)
-    → present_step journal ≡ Some (Crash s) → AsBefore before journal 0
-    → Ways setting journal (crash_items setting before s journal)
-unfolding crash_items
+    → journal_present_step journal ≡ Some (Crash s) → AsBefore before journal 0
+    → Ways setting journal (journal_crash_items setting before s journal)
+unfolding journal_crash_items
 crash_ways setting before s journal crashes same = by_up (is_up before s) where
   by_up : (b : Bool) → Ways setting journal (elim b [
     | false ↦ nothing
-    | true ↦ journal_items_then (Item.Down s ∷ map Item.Lost (packets_at before s))
-        (link_changes setting before) journal
+    | true ↦ journal_items_then (Item.Down s ∷ map Item.Lost (journal_packets_at before s))
+        (journal_link_changes setting before) journal
   ])
   by_up false = (tt, tt)
-  by_up true = have_put (PacketCause setting) (Item.Down s ∷ map Item.Lost (packets_at before s))
-      (link_changes setting before) journal (
+  by_up true = have_put (HasPacketItemCause setting) (Item.Down s ∷ map Item.Lost (journal_packets_at before s))
+      (journal_link_changes setting before) journal (
         crashes,
         losts_ways setting before s 1 (count_of is_packet before) _ (down_now journal s crashes)
-            (λ j above. let keeps : PacketKeeps j journal (journal ++ Item.Down s ∷ []) =
+            (λ j above. let keeps : JournalPacketKeeps j journal (journal ++ Item.Down s ∷ []) =
             packet_keeps j journal (Item.Down s ∷ []) (refl, tt) in (
               keeps.travels ∙ (same j (omega arith)).0,
               keeps.stands ∙ (same j (omega arith)).1,
@@ -113,9 +113,9 @@ crash_ways setting before s journal crashes same = by_up (is_up before s) where
 -- ---- all steps
 
 pub step_now : (before : List Item) (row : ℕ) (step : Step)
-    → present_step (before ++ Item.Row row step ∷ []) ≡ Some step
-unfolding present_step
-step_now before row step = last_given_append gives_step before (Item.Row row step ∷ [])
+    → journal_present_step (before ++ Item.Row row step ∷ []) ≡ Some step
+unfolding journal_present_step
+step_now before row step = last_given_append item_gives_step before (Item.Row row step ∷ [])
 
 row_now : (before : List Item) (row : ℕ) (step : Step)
     → ends_with_row (before ++ Item.Row row step ∷ []) ≡ true
@@ -123,11 +123,11 @@ unfolding ends_with_row
 row_now before row step = cc (last_given_append gives_row_test before (Item.Row row step ∷ []))
 
 -- the row leaves packets and switches as they are
-pub row_rests : (before : List Item) (row : ℕ) (step : Step) → AreResting before
-    → AreResting (before ++ Item.Row row step ∷ [])
+pub row_rests : (before : List Item) (row : ℕ) (step : Step) → ArePacketsResting before
+    → ArePacketsResting (before ++ Item.Row row step ∷ [])
 row_rests before row step rests = record {
   served = λ i travelling.
-      let here : IsServed before i = rests.served i (sym (keeps i).travels ∙ travelling) in record {
+      let here : IsPacketServed before i = rests.served i (sym (keeps i).travels ∙ travelling) in record {
         switch = here.switch;
         stands = (keeps i).stands ∙ here.stands;
         serving = rw (serving_more before (Item.Row row step) here.switch) here.serving;
@@ -135,7 +135,7 @@ row_rests before row step rests = record {
   moving = λ i travelling. stage_stays before (Item.Row row step) i refl
       ∙ rests.moving i (sym (keeps i).travels ∙ travelling);
 } where
-  keeps : (i : ℕ) → PacketKeeps i before (before ++ Item.Row row step ∷ [])
+  keeps : (i : ℕ) → JournalPacketKeeps i before (before ++ Item.Row row step ∷ [])
   keeps i = packet_keeps i before (Item.Row row step ∷ []) (refl, tt)
 
 -- the steps that move no packet
@@ -160,7 +160,7 @@ step_aside setting before row (Confirm s) none = control_aside _ _ (confirm_cont
 step_aside setting before row (Resend s) none = resend_aside setting s _
 step_aside setting before row step none = absurd none
 
-step_ways : (setting : Setting) (before : List Item) (row : ℕ) (step : Step) → AreResting before
+step_ways : (setting : Setting) (before : List Item) (row : ℕ) (step : Step) → ArePacketsResting before
     → let here = before ++ Item.Row row step ∷ [] in
     Ways setting here (step_items setting before step here)
 step_ways setting before row (Packet s header) rests = packet_ways setting _ _ s header (record {
@@ -176,9 +176,9 @@ step_ways setting before row (Crash s) rests = crash_ways setting before s _
 step_ways setting before row step rests = aside_ways _ _ _ (step_aside setting before row step tt)
 
 pub piece_ways : (setting : Setting) (before : List Item) (row : ℕ) (step : Step)
-    → AreResting before → Ways setting before (piece setting before row step)
+    → ArePacketsResting before → Ways setting before (piece setting before row step)
 unfolding piece
-piece_ways setting before row step rests = have_first (PacketCause setting) (Item.Row row step)
+piece_ways setting before row step rests = have_first (HasPacketItemCause setting) (Item.Row row step)
     (step_items setting before step) before tt (step_ways setting before row step rests)
 
 -- ---- spared packets
@@ -199,50 +199,50 @@ IsInStep _ = ⊤
 
 -- the item doesn't bring the packet in or on, and begins no step
 abbrev pub Spares : ℕ → List Item → Item → Type 0
-Spares i before next = (gives_stage i next ≡ None) × IsNoRow next
+Spares i before next = (gives_packet_stage i next ≡ None) × IsNoRow next
 
 -- nor does a packet enter by it, nor is one closed
 abbrev pub SparesAll : ℕ → List Item → Item → Type 0
-SparesAll i before next = (gives_stage i next ≡ None) × IsInStep next
+SparesAll i before next = (gives_packet_stage i next ≡ None) × IsInStep next
 
 in_step_no_row : (next : Item) → IsInStep next → IsNoRow next
 in_step_no_row next within = search rules
 
-pub spare : (i : ℕ) (before items : List Item) → HaveCauses (SparesAll i) before items
-    → HaveCauses (Spares i) before items
+pub spare : (i : ℕ) (before items : List Item) → JournalItemsHaveCauses (SparesAll i) before items
+    → JournalItemsHaveCauses (Spares i) before items
 spare i before items all = search (rules, have_weaker, in_step_no_row)
 
-pub in_step : (i : ℕ) (before items : List Item) → HaveCauses (SparesAll i) before items
-    → HaveCauses (λ js next. IsInStep next) before items
+pub in_step : (i : ℕ) (before items : List Item) → JournalItemsHaveCauses (SparesAll i) before items
+    → JournalItemsHaveCauses (λ js next. IsInStep next) before items
 in_step i before items all = search (rules, have_weaker)
 
 pub ends_or_not : (b : Bool) → ((if b then Some false else None) ≡ None)
     ⊎ ((if b then Some false else None) ≡ Some false)
 ends_or_not b = search rules
 
-comes_in : (i : ℕ) (next : Item) → gives_stage i next ≡ None
-    → (gives_travelling i next ≡ None) ⊎ (gives_travelling i next ≡ Some false)
+comes_in : (i : ℕ) (next : Item) → gives_packet_stage i next ≡ None
+    → (item_gives_travelling i next ≡ None) ⊎ (item_gives_travelling i next ≡ Some false)
 comes_in i next spares = search (rules, ends_or_not)
 
 pub spared_on : (i : ℕ) → AreKept (Spares i) (λ journal. IsPacketMoving journal i)
 spared_on i before next spares done travelling = search (rules, stage_stays, travels_more)
 
-pub spared : (i : ℕ) (before items : List Item) → HaveCauses (Spares i) before items
+pub spared : (i : ℕ) (before items : List Item) → JournalItemsHaveCauses (Spares i) before items
     → IsPacketMoving before i → IsPacketMoving (before ++ items) i
 spared i before items spares done = fact_on (Spares i) _ (spared_on i) before items spares done
 
 -- ---- the blocks of another packet
 
 abbrev Spared : ℕ → List Item → List Item → Type 0
-Spared j journal items = HaveCauses (SparesAll j) journal items
+Spared j journal items = JournalItemsHaveCauses (SparesAll j) journal items
 
 -- the packets are two
 abbrev Apart : ℕ → ℕ → Type 0
 Apart i j = (i == j) ≡ false
 
 leg_spares : (setting : Setting) (j : ℕ) (journal : List Item) (i s : ℕ) (leg : Leg) → Apart i j
-    → Spared j journal (leg_items setting journal i s leg)
-unfolding leg_items
+    → Spared j journal (machine_leg_items setting journal i s leg)
+unfolding machine_leg_items
 leg_spares setting j journal i s leg apart = grind (arith, apart)
 
 end_spares : (setting : Setting) (j i s : ℕ) (act : Action) (journal : List Item) → Apart i j
@@ -252,13 +252,13 @@ end_spares setting j i s Action.Drop journal apart = ((refl, tt), tt)
 end_spares setting j i s (Action.Out port) journal apart = grind (arith, leg_spares, apart)
 
 cache_spares : (setting : Setting) (j i s : ℕ) (rule : AuthorityRule) (journal : List Item)
-    → Spared j journal (cache_items setting i s rule journal)
-unfolding cache_items sent_from
+    → Spared j journal (journal_cache_items setting i s rule journal)
+unfolding journal_cache_items machine_sent_items_from
 cache_spares setting j i s rule journal = grind arith
 
 authority_spares : (setting : Setting) (j i s : ℕ) (rule : Option AuthorityRule)
-    (journal : List Item) → Apart i j → Spared j journal (authority_items setting i s rule journal)
-unfolding authority_items
+    (journal : List Item) → Apart i j → Spared j journal (machine_authority_items setting i s rule journal)
+unfolding machine_authority_items
 authority_spares setting j i s None journal apart = tt
 authority_spares setting j i s (Some rule) journal apart =
     grind (arith, have_append, cache_spares, end_spares, apart)
@@ -274,8 +274,8 @@ unfolding lookup_items
 lookup_spares setting j i s journal apart = found_spares setting j i s _ journal apart
 
 arrive_spares : (setting : Setting) (j i s : ℕ) (journal : List Item) → Apart i j
-    → Spared j journal (arrive_items setting i s journal)
-unfolding arrive_items
+    → Spared j journal (machine_arrive_items setting i s journal)
+unfolding machine_arrive_items
 arrive_spares setting j i s journal apart = grind (arith, lookup_spares, authority_spares, apart)
 
 reroute_spares : (setting : Setting) (j i s : ℕ) (journal : List Item) → Apart i j
@@ -289,22 +289,22 @@ unfolding move_items
 move_spares setting j i s journal apart = grind (arith, arrive_spares, reroute_spares, apart)
 
 pub lookup_in_step : (setting : Setting) (i s : ℕ) (journal : List Item)
-    → HaveCauses (λ js next. IsInStep next) journal (lookup_items setting i s journal)
+    → JournalItemsHaveCauses (λ js next. IsInStep next) journal (lookup_items setting i s journal)
 lookup_in_step setting i s journal = in_step (i + 1) journal _
     (lookup_spares setting (i + 1) i s journal (ne_eqb i (i + 1) (λ same. omega (arith, same))))
 
 lookup_spare : (setting : Setting) (j i s : ℕ) (journal : List Item) → Apart i j
-    → HaveCauses (Spares j) journal (lookup_items setting i s journal)
+    → JournalItemsHaveCauses (Spares j) journal (lookup_items setting i s journal)
 lookup_spare setting j i s journal apart = spare j _ _ (lookup_spares setting j i s journal apart)
 
 pub packet_spares : (setting : Setting) (j i s : ℕ) (header : Header) (journal : List Item)
-    → Apart i j → HaveCauses (Spares j) journal (packet_items setting i s header journal)
+    → Apart i j → JournalItemsHaveCauses (Spares j) journal (packet_items setting i s header journal)
 unfolding packet_items
 packet_spares setting j i s header journal apart = grind (arith, lookup_spare, apart)
 
 pub hop_spares : (setting : Setting) (j i : ℕ) (journal : List Item) → Apart i j
-    → Spared j journal (hop_items setting i journal)
-unfolding hop_items
+    → Spared j journal (machine_hop_items setting i journal)
+unfolding machine_hop_items
 hop_spares setting j i journal apart = grind (arith, move_spares, apart)
 
 -- ---- other steps
@@ -336,16 +336,16 @@ losts_spare j [] journal = tt
 losts_spare j (i ∷ packets) journal = ((refl, tt), losts_spare j packets _)
 
 pub crash_spares : (setting : Setting) (j : ℕ) (before : List Item) (s : ℕ) (journal : List Item)
-    → Spared j journal (crash_items setting before s journal)
-unfolding crash_items
+    → Spared j journal (journal_crash_items setting before s journal)
+unfolding journal_crash_items
 crash_spares setting j before s journal = by_up (is_up before s) where
   by_up : (b : Bool) → Spared j journal (elim b [
     | false ↦ nothing
-    | true ↦ journal_items_then (Item.Down s ∷ map Item.Lost (packets_at before s))
-        (link_changes setting before) journal
+    | true ↦ journal_items_then (Item.Down s ∷ map Item.Lost (journal_packets_at before s))
+        (journal_link_changes setting before) journal
   ])
   by_up false = ((refl, tt), tt)
-  by_up true = have_put (SparesAll j) (Item.Down s ∷ map Item.Lost (packets_at before s))
-      (link_changes setting before) journal
-      ((refl, tt), losts_spare j (packets_at before s) (journal ++ Item.Down s ∷ []))
+  by_up true = have_put (SparesAll j) (Item.Down s ∷ map Item.Lost (journal_packets_at before s))
+      (journal_link_changes setting before) journal
+      ((refl, tt), losts_spare j (journal_packets_at before s) (journal ++ Item.Down s ∷ []))
       (aside_spares j _ _ (changes_aside setting before _))

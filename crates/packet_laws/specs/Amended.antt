@@ -3,10 +3,10 @@
 -- one. When a `Stamp` raises a switch to the very next version, the cache keeps each rule that the
 -- amendment doesn't touch, unless an entry of that version already has the rule's word.
 use Rattle.std.specs.Prelude.{[], if◌then◌else◌, ◌++◌, ◌+◌, ◌<◌, ◌||◌, ◌∷◌, ◌≡◌, ◌⊎◌, All, Any, Bool, Contains, IsFalse, List, Ok, Some, filter, map, nat_le, ℕ}
-use Rattle.update_machine.specs.Exports.{CacheEntry, Decision, Edit, Header, Hit, Item, Row, Setting, Stamp, body_to_switch, cache_of, decision_of, header_in, policy_in, stamp_of, touched_by}
+use Rattle.update_machine.specs.Exports.{CacheEntry, Decision, Edit, Header, Hit, Item, Row, Setting, Stamp, journal_body_to_switch, journal_cache_of, journal_decision_of, journal_packet_header, policy_in, journal_stamp_of, touched_by}
 use Rattle.five_tuple.specs.Exports.{fields_of}
-use Rattle.policy_rules.specs.Exports.{IsFirstMatch, applied, row_matches, touched_rows}
-use Rattle.switch_table.specs.Exports.{is_carried, meets_any_touched, under}
+use Rattle.policy_rules.specs.Exports.{IsFirstMatch, applied, row_matches, touched_policy_rows}
+use Rattle.switch_table.specs.Exports.{is_carried, cache_word_meets_touched, under}
 use Rattle.ternary.specs.Exports.{WordValue}
 use Rattle.journal.specs.declared.item.Item.TheVariants as item
 use Rattle.packet_laws.specs.Rules.{IsRightEntry}
@@ -15,7 +15,7 @@ use Rattle.packet_laws.specs.Rules.{IsRightEntry}
 
 -- a change makes the policy of the next version from this version's, and no row that the change
 -- removes or adds matches the header
-pub record LeavesHeader (setting : Setting) (journal : List Item) (version : ℕ) (header : Header)
+pub record ChangeLeavesPacketHeader (setting : Setting) (journal : List Item) (version : ℕ) (header : Header)
     : Type 0 where
   pub rows : List Row
   pub change : List Edit
@@ -23,10 +23,10 @@ pub record LeavesHeader (setting : Setting) (journal : List Item) (version : ℕ
   pub policy : policy_in setting journal version ≡ Some rows
   pub next : policy_in setting journal (version + 1) ≡ Some changed
   pub makes : applied rows change ≡ Ok changed
-  pub apart : All (λ row. IsFalse (row_matches row (fields_of header))) (touched_rows rows change)
+  pub apart : All (λ row. IsFalse (row_matches row (fields_of header))) (touched_policy_rows rows change)
 
 -- the version has a policy, and this is the header's first match in it
-pub record IsMatchUnder (setting : Setting) (journal : List Item) (version : ℕ) (header : Header)
+pub record IsPacketMatchUnder (setting : Setting) (journal : List Item) (version : ℕ) (header : Header)
     (hit : Hit) : Type 0 where
   pub rows : List Row
   pub policy : policy_in setting journal version ≡ Some rows
@@ -41,36 +41,36 @@ hit_in decision = record { rule = decision.rule; action = decision.action }
 pub record AreDecidedAlike (setting : Setting) (journal : List Item) (version : ℕ)
     (header : Header) : Type 0 where
   pub hit : Hit
-  pub before : IsMatchUnder setting journal version header hit
-  pub after : IsMatchUnder setting journal (version + 1) header hit
-  pub decided : (packet : ℕ) (decision : Decision) → header_in journal packet ≡ Some header
-      → decision_of journal packet ≡ Some decision
+  pub before : IsPacketMatchUnder setting journal version header hit
+  pub after : IsPacketMatchUnder setting journal (version + 1) header hit
+  pub decided : (packet : ℕ) (decision : Decision) → journal_packet_header journal packet ≡ Some header
+      → journal_decision_of journal packet ≡ Some decision
       → (decision.version ≡ version) ⊎ (decision.version ≡ version + 1) → hit_in decision ≡ hit
 
 -- this is true of each change and each header, whatever else is in the journal
-abbrev pub ChangesLeaveOthers : Setting → List Item → Type 0
-ChangesLeaveOthers setting journal = (version : ℕ) (header : Header)
-    → LeavesHeader setting journal version header
+abbrev pub ChangesLeaveOtherPackets : Setting → List Item → Type 0
+ChangesLeaveOtherPackets setting journal = (version : ℕ) (header : Header)
+    → ChangeLeavesPacketHeader setting journal version header
     → AreDecidedAlike setting journal version header
 
 -- ---- cache rules
 
 -- the cache has a rule of this version with the entry's word, and the rule decides each header of
 -- the word as the version's policy does
-abbrev pub CacheHasUnder : Setting → List Item → ℕ → ℕ → CacheEntry → Type 0
-CacheHasUnder setting journal s version entry =
+abbrev pub CacheHasEntryUnder : Setting → List Item → ℕ → ℕ → CacheEntry → Type 0
+CacheHasEntryUnder setting journal s version entry =
     Any (λ kept. (kept.version ≡ version) × ((kept.word ≡ entry.word)
-    × IsRightEntry setting journal kept)) (cache_of setting journal s).entries
+    × IsRightEntry setting journal kept)) (journal_cache_of setting journal s).entries
 
 -- the delivery of this message tells the switch, in this boot, to stamp with a version
 abbrev pub IsToldStamp : List Item → ℕ → ℕ → ℕ → ℕ → List WordValue → Type 0
 IsToldStamp before s number boot version touched =
-    body_to_switch before s number ≡ Some (Stamp boot version touched)
+    journal_body_to_switch before s number ≡ Some (Stamp boot version touched)
 
 -- the entry outlives the cache's move to a version: it is of this version or a later one; or of
 -- the one before, if its word meets no touched word and no entry of the version has that word
-abbrev pub cached_entry_outlives : ℕ → List WordValue → List CacheEntry → CacheEntry → Bool
-cached_entry_outlives version touched entries entry =
+abbrev pub brought_entry_outlives : ℕ → List WordValue → List CacheEntry → CacheEntry → Bool
+brought_entry_outlives version touched entries entry =
     nat_le version entry.version || is_carried version touched entries entry
 
 -- the entry, of the same message, under this version; or as it is, if its version isn't lower
@@ -78,9 +78,9 @@ abbrev pub at_least : ℕ → CacheEntry → CacheEntry
 at_least version entry = if nat_le version entry.version then entry else under version entry
 
 -- exactly the entries that outlive the move are left, in their order, each at least at the version
-abbrev pub StayInOrder : ℕ → List WordValue → (before after : List CacheEntry) → Type 0
-StayInOrder version touched before after =
-    after ≡ map (at_least version) (filter (cached_entry_outlives version touched before) before)
+abbrev pub CacheRulesStayInOrder : ℕ → List WordValue → (before after : List CacheEntry) → Type 0
+CacheRulesStayInOrder version touched before after =
+    after ≡ map (at_least version) (filter (brought_entry_outlives version touched before) before)
 
 -- when a message raises the stamp of a switch to a version, the entries of its cache stay in their
 -- order, except those of earlier versions that don't outlive the rise. An entry of the version
@@ -88,17 +88,17 @@ StayInOrder version touched before after =
 -- then: itself, or the one that had its word before
 pub record CacheRulesOutliveStamp (setting : Setting) (before : List Item) (s number version : ℕ)
     : Type 0 where
-  pub in_order : StayInOrder version (touched_by setting before version)
-      (cache_of setting before s).entries
-      (cache_of setting (before ++ item.Delivered number ∷ []) s).entries
-  pub untouched : (entry : CacheEntry) → Contains (cache_of setting before s).entries entry
+  pub in_order : CacheRulesStayInOrder version (touched_by setting before version)
+      (journal_cache_of setting before s).entries
+      (journal_cache_of setting (before ++ item.Delivered number ∷ []) s).entries
+  pub untouched : (entry : CacheEntry) → Contains (journal_cache_of setting before s).entries entry
       → entry.version + 1 ≡ version
-      → IsFalse (meets_any_touched (touched_by setting before version) entry.word)
-      → CacheHasUnder setting (before ++ item.Delivered number ∷ []) s version entry
+      → IsFalse (cache_word_meets_touched (touched_by setting before version) entry.word)
+      → CacheHasEntryUnder setting (before ++ item.Delivered number ∷ []) s version entry
 
-abbrev pub UntouchedStay : Setting → List Item → Type 0
-UntouchedStay setting before =
+abbrev pub UntouchedCacheRulesStay : Setting → List Item → Type 0
+UntouchedCacheRulesStay setting before =
     (s number boot version : ℕ) (touched : List WordValue)
     → IsToldStamp before s number boot version touched
-    → stamp_of before s < version
+    → journal_stamp_of before s < version
     → CacheRulesOutliveStamp setting before s number version

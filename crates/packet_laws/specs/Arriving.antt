@@ -1,18 +1,18 @@
 -- Packets at the end of their route, just before the switch there receives them.
 use Rattle.std.specs.Prelude.{◌≡◌, IsTrue, List, Some, ℕ}
-use Rattle.update_machine.specs.Exports.{Header, Item, Leg, Setting, header_in, leg_of, standing, travels}
+use Rattle.update_machine.specs.Exports.{Header, Item, Leg, Setting, journal_packet_header, journal_leg_of, standing, travels}
 use Rattle.control_laws.specs.Exports.{LegEndsAt}
-use Rattle.packet_laws.specs.PacketCauses.{PacketArrives}
+use Rattle.packet_laws.specs.PacketCauses.{PacketArrivesHere}
 
 -- the packet travels with this header on this leg, and is at this switch, where its route ends,
 -- even if it took that route just now, in the middle of a hop
 pub record IsAtEnd (journal : List Item) (packet s : ℕ) (header : Header) (leg : Leg) : Type 0
   where
     pub travelling : IsTrue (travels journal packet)
-    pub arrives : PacketArrives journal packet
+    pub arrives : PacketArrivesHere journal packet
     pub stands : standing journal packet ≡ Some s
-    pub with_header : header_in journal packet ≡ Some header
-    pub takes : leg_of journal packet ≡ Some leg
+    pub with_header : journal_packet_header journal packet ≡ Some header
+    pub takes : journal_leg_of journal packet ≡ Some leg
 
 -- each packet at the end of its route is where its leg leads
 abbrev pub PacketsArrive : Setting → List Item → Type 0

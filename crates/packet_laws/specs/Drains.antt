@@ -1,12 +1,12 @@
 -- How many hops a drain may still take.
 use Rattle.std.specs.Prelude.{◌-◌, List, sum_by, ℕ}
-use Rattle.update_machine.specs.Exports.{Item, packets_in}
-use Rattle.packet_laws.specs.Hops.{hops_taken, most_hops}
+use Rattle.update_machine.specs.Exports.{Item, journal_packets}
+use Rattle.packet_laws.specs.Hops.{packet_hops_taken, most_packet_hops}
 
 -- the most hops that the packet may still take
-abbrev pub hops_left : List Item → ℕ → ℕ
-hops_left journal i = most_hops - hops_taken journal i
+abbrev pub packet_hops_left : List Item → ℕ → ℕ
+packet_hops_left journal i = most_packet_hops - packet_hops_taken journal i
 
 -- the most hops that all packets of the journal together may still take
-unfoldable pub drain_left : List Item → ℕ
-drain_left journal = sum_by (hops_left journal) (packets_in journal)
+unfoldable pub packet_drain_left : List Item → ℕ
+packet_drain_left journal = sum_by (packet_hops_left journal) (journal_packets journal)

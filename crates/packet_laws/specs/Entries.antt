@@ -3,7 +3,7 @@
 -- entered or was closed is that of a packet row: a journal without packets is that of a play
 -- without packet rows. The notion is our own.
 use Rattle.std.specs.Prelude.{[], ◌++◌, ◌+◌, ◌-◌, ◌∷◌, ◌≡◌, Bool, IsFalse, IsTrue, List, None, Option, Some, take, ℕ, ⊤}
-use Rattle.update_machine.specs.Exports.{Deliver, Event, Header, Hop, Item, One, Packet, Step, all_given, next_packet, serves}
+use Rattle.update_machine.specs.Exports.{Deliver, Event, Header, Hop, Item, One, Packet, Step, journal_all_given, journal_next_packet, serves}
 use Rattle.journal.specs.declared.item.Item.TheVariants as item
 
 -- a row of a schedule that names one step
@@ -39,16 +39,16 @@ gives_step_row _ = []
 
 -- the step rows that a journal has, in order
 abbrev pub step_rows_in : List Item → List StepRow
-step_rows_in journal = all_given gives_step_row journal
+step_rows_in journal = journal_all_given gives_step_row journal
 
 -- the item says that packet i entered with this header at the switch, if the switch serves; or, if
 -- it doesn't, that it was closed to the packet
-abbrev pub IsEntryOf : Bool → ℕ → ℕ → Header → Item → Type 0
-IsEntryOf serving i s header (item.Entered packet switch came) =
+abbrev pub IsPacketEntryOf : Bool → ℕ → ℕ → Header → Item → Type 0
+IsPacketEntryOf serving i s header (item.Entered packet switch came) =
     (packet ≡ i) × (switch ≡ s) × (came ≡ header) × IsTrue serving
-IsEntryOf serving i s header (item.Closed packet switch) =
+IsPacketEntryOf serving i s header (item.Closed packet switch) =
     (packet ≡ i) × (switch ≡ s) × IsFalse serving
-IsEntryOf serving i s header _ = ⊥
+IsPacketEntryOf serving i s header _ = ⊥
 
 -- after this journal each packet row among the items has its entry right after it, under the next
 -- number, and nothing else enters or is closed
@@ -56,7 +56,7 @@ abbrev pub EachPacketRowEnters : List Item → List Item → Type 0
 EachPacketRowEnters before [] = ⊤
 EachPacketRowEnters before (item.Row row (Packet s header) ∷ []) = ⊥
 EachPacketRowEnters before (item.Row row (Packet s header) ∷ entry ∷ items) =
-    IsEntryOf (serves (before ++ item.Row row (Packet s header) ∷ []) s) (next_packet before) s
+    IsPacketEntryOf (serves (before ++ item.Row row (Packet s header) ∷ []) s) (journal_next_packet before) s
     header entry × EachPacketRowEnters (before ++ item.Row row (Packet s header) ∷ entry ∷ []) items
 EachPacketRowEnters before (item.Entered packet switch header ∷ items) = ⊥
 EachPacketRowEnters before (item.Closed packet switch ∷ items) = ⊥

@@ -1,47 +1,47 @@
 -- How many routes a packet takes, and how many hops while it travels.
 use Rattle.std.specs.Prelude.{if◌then◌else◌, ◌&&◌, ◌+◌, ◌==◌, Bool, List, false, ℕ}
-use Rattle.update_machine.specs.Exports.{Hop, Item, count_of, folded_value, travels}
+use Rattle.update_machine.specs.Exports.{Hop, Item, count_of, journal_folded_value, travels}
 use Rattle.journal.specs.declared.item.Item.TheVariants as item
 
 -- ---- hops
 
-abbrev pub changes_taken : ℕ → List Item → ℕ → Item → ℕ
-changes_taken i before taken (item.Row row (Hop packet)) =
+abbrev pub changes_packet_hops_taken : ℕ → List Item → ℕ → Item → ℕ
+changes_packet_hops_taken i before taken (item.Row row (Hop packet)) =
     if packet == i && travels before i then taken + 1 else taken
-changes_taken i before taken _ = taken
+changes_packet_hops_taken i before taken _ = taken
 
 -- the hop steps of the packet while it travelled, also those in which it arrived or got stuck
-unfoldable pub hops_taken : List Item → ℕ → ℕ
-hops_taken journal i = folded_value (changes_taken i) 0 journal
+unfoldable pub packet_hops_taken : List Item → ℕ → ℕ
+packet_hops_taken journal i = journal_folded_value (changes_packet_hops_taken i) 0 journal
 
 -- ---- routes
 
-abbrev pub is_search : ℕ → Item → Bool
-is_search i (item.Seeking packet version partition route) = packet == i
-is_search i _ = false
+abbrev pub is_packet_search : ℕ → Item → Bool
+is_packet_search i (item.Seeking packet version partition route) = packet == i
+is_packet_search i _ = false
 
 -- its routes to an authority switch, one for each lookup that found no own rule
 unfoldable pub search_count : List Item → ℕ → ℕ
-search_count journal i = count_of (is_search i) journal
+search_count journal i = count_of (is_packet_search i) journal
 
-abbrev pub is_exit : ℕ → Item → Bool
-is_exit i (item.Exiting packet route) = packet == i
-is_exit i _ = false
+abbrev pub is_packet_exit : ℕ → Item → Bool
+is_packet_exit i (item.Exiting packet route) = packet == i
+is_packet_exit i _ = false
 
 -- its routes to the switch of its port
 unfoldable pub exit_count : List Item → ℕ → ℕ
-exit_count journal i = count_of (is_exit i) journal
+exit_count journal i = count_of (is_packet_exit i) journal
 
-abbrev pub is_detour : ℕ → Item → Bool
-is_detour i (item.Rerouted packet route) = packet == i
-is_detour i _ = false
+abbrev pub is_packet_detour : ℕ → Item → Bool
+is_packet_detour i (item.Rerouted packet route) = packet == i
+is_packet_detour i _ = false
 
 -- its routes around links that it found down
 unfoldable pub detour_count : List Item → ℕ → ℕ
-detour_count journal i = count_of (is_detour i) journal
+detour_count journal i = count_of (is_packet_detour i) journal
 
-abbrev pub routes_taken : List Item → ℕ → ℕ
-routes_taken journal i = search_count journal i + exit_count journal i + detour_count journal i
+abbrev pub packet_routes_taken : List Item → ℕ → ℕ
+packet_routes_taken journal i = search_count journal i + exit_count journal i + detour_count journal i
 
 -- the most switches of a route, and so the most hops on it, counting its arrival
 abbrev pub most_switches : ℕ
@@ -49,5 +49,5 @@ most_switches = 64
 
 -- the most hops of a packet: 64 on each of its routes, which are at most 64 to authorities, one to
 -- its port and 256 around links
-abbrev pub most_hops : ℕ
-most_hops = 20544
+abbrev pub most_packet_hops : ℕ
+most_packet_hops = 20544

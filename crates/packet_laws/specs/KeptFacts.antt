@@ -1,12 +1,12 @@
 -- The invariants of packets and cache rules that each item keeps, whatever a packet's stage is.
 use Rattle.std.specs.Prelude.{◌+◌, ◌<◌, ◌≡◌, ◌≤◌, ◌⊎◌, All, IsFalse, IsTrue, List, None, Option, Some, slice_get, ℕ, ⊤}
-use Rattle.update_machine.specs.Exports.{Body, CacheRule, Decision, Header, Item, Message, NamesOwnPort, Seek, Setting, cache_of, current_mark, message_of, next_packet, policy_at}
+use Rattle.update_machine.specs.Exports.{Body, CacheRule, Decision, Header, Item, Message, NamesSettingPort, Seek, Setting, journal_cache_of, journal_current_mark, message_of, journal_next_packet, policy_at}
 use Rattle.failover.specs.Exports.{has_link}
 use Rattle.policy_rules.specs.Exports.{scan}
-use Rattle.packet_laws.specs.Rules.{IsRightEntry, IsRightRule}
-use Rattle.packet_laws.specs.OnWay.{IsOnWay, IsSought, IsUnderWay, IsUnknownPacket}
-use Rattle.packet_laws.specs.Facts.{PacketFacts, what_is_known}
-use Rattle.packet_laws.specs.Stages.{Blocked, CameIn, Judged, OnWay, Stage, stage_of}
+use Rattle.packet_laws.specs.Rules.{IsRightEntry, IsRightPacketRule}
+use Rattle.packet_laws.specs.OnWay.{IsPacketOnWay, IsSoughtByPacket, IsPacketUnderWay, IsUnknownPacket}
+use Rattle.packet_laws.specs.Facts.{PacketFacts, packet_facts_of}
+use Rattle.packet_laws.specs.Stages.{Blocked, CameIn, Judged, OnWay, PacketStage, packet_stage_of}
 
 -- the route uses none of the links of the set
 abbrev pub PacketRouteAvoidsFound : List ℕ → List ℕ → Type 0
@@ -20,37 +20,37 @@ pub record IsRightlyDecided (setting : Setting) (journal : List Item) (facts : P
   pub decision : Decision
   pub decided : facts.decision ≡ Some decision
   pub not_retired : facts.mark < decision.version
-  pub current : decision.version ≤ current_mark journal
+  pub current : decision.version ≤ journal_current_mark journal
   pub first_match : scan (policy_at setting journal decision.version) header
       ≡ record { rule = decision.rule; action = decision.action }
-  pub named : NamesOwnPort setting decision.action
+  pub named : NamesSettingPort setting decision.action
   pub sought : (version partition : ℕ) → facts.leg ≡ Some (Seek version partition)
-      → IsSought setting journal facts.mark header version partition
+      → IsSoughtByPacket setting journal facts.mark header version partition
 
 -- the invariants of a packet with these facts in this stage. It is undecided when it enters, and
 -- then decided rightly. It is at its place on a route to a target of its leg, even if it found the
 -- next link down. While it is on its way, its route uses no link that it found down
-pub record HasKeptFacts (setting : Setting) (journal : List Item) (facts : PacketFacts)
-    (stage : Option Stage) : Type 0 where
-  pub under_way : IsTrue facts.travels → IsUnderWay setting journal facts
+pub record HasKeptPacketFacts (setting : Setting) (journal : List Item) (facts : PacketFacts)
+    (stage : Option PacketStage) : Type 0 where
+  pub under_way : IsTrue facts.travels → IsPacketUnderWay setting journal facts
   pub came_in : IsTrue facts.travels → stage ≡ Some CameIn
       → (facts.decision ≡ None) × (facts.leg ≡ None)
   pub judged : IsTrue facts.travels → stage ≡ Some Judged
       → (header : Header) → facts.header ≡ Some header → IsRightlyDecided setting journal facts header
   pub on_way : IsTrue facts.travels → (stage ≡ Some OnWay) ⊎ (stage ≡ Some Blocked)
-      → IsOnWay setting journal facts
+      → IsPacketOnWay setting journal facts
   pub avoids : IsTrue facts.travels → stage ≡ Some OnWay → PacketRouteAvoidsFound facts.found facts.route
 
 -- a cache rule that a body brings is right
 abbrev pub BringsRightRule : Setting → List Item → Body → Type 0
 BringsRightRule setting journal (CacheRule version word rule action) =
-    IsRightRule setting journal version word rule action
+    IsRightPacketRule setting journal version word rule action
 BringsRightRule setting journal _ = ⊤
 
 -- this is true of all packets, of those that didn't enter, of all messages sent, and of all caches
-pub record AllKept (setting : Setting) (journal : List Item) : Type 0 where
-  pub packets : (i : ℕ) → HasKeptFacts setting journal (what_is_known journal i) (stage_of journal i)
-  pub unknown : (i : ℕ) → next_packet journal ≤ i → IsUnknownPacket (what_is_known journal i)
+pub record AllPacketFactsKept (setting : Setting) (journal : List Item) : Type 0 where
+  pub packets : (i : ℕ) → HasKeptPacketFacts setting journal (packet_facts_of journal i) (packet_stage_of journal i)
+  pub unknown : (i : ℕ) → journal_next_packet journal ≤ i → IsUnknownPacket (packet_facts_of journal i)
   pub sent : (n : ℕ) (message : Message) → message_of journal n ≡ Some message
       → BringsRightRule setting journal message.body
-  pub cached : (s : ℕ) → All (IsRightEntry setting journal) (cache_of setting journal s).entries
+  pub cached : (s : ℕ) → All (IsRightEntry setting journal) (journal_cache_of setting journal s).entries

@@ -3,9 +3,9 @@ use Rattle.std.specs.Prelude.{[], ◌+◌, ◌-◌, ◌<◌, ◌∷◌, ◌≡�
 use Rattle.base.specs.Exports.{has, list_any}
 use Rattle.failover.specs.Exports.{IsRouteList, no_links}
 use Rattle.five_tuple.specs.Exports.{IsHeader}
-use Rattle.update_machine.specs.Exports.{Decision, Exit, Header, Item, Leg, Out, Seek, Setting, current_mark, plan_at, retired_mark}
-use Rattle.net_file.specs.Exports.{links_of, owner_of}
-use Rattle.policy_rules.specs.Exports.{is_in}
+use Rattle.update_machine.specs.Exports.{Decision, Exit, Header, Item, Leg, Out, Seek, Setting, journal_current_mark, journal_plan_at, journal_retired_mark}
+use Rattle.net_file.specs.Exports.{links_of, net_port_owner}
+use Rattle.policy_rules.specs.Exports.{is_in_policy_partition}
 use Rattle.switch_table.specs.Exports.{Hosted, part_of}
 use Rattle.packet_laws.specs.Facts.{PacketFacts}
 
@@ -17,7 +17,7 @@ PacketRouteFollowsLinks setting route = (k one two : ℕ) → slice_get route k 
     slice_get route (k + 1) ≡ Some two → IsTrue (has (links_of setting.net.links one) two)
 
 -- its last switch is one of the targets
-pub record EndsAtTarget (route targets : List ℕ) : Type 0 where
+pub record PacketRouteEndsAtTarget (route targets : List ℕ) : Type 0 where
   pub target : ℕ
   pub last : slice_get route (length route - 1) ≡ Some target
   pub own : IsTrue (list_any (nat_eq target) targets)
@@ -26,7 +26,7 @@ pub record EndsAtTarget (route targets : List ℕ) : Type 0 where
 pub record PacketRouteLeadsToTarget (setting : Setting) (targets route : List ℕ) : Type 0 where
   pub list : IsRouteList route
   pub joined : PacketRouteFollowsLinks setting route
-  pub ends : EndsAtTarget route targets
+  pub ends : PacketRouteEndsAtTarget route targets
 
 -- the route begins at this switch
 abbrev pub PacketRouteStartsAt : ℕ → List ℕ → Type 0
@@ -36,55 +36,55 @@ PacketRouteStartsAt switch route = slice_get route 0 ≡ Some switch
 
 -- the partition at this place of the version's plan, which is its number; it is the first whose
 -- region holds the header
-pub record IsPartitionOf (setting : Setting) (journal : List Item) (header : Header)
+pub record IsPacketPartitionOf (setting : Setting) (journal : List Item) (header : Header)
     (version partition : ℕ) (hosted : Hosted) : Type 0 where
-  pub found : slice_get (plan_at setting journal version) partition ≡ Some hosted
+  pub found : slice_get (journal_plan_at setting journal version) partition ≡ Some hosted
   pub number : hosted.0.number ≡ partition
-  pub first : find (λ other. is_in header (part_of other)) (plan_at setting journal version)
+  pub first : find (λ other. is_in_policy_partition header (part_of other)) (journal_plan_at setting journal version)
       ≡ Some hosted
-  pub holds : IsTrue (is_in header (part_of hosted))
+  pub holds : IsTrue (is_in_policy_partition header (part_of hosted))
 
 -- a packet of this mark seeks the partition whose region holds its header, by a version that
 -- wasn't retired when it entered and is at most the current one
-pub record IsSought (setting : Setting) (journal : List Item) (mark : ℕ) (header : Header)
+pub record IsSoughtByPacket (setting : Setting) (journal : List Item) (mark : ℕ) (header : Header)
     (version partition : ℕ) : Type 0 where
   pub not_retired : mark < version
-  pub current : version ≤ current_mark journal
+  pub current : version ≤ journal_current_mark journal
   pub hosted : Hosted
-  pub own : IsPartitionOf setting journal header version partition hosted
+  pub own : IsPacketPartitionOf setting journal header version partition hosted
 
 -- on its way to an authority the packet is undecided, and its route leads to one of the partition
-pub record IsSeeking (setting : Setting) (journal : List Item) (held : Option Decision) (mark : ℕ)
+pub record IsPacketSeeking (setting : Setting) (journal : List Item) (held : Option Decision) (mark : ℕ)
     (route : List ℕ) (header : Header) (version partition : ℕ) : Type 0 where
   pub undecided : held ≡ None
-  pub sought : IsSought setting journal mark header version partition
+  pub sought : IsSoughtByPacket setting journal mark header version partition
   pub open sought use *
   pub leads : PacketRouteLeadsToTarget setting hosted.1 route
 
 -- on its way out the packet was decided to leave by the port, and its route leads to that switch
-pub record IsExiting (setting : Setting) (held : Option Decision) (route : List ℕ) (port : ℕ)
+pub record IsPacketExiting (setting : Setting) (held : Option Decision) (route : List ℕ) (port : ℕ)
     : Type 0 where
   pub decision : Decision
   pub decided : held ≡ Some decision
   pub action : decision.action ≡ Out port
   pub owner : ℕ
-  pub has_port : owner_of setting.net.switches port ≡ Some owner
+  pub has_port : net_port_owner setting.net.switches port ≡ Some owner
   pub leads : PacketRouteLeadsToTarget setting (owner ∷ []) route
 
 -- the invariants of a packet with this decision, mark and route on this leg
 abbrev pub IsPacketBound : Setting → List Item → Option Decision → ℕ → List ℕ → Header → Leg → Type 0
 IsPacketBound setting journal held mark route header (Seek version partition) =
-    IsSeeking setting journal held mark route header version partition
-IsPacketBound setting journal held mark route header (Exit port) = IsExiting setting held route port
+    IsPacketSeeking setting journal held mark route header version partition
+IsPacketBound setting journal held mark route header (Exit port) = IsPacketExiting setting held route port
 
-abbrev pub IsOnLeg : Setting → List Item → PacketFacts → Header → Leg → Type 0
-IsOnLeg setting journal facts header leg =
+abbrev pub IsPacketOnLeg : Setting → List Item → PacketFacts → Header → Leg → Type 0
+IsPacketOnLeg setting journal facts header leg =
     IsPacketBound setting journal facts.decision facts.mark facts.route header leg
 
 -- ---- travelling packets
 
 -- the packet entered with a header, at a switch of the network
-pub record HasComeIn (setting : Setting) (told : Option Header) (first : Option ℕ) : Type 0 where
+pub record PacketHasComeIn (setting : Setting) (told : Option Header) (first : Option ℕ) : Type 0 where
   pub header : Header
   pub ingress : ℕ
   pub entered : told ≡ Some header
@@ -99,19 +99,19 @@ pub record PacketStandsThere (setting : Setting) (place : Option ℕ) : Type 0 w
   pub now : switch < length setting.net.switches
 
 -- a travelling packet has a header, entered at a switch, and is at one
-pub record IsUnderWay (setting : Setting) (journal : List Item) (facts : PacketFacts) : Type 0 where
-  pub entry : HasComeIn setting facts.header facts.ingress
+pub record IsPacketUnderWay (setting : Setting) (journal : List Item) (facts : PacketFacts) : Type 0 where
+  pub entry : PacketHasComeIn setting facts.header facts.ingress
   pub open entry use *
   pub place : PacketStandsThere setting facts.stands
   pub open place use *
-  pub mark : facts.mark ≤ retired_mark journal
+  pub mark : facts.mark ≤ journal_retired_mark journal
 
 -- a packet on its way also has a leg, and is at its place on the leg's route
-pub record IsOnWay (setting : Setting) (journal : List Item) (facts : PacketFacts) : Type 0 where
-  pub under_way : IsUnderWay setting journal facts
+pub record IsPacketOnWay (setting : Setting) (journal : List Item) (facts : PacketFacts) : Type 0 where
+  pub under_way : IsPacketUnderWay setting journal facts
   pub leg : Leg
   pub takes : facts.leg ≡ Some leg
-  pub on_leg : IsOnLeg setting journal facts under_way.header leg
+  pub on_leg : IsPacketOnLeg setting journal facts under_way.header leg
   pub stands : slice_get facts.route facts.hops ≡ Some under_way.switch
 
 -- nothing is known of a packet that didn't enter

@@ -1,22 +1,22 @@
 -- A network between steps: each travelling packet is on its way, at a switch that serves.
 use Rattle.std.specs.Prelude.{◌≡◌, IsTrue, List, Some, ℕ}
 use Rattle.update_machine.specs.Exports.{Item, serves, standing, travels}
-use Rattle.packet_laws.specs.Stages.{OnWay, stage_of}
+use Rattle.packet_laws.specs.Stages.{OnWay, packet_stage_of}
 
 -- the packet is at a switch that serves
-pub record IsServed (journal : List Item) (packet : ℕ) : Type 0 where
+pub record IsPacketServed (journal : List Item) (packet : ℕ) : Type 0 where
   pub switch : ℕ
   pub stands : standing journal packet ≡ Some switch
   pub serving : IsTrue (serves journal switch)
 
 -- each travelling packet is at a switch that serves
-abbrev pub AreServed : List Item → Type 0
-AreServed journal = (packet : ℕ) → IsTrue (travels journal packet) → IsServed journal packet
+abbrev pub ArePacketsServed : List Item → Type 0
+ArePacketsServed journal = (packet : ℕ) → IsTrue (travels journal packet) → IsPacketServed journal packet
 
 -- a packet that travels is on its way
 abbrev pub IsPacketMoving : List Item → ℕ → Type 0
-IsPacketMoving journal packet = IsTrue (travels journal packet) → stage_of journal packet ≡ Some OnWay
+IsPacketMoving journal packet = IsTrue (travels journal packet) → packet_stage_of journal packet ≡ Some OnWay
 
-pub record AreResting (journal : List Item) : Type 0 where
-  pub served : AreServed journal
+pub record ArePacketsResting (journal : List Item) : Type 0 where
+  pub served : ArePacketsServed journal
   pub moving : (packet : ℕ) → IsPacketMoving journal packet

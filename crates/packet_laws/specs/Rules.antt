@@ -1,16 +1,16 @@
 -- Cache rules that decide as the policy of their version does.
 use Rattle.std.specs.Prelude.{◌≤◌, IsTrue, List, Option, ℕ}
 use Rattle.five_tuple.specs.Exports.{IsHeader, number_of}
-use Rattle.update_machine.specs.Exports.{Action, CacheEntry, Header, Item, Setting, current_mark, policy_at}
+use Rattle.update_machine.specs.Exports.{Action, CacheEntry, Header, Item, Setting, journal_current_mark, policy_at}
 use Rattle.policy_rules.specs.Exports.{IsFirstMatch}
 use Rattle.ternary.specs.Exports.{WordValue, holds}
 
 -- the version is at most the current one, and the rule is the first match in its policy of each
 -- header of the word
-pub record IsRightRule (setting : Setting) (journal : List Item) (version : ℕ) (word : WordValue)
+pub record IsRightPacketRule (setting : Setting) (journal : List Item) (version : ℕ) (word : WordValue)
     (rule : Option ℕ) (action : Action) : Type 0 where
   pub known : 1 ≤ version
-  pub current : version ≤ current_mark journal
+  pub current : version ≤ journal_current_mark journal
   pub decides : (header : Header) → IsHeader header → IsTrue (holds word (number_of header)) →
       IsFirstMatch (policy_at setting journal version) header
       (record { rule = rule; action = action })
@@ -18,4 +18,4 @@ pub record IsRightRule (setting : Setting) (journal : List Item) (version : ℕ)
 -- the cache entry is a right rule
 abbrev pub IsRightEntry : Setting → List Item → CacheEntry → Type 0
 IsRightEntry setting journal entry =
-    IsRightRule setting journal entry.version entry.word entry.rule entry.action
+    IsRightPacketRule setting journal entry.version entry.word entry.rule entry.action

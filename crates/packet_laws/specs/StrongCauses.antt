@@ -3,74 +3,74 @@
 -- or is lost by a row, or stuck because no route is known.
 use Rattle.std.specs.Prelude.{◌<◌, ◌≡◌, ◌≢◌, ◌≤◌, IsFalse, List, None, Some, ℕ, ⊤}
 use Rattle.failover.specs.Exports.{IsRoute}
-use Rattle.update_machine.specs.Exports.{Cause, Exit, FindsNextDown, FindsNoPath, Item, LeavesRightly, Leg, Seek, SeeksOwn, Setting, stuck_cause_at, current_mark, decision_of, found_down, holds_version, leg_of, links_known, route_from, standing, targets_of}
+use Rattle.update_machine.specs.Exports.{Cause, Exit, MachineFindsNextDown, MachineFindsNoPath, Item, MachineLeavesRightly, Leg, Seek, SeeksOwnInJournal, Setting, journal_stuck_cause_at, journal_current_mark, journal_decision_of, journal_found_down, holds_version, journal_leg_of, journal_links_known, journal_route_from, standing, targets_of}
 use Rattle.journal.specs.declared.item.Item.TheVariants as item
 use Rattle.steps.specs.Exports.{HasLink}
-use Rattle.control_laws.specs.Exports.{RetirementHasCause, SubmissionHasCause}
+use Rattle.control_laws.specs.Exports.{ControlRetirementHasCause, ControlSubmissionHasCause}
 use Rattle.packet_laws.specs.Facts.{entry_mark}
 use Rattle.packet_laws.specs.KeptFacts.{PacketRouteAvoidsFound}
-use Rattle.packet_laws.specs.Stages.{Blocked, stage_of}
-use Rattle.packet_laws.specs.PacketCauses.{PacketCause}
+use Rattle.packet_laws.specs.Stages.{Blocked, packet_stage_of}
+use Rattle.packet_laws.specs.PacketCauses.{HasPacketItemCause}
 
 -- the link from where the packet is to the next switch of its route is one of the network, and its
 -- switch can't use it
-pub record FindsLinkDown (setting : Setting) (before : List Item) (packet one two : ℕ) : Type 0
+pub record PacketFindsLinkDown (setting : Setting) (before : List Item) (packet one two : ℕ) : Type 0
   where
-    pub finds : FindsNextDown setting before packet one two
+    pub finds : MachineFindsNextDown setting before packet one two
     pub linked : HasLink setting.net one two
 
 -- the packet is undecided, and the version, by which it seeks an authority or is being decided,
 -- wasn't retired when it entered and is at most the current one
 pub record PacketSeeksRightly (before : List Item) (packet version : ℕ) : Type 0 where
-  pub undecided : decision_of before packet ≡ None
+  pub undecided : journal_decision_of before packet ≡ None
   pub not_retired : entry_mark before packet < version
-  pub current : version ≤ current_mark before
+  pub current : version ≤ journal_current_mark before
 
-abbrev pub IsOnRightLeg : List Item → ℕ → Leg → Type 0
-IsOnRightLeg before packet (Seek version partition) = PacketSeeksRightly before packet version
-IsOnRightLeg before packet (Exit port) = ⊤
+abbrev pub IsPacketOnRightLeg : List Item → ℕ → Leg → Type 0
+IsPacketOnRightLeg before packet (Seek version partition) = PacketSeeksRightly before packet version
+IsPacketOnRightLeg before packet (Exit port) = ⊤
 
 -- a lookup on the way raises the version that the packet seeks
 abbrev pub PacketRaisesVersion : List Item → ℕ → ℕ → Type 0
 PacketRaisesVersion before packet version = (earlier partition : ℕ)
-    → leg_of before packet ≡ Some (Seek earlier partition) → earlier < version
+    → journal_leg_of before packet ≡ Some (Seek earlier partition) → earlier < version
 
 -- so does a decision by a switch that doesn't have the version that the packet seeks
 abbrev pub PacketRaisesUnheld : List Item → ℕ → ℕ → Type 0
 PacketRaisesUnheld before packet version = (earlier partition switch : ℕ)
-    → leg_of before packet ≡ Some (Seek earlier partition)
+    → journal_leg_of before packet ≡ Some (Seek earlier partition)
     → standing before packet ≡ Some switch → IsFalse (holds_version before switch earlier)
     → earlier < version
 
 -- so does a lookup after which the packet is stuck at once, before it found a link of the leg down
-abbrev pub RaisesOnLeg : List Item → ℕ → Leg → Type 0
-RaisesOnLeg before packet (Seek version partition) =
-    (stage_of before packet ≢ Some Blocked) → PacketRaisesVersion before packet version
-RaisesOnLeg before packet (Exit port) = ⊤
+abbrev pub PacketRaisesOnLeg : List Item → ℕ → Leg → Type 0
+PacketRaisesOnLeg before packet (Seek version partition) =
+    (packet_stage_of before packet ≢ Some Blocked) → PacketRaisesVersion before packet version
+PacketRaisesOnLeg before packet (Exit port) = ⊤
 
 -- the packet is stuck, with the links that it found down, only because its switch finds no route;
 -- the cause follows the cause rule
-pub record IsStuckOnLeg (setting : Setting) (before : List Item) (packet switch : ℕ)
+pub record IsPacketStuckOnLeg (setting : Setting) (before : List Item) (packet switch : ℕ)
     (cause : Cause) (leg : Leg) (down : List ℕ) : Type 0 where
-  pub stuck : FindsNoPath setting before packet switch leg
-  pub found : down ≡ found_down before packet
-  pub no_route : route_from setting before switch (targets_of setting before leg) down ≡ None
-  pub why : cause ≡ stuck_cause_at setting before switch down leg
-  pub rightly : IsOnRightLeg before packet leg
-  pub raises : RaisesOnLeg before packet leg
+  pub stuck : MachineFindsNoPath setting before packet switch leg
+  pub found : down ≡ journal_found_down before packet
+  pub no_route : journal_route_from setting before switch (targets_of setting before leg) down ≡ None
+  pub why : cause ≡ journal_stuck_cause_at setting before switch down leg
+  pub rightly : IsPacketOnRightLeg before packet leg
+  pub raises : PacketRaisesOnLeg before packet leg
 
 -- a route uses no link that the packet found down
 abbrev pub PacketAvoidsFound : List Item → ℕ → List ℕ → Type 0
-PacketAvoidsFound before packet route = PacketRouteAvoidsFound (found_down before packet) route
+PacketAvoidsFound before packet route = PacketRouteAvoidsFound (journal_found_down before packet) route
 
 -- the route is a shortest one from where the packet is to the first target of the leg that is
 -- reachable, and of these the least. The links are those that its switch knows, except those that
 -- the packet found down; so the route uses none of these
-pub record IsLeastRoute (setting : Setting) (before : List Item) (packet : ℕ) (leg : Leg)
+pub record IsLeastPacketRoute (setting : Setting) (before : List Item) (packet : ℕ) (leg : Leg)
     (route : List ℕ) : Type 0 where
   pub switch : ℕ
   pub stands : standing before packet ≡ Some switch
-  pub least : (let links = links_known setting before switch (found_down before packet) in
+  pub least : (let links = journal_links_known setting before switch (journal_found_down before packet) in
       IsRoute links switch (targets_of setting before leg) (Some route))
   pub avoids : PacketAvoidsFound before packet route
 
@@ -78,36 +78,36 @@ pub record IsLeastRoute (setting : Setting) (before : List Item) (packet : ℕ) 
 pub record ExitsByLeast (setting : Setting) (before : List Item) (packet : ℕ) (route : List ℕ)
     : Type 0 where
   pub port : ℕ
-  pub own_leg : SeeksOwn setting before packet (Exit port)
-  pub by : IsLeastRoute setting before packet (Exit port) route
+  pub own_leg : SeeksOwnInJournal setting before packet (Exit port)
+  pub by : IsLeastPacketRoute setting before packet (Exit port) route
 
 -- it takes another least route on its leg
-pub record TurnsToLeast (setting : Setting) (before : List Item) (packet : ℕ) (route : List ℕ)
+pub record PacketTurnsToLeast (setting : Setting) (before : List Item) (packet : ℕ) (route : List ℕ)
     : Type 0 where
   pub leg : Leg
-  pub own_leg : leg_of before packet ≡ Some leg
-  pub by : IsLeastRoute setting before packet leg route
+  pub own_leg : journal_leg_of before packet ≡ Some leg
+  pub by : IsLeastPacketRoute setting before packet leg route
 
 -- what is required of an item beyond its cause
 abbrev pub FurtherCause : Setting → List Item → Item → Type 0
 FurtherCause setting before (item.Submitted file version) =
-    SubmissionHasCause setting before file version
-FurtherCause setting before (item.Retired version) = RetirementHasCause setting before version
+    ControlSubmissionHasCause setting before file version
+FurtherCause setting before (item.Retired version) = ControlRetirementHasCause setting before version
 FurtherCause setting before (item.Seeking packet version partition route) =
     PacketRaisesVersion before packet version
-    × IsLeastRoute setting before packet (Seek version partition) route
+    × IsLeastPacketRoute setting before packet (Seek version partition) route
 FurtherCause setting before (item.Exiting packet route) = ExitsByLeast setting before packet route
-FurtherCause setting before (item.Rerouted packet route) = TurnsToLeast setting before packet route
+FurtherCause setting before (item.Rerouted packet route) = PacketTurnsToLeast setting before packet route
 FurtherCause setting before (item.FoundDown packet one two) =
-    FindsLinkDown setting before packet one two
+    PacketFindsLinkDown setting before packet one two
 FurtherCause setting before (item.Decided packet version rule action how) =
     PacketSeeksRightly before packet version × PacketRaisesUnheld before packet version
 FurtherCause setting before (item.Left packet port leaving) =
-    LeavesRightly setting before packet port leaving
+    MachineLeavesRightly setting before packet port leaving
 FurtherCause setting before (item.Stuck packet switch cause leg down) =
-    IsStuckOnLeg setting before packet switch cause leg down
+    IsPacketStuckOnLeg setting before packet switch cause leg down
 FurtherCause setting before _ = ⊤
 
 -- the cause of an item, and what is required beyond it
 abbrev pub StrongCause : Setting → List Item → Item → Type 0
-StrongCause setting before next = PacketCause setting before next × FurtherCause setting before next
+StrongCause setting before next = HasPacketItemCause setting before next × FurtherCause setting before next

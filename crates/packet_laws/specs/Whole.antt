@@ -1,16 +1,16 @@
 -- What is true at each moment, within a step too, so that no packet is decided by half of an old
 -- version and half of a new one.
 use Rattle.std.specs.Prelude.{[], List, ℕ}
-use Rattle.update_machine.specs.Exports.{HaveCauses, Item, Setting}
-use Rattle.control_laws.specs.Exports.{AcksHold, BootsAreKnown, HasItemCause, IsAckedFirst, MarksAreBounded, MembersAcknowledged, OpensAtOneVersion, ServingHoldVersions, ServingIsKnown, StampsSayTouched, TablesArePlanned}
-use Rattle.packet_laws.specs.Amended.{ChangesLeaveOthers, UntouchedStay}
-use Rattle.packet_laws.specs.Travelling.{RulesAreRight}
+use Rattle.update_machine.specs.Exports.{JournalItemsHaveCauses, Item, Setting}
+use Rattle.control_laws.specs.Exports.{AcksHold, BootsAreKnown, HasControlItemCause, IsAckedFirst, MarksAreBounded, MembersAcknowledged, OpeningMessagesNameOneVersion, ServingHoldVersions, ServingIsKnown, StampsSayTouched, TablesArePlanned}
+use Rattle.packet_laws.specs.Amended.{ChangesLeaveOtherPackets, UntouchedCacheRulesStay}
+use Rattle.packet_laws.specs.Travelling.{PacketRulesAreRight}
 
-pub record KeepVersionsWhole (setting : Setting) (journal : List Item) : Type 0 where
+pub record KeepVersionsWholeForPackets (setting : Setting) (journal : List Item) : Type 0 where
   -- each item of switches and of the controller has its cause: a message for a boot was sent while
   -- that boot was known and the switch wasn't over. The current mark rose only when each member had
   -- acknowledged each version above the old mark, up to the new one
-  pub causes : HaveCauses (HasItemCause setting) [] journal
+  pub causes : JournalItemsHaveCauses (HasControlItemCause setting) [] journal
   -- the known boot of a switch is at most its own, and no message carries a greater one
   pub boots : BootsAreKnown journal
   -- a switch that serves is a member in its own boot
@@ -19,8 +19,8 @@ pub record KeepVersionsWhole (setting : Setting) (journal : List Item) : Type 0 
   pub heard : (s : ℕ) → AcksHold journal s
   -- it is told to open or to stamp only at a version that it acknowledged, and to open at only one
   -- version in each boot
-  pub acknowledged : HaveCauses (IsAckedFirst setting) [] journal
-  pub opened : OpensAtOneVersion journal
+  pub acknowledged : JournalItemsHaveCauses (IsAckedFirst setting) [] journal
+  pub opened : OpeningMessagesNameOneVersion journal
   -- the tables that are sent are those that their version's plan gives the switch, and stay so
   -- however the journal continues; so are those that it heard
   pub tables : TablesArePlanned setting journal
@@ -34,9 +34,9 @@ pub record KeepVersionsWhole (setting : Setting) (journal : List Item) : Type 0 
   -- a switch that is told to stamp with a version also gets what its change touches
   pub touched : StampsSayTouched setting journal
   -- each cache rule decides each header of its word as its own version does
-  pub rules : RulesAreRight setting journal
+  pub rules : PacketRulesAreRight setting journal
   -- when a `Stamp` raises a switch to the very next version, its cache keeps, in their order, the
   -- rules that the amendment doesn't touch, unless an entry of that version has the rule's word
-  pub untouched : UntouchedStay setting journal
+  pub untouched : UntouchedCacheRulesStay setting journal
   -- a header that an amendment doesn't touch is decided alike by the versions before and after it
-  pub alike : ChangesLeaveOthers setting journal
+  pub alike : ChangesLeaveOtherPackets setting journal

@@ -2,9 +2,9 @@
 ghost use Rattle.std.specs.Prelude.{[], All, ◌≡◌, ◌++◌, ◌*◌, ◌-◌, ◌<◌, ◌≤◌, Some, List, length, ℕ, Option};
 ghost use Rattle.steps.specs.Steps.{IsEvent};
 ghost use Rattle.steps.specs.declared.step.Step.TheVariants.{Deliver, Hop};
-ghost use Rattle.update_machine.specs.Exports.{Answers, AreAllEventSteps, AreFirstEventSteps, Event, HasCause, HasPlay, HaveCauses, IsPlay, IsReached, IsRun, IsSetting, Item, Setting, StepOfRow, current_mark, most_versions, next_delivery, next_hop, next_packet, next_travelling, next_waiting, piece};
+ghost use Rattle.update_machine.specs.Exports.{Answers, AreAllMachineEventSteps, AreFirstMachineEventSteps, Event, HasCause, HasMachinePlay, JournalItemsHaveCauses, IsMachinePlay, IsJournalReached, IsRun, IsSetting, Item, Setting, StepOfRow, journal_current_mark, most_journal_versions, journal_next_delivery, journal_next_hop, journal_next_packet, next_travelling, next_waiting, piece};
 ghost use Rattle.control_laws.specs.Always.{HoldsReached};
-ghost use Rattle.packet_laws.specs.Exports.{AllKept, AreEntered, AreResting, ChangesLeaveOthers, GoesOrStops, HoldsBetween, KeepVersionsWhole, PacketsArrive, PacketsTravel, RulesAreRight, UntouchedStay, StrongCause, PacketCause, detour_count, drain_left, exit_count, finding_count, hops_on_route, hops_taken, most_hops, most_routes, most_switches, routes_taken, rows_played, search_count, step_rows};
+ghost use Rattle.packet_laws.specs.Exports.{AllPacketFactsKept, AreEntered, ArePacketsResting, ChangesLeaveOtherPackets, GoesOrStops, HoldsBetween, KeepVersionsWholeForPackets, PacketsArrive, PacketsTravel, PacketRulesAreRight, UntouchedCacheRulesStay, StrongCause, HasPacketItemCause, detour_count, packet_drain_left, exit_count, packet_finding_count, packet_route_hops, packet_hops_taken, most_packet_hops, most_packet_routes, most_switches, packet_routes_taken, rows_played, search_count, step_rows};
 
 use control_laws::{
     acknowledgements_hold, boots_are_known, items_have_causes, marks_are_bounded,
@@ -17,19 +17,19 @@ use policy_rules::amendment_laws;
 /// for steps of all kinds.
 pub fn packet_items_have_causes()
     ensures { HoldsReached (λ setting journal.
-        IsSetting setting → HaveCauses (PacketCause setting) [] journal) }
+        IsSetting setting → JournalItemsHaveCauses (HasPacketItemCause setting) [] journal) }
 {}
 
 /// Between steps each travelling packet is on its way, at a switch that serves: those that were at
 /// a switch that crashed are lost with it.
 pub fn packets_rest()
-    ensures { HoldsBetween (λ setting journal. IsSetting setting → AreResting journal) }
+    ensures { HoldsBetween (λ setting journal. IsSetting setting → ArePacketsResting journal) }
 {}
 
 /// Each item keeps the invariants of each packet on its way, in whatever stage the packet is, and
 /// keeps each cache rule right.
 pub fn items_keep_packets()
-    ensures { HoldsReached (λ setting journal. IsSetting setting → AllKept setting journal) }
+    ensures { HoldsReached (λ setting journal. IsSetting setting → AllPacketFactsKept setting journal) }
 {}
 
 /// Between steps a travelling packet is at a serving switch, and its route leads to a target of its
@@ -48,7 +48,7 @@ pub fn packets_arrive()
 /// Each cache rule that was sent, and each that a switch caches, is of a version that is at most
 /// the current one, and decides each header of its word as this version's policy does.
 pub fn cache_rules_are_right()
-    ensures { HoldsReached (λ setting journal. IsSetting setting → RulesAreRight setting journal) }
+    ensures { HoldsReached (λ setting journal. IsSetting setting → PacketRulesAreRight setting journal) }
 {}
 
 /// When a `Stamp` message raises a switch to the version that an amendment made, the entries of the
@@ -56,7 +56,7 @@ pub fn cache_rules_are_right()
 /// new version, of the same message and in its place in the order; only if an entry of that version
 /// has its word already, that one stays instead. It then decides as that version's policy does.
 pub fn untouched_rules_stay()
-    ensures { HoldsReached (λ setting journal. IsSetting setting → UntouchedStay setting journal) }
+    ensures { HoldsReached (λ setting journal. IsSetting setting → UntouchedCacheRulesStay setting journal) }
 {}
 
 /// An amendment changes only what it touches: a header that no removed and no added row matches
@@ -64,7 +64,7 @@ pub fn untouched_rules_stay()
 /// them decided got that match.
 pub fn changes_leave_other_headers()
     ensures { HoldsReached (λ setting journal.
-        IsSetting setting → ChangesLeaveOthers setting journal) }
+        IsSetting setting → ChangesLeaveOtherPackets setting journal) }
 {
     amendment_laws();
 }
@@ -73,7 +73,7 @@ pub fn changes_leave_other_headers()
 /// versions that are submitted, have their causes.
 pub fn ends_have_causes()
     ensures { HoldsReached (λ setting journal.
-        IsSetting setting → HaveCauses (HasCause setting) [] journal) }
+        IsSetting setting → JournalItemsHaveCauses (HasCause setting) [] journal) }
 {}
 
 /// The journal is a run of the machine: each packet is decided once, by the first match of one
@@ -89,7 +89,7 @@ pub fn answers_are_runs()
 /// row of the step that is taken.
 pub fn causes_are_strong()
     ensures { HoldsReached (λ setting journal.
-        IsSetting setting → HaveCauses (StrongCause setting) [] journal) }
+        IsSetting setting → JournalItemsHaveCauses (StrongCause setting) [] journal) }
 {}
 
 /// A packet takes few routes: at most as many to authority switches as there are versions, which
@@ -97,27 +97,27 @@ pub fn causes_are_strong()
 /// links. So it takes at most 321 routes.
 pub fn packets_take_few_routes()
     ensures raised { HoldsReached (λ setting journal. IsSetting setting
-        → (i : ℕ) → search_count journal i ≤ current_mark journal) }
+        → (i : ℕ) → search_count journal i ≤ journal_current_mark journal) }
     ensures searched { HoldsReached (λ setting journal. IsSetting setting
-        → (i : ℕ) → search_count journal i ≤ most_versions) }
+        → (i : ℕ) → search_count journal i ≤ most_journal_versions) }
     ensures exited { HoldsReached (λ setting journal. IsSetting setting
         → (i : ℕ) → exit_count journal i ≤ 1) }
     ensures detoured { HoldsReached (λ setting journal. IsSetting setting
         → (i : ℕ) → detour_count journal i ≤ length setting.net.links) }
     ensures found { HoldsReached (λ setting journal. IsSetting setting
-        → (i : ℕ) → finding_count journal i ≤ length setting.net.links) }
+        → (i : ℕ) → packet_finding_count journal i ≤ length setting.net.links) }
     ensures few { HoldsReached (λ setting journal. IsSetting setting
-        → (i : ℕ) → routes_taken journal i ≤ most_routes) }
+        → (i : ℕ) → packet_routes_taken journal i ≤ most_packet_routes) }
 {}
 
 /// While it travels a packet takes at most 64 hops on each route, and so at most 20,544 hops.
 pub fn packets_take_few_hops()
     ensures on_each { HoldsReached (λ setting journal. IsSetting setting
-        → (i : ℕ) → hops_on_route journal i ≤ most_switches) }
+        → (i : ℕ) → packet_route_hops journal i ≤ most_switches) }
     ensures by_routes { HoldsReached (λ setting journal. IsSetting setting
-        → (i : ℕ) → hops_taken journal i ≤ most_switches * routes_taken journal i) }
+        → (i : ℕ) → packet_hops_taken journal i ≤ most_switches * packet_routes_taken journal i) }
     ensures few { HoldsReached (λ setting journal. IsSetting setting
-        → (i : ℕ) → hops_taken journal i ≤ most_hops) }
+        → (i : ℕ) → packet_hops_taken journal i ≤ most_packet_hops) }
 {}
 
 /// A drain ends, after any steps of the network: each hop of the travelling packet with the least
@@ -125,15 +125,15 @@ pub fn packets_take_few_hops()
 /// packet that entered.
 pub fn drains_end()
     ensures fewer { (setting : Setting) (journal : List Item) (row i : ℕ)
-        → IsSetting setting → IsReached setting journal → next_travelling journal ≡ Some i
-        → drain_left (journal ++ piece setting journal row (Hop i)) < drain_left journal }
+        → IsSetting setting → IsJournalReached setting journal → next_travelling journal ≡ Some i
+        → packet_drain_left (journal ++ piece setting journal row (Hop i)) < packet_drain_left journal }
     ensures ends { (setting : Setting) (journal : List Item) (row : ℕ)
-        → IsSetting setting → IsReached setting journal
-        → (steps : List StepOfRow) × AreAllEventSteps setting next_hop row journal steps }
+        → IsSetting setting → IsJournalReached setting journal
+        → (steps : List StepOfRow) × AreAllMachineEventSteps setting journal_next_hop row journal steps }
     ensures short { (setting : Setting) (journal : List Item) (row : ℕ) (steps : List StepOfRow)
-        → IsSetting setting → IsReached setting journal
-        → AreFirstEventSteps setting next_hop row journal steps
-        → length steps ≤ most_hops * (next_packet journal - 1) }
+        → IsSetting setting → IsJournalReached setting journal
+        → AreFirstMachineEventSteps setting journal_next_hop row journal steps
+        → length steps ≤ most_packet_hops * (journal_next_packet journal - 1) }
 {}
 
 /// In a flush each message that is delivered has a greater number than the one before it, whatever
@@ -147,14 +147,14 @@ pub fn deliveries_rise()
 /// In a play a flush makes all its deliveries, or stops before one that would find a full journal.
 pub fn flushes_end()
     ensures { (setting : Setting) (journal : List Item) (row : ℕ)
-        → GoesOrStops setting next_delivery row journal }
+        → GoesOrStops setting journal_next_delivery row journal }
 {}
 
 /// Each list of events of a network has a play: its answer, or the steps before the first one that
 /// would begin with a full journal.
 pub fn plays_exist()
     ensures { (setting : Setting) (events : List Event) → IsSetting setting
-        → All (IsEvent setting.net (length setting.files)) events → HasPlay setting events }
+        → All (IsEvent setting.net (length setting.files)) events → HasMachinePlay setting events }
 {}
 
 /// The rows of a play's journal are those of its events that were played, in order, except for hops
@@ -163,7 +163,7 @@ pub fn plays_exist()
 /// if not, it is closed. No other packet enters or is closed.
 pub fn packet_rows_are_entered()
     ensures { (setting : Setting) (events : List Event) (journal : List Item)
-        (full : Option ℕ) → IsPlay setting events journal full
+        (full : Option ℕ) → IsMachinePlay setting events journal full
         → AreEntered (rows_played full events) journal }
 {}
 
@@ -180,7 +180,7 @@ pub fn answered_rows_are_entered()
 /// unless an entry of that version already has the rule's word.
 pub fn items_keep_versions_whole()
     ensures { HoldsReached (λ setting journal.
-        IsSetting setting → KeepVersionsWhole setting journal) }
+        IsSetting setting → KeepVersionsWholeForPackets setting journal) }
 {
     items_have_causes();
     boots_are_known();

@@ -1,8 +1,8 @@
 //! Laws about what is true on the way to a journal: at each moment, and after each step.
 ghost use Rattle.std.specs.Prelude.{List, Option, ℕ};
-ghost use Rattle.update_machine.specs.Exports.{Event, IsPlay, IsSetting, Item, Setting};
+ghost use Rattle.update_machine.specs.Exports.{Event, IsMachinePlay, IsSetting, Item, Setting};
 ghost use Rattle.control_laws.specs.Always.{AreNetworkEvents, HoldsReached};
-ghost use Rattle.packet_laws.specs.Exports.{HeldOnTheWay, HoldsBetween, HoldsSoFar, IsKeptBehind};
+ghost use Rattle.packet_laws.specs.Exports.{HeldOnTheWay, HoldsBetween, HoldsSoFar, ArePacketsKeptBehind};
 
 use crate::laws::{
     answers_are_runs, causes_are_strong, ends_have_causes, items_keep_versions_whole,
@@ -25,7 +25,7 @@ pub fn journals_hold_so_far()
 
 /// After each step packets are on their way, and the marks are settled.
 pub fn steps_are_kept()
-    ensures { HoldsBetween (λ setting journal. IsSetting setting → IsKeptBehind setting journal) }
+    ensures { HoldsBetween (λ setting journal. IsSetting setting → ArePacketsKeptBehind setting journal) }
 {
     packets_travel();
     marks_settle();
@@ -35,7 +35,7 @@ pub fn steps_are_kept()
 /// and after each of its steps.
 pub fn plays_held_on_the_way()
     ensures { (setting : Setting) (events : List Event) (journal : List Item) (full : Option ℕ)
-        → IsSetting setting → AreNetworkEvents setting events → IsPlay setting events journal full
+        → IsSetting setting → AreNetworkEvents setting events → IsMachinePlay setting events journal full
         → HeldOnTheWay setting journal }
 {
     journals_hold_so_far();

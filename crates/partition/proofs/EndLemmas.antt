@@ -3,14 +3,14 @@
 use Rattle.std.proofs.Common.{[], ◌++◌, ◌<◌, ◌∙◌, ◌∷◌, All, IsTrue, List, ap, false, inl, inr, true, ℕ}
 use Rattle.std.proofs.lemmas.Bool.{cases_Bool, and_from}
 use Rattle.std.proofs.lemmas.List.Elements.{All-nil, All-cons, All-append}
-use Rattle.ternary.specs.Exports.{WordValue, any_word, covers_of, fix_of, meets}
-use Rattle.ternary.proofs.CallerLemmas.{covers_reflexive, covers_transitive, fix_within, meet_greatest, meets_comm, meets_cover, met_joined}
-use Rattle.policy_rules.specs.Exports.{EndInCover, IsPolicy, LastRuleCovers, default_rule, rules_of}
+use Rattle.ternary.specs.Exports.{WordValue, any_word, word_covers_of, word_fix_of, meets}
+use Rattle.ternary.proofs.TernaryCallerLemmas.{covers_reflexive, covers_transitive, fix_within, meet_greatest, meets_comm, meets_cover, met_joined}
+use Rattle.policy_rules.specs.Exports.{RulesEndInCover, IsPolicy, LastRuleCovers, default_rule, rules_of}
 use Rattle.policy_rules.specs.declared.policy.Row.{Row}
 use Rattle.policy_rules.specs.declared.rules.Rule.{Rule}
-use Rattle.policy_rules.proofs.CallerLemmas.{IsRuleList-rules_of}
-use Rattle.cut_tree.specs.Exports.{End, IsDefinedTree, IsTreeOf, Node, Shape, leaves_of, narrow, narrowed_rule, side_of_cut, tree_of}
-use Rattle.cut_tree.proofs.CallerLemmas.{tree_defined}
+use Rattle.policy_rules.proofs.PolicyRulesCallerLemmas.{IsRuleList-rules_of}
+use Rattle.cut_tree.specs.Exports.{End, IsDefinedTree, IsTreeOf, Node, Shape, leaves_of, narrow, cut_narrowed_rule, side_of_cut, tree_of}
+use Rattle.cut_tree.proofs.CutTreeCallerLemmas.{tree_defined}
 use Rattle.cut_tree.proofs.CutNarrowing.{narrow_apart, narrow_covered, narrow_more}
 use Rattle.partition.specs.Parts.{parts_of, partitions_of}
 use Rattle.partition.proofs.PartLemmas.{numbered_all}
@@ -19,36 +19,36 @@ use Rattle.partition.proofs.PartLemmas.{numbered_all}
 
 -- a rule that covers the region still does when it is narrowed to it
 narrowed_covers : (region : WordValue) (rule : Rule) → IsTrue (meets rule.word region)
-    → IsTrue (covers_of rule.word region) → IsTrue
-    (covers_of (narrowed_rule region rule).word region)
-unfolding narrowed_rule
+    → IsTrue (word_covers_of rule.word region) → IsTrue
+    (word_covers_of (cut_narrowed_rule region rule).word region)
+unfolding cut_narrowed_rule
 narrowed_covers region rule meet covers =
     meet_greatest rule.word region _ region (met_joined rule.word region meet)
     ∙ and_from _ _ covers (covers_reflexive region)
 
 -- a list whose first rule covers the region ends with it
 ends_at_once : (region : WordValue) (rule : Rule) (rules : List Rule)
-    → IsTrue (meets rule.word region) → IsTrue (covers_of rule.word region)
-    → EndInCover region (narrow (rule ∷ rules) region)
+    → IsTrue (meets rule.word region) → IsTrue (word_covers_of rule.word region)
+    → RulesEndInCover region (narrow (rule ∷ rules) region)
 ends_at_once region rule rules meet covers = (
   [],
-  narrowed_rule region rule,
+  cut_narrowed_rule region rule,
   narrow_covered region rule rules meet covers,
   narrowed_covers region rule meet covers,
 )
 
 narrow_ends : (earlier : List Rule) (last : Rule) (region : WordValue)
-    → IsTrue (covers_of last.word region) → EndInCover region (narrow (earlier ++ last ∷ []) region)
+    → IsTrue (word_covers_of last.word region) → RulesEndInCover region (narrow (earlier ++ last ∷ []) region)
 narrow_ends [] last region covers = ends_at_once region last []
     (meets_comm last.word region ∙ meets_cover last.word region covers) covers
 narrow_ends (rule ∷ earlier) last region covers =
     let rules : List Rule = earlier ++ last ∷ [] in
     let rest = narrow_ends earlier last region covers in
     elim (cases_Bool (meets rule.word region)) [
-      | inl meet ↦ elim (cases_Bool (covers_of rule.word region)) [
+      | inl meet ↦ elim (cases_Bool (word_covers_of rule.word region)) [
         | inl whole ↦ ends_at_once region rule rules meet whole
         | inr past ↦ (
-          narrowed_rule region rule ∷ rest.0,
+          cut_narrowed_rule region rule ∷ rest.0,
           rest.1,
           cc (narrow_more region rule rules meet past, rest.2),
           rest.3,
@@ -58,8 +58,8 @@ narrow_ends (rule ∷ earlier) last region covers =
     ]
 
 -- so do the rules of a half
-half_ends : (rules : List Rule) (region half : WordValue) → IsTrue (covers_of region half)
-    → EndInCover region rules → EndInCover half (narrow rules half)
+half_ends : (rules : List Rule) (region half : WordValue) → IsTrue (word_covers_of region half)
+    → RulesEndInCover region rules → RulesEndInCover half (narrow rules half)
 half_ends rules region half within ends =
     let narrowed_rules = narrow_ends ends.0 ends.1 half
     (covers_transitive ends.1.word region half ends.3 within) in (
@@ -72,22 +72,22 @@ half_ends rules region half within ends =
 -- ---- the leaves of a tree
 
 abbrev IsEndedLeaf : WordValue × List Rule → Type 0
-IsEndedLeaf leaf = EndInCover leaf.0 leaf.1
+IsEndedLeaf leaf = RulesEndInCover leaf.0 leaf.1
 
 ended_leaves : (tree : Shape) (rules : List Rule) (region : WordValue) (most : ℕ)
-    → IsTreeOf rules region most tree → EndInCover region rules → All IsEndedLeaf (leaves_of tree)
+    → IsTreeOf rules region most tree → RulesEndInCover region rules → All IsEndedLeaf (leaves_of tree)
 ended_leaves (End r rs) rules region most is ends = All-cons IsEndedLeaf (r, rs) []
     (ends.0, ends.1, is.same_rules ∙ ends.2, rw is.same_region ends.3) (All-nil IsEndedLeaf)
 ended_leaves (Node bit low high) rules region most is ends = let free = is.0.least.cuts.free in
     All-append IsEndedLeaf (leaves_of low) (leaves_of high)
-    (ended_leaves low (side_of_cut rules region bit false) (fix_of region bit false) most is.1
-    (half_ends rules region (fix_of region bit false) (fix_within region bit false free) ends))
-    (ended_leaves high (side_of_cut rules region bit true) (fix_of region bit true) most is.2
-    (half_ends rules region (fix_of region bit true) (fix_within region bit true free) ends))
+    (ended_leaves low (side_of_cut rules region bit false) (word_fix_of region bit false) most is.1
+    (half_ends rules region (word_fix_of region bit false) (fix_within region bit false free) ends))
+    (ended_leaves high (side_of_cut rules region bit true) (word_fix_of region bit true) most is.2
+    (half_ends rules region (word_fix_of region bit true) (fix_within region bit true free) ends))
 
 -- ---- the partitions of a policy
 
-rules_end : (rows : List Row) → IsPolicy rows → EndInCover any_word (rules_of rows)
+rules_end : (rows : List Row) → IsPolicy rows → RulesEndInCover any_word (rules_of rows)
 rules_end rows policy = let ends = (IsRuleList-rules_of rows policy).ends in
     (ends.0, default_rule _, ends.1, covers_reflexive any_word)
 

@@ -1,4 +1,4 @@
 pub mod PartLemmas
 pub mod EndLemmas
 pub mod PartitionPlans
-pub mod CallerLemmas
+pub mod PartitionCallerLemmas

@@ -11,21 +11,21 @@ use Rattle.std.proofs.lemmas.Nat.Bits.{bit_at-lt}
 use Rattle.std.proofs.lemmas.Option.{same_Some}
 use Rattle.five_tuple.specs.Exports.{number_of}
 use Rattle.five_tuple.specs.declared.header.Header.{Header}
-use Rattle.ternary.specs.Exports.{WordValue, any_word, covers_of, fix_of, holds, is_fixed_of}
-use Rattle.ternary.proofs.CallerLemmas.{any_holds, covers_held, covers_reflexive, covers_transitive, fix_holds, fix_within}
-use Rattle.policy_rules.specs.Exports.{ArePartsNumbered, AreSoundPartitions, IsPolicy, first_rule, hit_of_rule, is_held, is_in, rules_of, scan}
+use Rattle.ternary.specs.Exports.{WordValue, any_word, word_covers_of, word_fix_of, holds, is_fixed_of}
+use Rattle.ternary.proofs.TernaryCallerLemmas.{any_holds, covers_held, covers_reflexive, covers_transitive, fix_holds, fix_within}
+use Rattle.policy_rules.specs.Exports.{ArePartsNumbered, AreSoundPolicyPartitions, IsPolicy, first_rule, policy_hit_of_rule, is_held, is_in_policy_partition, rules_of, scan}
 use Rattle.policy_rules.specs.declared.policy.Row.{Row}
 use Rattle.policy_rules.specs.declared.policy.Hit.{Hit}
 use Rattle.policy_rules.specs.declared.rules.Partition.{Partition}
 use Rattle.policy_rules.specs.declared.rules.Rule.{Rule}
-use Rattle.policy_rules.proofs.CallerLemmas.{IsRuleList-rules_of, first_rule-rules_of, at_item}
-use Rattle.cut_tree.specs.Exports.{AreRuleWords, End, IsDefinedTree, IsTreeOf, Node, Shape, leaf_count, leaves_of, narrow, narrowed_rule, side_of_cut, tree_of}
-use Rattle.cut_tree.proofs.CallerLemmas.{narrow_few, narrow_first, tree_defined}
+use Rattle.policy_rules.proofs.PolicyRulesCallerLemmas.{IsRuleList-rules_of, first_rule-rules_of, at_item}
+use Rattle.cut_tree.specs.Exports.{AreCutRuleWords, End, IsDefinedTree, IsTreeOf, Node, Shape, leaf_count, leaves_of, narrow, cut_narrowed_rule, side_of_cut, tree_of}
+use Rattle.cut_tree.proofs.CutTreeCallerLemmas.{narrow_few, narrow_first, tree_defined}
 use Rattle.partition.specs.Parts.{PartitionsDecideAs, PartitionDecidesAs, partition_numbered, partitions_from, parts_of, partitions_of}
 
 -- what becomes of a header by the first rule that holds it
 abbrev hit_at : ℕ → List Rule → Option Hit
-hit_at header rules = option_map hit_of_rule (find (is_held header) rules)
+hit_at header rules = option_map policy_hit_of_rule (find (is_held header) rules)
 
 -- ---- a leaf for each header
 
@@ -38,8 +38,8 @@ counted t = search rules
 
 -- a header of the region is in exactly one half
 one_half : (region : WordValue) (bit header : ℕ) → IsFalse (is_fixed_of region bit)
-    → from_bool (holds (fix_of region bit false) header) + from_bool
-    (holds (fix_of region bit true) header) ≡ from_bool (holds region header)
+    → from_bool (holds (word_fix_of region bit false) header) + from_bool
+    (holds (word_fix_of region bit true) header) ≡ from_bool (holds region header)
 one_half region bit header free = search (rules, fix_holds, one_digit, bit_at-lt)
 
 -- the leaves of a tree whose region holds the header
@@ -51,9 +51,9 @@ leaf_count_at : (tree : Shape) (rules : List Rule) (region : WordValue) (most he
     (holds region header)
 leaf_count_at (End r rs) rules region most header is = rw is.same_region (omega (arith, counted))
 leaf_count_at (Node bit low high) rules region most header is =
-    let below = leaf_count_at low (side_of_cut rules region bit false) (fix_of region bit false) most
+    let below = leaf_count_at low (side_of_cut rules region bit false) (word_fix_of region bit false) most
     header is.1 in
-    let above = leaf_count_at high (side_of_cut rules region bit true) (fix_of region bit true) most
+    let above = leaf_count_at high (side_of_cut rules region bit true) (word_fix_of region bit true) most
     header is.2 in
     let both = sum_by-append (λ (leaf : WordValue × List Rule). cond (holds leaf.0 header) 1 0)
     (leaves_of low) (leaves_of high) in
@@ -64,29 +64,29 @@ leaf_count_at (Node bit low high) rules region most header is =
 -- a leaf lies within the region, and decides its headers as these rules do
 record IsLeafThatDecides (rules : List Rule) (region : WordValue) (header : ℕ)
     (leaf : WordValue × List Rule) : Type 0 where
-  pub within : IsTrue (covers_of region leaf.0)
+  pub within : IsTrue (word_covers_of region leaf.0)
   pub few : length leaf.1 ≤ length rules
   pub same : IsTrue (holds leaf.0 header) → hit_at header leaf.1 ≡ hit_at header rules
 
-hit_narrowed : (region : WordValue) (rule : Rule) → hit_of_rule (narrowed_rule region rule)
-    ≡ hit_of_rule rule
-unfolding narrowed_rule
+hit_narrowed : (region : WordValue) (rule : Rule) → policy_hit_of_rule (cut_narrowed_rule region rule)
+    ≡ policy_hit_of_rule rule
+unfolding cut_narrowed_rule
 hit_narrowed region rule = refl
 
 hits_narrowed : (region : WordValue) (rule : Option Rule)
-    → option_map hit_of_rule (option_map (narrowed_rule region) rule) ≡ option_map hit_of_rule rule
+    → option_map policy_hit_of_rule (option_map (cut_narrowed_rule region) rule) ≡ option_map policy_hit_of_rule rule
 hits_narrowed region rule = search (rules, hit_narrowed)
 
 -- a leaf of a half is one of the whole
 widened : (rules : List Rule) (region half : WordValue) (header : ℕ)
-    → IsTrue (covers_of region half) → (leaf : WordValue × List Rule)
+    → IsTrue (word_covers_of region half) → (leaf : WordValue × List Rule)
     → IsLeafThatDecides (narrow rules half) half header leaf → IsLeafThatDecides rules region header
     leaf
 widened rules region half header within leaf decides = record {
   within = covers_transitive region half leaf.0 within decides.within;
   few = omega (arith, decides.few, narrow_few rules half);
   same = λ held. let here = covers_held half leaf.0 header decides.within held in
-      decides.same held ∙ ap (option_map hit_of_rule) (narrow_first rules half header here)
+      decides.same held ∙ ap (option_map policy_hit_of_rule) (narrow_first rules half header here)
       ∙ hits_narrowed half (find (is_held header) rules);
 }
 
@@ -100,7 +100,7 @@ leaves_decide (End r rs) rules region most header is =
     }) (All-nil (IsLeafThatDecides rules region header))
 leaves_decide (Node bit low high) rules region most header is =
     let free = is.0.least.cuts.free in
-    let half = fix_of region bit in
+    let half = word_fix_of region bit in
     let above = leaves_decide high (side_of_cut rules region bit true) (half true) most header is.2 in
     All-append (IsLeafThatDecides rules region header) (leaves_of low) (leaves_of high)
     (All-weaker (IsLeafThatDecides (narrow rules (half false)) (half false) header)
@@ -124,12 +124,12 @@ unfolding partitions_from
 numbered_more number leaf leaves = refl
 
 numbered_count : (number : ℕ) (leaves : List (WordValue × List Rule)) (header : Header)
-    → count_by (is_in header) (partitions_from number leaves) ≡ leaves_at (number_of header) leaves
-numbered_count number [] header = ap (count_by (is_in header)) (numbered_none number)
+    → count_by (is_in_policy_partition header) (partitions_from number leaves) ≡ leaves_at (number_of header) leaves
+numbered_count number [] header = ap (count_by (is_in_policy_partition header)) (numbered_none number)
 numbered_count number (leaf ∷ leaves) header =
     let parts = partitions_from (number + 1) leaves in
-    let more = ap (count_by (is_in header)) (numbered_more number leaf leaves) in
-    let part = sum_by-cons (λ part. cond (is_in header part) 1 0)
+    let more = ap (count_by (is_in_policy_partition header)) (numbered_more number leaf leaves) in
+    let part = sum_by-cons (λ part. cond (is_in_policy_partition header part) 1 0)
     (partition_numbered (number, leaf)) parts in
     let front =
     sum_by-cons (λ (leaf : WordValue × List Rule). cond (holds leaf.0 (number_of header)) 1 0) leaf
@@ -177,7 +177,7 @@ parts_decide rules most tree is = record {
   one = λ header. numbered_count 0 (leaves_of tree) header ∙ leaf_count_at tree rules any_word most
       (number_of header) is ∙ ap from_bool (any_holds (number_of header));
   decides = λ header. numbered_all
-      (λ part. IsTrue (is_in header part) → PartitionDecidesAs rules header part)
+      (λ part. IsTrue (is_in_policy_partition header part) → PartitionDecidesAs rules header part)
       (IsLeafThatDecides rules any_word (number_of header)) (λ number leaf decides. decides.same) 0
       (leaves_of tree) (leaves_decide tree rules any_word most (number_of header) is);
   few = numbered_all (λ part. length part.rules ≤ length rules) (IsLeafThatDecides rules any_word 0)
@@ -190,14 +190,14 @@ parts_numbered tree = λ place d within. numbers_at 0 (leaves_of tree) place d
     (omega (arith, within, numbered_length 0 (leaves_of tree))) ∙ omega arith
 
 pub parts_sound : (rows : List Row) (most : ℕ) (tree : Shape) → IsPolicy rows
-    → IsDefinedTree (rules_of rows) most tree → AreSoundPartitions rows (parts_of tree)
+    → IsDefinedTree (rules_of rows) most tree → AreSoundPolicyPartitions rows (parts_of tree)
 parts_sound rows most tree policy is =
     let decide = parts_decide (rules_of rows) most tree is in record {
       one = λ header good. decide.one header;
       decides = λ header good.
-          All-weaker (λ part. IsTrue (is_in header part) → PartitionDecidesAs (rules_of rows) header part)
-          (λ part. IsTrue (is_in header part)
-          → option_map hit_of_rule (first_rule part.rules header) ≡ Some (scan rows header))
+          All-weaker (λ part. IsTrue (is_in_policy_partition header part) → PartitionDecidesAs (rules_of rows) header part)
+          (λ part. IsTrue (is_in_policy_partition header part)
+          → option_map policy_hit_of_rule (first_rule part.rules header) ≡ Some (scan rows header))
           (λ part decided here. decided here ∙ first_rule-rules_of rows header policy good)
           (parts_of tree) (decide.decides header);
       numbers = parts_numbered tree;
@@ -205,13 +205,13 @@ parts_sound rows most tree policy is =
 
 -- ---- without a tree
 
-pub partitions_decide : (rules : List Rule) (most : ℕ) → 0 < most → AreRuleWords rules
+pub partitions_decide : (rules : List Rule) (most : ℕ) → 0 < most → AreCutRuleWords rules
     → PartitionsDecideAs rules (partitions_of rules most)
 partitions_decide rules most some words = parts_decide rules most (tree_of rules most)
     (tree_defined rules most some words)
 
 pub partitions_sound : (rows : List Row) (most : ℕ) → 0 < most → IsPolicy rows
-    → AreSoundPartitions rows (partitions_of (rules_of rows) most)
+    → AreSoundPolicyPartitions rows (partitions_of (rules_of rows) most)
 partitions_sound rows most some policy = parts_sound rows most (tree_of (rules_of rows) most) policy
     (tree_defined (rules_of rows) most some (IsRuleList-rules_of rows policy).words)
 
@@ -221,69 +221,69 @@ some_same : (a b : Partition) → Some a ≡ Some b → a ≡ b
 some_same a b e = cc
 
 -- none of these partitions has the header
-none_in : (header : Header) (parts : List Partition) → count_by (is_in header) parts ≡ 0
-    → All (λ part. is_in header part ≡ false) parts
-none_in header [] none = All-nil (λ part. is_in header part ≡ false)
+none_in : (header : Header) (parts : List Partition) → count_by (is_in_policy_partition header) parts ≡ 0
+    → All (λ part. is_in_policy_partition header part ≡ false) parts
+none_in header [] none = All-nil (λ part. is_in_policy_partition header part ≡ false)
 none_in header (part ∷ parts) none =
-    let front : count_by (is_in header) (part ∷ parts) ≡ cond (is_in header part) 1 0 + count_by
-    (is_in header) parts = sum_by-cons (λ part. cond (is_in header part) 1 0) part parts in
-    elim (cases_Bool (is_in header part)) [
-      | inl here ↦ let one : ◌≡◌ {A = ℕ} (cond (is_in header part) 1 0) 1 =
-          cond-true (is_in header part) 1 0 here in absurd (omega (arith, front, none, one))
-      | inr away ↦ All-cons (λ part. is_in header part ≡ false) part parts away
+    let front : count_by (is_in_policy_partition header) (part ∷ parts) ≡ cond (is_in_policy_partition header part) 1 0 + count_by
+    (is_in_policy_partition header) parts = sum_by-cons (λ part. cond (is_in_policy_partition header part) 1 0) part parts in
+    elim (cases_Bool (is_in_policy_partition header part)) [
+      | inl here ↦ let one : ◌≡◌ {A = ℕ} (cond (is_in_policy_partition header part) 1 0) 1 =
+          cond-true (is_in_policy_partition header part) 1 0 here in absurd (omega (arith, front, none, one))
+      | inr away ↦ All-cons (λ part. is_in_policy_partition header part ≡ false) part parts away
           (none_in header parts (omega (arith, front, none)))
     ]
 
 -- the first partition of the header is the only one
 found_alone : (header : Header) (parts : List Partition) (found : Partition)
-    → count_by (is_in header) parts ≡ 1 → find (is_in header) parts ≡ Some found
-    → All (λ part. IsTrue (is_in header part) → part.number ≡ found.number) parts
+    → count_by (is_in_policy_partition header) parts ≡ 1 → find (is_in_policy_partition header) parts ≡ Some found
+    → All (λ part. IsTrue (is_in_policy_partition header part) → part.number ≡ found.number) parts
 found_alone header [] found one is = absurd (omega (arith, one))
 found_alone header (part ∷ parts) found one is =
-    let P : Partition → Type 0 = λ part. IsTrue (is_in header part) → part.number ≡ found.number in
-    let front : count_by (is_in header) (part ∷ parts) ≡ cond (is_in header part) 1 0 + count_by
-    (is_in header) parts = sum_by-cons (λ part. cond (is_in header part) 1 0) part parts in
-    elim (cases_Bool (is_in header part)) [
-      | inl here ↦ let once : ◌≡◌ {A = ℕ} (cond (is_in header part) 1 0) 1 =
-          cond-true (is_in header part) 1 0 here in
-          let rest : count_by (is_in header) parts ≡ 0 = omega (arith, front, one, once) in
+    let P : Partition → Type 0 = λ part. IsTrue (is_in_policy_partition header part) → part.number ≡ found.number in
+    let front : count_by (is_in_policy_partition header) (part ∷ parts) ≡ cond (is_in_policy_partition header part) 1 0 + count_by
+    (is_in_policy_partition header) parts = sum_by-cons (λ part. cond (is_in_policy_partition header part) 1 0) part parts in
+    elim (cases_Bool (is_in_policy_partition header part)) [
+      | inl here ↦ let once : ◌≡◌ {A = ℕ} (cond (is_in_policy_partition header part) 1 0) 1 =
+          cond-true (is_in_policy_partition header part) 1 0 here in
+          let rest : count_by (is_in_policy_partition header) parts ≡ 0 = omega (arith, front, one, once) in
           let same : part ≡ found = some_same part found
-          (sym (cond-true _ (Some part) (find (is_in header) parts) here) ∙ is) in
+          (sym (cond-true _ (Some part) (find (is_in_policy_partition header) parts) here) ∙ is) in
           All-cons P part parts (λ _. ap (λ (p : Partition). p.number) same)
-          (All-weaker (λ part. is_in header part ≡ false) P
+          (All-weaker (λ part. is_in_policy_partition header part ≡ false) P
           (λ other away hit. absurd (both_ways _ away hit)) parts (none_in header parts rest))
-      | inr away ↦ let never : ◌≡◌ {A = ℕ} (cond (is_in header part) 1 0) 0 =
-          cond-false (is_in header part) 1 0 away in
-          let rest : count_by (is_in header) parts ≡ 1 = omega (arith, front, one, never) in
+      | inr away ↦ let never : ◌≡◌ {A = ℕ} (cond (is_in_policy_partition header part) 1 0) 0 =
+          cond-false (is_in_policy_partition header part) 1 0 away in
+          let rest : count_by (is_in_policy_partition header) parts ≡ 1 = omega (arith, front, one, never) in
           All-cons P part parts (λ hit. absurd (both_ways _ away hit))
           (found_alone header parts found rest
-          (sym (cond-false _ (Some part) (find (is_in header) parts) away) ∙ is))
+          (sym (cond-false _ (Some part) (find (is_in_policy_partition header) parts) away) ∙ is))
     ]
 
-alone_by : (header : Header) (parts : List Partition) (number : ℕ) → count_by (is_in header) parts
-    ≡ 1 → (found : Option Partition) → find (is_in header) parts ≡ found
+alone_by : (header : Header) (parts : List Partition) (number : ℕ) → count_by (is_in_policy_partition header) parts
+    ≡ 1 → (found : Option Partition) → find (is_in_policy_partition header) parts ≡ found
     → option_map (λ (part : Partition). part.number) found ≡ Some number
-    → All (λ part. IsTrue (is_in header part) → part.number ≡ number) parts
+    → All (λ part. IsTrue (is_in_policy_partition header part) → part.number ≡ number) parts
 alone_by header parts number one None is miss = cc
 alone_by header parts number one (Some found) is same =
-    All-weaker (λ part. IsTrue (is_in header part) → part.number ≡ found.number)
-    (λ part. IsTrue (is_in header part) → part.number ≡ number) (λ part equal hit. equal hit
+    All-weaker (λ part. IsTrue (is_in_policy_partition header part) → part.number ≡ found.number)
+    (λ part. IsTrue (is_in_policy_partition header part) → part.number ≡ number) (λ part equal hit. equal hit
     ∙ same_Some found.number number same) parts (found_alone header parts found one is)
 
-pub alone : (header : Header) (parts : List Partition) (number : ℕ) → count_by (is_in header) parts
-    ≡ 1 → option_map (λ (part : Partition). part.number) (find (is_in header) parts) ≡ Some number
-    → All (λ part. IsTrue (is_in header part) → part.number ≡ number) parts
-alone header parts number one is = alone_by header parts number one (find (is_in header) parts) refl
+pub alone : (header : Header) (parts : List Partition) (number : ℕ) → count_by (is_in_policy_partition header) parts
+    ≡ 1 → option_map (λ (part : Partition). part.number) (find (is_in_policy_partition header) parts) ≡ Some number
+    → All (λ part. IsTrue (is_in_policy_partition header part) → part.number ≡ number) parts
+alone header parts number one is = alone_by header parts number one (find (is_in_policy_partition header) parts) refl
     is
 
 -- ---- partitions from one on, as a loop reads them
 
 pub part_here : (header : Header) (parts : List Partition) (index : ℕ) (part : Partition)
-    → index < length parts → part ≡ get_or parts index part → is_in header part ≡ true
-    → find (is_in header) (drop index parts) ≡ Some part
+    → index < length parts → part ≡ get_or parts index part → is_in_policy_partition header part ≡ true
+    → find (is_in_policy_partition header) (drop index parts) ≡ Some part
 part_here header parts index part within is here =
-    at_item (find (is_in header)) parts index part within is
-    ∙ cond-true _ (Some part) (find (is_in header) (drop (index + 1) parts)) here
+    at_item (find (is_in_policy_partition header)) parts index part within is
+    ∙ cond-true _ (Some part) (find (is_in_policy_partition header) (drop (index + 1) parts)) here
 
 -- ---- partitions pushed leaf by leaf
 

@@ -6,19 +6,19 @@ use Rattle.std.proofs.lemmas.List.{length-map}
 use Rattle.std.proofs.lemmas.List.Elements.{All-nil, All-cons, All-append, All-same, All-weaker, All-from_get_or}
 use Rattle.std.proofs.lemmas.Slice.Zip.{length-zip, firsts-zip, get_or-zip, seconds-zip}
 use Rattle.cut_tree.specs.Exports.{End, IsDefinedTree, IsTreeOf, Node, Shape, leaf_count, leaves_of, side_of_cut, tree_of}
-use Rattle.cut_tree.proofs.CallerLemmas.{tree_defined}
+use Rattle.cut_tree.proofs.CutTreeCallerLemmas.{tree_defined}
 use Rattle.net_file.specs.Exports.{IsNet}
 use Rattle.net_file.specs.declared.net.Net.{Net}
 use Rattle.placement.specs.Placement.{IsPlacement, MeetsPlacement, placement_of}
-use Rattle.placement.proofs.CallerLemmas.{first_there, placement_meets}
-use Rattle.ternary.specs.Exports.{WordValue, any_word, fix_of}
-use Rattle.policy_rules.specs.Exports.{IsPolicy, NoRoom, TooManyLeaves, TooManyWords, rules_of, word_total}
+use Rattle.placement.proofs.PlacementCallerLemmas.{first_there, placement_meets}
+use Rattle.ternary.specs.Exports.{WordValue, any_word, word_fix_of}
+use Rattle.policy_rules.specs.Exports.{IsPolicy, NoRoom, TooManyLeaves, TooManyWords, rules_of, rule_word_total}
 use Rattle.policy_rules.specs.declared.policy.Row.{Row}
 use Rattle.policy_rules.specs.declared.rules.Partition.{Partition}
 use Rattle.policy_rules.specs.declared.rules.Rule.{Rule}
-use Rattle.policy_rules.proofs.CallerLemmas.{IsRuleList-rules_of, cond_if_above, cond_if_below}
+use Rattle.policy_rules.proofs.PolicyRulesCallerLemmas.{IsRuleList-rules_of, cond_if_above, cond_if_below}
 use Rattle.partition.specs.Parts.{partitions_from, parts_of}
-use Rattle.partition.specs.Plan.{IsPartitionPlan, Hosted, partitions_hosted_on, plan_of, plan_of_tree, rooms_of, sizes_of}
+use Rattle.partition.specs.Plan.{IsPartitionPlan, Hosted, partition_plan_hosted_on, partition_plan_of, partition_plan_of_tree, rooms_of, sizes_of}
 use Rattle.partition.proofs.EndLemmas.{parts_ended}
 use Rattle.partition.proofs.PartLemmas.{numbered_length, numbered_more, numbered_none, parts_sound}
 
@@ -37,8 +37,8 @@ small_leaves (End r rs) rules region most is =
     All-cons (IsSmallLeaf most) (r, rs) [] small (All-nil (IsSmallLeaf most))
 small_leaves (Node bit low high) rules region most is =
     All-append (IsSmallLeaf most) (leaves_of low) (leaves_of high)
-    (small_leaves low (side_of_cut rules region bit false) (fix_of region bit false) most is.1)
-    (small_leaves high (side_of_cut rules region bit true) (fix_of region bit true) most is.2)
+    (small_leaves low (side_of_cut rules region bit false) (word_fix_of region bit false) most is.1)
+    (small_leaves high (side_of_cut rules region bit true) (word_fix_of region bit true) most is.2)
 
 small_parts : (most number : ℕ) (leaves : List (WordValue × List Rule))
     → All (IsSmallLeaf most) leaves → All (IsSmall most) (partitions_from number leaves)
@@ -63,18 +63,18 @@ hosted_by parts plan answer is = search rules
 
 made_by : (rows : List Row) (net : Net) (plan : List Hosted) (tree : Shape) (many : Bool)
     → ltb 512 (leaf_count tree) ≡ many
-    → cond many (Err TooManyLeaves) (partitions_hosted_on net (parts_of tree)) ≡ Ok plan
+    → cond many (Err TooManyLeaves) (partition_plan_hosted_on net (parts_of tree)) ≡ Ok plan
     → IsMadeOf rows net plan tree
 made_by rows net plan tree many test is = search (rules, nat_tests, hosted_by)
 
 worded_by : (rows : List Row) (net : Net) (plan : List Hosted) (tree : Shape) (many : Bool)
-    → cond many (Err (TooManyWords (word_total rows))) (plan_of_tree net tree) ≡ Ok plan
+    → cond many (Err (TooManyWords (rule_word_total rows))) (partition_plan_of_tree net tree) ≡ Ok plan
     → IsMadeOf rows net plan tree
 worded_by rows net plan tree many is = search rules
 
-made_of : (rows : List Row) (net : Net) (plan : List Hosted) → plan_of rows net ≡ Ok plan
+made_of : (rows : List Row) (net : Net) (plan : List Hosted) → partition_plan_of rows net ≡ Ok plan
     → IsMadeOf rows net plan (tree_of (rules_of rows) net.leaf_rules)
-unfolding plan_of
+unfolding partition_plan_of
 made_of rows net plan is = search rules
 
 -- ---- what is true of it
@@ -125,7 +125,7 @@ zip_holds rows net tree targets policy defined few placement =
     }
 
 pub plan_holds : (rows : List Row) (net : Net) (plan : List Hosted) → IsPolicy rows → IsNet net
-    → plan_of rows net ≡ Ok plan → IsPartitionPlan rows net plan
+    → partition_plan_of rows net ≡ Ok plan → IsPartitionPlan rows net plan
 plan_holds rows net plan policy network is =
     let made = made_of rows net plan is in
     let tree = tree_of (rules_of rows) net.leaf_rules in
@@ -142,36 +142,36 @@ pub parts_small : (rules : List Rule) (most : ℕ) (tree : Shape) → IsDefinedT
     → All (λ part. length part.rules ≤ most) (parts_of tree)
 parts_small rules most tree is = search (rules, small_parts, small_leaves)
 
-pub no_words : (rows : List Row) (net : Net) → 4096 < word_total rows
-    → plan_of rows net ≡ Err (TooManyWords (word_total rows))
-unfolding plan_of
-no_words rows net many = cond_if_below 4096 (word_total rows) _ _ many
+pub no_words : (rows : List Row) (net : Net) → 4096 < rule_word_total rows
+    → partition_plan_of rows net ≡ Err (TooManyWords (rule_word_total rows))
+unfolding partition_plan_of
+no_words rows net many = cond_if_below 4096 (rule_word_total rows) _ _ many
 
-worded : (rows : List Row) (net : Net) → word_total rows ≤ 4096
-    → plan_of rows net ≡ plan_of_tree net (tree_of (rules_of rows) net.leaf_rules)
-unfolding plan_of
-worded rows net few = cond_if_above 4096 (word_total rows) _ _ few
+worded : (rows : List Row) (net : Net) → rule_word_total rows ≤ 4096
+    → partition_plan_of rows net ≡ partition_plan_of_tree net (tree_of (rules_of rows) net.leaf_rules)
+unfolding partition_plan_of
+worded rows net few = cond_if_above 4096 (rule_word_total rows) _ _ few
 
-pub no_leaves : (rows : List Row) (net : Net) → word_total rows ≤ 4096
+pub no_leaves : (rows : List Row) (net : Net) → rule_word_total rows ≤ 4096
     → 512 < leaf_count (tree_of (rules_of rows) net.leaf_rules)
-    → plan_of rows net ≡ Err TooManyLeaves
+    → partition_plan_of rows net ≡ Err TooManyLeaves
 no_leaves rows net few many = worded rows net few
     ∙ cond_if_below 512 (leaf_count (tree_of (rules_of rows) net.leaf_rules)) _ _ many
 
-pub hosted_plan : (rows : List Row) (net : Net) (tree : Shape) → word_total rows ≤ 4096
+pub hosted_plan : (rows : List Row) (net : Net) (tree : Shape) → rule_word_total rows ≤ 4096
     → tree ≡ tree_of (rules_of rows) net.leaf_rules → leaf_count tree ≤ 512
-    → plan_of rows net ≡ partitions_hosted_on net (parts_of tree)
+    → partition_plan_of rows net ≡ partition_plan_hosted_on net (parts_of tree)
 hosted_plan rows net tree few is small =
-    worded rows net few ∙ sym (ap (plan_of_tree net) is) ∙ cond_if_above 512 (leaf_count tree) _ _ small
+    worded rows net few ∙ sym (ap (partition_plan_of_tree net) is) ∙ cond_if_above 512 (leaf_count tree) _ _ small
 
-pub no_room : (rows : List Row) (net : Net) (tree : Shape) (number : ℕ) → word_total rows ≤ 4096
+pub no_room : (rows : List Row) (net : Net) (tree : Shape) (number : ℕ) → rule_word_total rows ≤ 4096
     → tree ≡ tree_of (rules_of rows) net.leaf_rules → leaf_count tree ≤ 512
     → placement_of (sizes_of (parts_of tree)) (rooms_of net) net.backups ≡ Err number
-    → plan_of rows net ≡ Err (NoRoom number)
+    → partition_plan_of rows net ≡ Err (NoRoom number)
 no_room rows net tree number few is small none = cc (hosted_plan rows net tree few is small, none)
 
 pub planned : (rows : List Row) (net : Net) (tree : Shape) (targets : List (List ℕ))
-    → word_total rows ≤ 4096 → tree ≡ tree_of (rules_of rows) net.leaf_rules → leaf_count tree ≤ 512
+    → rule_word_total rows ≤ 4096 → tree ≡ tree_of (rules_of rows) net.leaf_rules → leaf_count tree ≤ 512
     → placement_of (sizes_of (parts_of tree)) (rooms_of net) net.backups ≡ Ok targets
-    → plan_of rows net ≡ Ok (zip (parts_of tree) targets)
+    → partition_plan_of rows net ≡ Ok (zip (parts_of tree) targets)
 planned rows net tree targets few is small hosted = search (rules, hosted_plan, NoRoom)

@@ -4,7 +4,7 @@ use Rattle.std.specs.Prelude.{◌≡◌, ◌≤◌, All, IsTrue, List, count_by,
 use Rattle.std.specs.List.{enumerate_from}
 use Rattle.five_tuple.specs.declared.header.Header.{Header}
 use Rattle.ternary.specs.Exports.{WordValue}
-use Rattle.policy_rules.specs.Exports.{first_rule, hit_of_rule, is_in}
+use Rattle.policy_rules.specs.Exports.{first_rule, policy_hit_of_rule, is_in_policy_partition}
 use Rattle.policy_rules.specs.declared.rules.Partition.{Partition}
 use Rattle.policy_rules.specs.declared.rules.Rule.{Rule}
 use Rattle.cut_tree.specs.Exports.{Shape, leaves_of, tree_of}
@@ -27,13 +27,13 @@ partitions_of rules most = parts_of (tree_of rules most)
 -- the rules of the partition decide the header as these rules do
 abbrev pub PartitionDecidesAs : List Rule → Header → Partition → Type 0
 PartitionDecidesAs rules header part =
-    option_map hit_of_rule (first_rule part.rules header)
-    ≡ option_map hit_of_rule (first_rule rules header)
+    option_map policy_hit_of_rule (first_rule part.rules header)
+    ≡ option_map policy_hit_of_rule (first_rule rules header)
 
 -- each header lies in exactly one region, whose rules decide it as the whole list does
 pub record PartitionsDecideAs (rules : List Rule) (parts : List Partition) : Type 0 where
-  pub one : (header : Header) → count_by (is_in header) parts ≡ 1
+  pub one : (header : Header) → count_by (is_in_policy_partition header) parts ≡ 1
   pub decides : (header : Header) →
-      All (λ part. IsTrue (is_in header part) → PartitionDecidesAs rules header part) parts
+      All (λ part. IsTrue (is_in_policy_partition header part) → PartitionDecidesAs rules header part) parts
   -- no partition has more rules than the list
   pub few : All (λ part. length part.rules ≤ length rules) parts

@@ -8,7 +8,7 @@ use Rattle.net_file.specs.Exports.{IsNet}
 use Rattle.net_file.specs.declared.net.Net.{Net}
 use Rattle.placement.specs.Placement.{IsPlacement, placement_of}
 pub use Rattle.policy_rules.specs.Hosted.{Hosted}
-use Rattle.policy_rules.specs.Exports.{AreSoundPartitions, IsPolicy, LastRuleCovers, NoPlan, NoRoom, TooManyLeaves, TooManyWords, rules_of, word_total}
+use Rattle.policy_rules.specs.Exports.{AreSoundPolicyPartitions, IsPolicy, LastRuleCovers, NoPolicyPlan, NoRoom, TooManyLeaves, TooManyWords, rules_of, rule_word_total}
 use Rattle.policy_rules.specs.declared.policy.Row.{Row}
 use Rattle.policy_rules.specs.declared.rules.Partition.{Partition}
 use Rattle.policy_rules.specs.declared.rules.Rule.{Rule}
@@ -22,20 +22,20 @@ abbrev pub rooms_of : Net → List ℕ
 rooms_of net = map (λ row. row.room) net.switches
 
 -- these partitions, each with the targets that it has on the network
-abbrev pub partitions_hosted_on : Net → List Partition → Result (List Hosted) NoPlan
-partitions_hosted_on net parts =
+abbrev pub partition_plan_hosted_on : Net → List Partition → Result (List Hosted) NoPolicyPlan
+partition_plan_hosted_on net parts =
     result_map_both (zip parts) NoRoom (placement_of (sizes_of parts) (rooms_of net) net.backups)
 
-abbrev pub plan_of_tree : Net → Shape → Result (List Hosted) NoPlan
-plan_of_tree net tree =
-    if nat_lt 512 (leaf_count tree) then Err TooManyLeaves else partitions_hosted_on net (parts_of tree)
+abbrev pub partition_plan_of_tree : Net → Shape → Result (List Hosted) NoPolicyPlan
+partition_plan_of_tree net tree =
+    if nat_lt 512 (leaf_count tree) then Err TooManyLeaves else partition_plan_hosted_on net (parts_of tree)
 
 -- the plan of a policy: the partitions of its tree, whose cap is the network's `leaf_rules`, hosted
 -- by the network's switches
-unfoldable pub plan_of : List Row → Net → Result (List Hosted) NoPlan
-plan_of rows net = if nat_lt 4096 (word_total rows)
-    then Err (TooManyWords (word_total rows))
-    else plan_of_tree net (tree_of (rules_of rows) net.leaf_rules)
+unfoldable pub partition_plan_of : List Row → Net → Result (List Hosted) NoPolicyPlan
+partition_plan_of rows net = if nat_lt 4096 (rule_word_total rows)
+    then Err (TooManyWords (rule_word_total rows))
+    else partition_plan_of_tree net (tree_of (rules_of rows) net.leaf_rules)
 
 -- the partitions are the leaves of the tree that is defined for the rules with this cap
 pub record ArePartitionLeaves (rules : List Rule) (cap : ℕ) (parts : List Partition) : Type 0 where
@@ -46,7 +46,7 @@ pub record ArePartitionLeaves (rules : List Rule) (cap : ℕ) (parts : List Part
 -- what is true of each plan
 pub record IsPartitionPlan (rows : List Row) (net : Net) (plan : List Hosted) : Type 0 where
   pub parts : ArePartitionLeaves (rules_of rows) net.leaf_rules (map (λ hosted. hosted.0) plan)
-  pub sound : AreSoundPartitions rows (map (λ hosted. hosted.0) plan)
+  pub sound : AreSoundPolicyPartitions rows (map (λ hosted. hosted.0) plan)
   pub ended : All LastRuleCovers (map (λ hosted. hosted.0) plan)
   pub few : length plan ≤ 512
   pub leaves : All (λ hosted. length hosted.0.rules ≤ net.leaf_rules) plan
@@ -54,8 +54,8 @@ pub record IsPartitionPlan (rows : List Row) (net : Net) (plan : List Hosted) : 
       (map (λ hosted. hosted.1) plan)
   pub targets : All (λ hosted. All (λ s. s < length net.switches) hosted.1) plan
 
-pub record PlanLaws : Type 0 where
+pub record PartitionPlanLaws : Type 0 where
   -- its partitions are the leaves of the defined tree; they are sound for the policy and small,
   -- the last rule of each covers its region, and each is hosted by switches with room
   pub holds : (rows : List Row) (net : Net) (plan : List Hosted)
-      → IsPolicy rows → IsNet net → plan_of rows net ≡ Ok plan → IsPartitionPlan rows net plan
+      → IsPolicy rows → IsNet net → partition_plan_of rows net ≡ Ok plan → IsPartitionPlan rows net plan

@@ -1,5 +1,5 @@
 ghost use Rattle.std.specs.Prelude.{ℕ, ◌≡◌, ◌+◌, ◌<◌, ◌^◌, ◌++◌, All, IfOk, OnOk, IsTrue, List, Some, count_by, find, length, option_map};
-ghost use Rattle.policy_rules.specs.Exports.{AreSoundPartitions, IsPolicy, LastRuleCovers, is_in, rules_of};
+ghost use Rattle.policy_rules.specs.Exports.{AreSoundPolicyPartitions, IsPolicy, LastRuleCovers, is_in_policy_partition, rules_of};
 ghost use Rattle.policy_rules.specs.declared.policy.Row.{Row};
 ghost use Rattle.policy_rules.specs.declared.rules.Rule.{Rule};
 ghost use Rattle.cut_tree.specs.DefinedTree.{IsDefinedTree};
@@ -26,7 +26,7 @@ pub fn list(alloc: Global, tree: &Tree) -> Result<Vec<Partition>, AllocError>
         IsDefinedTree rules cap (shape_of tree.now) → PartitionsDecideAs rules parts.items) }
     ensures sound { IfOk result (λ parts. (rows : List Row) (cap : ℕ) →
         IsPolicy rows → IsDefinedTree (rules_of rows) cap (shape_of tree.now) →
-        AreSoundPartitions rows parts.items) }
+        AreSoundPolicyPartitions rows parts.items) }
     ensures ended { IfOk result (λ parts. (rows : List Row) (cap : ℕ) →
         IsPolicy rows → IsDefinedTree (rules_of rows) cap (shape_of tree.now) →
         All LastRuleCovers parts.items) }
@@ -62,10 +62,10 @@ fn push_leaves(tree: &Tree, parts: &mut Vec<Partition>) -> Result<(), AllocError
 
 /// The number of the one partition whose region holds the header.
 pub fn find(parts: &[Partition], header: &Header) -> u32
-    requires { count_by (is_in header.now) parts.now ≡ 1 }
+    requires { count_by (is_in_policy_partition header.now) parts.now ≡ 1 }
     ensures there { option_map (λ part. part.number)
-        (find (is_in header.now) parts.now) ≡ Some result }
-    ensures alone { All (λ part. IsTrue (is_in header.now part) → part.number ≡ result) parts.now }
+        (find (is_in_policy_partition header.now) parts.now) ≡ Some result }
+    ensures alone { All (λ part. IsTrue (is_in_policy_partition header.now part) → part.number ≡ result) parts.now }
 {
     let number = header.number();
     for part in parts {

@@ -2,4 +2,4 @@ mod PlacementOrder
 mod PlacementFirsts
 mod PlacementTurns
 mod PlacementLemmas
-pub mod CallerLemmas
+pub mod PlacementCallerLemmas

@@ -2,7 +2,7 @@
 use Rattle.std.proofs.Common.{[], ◌&&◌, ◌+◌, ◌-◌, ◌<◌, ◌^◌, ◌∙◌, ◌∷◌, ◌≡◌, ◌≢◌, ◌≤◌, All, AllPairs, Bool, List, MatchOption, None, Option, Some, ap, arith, cond, eq-eqb, eqb, false, filter, get_or, inl, inr, leb, leb-true, length, length-take, min, ne_eqb, not, refl, subst, suc, sym, take, true, true≢false, zero, ℕ, rules}
 use Rattle.base.proofs.Exports.{All-from_recursion, AllByRecursion, and_from, and_parts, cases_Bool, cases_eq, cases_lt, false≢true, list_any, nat_tests, not-true, not_from_false, or_parts, recursion_from_All, sum_by-cons}
 use Rattle.placement.specs.Order.{in_order}
-use Rattle.placement.specs.Placement.{is_placed_earlier, is_lighter_switch, has_room, with_room, AreLightestSwitches}
+use Rattle.placement.specs.Placement.{is_placed_earlier, is_lighter_switch, has_room, placement_with_room, AreLightestSwitches}
 use Rattle.placement.proofs.PlacementOrder.{IsOrder, Rises, one_of, one_of-same, one_of-other, count, count-filter, count-range-le, count-range_within, length-in_order, sum-in_order, rises-in_order, each_from_count, each_by_count, pairs_from_rises, rises_from_pairs}
 
 -- ---- the two orders
@@ -59,22 +59,22 @@ pub capped_within : (n room : ℕ) → room < 2 ^ 32 → leb (min n (2 ^ 64 - 1)
 capped_within n room small = grind (arith, nat_tests)
 
 -- a switch is listed once if it has room, and else not at all
-pub count-with_room : (load : ℕ → ℕ) (rooms : List ℕ) (size s : ℕ)
-    → count s (with_room load rooms size) ≡ cond (has_room load rooms size s) 1 0
-count-with_room load rooms size s =
+pub count-placement_with_room : (load : ℕ → ℕ) (rooms : List ℕ) (size s : ℕ)
+    → count s (placement_with_room load rooms size) ≡ cond (has_room load rooms size s) 1 0
+count-placement_with_room load rooms size s =
     search (rules, count-filter, count-range-le, count-range_within, has_room-within)
 
-pub count-with_room-le : (load : ℕ → ℕ) (rooms : List ℕ) (size s : ℕ)
-    → count s (with_room load rooms size) ≤ 1
-count-with_room-le load rooms size s = grind (arith, count-with_room load rooms size s)
+pub count-placement_with_room-le : (load : ℕ → ℕ) (rooms : List ℕ) (size s : ℕ)
+    → count s (placement_with_room load rooms size) ≤ 1
+count-placement_with_room-le load rooms size s = grind (arith, count-placement_with_room load rooms size s)
 
 -- a list that rises, of the switches that have room: its front is the first of them
 pub front_is_first : (held load : ℕ → ℕ) (rooms : List ℕ) (size n : ℕ) (xs : List ℕ)
-    → Rises (is_lighter_switch load) xs → ((s : ℕ) → count s xs ≡ count s (with_room held rooms size))
+    → Rises (is_lighter_switch load) xs → ((s : ℕ) → count s xs ≡ count s (placement_with_room held rooms size))
     → n ≤ length xs → AreLightestSwitches held load rooms size n (take n xs)
 front_is_first held load rooms size n xs rises counts enough =
     let fits : (s : ℕ) → 0 < count s xs → has_room held rooms size s ≡ true = λ s there.
-    grind (arith, counts s, count-with_room held rooms size s) in record {
+    grind (arith, counts s, count-placement_with_room held rooms size s) in record {
       number = omega (arith, length-take n xs);
       fit = All-from_recursion (λ s. has_room held rooms size s ≡ true) (take n xs)
           (each-take (λ s. has_room held rooms size s ≡ true) n xs
@@ -83,22 +83,22 @@ front_is_first held load rooms size n xs rises counts enough =
           (rises-take (is_lighter_switch load) n xs rises);
       least = λ other room none. All-from_recursion
           (λ s. is_lighter_switch load s other ≡ true) (take n xs) (after-take (is_lighter_switch load) n xs other
-          rises (grind (arith, counts other, count-with_room held rooms size other)) none);
+          rises (grind (arith, counts other, count-placement_with_room held rooms size other)) none);
     }
 
 -- so is the front of the switches that have room, in order
 pub first_in_order : (held load : ℕ → ℕ) (rooms : List ℕ) (size n : ℕ)
-    → n ≤ length (in_order (is_lighter_switch load) (with_room held rooms size))
-    → AreLightestSwitches held load rooms size n (take n (in_order (is_lighter_switch load) (with_room held rooms size)))
+    → n ≤ length (in_order (is_lighter_switch load) (placement_with_room held rooms size))
+    → AreLightestSwitches held load rooms size n (take n (in_order (is_lighter_switch load) (placement_with_room held rooms size)))
 first_in_order held load rooms size n enough =
-    search (rules, front_is_first, rises-in_order, lighter_order, count-with_room-le, sum-in_order)
+    search (rules, front_is_first, rises-in_order, lighter_order, count-placement_with_room-le, sum-in_order)
 
 -- the same order, by numbers that are the same
 pub order_along : (held held' loads loads' rooms : List ℕ) (size size' : ℕ) (switches : List ℕ)
     → held ≡ held' → loads ≡ loads' → size ≡ size' → switches
-    ≡ in_order (is_lighter_switch (λ s. get_or loads s 0)) (with_room (λ s. get_or held s 0) rooms size)
+    ≡ in_order (is_lighter_switch (λ s. get_or loads s 0)) (placement_with_room (λ s. get_or held s 0) rooms size)
     → switches ≡ in_order (is_lighter_switch (λ s. get_or loads' s 0))
-    (with_room (λ s. get_or held' s 0) rooms size')
+    (placement_with_room (λ s. get_or held' s 0) rooms size')
 order_along held held' loads loads' rooms size size' switches holds carries large is = search rules
 
 -- what a search says that found nothing
@@ -109,13 +109,13 @@ none_of (Some targets) few first said none = absurd (none targets refl)
 
 -- fewer switches in order are fewer with room
 pub fewer_in_order : (held load : ℕ → ℕ) (rooms : List ℕ) (size n : ℕ) (switches : List ℕ)
-    → switches ≡ in_order (is_lighter_switch load) (with_room held rooms size) → length switches < n
-    → length (with_room held rooms size) < n
+    → switches ≡ in_order (is_lighter_switch load) (placement_with_room held rooms size) → length switches < n
+    → length (placement_with_room held rooms size) < n
 fewer_in_order held load rooms size n switches is fewer = search (rules, length-in_order)
 
 -- the front of the switches in order
 pub first_of_order : (held load : ℕ → ℕ) (rooms : List ℕ) (size n : ℕ) (switches targets : List ℕ)
-    → switches ≡ in_order (is_lighter_switch load) (with_room held rooms size) → n ≤ length switches
+    → switches ≡ in_order (is_lighter_switch load) (placement_with_room held rooms size) → n ≤ length switches
     → targets ≡ take n switches → AreLightestSwitches held load rooms size n targets
 first_of_order held load rooms size n switches targets is enough front =
     search (rules, first_in_order)
@@ -261,18 +261,18 @@ length_by_count (x ∷ xs) ys once there =
 
 -- as many switches have room
 pub room_for_first : (held load : ℕ → ℕ) (rooms : List ℕ) (size n : ℕ) (xs : List ℕ)
-    → AreLightestSwitches held load rooms size n xs → n ≤ length (with_room held rooms size)
+    → AreLightestSwitches held load rooms size n xs → n ≤ length (placement_with_room held rooms size)
 room_for_first held load rooms size n xs first =
     let rises = rises_from_pairs (is_lighter_switch load) xs first.rising in
     let once = count-rises (is_lighter_switch load) (lighter_order load) xs rises in
-    let there : (s : ℕ) → count s xs ≤ count s (with_room held rooms size) = λ s.
+    let there : (s : ℕ) → count s xs ≤ count s (placement_with_room held rooms size) = λ s.
     elim (cases_lt 0 (count s xs)) [
       | inl some ↦ let room = each_from_count (λ t. has_room held rooms size t ≡ true) s xs
           (recursion_from_All (λ t. has_room held rooms size t ≡ true) xs first.fit) some in
-          grind (arith, once s, count-with_room held rooms size s)
+          grind (arith, once s, count-placement_with_room held rooms size s)
       | inr none ↦ omega arith
     ] in
-    omega (arith, length_by_count xs (with_room held rooms size) once there, first.number)
+    omega (arith, length_by_count xs (placement_with_room held rooms size) once there, first.number)
 
 -- ---- what the first switches are
 

@@ -2,7 +2,7 @@
 use Rattle.std.proofs.Common.{[], ◌++◌, ◌+◌, ◌<◌, ◌^◌, ◌∷◌, ◌≡◌, ◌≤◌, Bool, Err, List, Ok, Result, ap, arith, cond, false, get_or, length, ltb, ltb-false, ltb-true, refl, replicate, set, sum, take, true, ℕ}
 use Rattle.base.proofs.Exports.{All-from_get_or, length-replicate, sum_by-le}
 use Rattle.placement.specs.Order.{in_order}
-use Rattle.placement.specs.Placement.{is_lighter_switch, load_before, with_room, IsPlacement, LacksRoom, placement_from, placement_of, placing_by_size, MeetsPlacement}
+use Rattle.placement.specs.Placement.{is_lighter_switch, load_before, placement_with_room, IsPlacement, LacksRoom, placement_from, placement_of, placing_by_size, MeetsPlacement}
 use Rattle.placement.proofs.PlacementOrder.{length-in_order}
 use Rattle.placement.proofs.PlacementFirsts.{first_in_order}
 use Rattle.placement.proofs.PlacementTurns.{TakenTurns, hosted_or_refused, same_hosted, same_refused, taken_all, taken_more, taken_none, taken_refused, turns}
@@ -25,13 +25,13 @@ turns_meet sizes rooms backups [] done P taken = taken_all (placing_by_size size
     taken
 turns_meet sizes rooms backups (p ∷ left) done P taken =
     let load = load_before sizes P p in
-    let found = in_order (is_lighter_switch load) (with_room load rooms (get_or sizes p 0)) in
+    let found = in_order (is_lighter_switch load) (placement_with_room load rooms (get_or sizes p 0)) in
     by_case (ltb (length found) (1 + backups))
     (placement_from sizes rooms backups (set P p (take (1 + backups) found)) left)
     (λ few. taken_refused (placing_by_size sizes rooms backups) P done p left taken (omega (
       arith,
       ltb-true (length found) (1 + backups) few,
-      length-in_order (is_lighter_switch load) (with_room load rooms (get_or sizes p 0)),
+      length-in_order (is_lighter_switch load) (placement_with_room load rooms (get_or sizes p 0)),
     )))
     (λ many. turns_meet sizes rooms backups left
     (done ++ p ∷ []) (set P p (take (1 + backups) found)) (taken_more (placing_by_size sizes rooms backups)

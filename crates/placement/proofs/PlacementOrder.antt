@@ -1,7 +1,7 @@
 -- Numbers in an order: what an insertion sort keeps, and that only one list of given numbers rises.
 use Rattle.base.proofs.Exports.{All-from_recursion, AllByRecursion, AllPairs-cons, cases_Bool, cases_eq, false≢true, list_any, list_any-append, list_any_none, nat_tests, ordering_then, range_with_len, recursion_from_All, sum_by-cons, ⊤}
 use Rattle.std.proofs.Common.{[], ◌&&◌, ◌++◌, ◌+◌, ◌<◌, ◌||◌, ◌∙◌, ◌∷◌, ◌≡◌, ◌≢◌, ◌≤◌, AllPairs, Bool, IsSortedBy, List, ap, arith, cond, eq-eqb, eqb, false, filter, get_or, get_or-take, inl, inr, is_lt, leb, length, length-take, ltb, nat_cmp, ne_eqb, refl, subst, suc, sum_by, sym, take, true, zero, ℕ, rules}
-use Rattle.placement.specs.Order.{with_key_inserted, in_order}
+use Rattle.placement.specs.Order.{with_placement_key_inserted, in_order}
 
 -- a test that puts any two different numbers in one order
 pub record IsOrder (before : ℕ → ℕ → Bool) : Type 0 where
@@ -94,14 +94,14 @@ range-within z n some = grind (arith, nat_tests, count-range z 0 n)
 -- ---- an insertion sort
 
 pub sum-inserted : (f : ℕ → ℕ) (before : ℕ → ℕ → Bool) (x : ℕ) (xs : List ℕ)
-    → sum_by f (with_key_inserted before x xs) ≡ f x + sum_by f xs
+    → sum_by f (with_placement_key_inserted before x xs) ≡ f x + sum_by f xs
 sum-inserted f before x [] = sum_by-cons f x []
 sum-inserted f before x (y ∷ ys) = by_case (before y x) (sum-inserted f before x ys) where
-  by_case : (b : Bool) → sum_by f (with_key_inserted before x ys) ≡ f x + sum_by f ys
-      → sum_by f (cond b (y ∷ with_key_inserted before x ys) (x ∷ y ∷ ys)) ≡ f x + sum_by f (y ∷ ys)
+  by_case : (b : Bool) → sum_by f (with_placement_key_inserted before x ys) ≡ f x + sum_by f ys
+      → sum_by f (cond b (y ∷ with_placement_key_inserted before x ys) (x ∷ y ∷ ys)) ≡ f x + sum_by f (y ∷ ys)
   by_case true rest = omega (
     arith,
-    sum_by-cons f y (with_key_inserted before x ys),
+    sum_by-cons f y (with_placement_key_inserted before x ys),
     sum_by-cons f y ys,
     rest,
   )
@@ -119,11 +119,11 @@ sum-in_order f before (x ∷ xs) = omega (
 )
 
 pub length-inserted : (before : ℕ → ℕ → Bool) (x : ℕ) (xs : List ℕ)
-    → length (with_key_inserted before x xs) ≡ suc (length xs)
+    → length (with_placement_key_inserted before x xs) ≡ suc (length xs)
 length-inserted before x [] = refl
 length-inserted before x (y ∷ ys) = by_case (before y x) (length-inserted before x ys) where
-  by_case : (b : Bool) → length (with_key_inserted before x ys) ≡ suc (length ys)
-      → length (cond b (y ∷ with_key_inserted before x ys) (x ∷ y ∷ ys)) ≡ suc (suc (length ys))
+  by_case : (b : Bool) → length (with_placement_key_inserted before x ys) ≡ suc (length ys)
+      → length (cond b (y ∷ with_placement_key_inserted before x ys) (x ∷ y ∷ ys)) ≡ suc (suc (length ys))
   by_case b rest = search rules
 
 pub length-in_order : (before : ℕ → ℕ → Bool) (xs : List ℕ) → length (in_order before xs) ≡ length
@@ -134,13 +134,13 @@ length-in_order before (x ∷ xs) = length-inserted before x (in_order before xs
     ∙ ap suc (length-in_order before xs)
 
 each-inserted : (P : ℕ → Type 0) (before : ℕ → ℕ → Bool) (x : ℕ) (xs : List ℕ) → P x
-    → AllByRecursion P xs → AllByRecursion P (with_key_inserted before x xs)
+    → AllByRecursion P xs → AllByRecursion P (with_placement_key_inserted before x xs)
 each-inserted P before x [] here each = (here, tt)
 each-inserted P before x (y ∷ ys) here each = by_case (before y x)
     (each-inserted P before x ys here each.1)
   where
-    by_case : (b : Bool) → AllByRecursion P (with_key_inserted before x ys)
-        → AllByRecursion P (cond b (y ∷ with_key_inserted before x ys) (x ∷ y ∷ ys))
+    by_case : (b : Bool) → AllByRecursion P (with_placement_key_inserted before x ys)
+        → AllByRecursion P (cond b (y ∷ with_placement_key_inserted before x ys) (x ∷ y ∷ ys))
     by_case b rest = search rules
 
 each-trans : (before : ℕ → ℕ → Bool) → IsOrder before → (x y : ℕ) (ys : List ℕ) → before x y ≡ true
@@ -150,7 +150,7 @@ each-trans before order x y (z ∷ zs) first each =
     (order.trans x y z first each.0, each-trans before order x y zs first each.1)
 
 rises-inserted : (before : ℕ → ℕ → Bool) → IsOrder before → (x : ℕ) (xs : List ℕ) → count x xs ≡ 0
-    → Rises before xs → Rises before (with_key_inserted before x xs)
+    → Rises before xs → Rises before (with_placement_key_inserted before x xs)
 rises-inserted before order x [] none rises = (tt, tt)
 rises-inserted before order x (y ∷ ys) none rises =
     let other : x ≢ y = λ same.

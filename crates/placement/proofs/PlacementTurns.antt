@@ -2,9 +2,9 @@
 -- or in a refusal, that there is one of these, and that no switch is given more than its room.
 use Rattle.std.proofs.Common.{[], ◌&&◌, ◌++◌, ◌+◌, ◌<◌, ◌∙◌, ◌∷◌, ◌≡◌, ◌≢◌, ◌≤◌, Bool, List, ap, append-nil, append_assoc, arith, cond, drop, eqb, false, filter, get_or, get_or-set_other, get_or-set_same, inl, inr, length, length-set, refl, replicate, set, subst, sum, sum_by, sym, take, take_all, true, ℕ, rules}
 use Rattle.base.proofs.Exports.{AllByRecursion, cases_Bool, cases_eq, cases_lt, common_steps, drop_all, false_from_ne_true, false≢true, fill_by_all, filter_agree, fun_ext, get_or_default, get_or_past, list_any, nat_tests, range_with_len, recursion_from_All, same_lists, sum-map, sum_by-append, sum_by-cons, sum_by-le-sum_by, sum_by_push}
-use Rattle.policy_rules.proofs.CallerLemmas.{each_weaker}
+use Rattle.policy_rules.proofs.PolicyRulesCallerLemmas.{each_weaker}
 use Rattle.placement.specs.Order.{in_order}
-use Rattle.placement.specs.Placement.{is_placed_earlier, sum_before, placed_targets_at, with_room, AreLightestSwitches, AreHosted, HasDueTargets, IsPlacementRefused, PlacementTurnRule}
+use Rattle.placement.specs.Placement.{is_placed_earlier, placed_sum_before, placed_targets_at, placement_with_room, AreLightestSwitches, AreHosted, HasDuePlacementTargets, IsPlacementRefused, PlacementTurnRule}
 use Rattle.placement.proofs.PlacementOrder.{Rises, one_of, one_of-same, one_of-other, count, count-range-le, count-range_within, range-within, sum-in_order, rises-in_order, each_from_count}
 use Rattle.placement.proofs.PlacementFirsts.{among_holds, earlier_order, first_along, first_room, same_first, room_for_first}
 
@@ -103,13 +103,13 @@ sum_among chosen numbers placement done s =
 
 sums_agree : (chosen : List ℕ → List ℕ) (keys numbers : List ℕ) (P Q : List (List ℕ)) (p : ℕ)
     → ((o : ℕ) → is_placed_earlier keys o p ≡ true → placed_targets_at P o ≡ placed_targets_at Q o)
-    → sum_before chosen keys numbers P p ≡ sum_before chosen keys numbers Q p
+    → placed_sum_before chosen keys numbers P p ≡ placed_sum_before chosen keys numbers Q p
 sums_agree chosen keys numbers P Q p same = search (rules, filter_agree)
 
 -- a turn changes no sum before itself or before an earlier one
 sums-set : (chosen : List ℕ → List ℕ) (keys numbers : List ℕ) (P : List (List ℕ)) (p q : ℕ)
     (targets : List ℕ) → is_placed_earlier keys p q ≡ false
-    → sum_before chosen keys numbers (set P p targets) q ≡ sum_before chosen keys numbers P q
+    → placed_sum_before chosen keys numbers (set P p targets) q ≡ placed_sum_before chosen keys numbers P q
 sums-set chosen keys numbers P p q targets later = search (rules, sums_agree, get_or-set_other)
 
 pub sum-filter : (f : ℕ → ℕ) (p : ℕ → Bool) (xs : List ℕ)
@@ -148,7 +148,7 @@ each-append P (x ∷ xs) ys front back = (front.0, each-append P xs ys front.1 b
 -- what was put on a switch so far is its sum before the next turn
 running_sum : (chosen : List ℕ → List ℕ) (keys numbers : List ℕ) (P : List (List ℕ))
     (done : List ℕ) (p : ℕ) (left : List ℕ) → turns keys ≡ done ++ p ∷ left → (s : ℕ)
-    → sum_before chosen keys numbers P p s ≡ sum_among chosen numbers P done s
+    → placed_sum_before chosen keys numbers P p s ≡ sum_among chosen numbers P done s
 running_sum chosen keys numbers P done p left split s =
     let parts = split_of keys done p left split in
     let number : ℕ → ℕ = λ o. get_or numbers o 0 in
@@ -175,14 +175,14 @@ running_sum chosen keys numbers P done p left split s =
 pub record TakenTurns (t : PlacementTurnRule) (placement : List (List ℕ)) (done left : List ℕ) : Type 0 where
   pub split : turns t.keys ≡ done ++ left
   pub number : length placement ≡ length t.keys
-  pub hosted : AllByRecursion (HasDueTargets t placement) done
+  pub hosted : AllByRecursion (HasDuePlacementTargets t placement) done
 
 pub taken_none : (t : PlacementTurnRule) (placement : List (List ℕ)) → length placement ≡ length t.keys
     → TakenTurns t placement [] (turns t.keys)
 taken_none t placement len = record { split = refl; number = len; hosted = tt }
 
 hosted-set : (t : PlacementTurnRule) (P : List (List ℕ)) (p q : ℕ) (targets : List ℕ)
-    → is_placed_earlier t.keys q p ≡ true → HasDueTargets t P q → HasDueTargets t (set P p targets) q
+    → is_placed_earlier t.keys q p ≡ true → HasDuePlacementTargets t P q → HasDuePlacementTargets t (set P p targets) q
 hosted-set t P p q targets earlier hosted =
     let later = false_from_ne_true _ (λ flipped. not_both t.keys q p earlier flipped) in
     let other : q ≢ p = λ same. false≢true (sym ((earlier_order t.keys).never p)
@@ -193,13 +193,13 @@ hosted-set t P p q targets earlier hosted =
     (sym (get_or-set_other P p q targets [] other)) hosted
 
 pub taken_more : (t : PlacementTurnRule) (P : List (List ℕ)) (done : List ℕ) (p : ℕ) (left targets : List ℕ)
-    → TakenTurns t P done (p ∷ left) → AreLightestSwitches (sum_before (λ xs. xs) t.keys t.sizes P p)
-    (sum_before t.loaded t.keys t.keys P p) t.rooms (get_or t.sizes p 0) (1 + t.backups) targets
+    → TakenTurns t P done (p ∷ left) → AreLightestSwitches (placed_sum_before (λ xs. xs) t.keys t.sizes P p)
+    (placed_sum_before t.loaded t.keys t.keys P p) t.rooms (get_or t.sizes p 0) (1 + t.backups) targets
     → TakenTurns t (set P p targets) (done ++ p ∷ []) left
 taken_more t P done p left targets taken first =
     let parts = split_of t.keys done p left taken.split in
     let never = (earlier_order t.keys).never p in
-    let here : HasDueTargets t (set P p targets) p = first_along _ _ _ _ t.rooms
+    let here : HasDuePlacementTargets t (set P p targets) p = first_along _ _ _ _ t.rooms
     (get_or t.sizes p 0) (1 + t.backups) _ _
     (sym (sums-set (λ xs. xs) t.keys t.sizes P p p targets never))
     (sym (sums-set t.loaded t.keys t.keys P p p targets never))
@@ -207,12 +207,12 @@ taken_more t P done p left targets taken first =
     record {
       split = taken.split ∙ sym (append_assoc done (p ∷ []) left);
       number = length-set P p targets ∙ taken.number;
-      hosted = each-append (HasDueTargets t (set P p targets)) done (p ∷ [])
+      hosted = each-append (HasDuePlacementTargets t (set P p targets)) done (p ∷ [])
           (both done parts.before taken.hosted) (here, tt);
     }
   where
     both : (xs : List ℕ) → AllByRecursion (λ o. is_placed_earlier t.keys o p ≡ true) xs
-        → AllByRecursion (HasDueTargets t P) xs → AllByRecursion (HasDueTargets t (set P p targets)) xs
+        → AllByRecursion (HasDuePlacementTargets t P) xs → AllByRecursion (HasDuePlacementTargets t (set P p targets)) xs
     both [] earlier hosted = tt
     both (x ∷ xs) earlier hosted =
         (hosted-set t P p x targets earlier.0 hosted.0, both xs earlier.1 hosted.1)
@@ -226,19 +226,19 @@ pub taken_all : (t : PlacementTurnRule) (P : List (List ℕ)) (done : List ℕ) 
     → AreHosted t P
 taken_all t P done taken = record {
   number = taken.number;
-  hosted = λ p within. each_from_count (HasDueTargets t P) p done taken.hosted
+  hosted = λ p within. each_from_count (HasDuePlacementTargets t P) p done taken.hosted
       (subst (λ xs. 0 < count p xs) (taken.split ∙ append-nil done) (in_turns t.keys p within));
 }
 
 pub taken_refused : (t : PlacementTurnRule) (P : List (List ℕ)) (done : List ℕ) (p : ℕ) (left : List ℕ)
     → TakenTurns t P done (p ∷ left)
-    → length (with_room (sum_before (λ xs. xs) t.keys t.sizes P p) t.rooms (get_or t.sizes p 0))
+    → length (placement_with_room (placed_sum_before (λ xs. xs) t.keys t.sizes P p) t.rooms (get_or t.sizes p 0))
     < 1 + t.backups → IsPlacementRefused t p
 taken_refused t P done p left taken fewer =
     let parts = split_of t.keys done p left taken.split in record {
       there = parts.within;
       placement = P;
-      earlier = λ o within earlier. each_from_count (HasDueTargets t P) o done taken.hosted
+      earlier = λ o within earlier. each_from_count (HasDuePlacementTargets t P) o done taken.hosted
           (parts.others o within earlier);
       fewer = fewer;
     }
@@ -285,13 +285,13 @@ pub record Loaded (t : PlacementTurnRule) (held loads : List ℕ) (placement : L
 -- the running sums are those before the next turn
 held_before : (t : PlacementTurnRule) (held loads : List ℕ) (P : List (List ℕ)) (done : List ℕ) (p : ℕ)
     (left : List ℕ) → Loaded t held loads P done (p ∷ left)
-    → (λ s. get_or held s 0) ≡ sum_before (λ xs. xs) t.keys t.sizes P p
+    → (λ s. get_or held s 0) ≡ placed_sum_before (λ xs. xs) t.keys t.sizes P p
 held_before t held loads P done p left loaded = fun_ext (λ s. loaded.held_is s
     ∙ sym (running_sum (λ xs. xs) t.keys t.sizes P done p left loaded.taken.split s))
 
 loads_before : (t : PlacementTurnRule) (held loads : List ℕ) (P : List (List ℕ)) (done : List ℕ) (p : ℕ)
     (left : List ℕ) → Loaded t held loads P done (p ∷ left)
-    → (λ s. get_or loads s 0) ≡ sum_before t.loaded t.keys t.keys P p
+    → (λ s. get_or loads s 0) ≡ placed_sum_before t.loaded t.keys t.keys P p
 loads_before t held loads P done p left loaded = search (rules, running_sum)
 
 pub loaded_none : (t : PlacementTurnRule) (held loads : List ℕ) (P : List (List ℕ))
@@ -342,7 +342,7 @@ loaded_more t held loads P done p left targets more_held more_loads loaded first
 
 pub loaded_refused : (t : PlacementTurnRule) (held loads : List ℕ) (P : List (List ℕ)) (done : List ℕ) (p : ℕ)
     (left : List ℕ) → Loaded t held loads P done (p ∷ left)
-    → length (with_room (λ s. get_or held s 0) t.rooms (get_or t.sizes p 0)) < 1 + t.backups
+    → length (placement_with_room (λ s. get_or held s 0) t.rooms (get_or t.sizes p 0)) < 1 + t.backups
     → IsPlacementRefused t p
 loaded_refused t held loads P done p left loaded fewer = taken_refused t P done p left loaded.taken
     (rw (held_before t held loads P done p left loaded) at fewer)
@@ -379,7 +379,7 @@ Agree P Q xs = AllByRecursion (λ o. placed_targets_at P o ≡ placed_targets_at
 
 agree_next : (chosen : List ℕ → List ℕ) (keys numbers : List ℕ) (P Q : List (List ℕ))
     (done : List ℕ) (p : ℕ) (left : List ℕ) → turns keys ≡ done ++ p ∷ left → Agree P Q done
-    → sum_before chosen keys numbers P p ≡ sum_before chosen keys numbers Q p
+    → placed_sum_before chosen keys numbers P p ≡ placed_sum_before chosen keys numbers Q p
 agree_next chosen keys numbers P Q done p left split agree =
     let parts = split_of keys done p left split in
     sums_agree chosen keys numbers P Q p (λ o earlier.
@@ -387,13 +387,13 @@ agree_next chosen keys numbers P Q done p left split agree =
     done agree (parts.others o (earlier-within keys o p earlier parts.within) earlier))
 
 agree_from : (t : PlacementTurnRule) (P Q : List (List ℕ)) (now done left : List ℕ)
-    → turns t.keys ≡ done ++ (now ++ left) → Agree P Q done → AllByRecursion (HasDueTargets t P) now
-    → AllByRecursion (HasDueTargets t Q) now → Agree P Q (done ++ now)
+    → turns t.keys ≡ done ++ (now ++ left) → Agree P Q done → AllByRecursion (HasDuePlacementTargets t P) now
+    → AllByRecursion (HasDuePlacementTargets t Q) now → Agree P Q (done ++ now)
 agree_from t P Q [] done left split agree p q = subst (Agree P Q) (sym (append-nil done)) agree
 agree_from t P Q (x ∷ xs) done left split agree p q =
     let held = agree_next (λ xs. xs) t.keys t.sizes P Q done x (xs ++ left) split agree in
-    let here = same_first (sum_before (λ xs. xs) t.keys t.sizes Q x)
-    (sum_before t.loaded t.keys t.keys Q x) t.rooms (get_or t.sizes x 0)
+    let here = same_first (placed_sum_before (λ xs. xs) t.keys t.sizes Q x)
+    (placed_sum_before t.loaded t.keys t.keys Q x) t.rooms (get_or t.sizes x 0)
     (1 + t.backups) (placed_targets_at P x) (placed_targets_at Q x) (first_along _ _ _ _ t.rooms
     (get_or t.sizes x 0) (1 + t.backups) (placed_targets_at P x) (placed_targets_at P x) held
     (agree_next t.loaded t.keys t.keys P Q done x (xs ++ left) split agree) refl p.0) q.0 in
@@ -412,7 +412,7 @@ each_within P sizes all (x ∷ xs) within = (
 
 pub same_hosted : (t : PlacementTurnRule) (P Q : List (List ℕ)) → AreHosted t P → AreHosted t Q → P ≡ Q
 same_hosted t P Q p q =
-    let due = λ (R : List (List ℕ)) (r : AreHosted t R). each_within (HasDueTargets t R) t.keys r.hosted
+    let due = λ (R : List (List ℕ)) (r : AreHosted t R). each_within (HasDuePlacementTargets t R) t.keys r.hosted
     (turns t.keys) (turns-within t.keys) in
     same_lists P Q (omega (arith, p.number, q.number)) (λ k d within.
     let here = each_from_count (λ z. placed_targets_at P z ≡ placed_targets_at Q z) k (turns t.keys)
@@ -423,28 +423,28 @@ same_hosted t P Q p q =
 
 -- a partition that is refused has no targets in any placement of the earlier ones
 refused_clash : (t : PlacementTurnRule) (p : ℕ) → IsPlacementRefused t p → (Q : List (List ℕ))
-    → ((o : ℕ) → o < length t.keys → is_placed_earlier t.keys o p ≡ true → HasDueTargets t Q o) → HasDueTargets t Q p → ⊥
+    → ((o : ℕ) → o < length t.keys → is_placed_earlier t.keys o p ≡ true → HasDuePlacementTargets t Q o) → HasDuePlacementTargets t Q p → ⊥
 refused_clash t p refused Q earlier due =
     let cut = split_at p (turns t.keys) (in_turns t.keys p refused.there) in
     let parts = split_of t.keys cut.0 p cut.1 cut.2 in
     let within : (z : ℕ) → 0 < count z cut.0 → z < length t.keys = λ z there. turns-within t.keys z
     (omega (arith, ap (count z) cut.2, sum_by-append (one_of z) cut.0 (p ∷ cut.1))) in
     let all = λ (R : List (List ℕ)) (r : (o : ℕ) → o < length t.keys
-    → is_placed_earlier t.keys o p ≡ true → HasDueTargets t R o). each_both R r cut.0 parts.before within in
+    → is_placed_earlier t.keys o p ≡ true → HasDuePlacementTargets t R o). each_both R r cut.0 parts.before within in
     let agree = agree_from t refused.placement Q cut.0 [] (p ∷ cut.1) cut.2 tt
     (all refused.placement refused.earlier) (all Q earlier) in
     let held = agree_next (λ xs. xs) t.keys t.sizes refused.placement Q cut.0 p cut.1 cut.2 agree in
-    let room = room_for_first (sum_before (λ xs. xs) t.keys t.sizes Q p)
-    (sum_before t.loaded t.keys t.keys Q p) t.rooms (get_or t.sizes p 0) (1 + t.backups)
+    let room = room_for_first (placed_sum_before (λ xs. xs) t.keys t.sizes Q p)
+    (placed_sum_before t.loaded t.keys t.keys Q p) t.rooms (get_or t.sizes p 0) (1 + t.backups)
     (placed_targets_at Q p) due in
-    let fewer = subst (λ f. length (with_room f t.rooms (get_or t.sizes p 0)) < 1 + t.backups) held
+    let fewer = subst (λ f. length (placement_with_room f t.rooms (get_or t.sizes p 0)) < 1 + t.backups) held
     refused.fewer in
     omega (arith, room, fewer)
   where
     each_both : (R : List (List ℕ))
-        → ((o : ℕ) → o < length t.keys → is_placed_earlier t.keys o p ≡ true → HasDueTargets t R o)
+        → ((o : ℕ) → o < length t.keys → is_placed_earlier t.keys o p ≡ true → HasDuePlacementTargets t R o)
         → (xs : List ℕ) → AllByRecursion (λ o. is_placed_earlier t.keys o p ≡ true) xs
-        → ((z : ℕ) → 0 < count z xs → z < length t.keys) → AllByRecursion (HasDueTargets t R) xs
+        → ((z : ℕ) → 0 < count z xs → z < length t.keys) → AllByRecursion (HasDuePlacementTargets t R) xs
     each_both R all [] before within = tt
     each_both R all (x ∷ xs) before within = (
       all x (within x (omega (arith, sum_by-cons (one_of x) x xs, one_of-same x))) before.0,
@@ -476,7 +476,7 @@ hosted_or_refused t p Q placement refused = refused_clash t p refused Q
 
 -- one more turn leaves each switch within its room
 fits_more : (t : PlacementTurnRule) (P : List (List ℕ)) (done : List ℕ) (p : ℕ) (left : List ℕ) (s : ℕ)
-    → turns t.keys ≡ done ++ p ∷ left → HasDueTargets t P p
+    → turns t.keys ≡ done ++ p ∷ left → HasDuePlacementTargets t P p
     → sum_among (λ xs. xs) t.sizes P done s ≤ get_or t.rooms s 0
     → sum_among (λ xs. xs) t.sizes P (done ++ p ∷ []) s ≤ get_or t.rooms s 0
 fits_more t P done p left s split due fits = by_case (list_any (eqb s) (placed_targets_at P p)) refl where
@@ -484,8 +484,8 @@ fits_more t P done p left s split due fits = by_case (list_any (eqb s) (placed_t
       → sum_among (λ xs. xs) t.sizes P (done ++ p ∷ []) s ≤ get_or t.rooms s 0
   by_case true among =
       let put : ℕ → ℕ = λ o. cond (list_any (eqb s) (placed_targets_at P o)) (get_or t.sizes o 0) 0 in
-      let before : ℕ → ℕ = sum_before (λ xs. xs) t.keys t.sizes P p in
-      let load : ℕ → ℕ = sum_before t.loaded t.keys t.keys P p in
+      let before : ℕ → ℕ = placed_sum_before (λ xs. xs) t.keys t.sizes P p in
+      let load : ℕ → ℕ = placed_sum_before t.loaded t.keys t.keys P p in
       let room : before s + get_or t.sizes p 0 ≤ get_or t.rooms s 0 =
       among_holds (λ z. before z + get_or t.sizes p 0 ≤ get_or t.rooms z 0) s (placed_targets_at P p)
       (recursion_from_All (λ z. before z + get_or t.sizes p 0 ≤ get_or t.rooms z 0)
@@ -503,7 +503,7 @@ fits_more t P done p left s split due fits = by_case (list_any (eqb s) (placed_t
       omega (arith, sum_by_push put done p, ap (λ b. cond b (get_or t.sizes p 0) 0) among, fits)
 
 fits_from : (t : PlacementTurnRule) (P : List (List ℕ)) (now done : List ℕ) (s : ℕ)
-    → turns t.keys ≡ done ++ now → AllByRecursion (HasDueTargets t P) now
+    → turns t.keys ≡ done ++ now → AllByRecursion (HasDuePlacementTargets t P) now
     → sum_among (λ xs. xs) t.sizes P done s ≤ get_or t.rooms s 0
     → sum_among (λ xs. xs) t.sizes P (done ++ now) s ≤ get_or t.rooms s 0
 fits_from t P [] done s split due fits = rw (append-nil done) fits
@@ -515,7 +515,7 @@ fits_from t P (x ∷ xs) done s split due fits = rw (append_assoc done (x ∷ []
 pub hosted_fits : (t : PlacementTurnRule) (P : List (List ℕ)) → AreHosted t P → (s : ℕ)
     → sum_among (λ xs. xs) t.sizes P (range_with_len 0 (length t.keys)) s ≤ get_or t.rooms s 0
 hosted_fits t P hosted s =
-    let due = each_within (HasDueTargets t P) t.keys hosted.hosted (turns t.keys) (turns-within t.keys) in
+    let due = each_within (HasDuePlacementTargets t P) t.keys hosted.hosted (turns t.keys) (turns-within t.keys) in
     let put : ℕ → ℕ = λ o. cond (list_any (eqb s) (placed_targets_at P o)) (get_or t.sizes o 0) 0 in
     omega (
       arith,

@@ -12,7 +12,7 @@ use Rattle.placement.specs.declared.turns.Load.TheVariants as load
 -- ---- what can be placed
 
 -- partitions whose keys have a sum below 2 ^ 64, on the switches of a network
-pub record MayTakeTurns (keys rooms : List ℕ) (backups : ℕ) : Type 0 where
+pub record MayTakePlacementTurns (keys rooms : List ℕ) (backups : ℕ) : Type 0 where
   pub partitions : length keys < 2 ^ 32
   pub switches : length rooms ≤ 64
   pub few : backups ≤ 3
@@ -29,13 +29,13 @@ is_placed_earlier sizes a b =
 abbrev pub placed_targets_at : List (List ℕ) → ℕ → List ℕ
 placed_targets_at placement partition = slice_index_or placement partition []
 
-abbrev pub is_target : List (List ℕ) → ℕ → ℕ → Bool
-is_target placement partition switch = list_any (nat_eq switch) (placed_targets_at placement partition)
+abbrev pub is_placed_target : List (List ℕ) → ℕ → ℕ → Bool
+is_placed_target placement partition switch = list_any (nat_eq switch) (placed_targets_at placement partition)
 
 -- the sum of these numbers over the earlier partitions that load the switch: it is one of the
 -- targets that they load
-abbrev pub sum_before : (List ℕ → List ℕ) → List ℕ → List ℕ → List (List ℕ) → ℕ → ℕ → ℕ
-sum_before loaded keys numbers placement partition switch =
+abbrev pub placed_sum_before : (List ℕ → List ℕ) → List ℕ → List ℕ → List (List ℕ) → ℕ → ℕ → ℕ
+placed_sum_before loaded keys numbers placement partition switch =
     let loads = λ (other : ℕ).
     is_placed_earlier keys other partition && list_any (nat_eq switch) (loaded (placed_targets_at placement other)) in
     sum_by (slice_index numbers) (filter loads (range_with_len 0 (length keys)))
@@ -47,8 +47,8 @@ unfoldable pub has_room : (ℕ → ℕ) → List ℕ → ℕ → ℕ → Bool
 has_room held rooms size switch =
     nat_lt switch (length rooms) && nat_le (held switch + size) (slice_index rooms switch)
 
-abbrev pub with_room : (ℕ → ℕ) → List ℕ → ℕ → List ℕ
-with_room held rooms size = filter (has_room held rooms size) (range_with_len 0 (length rooms))
+abbrev pub placement_with_room : (ℕ → ℕ) → List ℕ → ℕ → List ℕ
+placement_with_room held rooms size = filter (has_room held rooms size) (range_with_len 0 (length rooms))
 
 -- switches come by load, then by number
 unfoldable pub is_lighter_switch : (ℕ → ℕ) → ℕ → ℕ → Bool
@@ -92,25 +92,25 @@ placement_turn_rule load keys sizes rooms backups = record {
 
 -- the partition has the targets that its turn gives it: one and the backups, by the rules and the
 -- loads that switches have then
-abbrev pub HasDueTargets : PlacementTurnRule → List (List ℕ) → ℕ → Type 0
-HasDueTargets t placement partition =
-    AreLightestSwitches (sum_before (λ targets. targets) t.keys t.sizes placement partition)
-    (sum_before t.loaded t.keys t.keys placement partition) t.rooms
+abbrev pub HasDuePlacementTargets : PlacementTurnRule → List (List ℕ) → ℕ → Type 0
+HasDuePlacementTargets t placement partition =
+    AreLightestSwitches (placed_sum_before (λ targets. targets) t.keys t.sizes placement partition)
+    (placed_sum_before t.loaded t.keys t.keys placement partition) t.rooms
     (slice_index t.sizes partition) (1 + t.backups) (placed_targets_at placement partition)
 
 -- each partition has its targets
 pub record AreHosted (t : PlacementTurnRule) (placement : List (List ℕ)) : Type 0 where
   pub number : length placement ≡ length t.keys
-  pub hosted : (partition : ℕ) → partition < length t.keys → HasDueTargets t placement partition
+  pub hosted : (partition : ℕ) → partition < length t.keys → HasDuePlacementTargets t placement partition
 
 -- the earlier partitions have their targets, and too few switches have room for this one
 pub record IsPlacementRefused (t : PlacementTurnRule) (partition : ℕ) : Type 0 where
   pub there : partition < length t.keys
   pub placement : List (List ℕ)
   pub earlier : (other : ℕ) → other < length t.keys → IsTrue (is_placed_earlier t.keys other partition)
-      → HasDueTargets t placement other
-  pub fewer : (let held = sum_before (λ targets. targets) t.keys t.sizes placement partition in
-      length (with_room held t.rooms (slice_index t.sizes partition)) < 1 + t.backups)
+      → HasDuePlacementTargets t placement other
+  pub fewer : (let held = placed_sum_before (λ targets. targets) t.keys t.sizes placement partition in
+      length (placement_with_room held t.rooms (slice_index t.sizes partition)) < 1 + t.backups)
 
 -- ---- a placement, and why there is none
 
@@ -128,7 +128,7 @@ LacksRoom sizes rooms backups partition = IsPlacementRefused (placing_by_size si
 -- targets contain it
 unfoldable pub load_before : List ℕ → List (List ℕ) → ℕ → ℕ → ℕ
 load_before sizes placement partition switch =
-    sum_before (λ targets. targets) sizes sizes placement partition switch
+    placed_sum_before (λ targets. targets) sizes sizes placement partition switch
 
 -- ---- the one placement
 
@@ -137,7 +137,7 @@ abbrev pub placement_from : List ℕ → List ℕ → ℕ → List (List ℕ) �
 placement_from sizes rooms backups placement [] = Ok placement
 placement_from sizes rooms backups placement (partition ∷ later) =
     let load = load_before sizes placement partition in
-    let found = in_order (is_lighter_switch load) (with_room load rooms (slice_index sizes partition)) in
+    let found = in_order (is_lighter_switch load) (placement_with_room load rooms (slice_index sizes partition)) in
     let chosen = take (1 + backups) found in
     if nat_lt (length found) (1 + backups)
     then Err partition

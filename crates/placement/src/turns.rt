@@ -2,7 +2,7 @@ ghost use Rattle.std.specs.Prelude.{ℕ, ◌≡◌, ◌+◌, ◌<◌, ◌≤◌,
 ghost use Rattle.std.specs.List.{list_any, range_with_len};
 ghost use Rattle.base.specs.Refusals.{IfRefused};
 ghost use Rattle.placement.specs.Order.{in_order};
-ghost use Rattle.placement.specs.Placement.{AreHosted, IsPlacementRefused, MayTakeTurns, is_placed_earlier, is_lighter_switch, has_room, placement_loaded_by, placement_turn_rule, with_room};
+ghost use Rattle.placement.specs.Placement.{AreHosted, IsPlacementRefused, MayTakePlacementTurns, is_placed_earlier, is_lighter_switch, has_room, placement_loaded_by, placement_turn_rule, placement_with_room};
 
 use crate::NoRoom;
 use base::Failure;
@@ -35,7 +35,7 @@ impl Load {
         rooms: &[u32],
         backups: u32,
     ) -> Result<Vec<Targets>, Failure<NoRoom>>
-        requires { MayTakeTurns keys.now rooms.now backups }
+        requires { MayTakePlacementTurns keys.now rooms.now backups }
         ensures hosted { IfOk result (λ targets.
             AreHosted (placement_turn_rule self keys.now sizes.now rooms.now backups) targets.items) }
         ensures refused { IfErr result (IfRefused (λ lack.
@@ -95,7 +95,7 @@ fn by_switch_load(
     requires { length rooms.now ≤ 64 }
     ensures { IfOk result (λ switches. let load = slice_index loads.now in
         switches.items
-        ≡ in_order (is_lighter_switch load) (with_room (slice_index held.now) rooms.now size)) }
+        ≡ in_order (is_lighter_switch load) (placement_with_room (slice_index held.now) rooms.now size)) }
 {
     let mut switches = numbers_below(alloc, rooms.len() as u32)?;
     switches.retain(|switch| has_room(held, rooms, size, *switch));

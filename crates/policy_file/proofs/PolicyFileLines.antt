@@ -7,16 +7,16 @@ use Rattle.csv.specs.Writing.{default_writer, field_text, fields_text, is_blank,
 use Rattle.csv.specs.declared.parser.State.TheVariants as st
 use Rattle.csv.proofs.RoundTrip.{read-write-many}
 use Rattle.csv_records.specs.Texts.{is_heading}
-use Rattle.five_tuple.specs.Exports.{PlainTextLaws, number_up_to, prefix_of, prefix_text, proto_of, proto_text, range_of, range_text}
-use Rattle.policy_rules.specs.Exports.{EditAddsOnly, HasSmallPort, IsAmendment, IsPolicy, IsSoundEdit, IsSoundRow, action_of, action_text}
+use Rattle.five_tuple.specs.Exports.{PlainFieldTextLaws, number_up_to, prefix_of, prefix_text, proto_of, proto_text, range_of, range_text}
+use Rattle.policy_rules.specs.Exports.{EditAddsOnly, HasSmallRulePort, IsAmendment, IsPolicy, IsSoundEdit, IsSoundRow, action_of, action_text}
 use Rattle.policy_rules.specs.declared.amendment.Edit.{Edit}
 use Rattle.policy_rules.specs.declared.amendment.Edit.TheVariants.{Remove, Add}
 use Rattle.policy_rules.specs.declared.file.PolicyFile.TheVariants.{Whole, Change}
 use Rattle.policy_rules.specs.declared.policy.Row.{Row}
-use Rattle.policy_file.specs.Exports.{IsReadUpTo, PolicyRowFormat, RecordsStateEach, change_heading, change_of, change_rows, change_text, edit_fields, csv_edit_read, fields_line, is_change_text, on_ok, policy_file_of, policy_heading, policy_of, policy_rows, policy_text, row_fields, csv_row_read, rows_text, rows_under_heading}
+use Rattle.policy_file.specs.Exports.{IsPolicyReadUpTo, PolicyRowFormat, PolicyRecordsStateEach, change_heading, csv_change_of, change_rows, policy_change_text, edit_fields, csv_edit_read, policy_fields_line, is_change_text, on_ok, policy_file_of, policy_heading, policy_of, policy_file_rows, policy_text, row_fields, csv_policy_row_read, rows_text, policy_rows_under_heading}
 use Rattle.policy_file.proofs.PolicyFilePlainFields.{ArePlain, IsPlain, IsPlainRecord, plain_edit, plain_row}
 use Rattle.policy_file.proofs.PolicyFileRows.{NoneRepeats, all_fresh_edits, all_fresh_rows, all_read}
-use Rattle.csv_records.proofs.CallerLemmas.{over}
+use Rattle.csv_records.proofs.CsvRecordsCallerLemmas.{over}
 
 plain_field : (field : List ℕ) → IsPlain field → field_text default_writer field ≡ field
 plain_field field plain = rw plain refl
@@ -30,13 +30,13 @@ plain_body field (next ∷ fields) plain = rw (plain_field field plain.0)
     (ap (λ rest. field ++ 44 ∷ rest) (plain_body next fields plain.1))
 
 plain_line : (x y : List ℕ) (fields : List (List ℕ)) → ArePlain (x ∷ y ∷ fields)
-    → row_text default_writer (x ∷ y ∷ fields) ≡ fields_line (x ∷ y ∷ fields)
+    → row_text default_writer (x ∷ y ∷ fields) ≡ policy_fields_line (x ∷ y ∷ fields)
 unfolding is_blank
 plain_line x y fields plain = ap (λ body. body ++ 10 ∷ []) (plain_body x (y ∷ fields) plain)
 
 -- the line of fields without quotes is one record
 one_record : (fields : List (List ℕ)) (tail : List ℕ) → IsPlainRecord fields
-    → next_record default_config st.StartRecord [] [] (fields_line fields ++ tail) ≡ Some
+    → next_record default_config st.StartRecord [] [] (policy_fields_line fields ++ tail) ≡ Some
     (fields, st.StartRecord, tail)
 one_record (x ∷ y ∷ fields) tail plain = ap (λ text. next_record default_config st.StartRecord [] []
     (text ++ tail)) (sym (plain_line x y fields plain)) ∙ read-write-many x y fields tail
@@ -49,9 +49,9 @@ module _ {X : Type 0} (fields : X → List (List ℕ)) where
   -- one line more
   pub rows_text-more : (rows : List X) (i : ℕ) (d : X) → i < length rows
       → rows_text fields (take (i + 1) rows)
-      ≡ rows_text fields (take i rows) ++ fields_line (fields (get_or rows i d))
+      ≡ rows_text fields (take i rows) ++ policy_fields_line (fields (get_or rows i d))
   rows_text-more rows i d within = ap (rows_text fields) (take_more rows i d within)
-      ∙ flat_map-append (λ row. fields_line (fields row)) (take i rows) (get_or rows i d ∷ [])
+      ∙ flat_map-append (λ row. policy_fields_line (fields row)) (take i rows) (get_or rows i d ∷ [])
       ∙ ap (λ last. rows_text fields (take i rows) ++ last) (append-nil _)
 
   abbrev pub ArePlainRows : List X → Type 0
@@ -72,40 +72,40 @@ module _ {X : Type 0} (fields : X → List (List ℕ)) where
   lines_are_long (row ∷ rows) = let rest = lines_are_long rows in
       omega (
         arith,
-        length-append (fields_line (fields row)) (rows_text fields rows),
+        length-append (policy_fields_line (fields row)) (rows_text fields rows),
         length-append (join_with_byte 44 (fields row)) (10 ∷ []),
       )
 
   pub records_of_text : (heading : List (List ℕ)) (rows : List X) → IsPlainRecord heading
-      → ArePlainRows rows → records default_config (fields_line heading ++ rows_text fields rows)
+      → ArePlainRows rows → records default_config (policy_fields_line heading ++ rows_text fields rows)
       ≡ heading ∷ map fields rows
   unfolding records_from
   records_of_text heading rows clean plain =
-      let text = fields_line heading ++ rows_text fields rows in
+      let text = policy_fields_line heading ++ rows_text fields rows in
       let long = lines_are_long rows in
       rw (add-one (length text)) (
       ap (records_next (records_from default_config (length text)))
       (one_record heading (rows_text fields rows) clean)
       ∙ ap (λ rest. heading ∷ rest)
       (records_of_lines rows (length text)
-      (omega (arith, length-append (fields_line heading) (rows_text fields rows))) plain)
+      (omega (arith, length-append (policy_fields_line heading) (rows_text fields rows))) plain)
       )
 
   abbrev pub StateRows : PolicyRowFormat X → List X → Type 0
   StateRows format rows = AllByRecursion (λ row. format.read (fields row) ≡ Ok row) rows
 
   states_back : (format : PolicyRowFormat X) (rows : List X) → StateRows format rows
-      → RecordsStateEach format (map fields rows) rows
+      → PolicyRecordsStateEach format (map fields rows) rows
   states_back format [] back = refl
   states_back format (row ∷ rows) back = cc (back.0, states_back format rows back.1)
 
   -- the records that rows were printed as state them
   pub rows_back : (format : PolicyRowFormat X) (rows : List X) → NoneRepeats format rows (length rows)
       → length rows ≤ 2000 → StateRows format rows → is_heading format.heading format.heading ≡ true
-      → rows_under_heading format (format.heading ∷ map fields rows) ≡ Ok rows
+      → policy_rows_under_heading format (format.heading ∷ map fields rows) ≡ Ok rows
   rows_back format rows fresh few back heads =
       let long : length (map fields rows) ≡ length rows = length-map rows fields in
-      let read : IsReadUpTo format (map fields rows) rows None = record {
+      let read : IsPolicyReadUpTo format (map fields rows) rows None = record {
         stated = rw (take_all (length rows) (map fields rows) (omega arith))
             (states_back format rows back);
         few = few;
@@ -123,42 +123,42 @@ pub row_back : (row : Row) → number_up_to 4294967295 (decimal row.priority) �
     → range_of (range_text row.sport) ≡ Some row.sport → range_of (range_text row.dport) ≡ Some
     row.dport → proto_of (proto_text row.proto) ≡ Some row.proto
     → action_of (action_text row.action) ≡ Some row.action
-    → csv_row_read (row_fields row) ≡ Ok row
+    → csv_policy_row_read (row_fields row) ≡ Ok row
 row_back row priority src dst sport dport proto action =
     rw (priority, src, dst, sport, dport, proto, action) refl
 
 abbrev pub AreStatedRows : Type 0
-AreStatedRows = (row : Row) → IsSoundRow row → HasSmallPort row.action
-    → csv_row_read (row_fields row) ≡ Ok row
+AreStatedRows = (row : Row) → IsSoundRow row → HasSmallRulePort row.action
+    → csv_policy_row_read (row_fields row) ≡ Ok row
 
 abbrev HaveSmallPorts : List Row → Type 0
-HaveSmallPorts rows = All (λ (row : Row). HasSmallPort row.action) rows
+HaveSmallPorts rows = All (λ (row : Row). HasSmallRulePort row.action) rows
 
-policy_records : PlainTextLaws → (rows : List Row) → IsPolicy rows → HaveSmallPorts rows
+policy_records : PlainFieldTextLaws → (rows : List Row) → IsPolicy rows → HaveSmallPorts rows
     → records default_config (policy_text rows) ≡ policy_heading ∷ map row_fields rows
 policy_records laws rows policy small = records_of_text row_fields policy_heading rows
     (refl, (refl, (refl, (refl, (refl, (refl, (refl, tt)))))))
     (recursion_from_All (λ (row : Row). IsPlainRecord (row_fields row)) rows
     (λ k d h. plain_row laws _ (policy.sound k d h) (small k d h)))
 
-pub policy_back : PlainTextLaws → AreStatedRows → (rows : List Row) → IsPolicy rows
+pub policy_back : PlainFieldTextLaws → AreStatedRows → (rows : List Row) → IsPolicy rows
     → length rows ≤ 2000 → HaveSmallPorts rows → policy_of (policy_text rows) ≡ Ok rows
 unfolding policy_of strip_bom
 policy_back laws stated rows policy few small = rw (policy_records laws rows policy small)
-    (rows_back row_fields policy_rows rows (all_fresh_rows rows policy.distinct) few
-    (recursion_from_All (λ (row : Row). csv_row_read (row_fields row) ≡ Ok row) rows
+    (rows_back row_fields policy_file_rows rows (all_fresh_rows rows policy.distinct) few
+    (recursion_from_All (λ (row : Row). csv_policy_row_read (row_fields row) ≡ Ok row) rows
     (λ k d h. stated _ (policy.sound k d h) (small k d h))) refl)
 
-no_change : PlainTextLaws → (rows : List Row) → IsPolicy rows → HaveSmallPorts rows
+no_change : PlainFieldTextLaws → (rows : List Row) → IsPolicy rows → HaveSmallPorts rows
     → is_change_text (policy_text rows) ≡ false
 unfolding is_change_text strip_bom
 no_change laws rows policy small = rw (policy_records laws rows policy small) refl
 
-pub whole_back : PlainTextLaws → AreStatedRows → (rows : List Row) → IsPolicy rows
+pub whole_back : PlainFieldTextLaws → AreStatedRows → (rows : List Row) → IsPolicy rows
     → length rows ≤ 2000 → HaveSmallPorts rows → policy_file_of (policy_text rows) ≡ Ok (Whole rows)
 unfolding policy_file_of
 whole_back laws stated rows policy few small = let text = policy_text rows in
-    ap (λ change. cond change (on_ok Change (change_of text)) (on_ok Whole (policy_of text)))
+    ap (λ change. cond change (on_ok Change (csv_change_of text)) (on_ok Whole (policy_of text)))
     (no_change laws rows policy small)
     ∙ ap (on_ok Whole) (policy_back laws stated rows policy few small)
 
@@ -169,40 +169,40 @@ AreRead = (priority : ℕ) → priority < 2 ^ 32
     → number_up_to 4294967295 (decimal priority) ≡ Some priority
 
 abbrev AddSmallPorts : List Edit → Type 0
-AddSmallPorts edits = All (EditAddsOnly (λ (row : Row). HasSmallPort row.action)) edits
+AddSmallPorts edits = All (EditAddsOnly (λ (row : Row). HasSmallRulePort row.action)) edits
 
 -- an edit's printed fields state the edit
 edit_back : AreRead → AreStatedRows → (edit : Edit) → IsSoundEdit edit
-    → EditAddsOnly (λ (row : Row). HasSmallPort row.action) edit
+    → EditAddsOnly (λ (row : Row). HasSmallRulePort row.action) edit
     → csv_edit_read (edit_fields edit) ≡ Ok edit
 edit_back read stated (Remove priority) sound small = rw (read priority sound) refl
 edit_back read stated (Add row) sound small = ap (on_ok Add) (stated row sound small)
 
-change_records : PlainTextLaws → (edits : List Edit) → IsAmendment edits → AddSmallPorts edits
-    → records default_config (change_text edits) ≡ change_heading ∷ map edit_fields edits
+change_records : PlainFieldTextLaws → (edits : List Edit) → IsAmendment edits → AddSmallPorts edits
+    → records default_config (policy_change_text edits) ≡ change_heading ∷ map edit_fields edits
 change_records laws edits change small = records_of_text edit_fields change_heading edits
     (refl, (refl, (refl, (refl, (refl, (refl, (refl, (refl, tt))))))))
     (recursion_from_All (λ edit. IsPlainRecord (edit_fields edit)) edits
     (λ k d h. plain_edit laws _ (change.sound k d h) (small k d h)))
 
-pub change_back : PlainTextLaws → AreRead → AreStatedRows → (edits : List Edit) → IsAmendment edits
-    → length edits ≤ 2000 → AddSmallPorts edits → change_of (change_text edits) ≡ Ok edits
-unfolding change_of strip_bom
+pub change_back : PlainFieldTextLaws → AreRead → AreStatedRows → (edits : List Edit) → IsAmendment edits
+    → length edits ≤ 2000 → AddSmallPorts edits → csv_change_of (policy_change_text edits) ≡ Ok edits
+unfolding csv_change_of strip_bom
 change_back laws read stated edits change few small = rw (change_records laws edits change small)
     (rows_back edit_fields change_rows edits (all_fresh_edits edits change.distinct) few
     (recursion_from_All (λ edit. csv_edit_read (edit_fields edit) ≡ Ok edit) edits
     (λ k d h. edit_back read stated _ (change.sound k d h) (small k d h))) refl)
 
-is_change : PlainTextLaws → (edits : List Edit) → IsAmendment edits → AddSmallPorts edits
-    → is_change_text (change_text edits) ≡ true
+is_change : PlainFieldTextLaws → (edits : List Edit) → IsAmendment edits → AddSmallPorts edits
+    → is_change_text (policy_change_text edits) ≡ true
 unfolding is_change_text strip_bom
 is_change laws edits change small = rw (change_records laws edits change small) refl
 
-pub change_file_back : PlainTextLaws → AreRead → AreStatedRows → (edits : List Edit)
+pub change_file_back : PlainFieldTextLaws → AreRead → AreStatedRows → (edits : List Edit)
     → IsAmendment edits → length edits ≤ 2000 → AddSmallPorts edits
-    → policy_file_of (change_text edits) ≡ Ok (Change edits)
+    → policy_file_of (policy_change_text edits) ≡ Ok (Change edits)
 unfolding policy_file_of
-change_file_back laws read stated edits change few small = let text = change_text edits in
-    ap (λ is. cond is (on_ok Change (change_of text)) (on_ok Whole (policy_of text)))
+change_file_back laws read stated edits change few small = let text = policy_change_text edits in
+    ap (λ is. cond is (on_ok Change (csv_change_of text)) (on_ok Whole (policy_of text)))
     (is_change laws edits change small)
     ∙ ap (on_ok Change) (change_back laws read stated edits change few small)

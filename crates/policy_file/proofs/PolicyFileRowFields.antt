@@ -3,7 +3,7 @@ use Rattle.std.proofs.Common.{[], ◌+◌, ◌∙◌, ◌∷◌, ◌≡◌, ◌�
 use lib.Pointwise.{pointwise_long}
 use Rattle.csv.specs.Records.{field_at}
 use Rattle.csv_records.specs.Texts.{field_or_empty, is_heading}
-use Rattle.policy_file.specs.Exports.{policy_heading, csv_row_read}
+use Rattle.policy_file.specs.Exports.{policy_heading, csv_policy_row_read}
 use Rattle.policy_file.specs.declared.error.PolicyRefusal.TheVariants as why
 
 abbrev pub seven_of : List (List ℕ) → List (List ℕ)
@@ -66,18 +66,18 @@ is_heading-other fields from other = by (is_heading policy_heading (drop from fi
       absurd (other (omega (arith, length-drop from fields, seven)))
 
 pub row_of-seven : (fields : List (List ℕ)) (from : ℕ) → length fields ≡ from + 7
-    → csv_row_read (drop from fields) ≡ csv_row_read
+    → csv_policy_row_read (drop from fields) ≡ csv_policy_row_read
     (field_or_empty fields from ∷ field_or_empty fields (from + 1) ∷ field_or_empty fields (from + 2) ∷ field_or_empty fields
     (from + 3) ∷ field_or_empty fields (from + 4) ∷ field_or_empty fields (from + 5) ∷ field_or_empty fields
     (from + 6) ∷ [])
-row_of-seven fields from seven = ap csv_row_read (seven_from fields from seven)
+row_of-seven fields from seven = ap csv_policy_row_read (seven_from fields from seven)
 
 pub row_of-other : (fields : List (List ℕ)) (from : ℕ) → length fields ≢ from + 7
-    → csv_row_read (drop from fields) ≡ Err why.Width
+    → csv_policy_row_read (drop from fields) ≡ Err why.Width
 row_of-other fields from other = no_seven (drop from fields)
     (λ seven. other (omega (arith, length-drop from fields)))
   where
-    no_seven : (xs : List (List ℕ)) → length xs ≢ 7 → csv_row_read xs ≡ Err why.Width
+    no_seven : (xs : List (List ℕ)) → length xs ≢ 7 → csv_policy_row_read xs ≡ Err why.Width
     no_seven (a ∷ b ∷ c ∷ d ∷ e ∷ f ∷ g ∷ []) other = absurd (other refl)
     no_seven _ other = refl
 

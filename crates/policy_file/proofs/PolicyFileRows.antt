@@ -5,11 +5,11 @@ use Rattle.csv_records.specs.Texts.{TakesCsvRecord, is_heading}
 use Rattle.policy_rules.specs.Exports.{AreDistinctEdits, HaveDistinctPriorities}
 use Rattle.policy_rules.specs.declared.policy.Row.{Row}
 use Rattle.policy_rules.specs.declared.amendment.Edit.{Edit}
-use Rattle.policy_rules.proofs.CallerLemmas.{fresh_edits}
+use Rattle.policy_rules.proofs.PolicyRulesCallerLemmas.{fresh_edits}
 use Rattle.policy_file.specs.declared.error.PolicyRefusal.{PolicyRefusal}
 use Rattle.policy_file.specs.declared.error.PolicyRefusal.TheVariants as why
 use Rattle.base.specs.declared.row.InRow.{InRow}
-use Rattle.policy_file.specs.Exports.{IsReadUpTo, PolicyRowFormat, RecordsStateEach, change_heading, change_rows, first_row_refused, has_change_heading, policy_rows, row_refusal_after, row_refusal_at, rows_of, csv_rows_stated, rows_under_heading}
+use Rattle.policy_file.specs.Exports.{IsPolicyReadUpTo, PolicyRowFormat, PolicyRecordsStateEach, change_heading, change_rows, first_row_refused, has_change_heading, policy_file_rows, policy_row_refusal_after, row_refusal_at, rows_of, csv_rows_stated, policy_rows_under_heading}
 
 -- ---- the first number that has something
 
@@ -39,29 +39,29 @@ module _ {X : Type 0} (format : PolicyRowFormat X) where
   fine row = Ok row
 
   pub state_push : (records : Records) (rows : List X) (fields : List (List ℕ)) (row : X)
-      → RecordsStateEach format records rows → format.read fields ≡ Ok row
-      → RecordsStateEach format (records ++ fields ∷ []) (rows ++ row ∷ [])
+      → PolicyRecordsStateEach format records rows → format.read fields ≡ Ok row
+      → PolicyRecordsStateEach format (records ++ fields ∷ []) (rows ++ row ∷ [])
   state_push records rows fields row stated is =
       cc (map-append format.read records (fields ∷ []), stated, is, map-append fine rows (row ∷ []))
 
-  state_take : (records : Records) (rows : List X) (k : ℕ) → RecordsStateEach format records rows
-      → RecordsStateEach format (take k records) (take k rows)
+  state_take : (records : Records) (rows : List X) (k : ℕ) → PolicyRecordsStateEach format records rows
+      → PolicyRecordsStateEach format (take k records) (take k rows)
   state_take records rows k stated = sym (take-map format.read k records) ∙ ap (take k) stated
       ∙ take-map fine k rows
 
-  state_length : (records : Records) (rows : List X) → RecordsStateEach format records rows
+  state_length : (records : Records) (rows : List X) → PolicyRecordsStateEach format records rows
       → length records ≡ length rows
   state_length records rows stated = sym (length-map records format.read) ∙ ap length stated
       ∙ length-map rows fine
 
-  state_at : (records : Records) (rows : List X) (k : ℕ) (d : X) → RecordsStateEach format records rows
+  state_at : (records : Records) (rows : List X) (k : ℕ) (d : X) → PolicyRecordsStateEach format records rows
       → k < length rows → format.read (get_or records k []) ≡ Ok (get_or rows k d)
   state_at records rows k d stated within =
       let inside : k < length records = omega (arith, state_length records rows stated) in
       sym (get_or-map format.read records k [] (fine d) inside)
       ∙ ap (λ xs. get_or xs k (fine d)) stated ∙ get_or-map fine rows k d (fine d) within
 
-  state_rows : (records : Records) (rows : List X) → RecordsStateEach format records rows
+  state_rows : (records : Records) (rows : List X) → PolicyRecordsStateEach format records rows
       → csv_rows_stated format records ≡ rows
   state_rows records rows stated = cc (outcomes records, stated, all_fine rows) where
     outcomes : (records : Records) → csv_rows_stated format records ≡ filter_map result_ok
@@ -76,7 +76,7 @@ module _ {X : Type 0} (format : PolicyRowFormat X) where
   -- ---- why a record is refused
 
   abbrev pub Stated : Records → List X → Type 0
-  Stated records rows = RecordsStateEach format (take (length rows) records) rows
+  Stated records rows = PolicyRecordsStateEach format (take (length rows) records) rows
 
   -- none of the first p rows repeats an earlier one
   abbrev pub NoneRepeats : List X → ℕ → Type 0
@@ -90,15 +90,15 @@ module _ {X : Type 0} (format : PolicyRowFormat X) where
   refused_in records rows k d stated within few =
       let n = length rows in
       let row = get_or rows k d in
-      let earlier : RecordsStateEach format (take k records) (take k rows) =
-      subst (λ xs. RecordsStateEach format xs (take k rows)) (take-take k n records (omega arith))
+      let earlier : PolicyRecordsStateEach format (take k records) (take k rows) =
+      subst (λ xs. PolicyRecordsStateEach format xs (take k rows)) (take-take k n records (omega arith))
       (state_take (take n records) rows k stated) in
-      ap (λ b. cond b (Some why.TooManyRows) (row_refusal_after format
+      ap (λ b. cond b (Some why.TooManyRows) (policy_row_refusal_after format
       (csv_rows_stated format (take k records)) (format.read (get_or records k []))))
       (ne_eqb k 2000 (λ full. absurd (omega arith)))
-      ∙ ap (λ fields. row_refusal_after format (csv_rows_stated format (take k records))
+      ∙ ap (λ fields. policy_row_refusal_after format (csv_rows_stated format (take k records))
       (format.read fields)) (sym (get_or-take n records k [] within))
-      ∙ ap (row_refusal_after format (csv_rows_stated format (take k records)))
+      ∙ ap (policy_row_refusal_after format (csv_rows_stated format (take k records)))
       (state_at (take n records) rows k d stated within)
       ∙ ap (λ earlier. cond (format.repeats earlier row) (Some why.SamePriority) None)
       (state_rows (take k records) (take k rows) earlier)
@@ -128,7 +128,7 @@ module _ {X : Type 0} (format : PolicyRowFormat X) where
 
   -- a row repeats an earlier one
   pub repeated : (records : Records) (rows : List X) (refusal : Option PolicyRefusal)
-      (place : ℕ) → IsReadUpTo format records rows refusal → place < length rows
+      (place : ℕ) → IsPolicyReadUpTo format records rows refusal → place < length rows
       → ((d : X) → format.repeats (take place rows) (get_or rows place d) ≡ true)
       → NoneRepeats rows place
       → rows_of format records ≡ Err (record { refusal = why.SamePriority; row = place + 1 })
@@ -141,27 +141,27 @@ module _ {X : Type 0} (format : PolicyRowFormat X) where
 
   -- the record after the rows is refused
   pub refused_next : (records : Records) (rows : List X) (refusal : PolicyRefusal)
-      → IsReadUpTo format records rows (Some refusal) → NoneRepeats rows (length rows)
+      → IsPolicyReadUpTo format records rows (Some refusal) → NoneRepeats rows (length rows)
       → rows_of format records ≡ Err (record { refusal = refusal; row = length rows + 1 })
   refused_next records rows refusal read none =
       refused_first records (length rows) refusal read.ends.0 read.ends.1
       (clean records rows (length rows) read.stated read.few (omega arith) none)
 
   -- the records end with the rows
-  pub all_read : (records : Records) (rows : List X) → IsReadUpTo format records rows None
+  pub all_read : (records : Records) (rows : List X) → IsPolicyReadUpTo format records rows None
       → NoneRepeats rows (length rows) → rows_of format records ≡ Ok rows
   all_read records rows read none = let end : length records ≡ length rows = read.ends in
       ap (λ first. option_map_or Err first (Ok (csv_rows_stated format records)))
       (none_below (λ place. option_map (at_row place) (row_refusal_at format records place))
       (length records) (λ k h. ap (option_map (at_row k))
       (clean records rows (length rows) read.stated read.few (omega arith) none k (omega arith))))
-      ∙ ap Ok (state_rows records rows (subst (λ xs. RecordsStateEach format xs rows)
+      ∙ ap Ok (state_rows records rows (subst (λ xs. PolicyRecordsStateEach format xs rows)
       (take_all (length rows) records (omega arith)) read.stated))
 
 -- ---- rows of distinct priorities, and distinct edits
 
 pub fresh_rows : (rows : List Row) (p : ℕ) → HaveDistinctPriorities (take p rows)
-    → NoneRepeats policy_rows rows p
+    → NoneRepeats policy_file_rows rows p
 fresh_rows rows p distinct k d less within =
     list_any_none (λ (x : Row). eqb x.priority (get_or rows k d).priority) (take k rows)
     (λ j e inside. let before : j < k = omega (arith, length-take k rows) in
@@ -173,7 +173,7 @@ fresh_rows rows p distinct k d less within =
     x.priority) other)))
 
 pub all_fresh_rows : (rows : List Row) → HaveDistinctPriorities rows
-    → NoneRepeats policy_rows rows (length rows)
+    → NoneRepeats policy_file_rows rows (length rows)
 all_fresh_rows rows distinct = fresh_rows rows (length rows)
     (subst HaveDistinctPriorities (sym (take_all (length rows) rows (omega arith))) distinct)
 
@@ -222,9 +222,9 @@ ends_at records n fields after left false is at takes most = elim (cases_lt n (l
 module _ {X : Type 0} (format : PolicyRowFormat X) where
   -- no record is left behind those that state these rows
   pub ended : (records : Records) (rows : List X) (fields : List (List ℕ)) (after left : Records)
-      (found : Bool) → RecordsStateEach format (take (length rows) records) rows → length rows ≤ 2000
+      (found : Bool) → PolicyRecordsStateEach format (take (length rows) records) rows → length rows ≤ 2000
       → length rows ≤ length records → found ≡ false → left ≡ drop (length rows) records
-      → TakesCsvRecord left found fields after → IsReadUpTo format records rows None
+      → TakesCsvRecord left found fields after → IsPolicyReadUpTo format records rows None
   ended records rows fields after left found stated few within none at takes = record {
     stated = stated;
     few = few;
@@ -248,7 +248,7 @@ module _ {X : Type 0} (format : PolicyRowFormat X) where
 
   pub under_heading : (before after : Records) (fields : List (List ℕ)) (found : Bool)
       → found ≡ true → TakesCsvRecord before found fields after → is_heading format.heading fields
-      ≡ true → rows_under_heading format before ≡ rows_of format after
+      ≡ true → policy_rows_under_heading format before ≡ rows_of format after
   under_heading before after fields false is takes heading = cc is
   under_heading before after fields true is takes heading = rw (takes, heading) refl
 

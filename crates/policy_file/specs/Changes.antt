@@ -10,7 +10,7 @@ use Rattle.policy_rules.specs.declared.amendment.Edit.TheVariants.{Remove, Add}
 use Rattle.policy_rules.specs.declared.file.PolicyFile.{PolicyFile}
 use Rattle.policy_rules.specs.declared.file.PolicyFile.TheVariants.{Whole, Change}
 use Rattle.base.specs.declared.row.InRow.{InRow}
-use Rattle.policy_file.specs.Reading.{PolicyRowFormat, policy_heading, policy_of, csv_row_read, csv_rows_in, with_csv_field}
+use Rattle.policy_file.specs.Reading.{PolicyRowFormat, policy_heading, policy_of, csv_policy_row_read, csv_policy_rows_in, with_policy_file_field}
 use Rattle.policy_file.specs.declared.error.PolicyRefusal.{PolicyRefusal}
 use Rattle.policy_file.specs.declared.error.PolicyRefusal.TheVariants as why
 
@@ -24,7 +24,7 @@ change_heading = codes "op" ∷ policy_heading
 -- the edit that removes the row of a priority, which is the only field
 abbrev pub csv_removal_read : List (List ℕ) → Result Edit PolicyRefusal
 csv_removal_read (priority ∷ []) =
-    with_csv_field (number_up_to 4294967295 priority) why.Priority (λ priority. Ok (Remove priority))
+    with_policy_file_field (number_up_to 4294967295 priority) why.Priority (λ priority. Ok (Remove priority))
 csv_removal_read _ = Err why.Width
 
 -- the edit that the fields state, or the refusal of the first field that can't be read
@@ -32,7 +32,7 @@ abbrev pub csv_edit_read : List (List ℕ) → Result Edit PolicyRefusal
 csv_edit_read [] = Err why.Op
 csv_edit_read (op ∷ fields) =
     if bytes_eq op (codes "remove") then csv_removal_read fields
-    else if bytes_eq op (codes "add") then on_ok Add (csv_row_read fields)
+    else if bytes_eq op (codes "add") then on_ok Add (csv_policy_row_read fields)
     else Err why.Op
 
 -- no two edits of a change do the same to a row of the same priority
@@ -40,8 +40,8 @@ abbrev pub change_rows : PolicyRowFormat Edit
 change_rows = record { heading = change_heading; read = csv_edit_read; repeats = repeats }
 
 -- the change that a text states
-unfoldable pub change_of : List ℕ → Result (List Edit) (InRow PolicyRefusal)
-change_of bytes = csv_rows_in change_rows bytes
+unfoldable pub csv_change_of : List ℕ → Result (List Edit) (InRow PolicyRefusal)
+csv_change_of bytes = csv_policy_rows_in change_rows bytes
 
 -- the first record is a change's heading
 abbrev pub has_change_heading : List (List (List ℕ)) → Bool
@@ -55,9 +55,9 @@ is_change_text bytes = has_change_heading (records_of bytes)
 -- what a text states: a change, by its heading, otherwise a policy
 unfoldable pub policy_file_of : List ℕ → Result PolicyFile (InRow PolicyRefusal)
 policy_file_of bytes =
-    if is_change_text bytes then on_ok Change (change_of bytes) else on_ok Whole (policy_of bytes)
+    if is_change_text bytes then on_ok Change (csv_change_of bytes) else on_ok Whole (policy_of bytes)
 
 -- how many rows the file has under its heading
-abbrev pub file_length : PolicyFile → ℕ
-file_length (Whole rows) = length rows
-file_length (Change edits) = length edits
+abbrev pub policy_file_length : PolicyFile → ℕ
+policy_file_length (Whole rows) = length rows
+policy_file_length (Change edits) = length edits

@@ -10,8 +10,8 @@ use Rattle.policy_file.specs.Changes.{change_heading}
 use Rattle.policy_file.specs.Reading.{policy_heading}
 
 -- a record's line: its fields joined by commas, and a line feed
-abbrev pub fields_line : List (List ℕ) → List ℕ
-fields_line fields = join_with_byte 44 fields ++ 10 ∷ []
+abbrev pub policy_fields_line : List (List ℕ) → List ℕ
+policy_fields_line fields = join_with_byte 44 fields ++ 10 ∷ []
 
 -- the printed forms of a row's fields
 abbrev pub row_fields : Row → List (List ℕ)
@@ -26,12 +26,12 @@ edit_fields (Add row) = codes "add" ∷ row_fields row
 
 -- the lines of rows, of any kind, by the printed forms of their fields
 abbrev pub rows_text : {X : Type 0} → (X → List (List ℕ)) → List X → List ℕ
-rows_text fields rows = flat_map (λ row. fields_line (fields row)) rows
+rows_text fields rows = flat_map (λ row. policy_fields_line (fields row)) rows
 
 -- the heading's line, and then the rows'
 abbrev pub policy_text : List Row → List ℕ
-policy_text rows = fields_line policy_heading ++ rows_text row_fields rows
+policy_text rows = policy_fields_line policy_heading ++ rows_text row_fields rows
 
 -- the heading's line, and then the edits'
-abbrev pub change_text : List Edit → List ℕ
-change_text edits = fields_line change_heading ++ rows_text edit_fields edits
+abbrev pub policy_change_text : List Edit → List ℕ
+policy_change_text edits = policy_fields_line change_heading ++ rows_text edit_fields edits

@@ -10,19 +10,19 @@ use Rattle.policy_file.specs.declared.error.PolicyRefusal.{PolicyRefusal}
 use Rattle.policy_file.specs.declared.error.PolicyRefusal.TheVariants as why
 
 -- the number of each refusal, as it is printed and documented
-abbrev pub policy_code : PolicyRefusal → ℕ
-policy_code why.Header = 1
-policy_code why.Width = 2
-policy_code why.Priority = 3
-policy_code why.Src = 4
-policy_code why.Dst = 5
-policy_code why.Sport = 6
-policy_code why.Dport = 7
-policy_code why.Proto = 8
-policy_code why.Action = 9
-policy_code why.SamePriority = 10
-policy_code why.TooManyRows = 11
-policy_code why.Op = 22
+abbrev pub policy_file_refusal_code : PolicyRefusal → ℕ
+policy_file_refusal_code why.Header = 1
+policy_file_refusal_code why.Width = 2
+policy_file_refusal_code why.Priority = 3
+policy_file_refusal_code why.Src = 4
+policy_file_refusal_code why.Dst = 5
+policy_file_refusal_code why.Sport = 6
+policy_file_refusal_code why.Dport = 7
+policy_file_refusal_code why.Proto = 8
+policy_file_refusal_code why.Action = 9
+policy_file_refusal_code why.SamePriority = 10
+policy_file_refusal_code why.TooManyRows = 11
+policy_file_refusal_code why.Op = 22
 
 abbrev pub policy_heading : List (List ℕ)
 policy_heading =
@@ -30,19 +30,19 @@ policy_heading =
     ∷ codes "action" ∷ []
 
 -- what `next` makes of a field's value, or the refusal if the field has none
-abbrev pub with_csv_field : {X Y : Type 0} → Option X → PolicyRefusal → (X → Result Y PolicyRefusal)
+abbrev pub with_policy_file_field : {X Y : Type 0} → Option X → PolicyRefusal → (X → Result Y PolicyRefusal)
     → Result Y PolicyRefusal
-with_csv_field (Some value) refusal next = next value
-with_csv_field None refusal next = Err refusal
+with_policy_file_field (Some value) refusal next = next value
+with_policy_file_field None refusal next = Err refusal
 
 -- the row that the fields state, or the refusal of the first field that can't be read
-abbrev pub csv_row_read : List (List ℕ) → Result Row PolicyRefusal
-csv_row_read (priority ∷ src ∷ dst ∷ sport ∷ dport ∷ proto ∷ action ∷ []) =
-    with_csv_field (number_up_to 4294967295 priority) why.Priority
-    (λ priority. with_csv_field (prefix_of src) why.Src
-    (λ src. with_csv_field (prefix_of dst) why.Dst (λ dst. with_csv_field (range_of sport) why.Sport
-    (λ sport. with_csv_field (range_of dport) why.Dport (λ dport. with_csv_field (proto_of proto) why.Proto
-    (λ proto. with_csv_field (action_of action) why.Action (λ action. Ok (record {
+abbrev pub csv_policy_row_read : List (List ℕ) → Result Row PolicyRefusal
+csv_policy_row_read (priority ∷ src ∷ dst ∷ sport ∷ dport ∷ proto ∷ action ∷ []) =
+    with_policy_file_field (number_up_to 4294967295 priority) why.Priority
+    (λ priority. with_policy_file_field (prefix_of src) why.Src
+    (λ src. with_policy_file_field (prefix_of dst) why.Dst (λ dst. with_policy_file_field (range_of sport) why.Sport
+    (λ sport. with_policy_file_field (range_of dport) why.Dport (λ dport. with_policy_file_field (proto_of proto) why.Proto
+    (λ proto. with_policy_file_field (action_of action) why.Action (λ action. Ok (record {
       priority = priority;
       src = src;
       dst = dst;
@@ -51,7 +51,7 @@ csv_row_read (priority ∷ src ∷ dst ∷ sport ∷ dport ∷ proto ∷ action 
       proto = proto;
       action = action;
     }))))))))
-csv_row_read _ = Err why.Width
+csv_policy_row_read _ = Err why.Width
 
 -- ---- the rows of a file, of any kind
 
@@ -66,17 +66,17 @@ abbrev pub csv_rows_stated : {X : Type 0} → PolicyRowFormat X → List (List (
 csv_rows_stated format records = filter_map (λ fields. result_ok (format.read fields)) records
 
 -- why a record is refused after earlier rows: it states no row, or one that repeats an earlier one
-abbrev pub row_refusal_after : {X : Type 0} → PolicyRowFormat X → List X → Result X PolicyRefusal
+abbrev pub policy_row_refusal_after : {X : Type 0} → PolicyRowFormat X → List X → Result X PolicyRefusal
     → Option PolicyRefusal
-row_refusal_after format earlier (Err refusal) = Some refusal
-row_refusal_after format earlier (Ok row) =
+policy_row_refusal_after format earlier (Err refusal) = Some refusal
+policy_row_refusal_after format earlier (Ok row) =
     if format.repeats earlier row then Some why.SamePriority else None
 
 -- why the record at this place is refused, if it is: a file has at most 2,000 rows
 abbrev pub row_refusal_at : {X : Type 0} → PolicyRowFormat X → List (List (List ℕ)) → ℕ → Option PolicyRefusal
 row_refusal_at format records place =
     if place == 2000 then Some why.TooManyRows
-    else row_refusal_after format (csv_rows_stated format (take place records))
+    else policy_row_refusal_after format (csv_rows_stated format (take place records))
     (format.read (slice_index_or records place []))
 
 -- the value of the least of the numbers below n that has one
@@ -85,61 +85,61 @@ first_row_refused at zero = None
 first_row_refused at (suc n) = option_or (first_row_refused at n) (at n)
 
 -- why the record at this place is refused, if it is, with its row, counted from 1
-abbrev pub row_refused_at : {X : Type 0} → PolicyRowFormat X → List (List (List ℕ)) → ℕ
+abbrev pub policy_row_refused_at : {X : Type 0} → PolicyRowFormat X → List (List (List ℕ)) → ℕ
     → Option (InRow PolicyRefusal)
-row_refused_at format records place =
+policy_row_refused_at format records place =
     option_map (λ refusal. record { refusal = refusal; row = place + 1 })
     (row_refusal_at format records place)
 
 -- the first refusal among the records
-abbrev pub first_refusal : {X : Type 0} → PolicyRowFormat X → List (List (List ℕ))
+abbrev pub policy_file_first_refusal : {X : Type 0} → PolicyRowFormat X → List (List (List ℕ))
     → Option (InRow PolicyRefusal)
-first_refusal format records = first_row_refused (row_refused_at format records) (length records)
+policy_file_first_refusal format records = first_row_refused (policy_row_refused_at format records) (length records)
 
 -- the rows that the records state, one each, or the first refusal among them
 abbrev pub rows_of : {X : Type 0} → PolicyRowFormat X → List (List (List ℕ))
     → Result (List X) (InRow PolicyRefusal)
 rows_of format records =
-    option_map_or Err (first_refusal format records) (Ok (csv_rows_stated format records))
+    option_map_or Err (policy_file_first_refusal format records) (Ok (csv_rows_stated format records))
 
 abbrev pub no_policy_heading : {X : Type 0} → Result (List X) (InRow PolicyRefusal)
 no_policy_heading = Err (record { refusal = why.Header; row = 0 })
 
 -- the rows under the heading
-abbrev pub rows_under_heading : {X : Type 0} → PolicyRowFormat X → List (List (List ℕ))
+abbrev pub policy_rows_under_heading : {X : Type 0} → PolicyRowFormat X → List (List (List ℕ))
     → Result (List X) (InRow PolicyRefusal)
-rows_under_heading format [] = no_policy_heading
-rows_under_heading format (first ∷ records) =
+policy_rows_under_heading format [] = no_policy_heading
+policy_rows_under_heading format (first ∷ records) =
     if is_heading format.heading first then rows_of format records else no_policy_heading
 
 -- the rows that a text states
-abbrev pub csv_rows_in : {X : Type 0} → PolicyRowFormat X → List ℕ → Result (List X) (InRow PolicyRefusal)
-csv_rows_in format bytes = rows_under_heading format (records_of bytes)
+abbrev pub csv_policy_rows_in : {X : Type 0} → PolicyRowFormat X → List ℕ → Result (List X) (InRow PolicyRefusal)
+csv_policy_rows_in format bytes = policy_rows_under_heading format (records_of bytes)
 
 -- ---- policies
 
 -- no two rows of a policy have the same priority
-abbrev pub policy_rows : PolicyRowFormat Row
-policy_rows = record {
+abbrev pub policy_file_rows : PolicyRowFormat Row
+policy_file_rows = record {
   heading = policy_heading;
-  read = csv_row_read;
+  read = csv_policy_row_read;
   repeats = λ earlier row. has_priority earlier row.priority;
 }
 
 -- the policy that a text states
 unfoldable pub policy_of : List ℕ → Result (List Row) (InRow PolicyRefusal)
-policy_of bytes = csv_rows_in policy_rows bytes
+policy_of bytes = csv_policy_rows_in policy_file_rows bytes
 
 -- ---- rows that were read from records
 
 -- the records state these rows, one each
-abbrev pub RecordsStateEach : {X : Type 0} → PolicyRowFormat X → List (List (List ℕ)) → List X → Type 0
-RecordsStateEach format records rows = map format.read records ≡ map (λ row. Ok row) rows
+abbrev pub PolicyRecordsStateEach : {X : Type 0} → PolicyRowFormat X → List (List (List ℕ)) → List X → Type 0
+PolicyRecordsStateEach format records rows = map format.read records ≡ map (λ row. Ok row) rows
 
 -- the first records state these rows; then the records end, or the next is refused for this
-pub record IsReadUpTo {X : Type 0} (format : PolicyRowFormat X) (records : List (List (List ℕ)))
+pub record IsPolicyReadUpTo {X : Type 0} (format : PolicyRowFormat X) (records : List (List (List ℕ)))
     (rows : List X) (end : Option PolicyRefusal) : Type 0 where
-  pub stated : RecordsStateEach format (take (length rows) records) rows
+  pub stated : PolicyRecordsStateEach format (take (length rows) records) rows
   pub few : length rows ≤ 2000
   pub within : length rows ≤ length records
   pub ends : MatchOption end (length records ≡ length rows)
@@ -147,8 +147,8 @@ pub record IsReadUpTo {X : Type 0} (format : PolicyRowFormat X) (records : List 
       × (row_refusal_at format records (length rows) ≡ Some refusal))
 
 -- under the text's heading there are records that state these rows and end like this
-pub record IsReadFrom {X : Type 0} (format : PolicyRowFormat X) (bytes : List ℕ) (rows : List X)
+pub record IsPolicyReadFrom {X : Type 0} (format : PolicyRowFormat X) (bytes : List ℕ) (rows : List X)
     (end : Option PolicyRefusal) : Type 0 where
   pub records : List (List (List ℕ))
-  pub under : csv_rows_in format bytes ≡ rows_of format records
-  pub read : IsReadUpTo format records rows end
+  pub under : csv_policy_rows_in format bytes ≡ rows_of format records
+  pub read : IsPolicyReadUpTo format records rows end

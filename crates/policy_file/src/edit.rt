@@ -1,7 +1,7 @@
 ghost use Rattle.std.specs.Prelude.{◌≡◌, drop, IfOk};
 ghost use Rattle.csv.specs.Records.{fields_of};
 ghost use Rattle.csv_records.specs.Texts.{is_heading};
-ghost use Rattle.policy_rules.specs.Exports.{EditAddsOnly, HasSmallPort};
+ghost use Rattle.policy_rules.specs.Exports.{EditAddsOnly, HasSmallRulePort};
 ghost use Rattle.policy_file.specs.Changes.{change_heading, csv_edit_read, csv_removal_read};
 
 use crate::error::PolicyRefusal;
@@ -33,7 +33,7 @@ pub fn is_change_heading(fields: &ByteRecord) -> bool
 #[tactic(auto, using(crate::proofs::PolicyFileEdits::edits))]
 pub fn read_edit(fields: &ByteRecord) -> Result<Edit, PolicyRefusal>
     ensures edit { result ≡ csv_edit_read (fields_of fields.now) }
-    ensures small_port { IfOk result (EditAddsOnly (λ row. HasSmallPort row.action)) }
+    ensures small_port { IfOk result (EditAddsOnly (λ row. HasSmallRulePort row.action)) }
 {
     if csv_field_has_text(fields, 0, REMOVE) {
         return read_removal(fields);
@@ -48,7 +48,7 @@ pub fn read_edit(fields: &ByteRecord) -> Result<Edit, PolicyRefusal>
 #[tactic(auto, using(crate::proofs::PolicyFileEdits::edits))]
 fn read_removal(fields: &ByteRecord) -> Result<Edit, PolicyRefusal>
     ensures edit { result ≡ csv_removal_read (drop 1 (fields_of fields.now)) }
-    ensures small_port { IfOk result (EditAddsOnly (λ row. HasSmallPort row.action)) }
+    ensures small_port { IfOk result (EditAddsOnly (λ row. HasSmallRulePort row.action)) }
 {
     if fields.len() != 2 {
         return Err(PolicyRefusal::Width);

@@ -1,5 +1,5 @@
 ghost use Rattle.std.specs.Prelude.{◌≡◌};
-ghost use Rattle.policy_file.specs.Reading.{policy_code};
+ghost use Rattle.policy_file.specs.Reading.{policy_file_refusal_code};
 
 use base::{Failure, InRow};
 use thiserror::Error;
@@ -49,7 +49,7 @@ pub enum PolicyRefusal {
 impl PolicyRefusal {
     /// The refusal's number, as it is printed: from 1 to 11, or 22.
     pub fn code(self) -> u32
-        ensures { result ≡ policy_code self }
+        ensures { result ≡ policy_file_refusal_code self }
     {
         self as u32
     }

@@ -1,7 +1,7 @@
 ghost use Rattle.std.specs.Prelude.{◌≡◌, ◌≤◌, Ok, IfOk, IfErr, All, length};
-ghost use Rattle.policy_rules.specs.Exports.{EditAddsOnly, PolicyFileGivesOnly, HasSmallPort, IsAmendment, IsPolicyFile};
-ghost use Rattle.policy_file.specs.Changes.{change_of, file_length, is_change_text, policy_file_of};
-ghost use Rattle.base.specs.Refusals.{IsRefusal};
+ghost use Rattle.policy_rules.specs.Exports.{EditAddsOnly, PolicyRulesGiveOnly, HasSmallRulePort, IsAmendment, IsPolicyOrAmendment};
+ghost use Rattle.policy_file.specs.Changes.{csv_change_of, policy_file_length, is_change_text, policy_file_of};
+ghost use Rattle.base.specs.Refusals.{IsCallRefusal};
 
 use crate::edit::is_change_heading;
 use crate::error::{PolicyError, PolicyRefusal};
@@ -38,13 +38,13 @@ pub fn is_change(alloc: Global, bytes: &[u8]) -> Result<bool, AllocError>
 /// The first refusal in the text, or out of memory. The rows are checked in order: first what a
 /// row does, then its width, then its fields from left to right, and last whether an earlier row
 /// does the same to its priority.
-#[tactic(auto, unfolding(crate::specs::Changes::change_of))]
+#[tactic(auto, unfolding(crate::specs::Changes::csv_change_of))]
 pub fn read_change(alloc: Global, bytes: &[u8]) -> Result<Amendment, PolicyError>
-    ensures change { IfOk result (λ change. change_of bytes.now ≡ Ok change) }
+    ensures change { IfOk result (λ change. csv_change_of bytes.now ≡ Ok change) }
     ensures sound { IfOk result IsAmendment }
     ensures few { IfOk result (λ change. length change ≤ 2000) }
-    ensures small_ports { IfOk result (All (EditAddsOnly (λ row. HasSmallPort row.action))) }
-    ensures refused { IfErr result (IsRefusal (change_of bytes.now)) }
+    ensures small_ports { IfOk result (All (EditAddsOnly (λ row. HasSmallRulePort row.action))) }
+    ensures refused { IfErr result (IsCallRefusal (csv_change_of bytes.now)) }
 {
     let Reading { rows, refusal } = read_policy_rows(alloc, bytes)?;
     let number = rows.len() as u32;
@@ -75,10 +75,10 @@ pub fn read_change(alloc: Global, bytes: &[u8]) -> Result<Amendment, PolicyError
 #[tactic(auto, unfolding(crate::specs::Changes::policy_file_of))]
 pub fn read_file(alloc: Global, bytes: &[u8]) -> Result<PolicyFile, PolicyError>
     ensures file { IfOk result (λ file. policy_file_of bytes.now ≡ Ok file) }
-    ensures sound { IfOk result IsPolicyFile }
-    ensures few { IfOk result (λ file. file_length file ≤ 2000) }
-    ensures small_ports { IfOk result (PolicyFileGivesOnly (λ row. HasSmallPort row.action)) }
-    ensures refused { IfErr result (IsRefusal (policy_file_of bytes.now)) }
+    ensures sound { IfOk result IsPolicyOrAmendment }
+    ensures few { IfOk result (λ file. policy_file_length file ≤ 2000) }
+    ensures small_ports { IfOk result (PolicyRulesGiveOnly (λ row. HasSmallRulePort row.action)) }
+    ensures refused { IfErr result (IsCallRefusal (policy_file_of bytes.now)) }
 {
     let is_change = is_change(alloc, bytes)?;
     if is_change {

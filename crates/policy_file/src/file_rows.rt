@@ -1,10 +1,10 @@
 ghost use Rattle.std.specs.Prelude.{◌≡◌, ◌≤◌, All, IfErr, IfOk, length};
 ghost use Rattle.csv.specs.Records.{fields_of};
 ghost use Rattle.csv_records.specs.Texts.{is_heading};
-ghost use Rattle.policy_rules.specs.Exports.{EditAddsOnly, HasSmallPort};
+ghost use Rattle.policy_rules.specs.Exports.{EditAddsOnly, HasSmallRulePort};
 ghost use Rattle.policy_file.specs.Changes.{change_rows};
-ghost use Rattle.policy_file.specs.Reading.{IsReadFrom, IsReadUpTo, PolicyRowFormat, policy_rows, csv_rows_in};
-ghost use Rattle.base.specs.Refusals.{IsRefusal};
+ghost use Rattle.policy_file.specs.Reading.{IsPolicyReadFrom, IsPolicyReadUpTo, PolicyRowFormat, policy_file_rows, csv_policy_rows_in};
+ghost use Rattle.base.specs.Refusals.{IsCallRefusal};
 
 use crate::edit::{is_change_heading, read_edit};
 use crate::error::{PolicyError, PolicyRefusal};
@@ -33,9 +33,9 @@ pub trait FileRow: Drop {
 }
 
 impl FileRow for Row {
-    ghost format = { policy_rows };
+    ghost format = { policy_file_rows };
 
-    ghost has_small_port = { λ row. HasSmallPort row.action };
+    ghost has_small_port = { λ row. HasSmallRulePort row.action };
 
     fn is_heading(fields: &ByteRecord) -> bool {
         is_heading(fields, 0)
@@ -49,7 +49,7 @@ impl FileRow for Row {
 impl FileRow for Edit {
     ghost format = { change_rows };
 
-    ghost has_small_port = { EditAddsOnly (λ row. HasSmallPort row.action) };
+    ghost has_small_port = { EditAddsOnly (λ row. HasSmallRulePort row.action) };
 
     fn is_heading(fields: &ByteRecord) -> bool {
         is_change_heading(fields)
@@ -71,10 +71,10 @@ pub struct Reading<R> {
 /// many. An error is `Header` in row 0 if that heading is missing, or out of memory.
 pub fn read_policy_rows<R: FileRow>(alloc: Global, bytes: &[u8]) -> Result<Reading<R>, PolicyError>
     ensures read { IfOk result (λ reading.
-        IsReadFrom R.format bytes.now reading.rows.items reading.refusal) }
+        IsPolicyReadFrom R.format bytes.now reading.rows.items reading.refusal) }
     ensures few { IfOk result (λ reading. length reading.rows.items ≤ 2000) }
     ensures small_ports { IfOk result (λ reading. All R.has_small_port reading.rows.items) }
-    ensures refused { IfErr result (IsRefusal (csv_rows_in R.format bytes.now)) }
+    ensures refused { IfErr result (IsCallRefusal (csv_policy_rows_in R.format bytes.now)) }
 {
     let mut records = Records::new(alloc, bytes);
     let mut fields = ByteRecord::new(alloc);
@@ -92,7 +92,7 @@ fn read_row_records<R: FileRow>(
     fields: &mut ByteRecord,
 ) -> Result<Reading<R>, AllocError>
     ensures read { IfOk result (λ reading.
-        IsReadUpTo R.format records.old reading.rows.items reading.refusal) }
+        IsPolicyReadUpTo R.format records.old reading.rows.items reading.refusal) }
     ensures small_ports { IfOk result (λ reading. All R.has_small_port reading.rows.items) }
 {
     let mut rows = Vec::new(alloc);

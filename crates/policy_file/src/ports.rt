@@ -1,7 +1,7 @@
 ghost use Rattle.std.specs.Prelude.{◌≡◌, ◌<◌, All, IfNone, IfSome, IsTrue, OnOk, length, not, position};
 ghost use Rattle.std.specs.Result.{result_err};
-ghost use Rattle.policy_rules.specs.Exports.{EditAddsOnly, PolicyFileGivesOnly};
-ghost use Rattle.policy_file.specs.Ports.{adds_port_of, first_in_change, first_in_file, first_without_port, names_port_of};
+ghost use Rattle.policy_rules.specs.Exports.{EditAddsOnly, PolicyRulesGiveOnly};
+ghost use Rattle.policy_file.specs.Ports.{policy_file_adds_port, first_in_change_file, first_in_policy_file, first_policy_row_without_port, policy_file_names_port};
 
 use base::has;
 use policy_rules::{Action, Amendment, Edit, Policy, PolicyFile, Row};
@@ -16,7 +16,7 @@ pub struct NoPort {
 
 // Whether the action names no port, or one of the mask.
 fn has_port(ports: u64, action: Action) -> bool
-    ensures { result ≡ names_port_of ports action }
+    ensures { result ≡ policy_file_names_port ports action }
 {
     match action {
         Action::Drop => true,
@@ -26,9 +26,9 @@ fn has_port(ports: u64, action: Action) -> bool
 
 // The place of the first row whose action names a port outside the mask.
 fn row_without_port(ports: u64, rows: &[Row]) -> Option<usize>
-    ensures place { result ≡ position (λ row. not (names_port_of ports row.action)) rows.now }
+    ensures place { result ≡ position (λ row. not (policy_file_names_port ports row.action)) rows.now }
     ensures there { IfSome result (λ place. place < length rows.now) }
-    ensures all { IfNone result (All (λ row. IsTrue (names_port_of ports row.action)) rows.now) }
+    ensures all { IfNone result (All (λ row. IsTrue (policy_file_names_port ports row.action)) rows.now) }
 {
     rows.iter().position(|row| !has_port(ports, row.action))
 }
@@ -38,8 +38,8 @@ fn row_without_port(ports: u64, rows: &[Row]) -> Option<usize>
 /// # Errors
 /// The first row whose action names another port; a port of 64 or more is in no mask.
 pub fn check_ports(policy: &Policy, ports: u64) -> Result<(), NoPort>
-    ensures first { result_err result ≡ first_without_port ports policy.now }
-    ensures all { OnOk result (All (λ row. IsTrue (names_port_of ports row.action)) policy.now) }
+    ensures first { result_err result ≡ first_policy_row_without_port ports policy.now }
+    ensures all { OnOk result (All (λ row. IsTrue (policy_file_names_port ports row.action)) policy.now) }
 {
     match row_without_port(ports, policy.rows()) {
         None => Ok(()),
@@ -51,7 +51,7 @@ pub fn check_ports(policy: &Policy, ports: u64) -> Result<(), NoPort>
 
 // Whether the edit adds no row, or one whose action names no port or one of the mask.
 fn edit_adds_port(ports: u64, edit: &Edit) -> bool
-    ensures { result ≡ adds_port_of ports edit.now }
+    ensures { result ≡ policy_file_adds_port ports edit.now }
 {
     match edit {
         Edit::Remove(_) => true,
@@ -61,9 +61,9 @@ fn edit_adds_port(ports: u64, edit: &Edit) -> bool
 
 // The place of the first edit that adds a row whose action names a port outside the mask.
 fn edit_without_port(ports: u64, edits: &[Edit]) -> Option<usize>
-    ensures place { result ≡ position (λ edit. not (adds_port_of ports edit)) edits.now }
+    ensures place { result ≡ position (λ edit. not (policy_file_adds_port ports edit)) edits.now }
     ensures there { IfSome result (λ place. place < length edits.now) }
-    ensures all { IfNone result (All (λ edit. IsTrue (adds_port_of ports edit)) edits.now) }
+    ensures all { IfNone result (All (λ edit. IsTrue (policy_file_adds_port ports edit)) edits.now) }
 {
     edits.iter().position(|edit| !edit_adds_port(ports, edit))
 }
@@ -74,9 +74,9 @@ fn edit_without_port(ports: u64, edits: &[Edit]) -> Option<usize>
 /// # Errors
 /// The first row of the file whose action names another port.
 pub fn check_file_ports(file: &PolicyFile, ports: u64) -> Result<(), NoPort>
-    ensures first { result_err result ≡ first_in_file ports file.now }
+    ensures first { result_err result ≡ first_in_policy_file ports file.now }
     ensures all { OnOk result
-        (PolicyFileGivesOnly (λ row. IsTrue (names_port_of ports row.action)) file.now) }
+        (PolicyRulesGiveOnly (λ row. IsTrue (policy_file_names_port ports row.action)) file.now) }
 {
     match file {
         PolicyFile::Whole(policy) => check_ports(policy, ports),
@@ -85,9 +85,9 @@ pub fn check_file_ports(file: &PolicyFile, ports: u64) -> Result<(), NoPort>
 }
 
 fn check_change_ports(change: &Amendment, ports: u64) -> Result<(), NoPort>
-    ensures first { result_err result ≡ first_in_change ports change.now }
+    ensures first { result_err result ≡ first_in_change_file ports change.now }
     ensures all { OnOk result
-        (All (EditAddsOnly (λ row. IsTrue (names_port_of ports row.action))) change.now) }
+        (All (EditAddsOnly (λ row. IsTrue (policy_file_names_port ports row.action))) change.now) }
 {
     match edit_without_port(ports, change.edits()) {
         None => Ok(()),

@@ -1,7 +1,7 @@
 ghost use Rattle.std.specs.Prelude.{◌≡◌, ◌≤◌, Ok, IfOk, IfErr, All, length};
-ghost use Rattle.policy_rules.specs.Exports.{HasSmallPort, IsPolicy};
+ghost use Rattle.policy_rules.specs.Exports.{HasSmallRulePort, IsPolicy};
 ghost use Rattle.policy_file.specs.Reading.{policy_of};
-ghost use Rattle.base.specs.Refusals.{IsRefusal};
+ghost use Rattle.base.specs.Refusals.{IsCallRefusal};
 
 use crate::error::{PolicyError, PolicyRefusal};
 use crate::file_rows::{Reading, read_policy_rows};
@@ -23,8 +23,8 @@ pub fn read_policy(alloc: Global, bytes: &[u8]) -> Result<Policy, PolicyError>
     ensures policy { IfOk result (λ policy. policy_of bytes.now ≡ Ok policy) }
     ensures sound { IfOk result IsPolicy }
     ensures few { IfOk result (λ policy. length policy ≤ 2000) }
-    ensures small_ports { IfOk result (All (λ row. HasSmallPort row.action)) }
-    ensures refused { IfErr result (IsRefusal (policy_of bytes.now)) }
+    ensures small_ports { IfOk result (All (λ row. HasSmallRulePort row.action)) }
+    ensures refused { IfErr result (IsCallRefusal (policy_of bytes.now)) }
 {
     let Reading { rows, refusal } = read_policy_rows(alloc, bytes)?;
     let number = rows.len() as u32;

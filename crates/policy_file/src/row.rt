@@ -2,8 +2,8 @@ ghost use Rattle.std.specs.Prelude.{◌≡◌, ◌<◌, ◌+◌, ◌^◌, ◌&&�
 ghost use Rattle.csv.specs.Records.{fields_of};
 ghost use Rattle.csv_records.specs.Texts.{field_or_empty, is_heading};
 ghost use Rattle.five_tuple.specs.Texts.{number_up_to};
-ghost use Rattle.policy_rules.specs.Read.{HasSmallPort};
-ghost use Rattle.policy_file.specs.Reading.{policy_heading, csv_row_read};
+ghost use Rattle.policy_rules.specs.Read.{HasSmallRulePort};
+ghost use Rattle.policy_file.specs.Reading.{policy_heading, csv_policy_row_read};
 
 use crate::error::PolicyRefusal;
 use csv_records::{ByteRecord, csv_field_has_text, field};
@@ -67,8 +67,8 @@ pub fn read_priority(text: &[u8]) -> Option<u32>
 /// field that can't be read.
 #[tactic(auto, using(crate::proofs::PolicyFileRowFields::sevens))]
 pub fn read_row(fields: &ByteRecord, from: usize) -> Result<Row, PolicyRefusal>
-    ensures row { result ≡ csv_row_read (drop from (fields_of fields.now)) }
-    ensures small_port { IfOk result (λ row. HasSmallPort row.action) }
+    ensures row { result ≡ csv_policy_row_read (drop from (fields_of fields.now)) }
+    ensures small_port { IfOk result (λ row. HasSmallRulePort row.action) }
 {
     if fields.len() < from || fields.len() - from != WIDTH {
         return Err(PolicyRefusal::Width);
@@ -80,11 +80,11 @@ pub fn read_row(fields: &ByteRecord, from: usize) -> Result<Row, PolicyRefusal>
 fn read_row_fields(fields: &ByteRecord, from: usize) -> Result<Row, PolicyRefusal>
     requires { from + 6 < 2 ^ 64 }
     ensures row { let all = fields_of fields.now in
-        result ≡ csv_row_read (field_or_empty all from ∷ field_or_empty all (from + 1)
+        result ≡ csv_policy_row_read (field_or_empty all from ∷ field_or_empty all (from + 1)
         ∷ field_or_empty all (from + 2) ∷ field_or_empty all (from + 3)
         ∷ field_or_empty all (from + 4) ∷ field_or_empty all (from + 5)
         ∷ field_or_empty all (from + 6) ∷ []) }
-    ensures small_port { IfOk result (λ row. HasSmallPort row.action) }
+    ensures small_port { IfOk result (λ row. HasSmallRulePort row.action) }
 {
     Ok(Row {
         priority: read_priority(field(fields, from)).ok_or(PolicyRefusal::Priority)?,

@@ -2,13 +2,13 @@ ghost use Rattle.std.specs.Prelude.{ℕ, ◌≡◌, ◌<◌, ◌≤◌, ◌^◌,
 ghost use Rattle.std.specs.List.{join_with_byte};
 ghost use Rattle.std.specs.String.{string_bytes};
 ghost use Rattle.five_tuple.specs.Texts.{number_up_to};
-ghost use Rattle.policy_rules.specs.Exports.{EditAddsOnly, HasSmallPort, IsAmendment, IsPolicy, IsSoundRow};
+ghost use Rattle.policy_rules.specs.Exports.{EditAddsOnly, HasSmallRulePort, IsAmendment, IsPolicy, IsSoundRow};
 ghost use Rattle.policy_rules.specs.declared.amendment.Edit.{Edit};
 ghost use Rattle.policy_rules.specs.declared.file.PolicyFile.TheVariants.{Whole, Change};
 ghost use Rattle.policy_rules.specs.declared.policy.Row.{Row};
-ghost use Rattle.policy_file.specs.Changes.{change_heading, change_of, policy_file_of};
-ghost use Rattle.policy_file.specs.Printing.{change_text, edit_fields, fields_line, policy_text, row_fields, rows_text};
-ghost use Rattle.policy_file.specs.Reading.{policy_heading, policy_of, csv_row_read};
+ghost use Rattle.policy_file.specs.Changes.{change_heading, csv_change_of, policy_file_of};
+ghost use Rattle.policy_file.specs.Printing.{policy_change_text, edit_fields, policy_fields_line, policy_text, row_fields, rows_text};
+ghost use Rattle.policy_file.specs.Reading.{policy_heading, policy_of, csv_policy_row_read};
 
 use crate::edit::{ADD, REMOVE};
 use five_tuple::{printed_fields_are_plain, printed_fields_are_read_back};
@@ -24,7 +24,7 @@ use std::fmt::Write;
 pub fn write_policy(alloc: Global, policy: &Policy) -> Result<Vec<u8>, AllocError>
     ensures text { IfOk result (λ bytes. bytes.items ≡ policy_text policy.now) }
     ensures read_back { IfOk result (λ bytes. length policy.now ≤ 2000
-        → All (λ row. HasSmallPort row.action) policy.now → policy_of bytes.items ≡ Ok policy.now) }
+        → All (λ row. HasSmallRulePort row.action) policy.now → policy_of bytes.items ≡ Ok policy.now) }
 {
     policy_texts_are_read_back();
     Ok(text_of(alloc, policy.rows())?)
@@ -35,9 +35,9 @@ pub fn write_policy(alloc: Global, policy: &Policy) -> Result<Vec<u8>, AllocErro
 /// # Errors
 /// Only out of memory.
 pub fn write_change(alloc: Global, change: &Amendment) -> Result<Vec<u8>, AllocError>
-    ensures text { IfOk result (λ bytes. bytes.items ≡ change_text change.now) }
+    ensures text { IfOk result (λ bytes. bytes.items ≡ policy_change_text change.now) }
     ensures read_back { IfOk result (λ bytes. length change.now ≤ 2000
-        → All (EditAddsOnly (λ row. HasSmallPort row.action)) change.now
+        → All (EditAddsOnly (λ row. HasSmallRulePort row.action)) change.now
         → policy_file_of bytes.items ≡ Ok (Change change.now)) }
 {
     change_texts_are_read_back();
@@ -48,9 +48,9 @@ pub fn write_change(alloc: Global, change: &Amendment) -> Result<Vec<u8>, AllocE
 /// law about the texts only.
 pub fn policy_texts_are_read_back()
     ensures policy { (rows : List Row) → IsPolicy rows → length rows ≤ 2000
-        → All (λ row. HasSmallPort row.action) rows → policy_of (policy_text rows) ≡ Ok rows }
+        → All (λ row. HasSmallRulePort row.action) rows → policy_of (policy_text rows) ≡ Ok rows }
     ensures file { (rows : List Row) → IsPolicy rows → length rows ≤ 2000
-        → All (λ row. HasSmallPort row.action) rows
+        → All (λ row. HasSmallRulePort row.action) rows
         → policy_file_of (policy_text rows) ≡ Ok (Whole rows) }
 {
     row_fields_state_the_row();
@@ -61,11 +61,11 @@ pub fn policy_texts_are_read_back()
 /// ports below 64: a law about the texts only.
 pub fn change_texts_are_read_back()
     ensures change { (edits : List Edit) → IsAmendment edits → length edits ≤ 2000
-        → All (EditAddsOnly (λ row. HasSmallPort row.action)) edits
-        → change_of (change_text edits) ≡ Ok edits }
+        → All (EditAddsOnly (λ row. HasSmallRulePort row.action)) edits
+        → csv_change_of (policy_change_text edits) ≡ Ok edits }
     ensures file { (edits : List Edit) → IsAmendment edits → length edits ≤ 2000
-        → All (EditAddsOnly (λ row. HasSmallPort row.action)) edits
-        → policy_file_of (change_text edits) ≡ Ok (Change edits) }
+        → All (EditAddsOnly (λ row. HasSmallRulePort row.action)) edits
+        → policy_file_of (policy_change_text edits) ≡ Ok (Change edits) }
 {
     row_fields_state_the_row();
     priorities_are_read_back();
@@ -74,8 +74,8 @@ pub fn change_texts_are_read_back()
 
 // The printed fields of a row whose port is below 64 state the row: a law about the texts only.
 fn row_fields_state_the_row()
-    ensures { (row : Row) → IsSoundRow row → HasSmallPort row.action
-        → csv_row_read (row_fields row) ≡ Ok row }
+    ensures { (row : Row) → IsSoundRow row → HasSmallRulePort row.action
+        → csv_policy_row_read (row_fields row) ≡ Ok row }
 {
     priorities_are_read_back();
     printed_fields_are_read_back();
@@ -101,12 +101,12 @@ trait CsvRecord {
     /// Appends the heading's line.
     fn write_heading(text: &mut String) -> Result<(), AllocError>
         ensures { OnOk result
-            (string_bytes text.new ≡ string_bytes text.old ++ fields_line heading) };
+            (string_bytes text.new ≡ string_bytes text.old ++ policy_fields_line heading) };
 
     /// Appends the record's line.
     fn write(&self, text: &mut String) -> Result<(), AllocError>
         ensures { OnOk result
-            (string_bytes text.new ≡ string_bytes text.old ++ fields_line (fields self.now)) };
+            (string_bytes text.new ≡ string_bytes text.old ++ policy_fields_line (fields self.now)) };
 }
 
 impl CsvRecord for Row {
@@ -149,7 +149,7 @@ impl CsvRecord for Edit {
 // The heading's line, and then a line for each row.
 fn text_of<R: CsvRecord>(alloc: Global, rows: &[R]) -> Result<Vec<u8>, AllocError>
     ensures { IfOk result (λ bytes.
-        bytes.items ≡ fields_line R.heading ++ rows_text R.fields rows.now) }
+        bytes.items ≡ policy_fields_line R.heading ++ rows_text R.fields rows.now) }
 {
     let mut text = String::new(alloc);
     R::write_heading(&mut text)?;

@@ -2,7 +2,7 @@
 use Rattle.std.proofs.Common.{[], ◌++◌, ◌+◌, ◌<◌, ◌||◌, ◌∙◌, ◌∷◌, ◌≡◌, ◌≢◌, AllPairs, Bool, List, ap, arith, cond, drop, eq-eqb, eqb, false, get_or, get_or-take, length, length-take, map, ne_eqb, refl, subst, sym, take, take-append-drop, take-take, true, ℕ, rules}
 use Rattle.base.proofs.Exports.{all_pairs_push, drop_more, filter_map-append, list_any-append, list_any_at, list_any_none, pairs_before}
 use Rattle.policy_rules.specs.declared.policy.Row.{Row}
-use Rattle.policy_rules.specs.Exports.{AreDistinctEdits, AreEditsSeen, HaveDistinctPriorities, addition, additions, edits_of, removal, removals, repeats}
+use Rattle.policy_rules.specs.Exports.{AreDistinctEdits, AreEditsSeen, HaveDistinctPriorities, policy_addition, additions, edits_of, removal, removals, repeats}
 use Rattle.policy_rules.proofs.PolicyDistinctRows.{distinct_push}
 use Rattle.policy_rules.specs.declared.amendment.Edit.{Edit}
 use Rattle.policy_rules.specs.declared.amendment.Edit.TheVariants.{Remove, Add}
@@ -22,7 +22,7 @@ additions_remove edits priority = search (rules, filter_map-append)
 
 additions_add : (edits : List Edit) (row : Row) → additions (edits ++ Add row ∷ []) ≡ additions
     edits ++ row ∷ []
-additions_add edits row = filter_map-append addition edits (Add row ∷ [])
+additions_add edits row = filter_map-append policy_addition edits (Add row ∷ [])
 
 -- ---- of lists of what is removed and added
 
@@ -100,7 +100,7 @@ fresh_before earlier later (Add row) distinct =
     list_any_none (λ (x : Row). eqb x.priority row.priority) (additions earlier)
     (λ k d within. ne_eqb _ _
     (pairs_before (λ (x y : Row). x.priority ≢ y.priority) (additions earlier) row (additions later)
-    (rw (filter_map-append addition earlier (Add row ∷ later)) at distinct.added_once) k d within))
+    (rw (filter_map-append policy_addition earlier (Add row ∷ later)) at distinct.added_once) k d within))
 
 pub fresh_edits : (edits : List Edit) (p k : ℕ) (d : Edit) → AreDistinctEdits (take p edits)
     → k < p → k < length edits → repeats (take k edits) (get_or edits k d) ≡ false

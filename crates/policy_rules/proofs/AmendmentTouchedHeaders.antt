@@ -4,8 +4,8 @@ use Rattle.base.proofs.Exports.{All-append, All-cons, All-contains, All-contains
 use Rattle.five_tuple.specs.Exports.{IsHeader, fields_of, number_of}
 use Rattle.five_tuple.specs.declared.header.Header.{Header}
 use Rattle.ternary.specs.Exports.{WordValue, holds, meets}
-use Rattle.ternary.proofs.CallerLemmas.{held_meets}
-use Rattle.policy_rules.specs.Exports.{HaveDistinctPriorities, IsAmendment, IsFirstMatch, IsPolicy, IsSoundRow, additions, amended_rows, applied, highest_row, hit_of, removals, removed_rows, removes, row_matches, scan, rows_after_removal, touched_rows, touched_words, words_of_row}
+use Rattle.ternary.proofs.TernaryCallerLemmas.{held_meets}
+use Rattle.policy_rules.specs.Exports.{HaveDistinctPriorities, IsAmendment, IsFirstMatch, IsPolicy, IsSoundRow, additions, amended_rows, applied, highest_row, hit_of, removals, removed_rows, removes, row_matches, scan, rows_after_removal, touched_policy_rows, touched_policy_words, words_of_row}
 use Rattle.policy_rules.specs.declared.amendment.Edit.{Edit}
 use Rattle.policy_rules.specs.declared.policy.Row.{Row}
 use Rattle.policy_rules.proofs.AmendmentCases.{additions_sound, can_apply}
@@ -68,7 +68,7 @@ All-removed P rows (n ∷ removed) all = by (find (λ (x : Row). eqb x.priority 
 
 -- where no touched row passes a test, the same rows pass as before
 passes_same : (p : Row → Bool) (rows : List Row) (change : List Edit)
-    → HaveDistinctPriorities rows → All (λ row. p row ≡ false) (touched_rows rows change)
+    → HaveDistinctPriorities rows → All (λ row. p row ≡ false) (touched_policy_rows rows change)
     → filter p (amended_rows rows change) ≡ filter p rows
 passes_same p rows change distinct none =
     filter-append p (rows_after_removal rows change) (additions change)
@@ -82,8 +82,8 @@ passes_same p rows change distinct none =
     stays : Row → Bool
     stays row = not (removes change row.priority)
 
-    out : (row : Row) → Contains (touched_rows rows change) row → p row ≡ false
-    out row = All-contains (λ row. p row ≡ false) (touched_rows rows change) row none
+    out : (row : Row) → Contains (touched_policy_rows rows change) row → p row ≡ false
+    out row = All-contains (λ row. p row ≡ false) (touched_policy_rows rows change) row none
 
     by : (row : Row) → Contains rows row → (gone : Bool) → removes change row.priority ≡ gone
         → p row ≡ true → stays row ≡ true
@@ -95,7 +95,7 @@ passes_same p rows change distinct none =
 
 pub scan-untouched : (rows after : List Row) (change : List Edit) (header : Header)
     → IsPolicy rows → applied rows change ≡ Ok after
-    → All (λ row. IsFalse (row_matches row (fields_of header))) (touched_rows rows change)
+    → All (λ row. IsFalse (row_matches row (fields_of header))) (touched_policy_rows rows change)
     → scan after header ≡ scan rows header
 scan-untouched rows after change header policy is none =
     ap (λ rows. scan rows header) (sym (can_apply rows after change is).is)
@@ -129,10 +129,10 @@ unmatched word header bits held row sound words_apart =
 
 pub scan-apart : (rows after : List Row) (change : List Edit) (word : WordValue) (header : Header)
     → IsPolicy rows → IsAmendment change → IsHeader header → applied rows change ≡ Ok after
-    → All (λ touched. IsFalse (meets word touched)) (touched_words rows change)
+    → All (λ touched. IsFalse (meets word touched)) (touched_policy_words rows change)
     → IsTrue (holds word (number_of header)) → scan after header ≡ scan rows header
 scan-apart rows after change word header policy amendment bits is words_apart held =
-    let touched = touched_rows rows change in
+    let touched = touched_policy_rows rows change in
     let sound = All-append IsSoundRow (removed_rows rows change) (additions change)
     (All-removed IsSoundRow rows (removals change) policy.sound)
     (additions_sound change amendment.sound) in

@@ -7,7 +7,7 @@ mod PolicyFallingRows
 mod PolicyPrioritySets
 mod PolicyRuleLaw
 mod PolicyRuleShape
-pub mod CallerLemmas
+pub mod PolicyRulesCallerLemmas
 mod AmendmentEdits
 mod AmendmentCases
 mod AmendmentTouchedHeaders

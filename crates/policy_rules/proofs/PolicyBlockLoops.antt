@@ -1,7 +1,7 @@
 -- Loops over the blocks of a range.
 use Rattle.std.proofs.Common.{◌∙◌, ◌≡◌, List, None, Option, Some, ap, length, map, map-id, subst, sym}
 use Rattle.base.proofs.Exports.{Yields, YieldsFirst, YieldsList, YieldsList-end, YieldsList-from_first, YieldsList-turn}
-use Rattle.five_tuple.proofs.CallerLemmas.{is_cover_of}
+use Rattle.five_tuple.proofs.FiveTupleCallerLemmas.{is_cover_of}
 use Rattle.five_tuple.specs.Blocks.{port_blocks_left}
 use Rattle.five_tuple.specs.Exports.{Block, IsPortBlock, IsPortRange, PortRangeValue, cover_of}
 use Rattle.five_tuple.specs.declared.port_blocks.Blocks.{Blocks}

@@ -2,7 +2,7 @@
 use Rattle.std.proofs.Common.{[], ◌&&◌, ◌++◌, ◌+◌, ◌<◌, ◌^◌, ◌∙◌, ◌∷◌, ◌≡◌, ◌≢◌, ◌≤◌, All, Bool, Contains, IsPermutation, IsSortedBy, List, MatchOption, None, Option, Some, ap, arith, cond, eq-eqb, eqb, eqb-true, false, filter, find, get_or, is_lt, le-ltb, lt-ltb, ltb, ltb-true, nat_cmp, not, refl, subst, suc, sum_by, sym, true, zero, ℕ}
 use Rattle.base.proofs.Exports.{All-append, All-cons, All-contains, All-contains_itself, All-filter, All-head, All-nil, All-permutation, All-tail, AllPairs-cons, AllPairs-filter, Contains-append_right, Contains-permutation, IsPermutation-append_right, IsPermutation-filter_both, IsPermutation-refl, IsPermutation-sym, IsPermutation-trans, filter_all, filter_filter, filter_passes, ge_from_not_lt, nat_tests, sum_by-IsPermutation, sum_by-cons}
 use Rattle.policy_rules.specs.declared.policy.Row.{Row}
-use Rattle.policy_rules.specs.Exports.{HaveDistinctPriorities, IsPriorityFalling, IsHighestIn, IsSoundRow, by_falling_priority, falling_below, highest_row}
+use Rattle.policy_rules.specs.Exports.{HaveDistinctPriorities, IsPriorityFalling, IsHighestIn, IsSoundRow, by_falling_priority, policy_rows_falling_below, highest_row}
 use Rattle.policy_rules.proofs.PolicyFirstMatch.{highest_is, one_of_priority}
 
 -- ---- the rows below a priority are a permutation of them
@@ -21,8 +21,8 @@ below_test : (n p : ℕ) → ltb n p ≡ (ltb n (suc p) && not (eqb n p))
 below_test n p = grind (arith, nat_tests)
 
 moved_below : (n : ℕ) (rows : List Row) → IsPermutation (filter (below n) rows)
-    (falling_below n rows)
-unfolding falling_below
+    (policy_rows_falling_below n rows)
+unfolding policy_rows_falling_below
 moved_below zero rows = rw (none_below rows) (IsPermutation-refl [])
 moved_below (suc p) rows =
     let has : Row → Bool = λ row. eqb row.priority p in
@@ -33,9 +33,9 @@ moved_below (suc p) rows =
     (λ row. equal_test row.priority p) rows) ∙ ap (λ ys. filter has rows ++ ys)
     (filter_filter (below (suc p)) other (below p) (λ row. below_test row.priority p) rows) in
     IsPermutation-trans kept (filter has rows ++ filter (below p) rows)
-    (filter has rows ++ falling_below p rows)
+    (filter has rows ++ policy_rows_falling_below p rows)
     (subst (IsPermutation kept) same (IsPermutation-filter_both has other (λ row. refl) kept))
-    (IsPermutation-append_right (filter has rows) (filter (below p) rows) (falling_below p rows)
+    (IsPermutation-append_right (filter has rows) (filter (below p) rows) (policy_rows_falling_below p rows)
     (moved_below p rows))
 
 pub IsPermutation-by_falling_priority : (rows : List Row) → All IsSoundRow rows
@@ -59,13 +59,13 @@ falls_append p (x ∷ xs) ys same low falling =
     (λ k d within. omega (arith, ltb-true _ _ (low k d within), here)))
     (falls_append p xs ys tail low falling)
 
-falls_below : (n : ℕ) (rows : List Row) → IsPriorityFalling (falling_below n rows)
-unfolding falling_below
+falls_below : (n : ℕ) (rows : List Row) → IsPriorityFalling (policy_rows_falling_below n rows)
+unfolding policy_rows_falling_below
 falls_below zero rows = λ i j d less within. absurd (omega arith)
 falls_below (suc p) rows =
     let low = All-permutation (λ (row : Row). below p row ≡ true) (filter (below p) rows)
-    (falling_below p rows) (moved_below p rows) (filter_passes (below p) rows) in
-    falls_append p (filter (λ row. eqb row.priority p) rows) (falling_below p rows)
+    (policy_rows_falling_below p rows) (moved_below p rows) (filter_passes (below p) rows) in
+    falls_append p (filter (λ row. eqb row.priority p) rows) (policy_rows_falling_below p rows)
     (filter_passes (λ (row : Row). eqb row.priority p) rows) low (falls_below p rows)
 
 pub IsPriorityFalling-by_falling_priority : (rows : List Row) → IsPriorityFalling (by_falling_priority rows)

@@ -8,22 +8,22 @@ use Rattle.five_tuple.specs.declared.matching.Proto.{Proto}
 use Rattle.five_tuple.specs.declared.matching.Proto.TheVariants.{Any, Is}
 use Rattle.ternary.specs.Exports.{IsWord, holds}
 use Rattle.policy_rules.specs.declared.policy.Row.{Row}
-use Rattle.policy_rules.specs.Exports.{IsSoundRow, prefix_mask, proto_mask, proto_value, word_of_row}
-use Rattle.five_tuple.proofs.CallerLemmas.{HasBits, and_packed, masked_packed}
+use Rattle.policy_rules.specs.Exports.{IsSoundRow, rule_prefix_mask, rule_proto_mask, rule_proto_value, word_of_row}
+use Rattle.five_tuple.proofs.FiveTupleCallerLemmas.{HasBits, and_packed, masked_packed}
 
 -- the address of a block has no bit past those that the block fixes
-prefix_within : (p : AddressBlock) → IsAddressBlock p → bit_and p.address (prefix_mask p)
+prefix_within : (p : AddressBlock) → IsAddressBlock p → bit_and p.address (rule_prefix_mask p)
     ≡ p.address
 prefix_within p block = let k = 32 - p.len in
     and_high_mask 32 k (omega arith) p.address block.address
     ∙ omega (arith, shr_split p.address k, block.cleared)
 
-mask_bound : (p : AddressBlock) → prefix_mask p < 2 ^ 32
+mask_bound : (p : AddressBlock) → rule_prefix_mask p < 2 ^ 32
 mask_bound p = omega (arith, pow_pos (32 - p.len))
 
 -- an address has the block's bits under its mask where it is in the block
 pub masked_prefix : (p : AddressBlock) (address : ℕ) → IsAddressBlock p → address < 2 ^ 32
-    → eqb (bit_and address (prefix_mask p)) p.address ≡ prefix_matches p address
+    → eqb (bit_and address (rule_prefix_mask p)) p.address ≡ prefix_matches p address
 masked_prefix p address block bound =
     let k = 32 - p.len in
     let pos = pow_pos k in
@@ -34,18 +34,18 @@ masked_prefix p address block bound =
     (λ e. ap (λ q. q * 2 ^ k) e ∙ whole) (Decides-eqb (address / 2 ^ k * 2 ^ k) p.address))
     (Decides-eqb (address / 2 ^ k) (p.address / 2 ^ k))
 
-proto_within : (p : Proto) → IsProtocol p → bit_and (proto_value p) (proto_mask p) ≡ proto_value p
+proto_within : (p : Proto) → IsProtocol p → bit_and (rule_proto_value p) (rule_proto_mask p) ≡ rule_proto_value p
 proto_within Any small = refl
 proto_within (Is n) small = and_high_mask 8 0 (omega arith) n small ∙ omega arith
 
-proto_bound : (p : Proto) → IsProtocol p → (proto_value p < 2 ^ 8) × (proto_mask p < 2 ^ 8)
+proto_bound : (p : Proto) → IsProtocol p → (rule_proto_value p < 2 ^ 8) × (rule_proto_mask p < 2 ^ 8)
 proto_bound p small = search rules
 
 pub eqb_sym : (p q : ℕ) → eqb p q ≡ eqb q p
 eqb_sym p q = grind (arith, nat_tests)
 
 masked_proto : (p : Proto) (number : ℕ) → IsProtocol p → number < 2 ^ 8
-    → eqb (bit_and number (proto_mask p)) (proto_value p) ≡ proto_matches p number
+    → eqb (bit_and number (rule_proto_mask p)) (rule_proto_value p) ≡ proto_matches p number
 masked_proto Any number small bound = ap (λ n. eqb n 0) (and_zero_r number)
 masked_proto (Is this) number small bound =
     ap (λ n. eqb n this) (and_high_mask 8 0 (omega arith) number bound ∙ omega arith)
@@ -53,12 +53,12 @@ masked_proto (Is this) number small bound =
 
 value_bits : (row : Row) (source destination : Block) → IsSoundRow row → IsPortBlock source
     → IsPortBlock destination → HasBits row.dst.address source.0 destination.0
-    (proto_value row.proto)
+    (rule_proto_value row.proto)
 value_bits row source destination sound s d = search (rules, proto_bound)
 
 mask_bits : (row : Row) (source destination : Block) → IsSoundRow row → IsPortBlock source
-    → IsPortBlock destination → HasBits (prefix_mask row.dst) source.1 destination.1
-    (proto_mask row.proto)
+    → IsPortBlock destination → HasBits (rule_prefix_mask row.dst) source.1 destination.1
+    (rule_proto_mask row.proto)
 mask_bits row source destination sound s d = search (rules, mask_bound, proto_bound)
 
 -- no bit of the value is outside the mask, and the mask has the bits of a header's number
@@ -84,9 +84,9 @@ holds-word_of_row row source destination h sound s d bits =
     let values = value_bits row source destination sound s d in
     ap (eqb (bit_and (number_of h) w.mask))
     (IsWord-word_of_row row source destination sound s d).within
-    ∙ masked_packed f.src f.dst f.sport f.dport f.proto (prefix_mask row.src) (prefix_mask row.dst)
-    source.1 destination.1 (proto_mask row.proto) row.src.address row.dst.address source.0
-    destination.0 (proto_value row.proto) header (mask_bits row source destination sound s d) values
+    ∙ masked_packed f.src f.dst f.sport f.dport f.proto (rule_prefix_mask row.src) (rule_prefix_mask row.dst)
+    source.1 destination.1 (rule_proto_mask row.proto) row.src.address row.dst.address source.0
+    destination.0 (rule_proto_value row.proto) header (mask_bits row source destination sound s d) values
     ∙ rw (
       masked_prefix row.src f.src sound.src bits.src,
       masked_prefix row.dst f.dst sound.dst bits.dst,

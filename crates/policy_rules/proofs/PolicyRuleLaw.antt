@@ -2,12 +2,12 @@
 use Rattle.std.proofs.Common.{[], ◌&&◌, ◌++◌, ◌+◌, ◌∙◌, ◌∷◌, ◌≡◌, All, Bool, List, None, Option, Some, ap, append_assoc, arith, bit_and, cond, eq-eqb, false, find, flat_map, get_or, map, option_map, refl, true, ℕ, rules}
 use Rattle.base.proofs.Exports.{All-permutation, All-tail, and_zero_r, any_within, find-append, list_any, list_any_flat_map, list_any_map, option_or}
 use Rattle.five_tuple.specs.Exports.{Block, IsHeader, IsPortBlock, block_holds, cover_of, fields_of, number_of, prefix_matches, proto_matches}
-use Rattle.five_tuple.proofs.CallerLemmas.{is_cover_of}
+use Rattle.five_tuple.proofs.FiveTupleCallerLemmas.{is_cover_of}
 use Rattle.five_tuple.specs.declared.header.Header.{Header}
 use Rattle.ternary.specs.Exports.{WordValue, any_word, holds}
 use Rattle.policy_rules.specs.declared.policy.Row.{Row}
 use Rattle.policy_rules.specs.declared.policy.Hit.{Hit}
-use Rattle.policy_rules.specs.Exports.{IsPolicy, IsSoundRow, by_falling_priority, row_word_hits, first_rule, hit_of, hit_of_rule, is_held, ranked_from, row_matches, rules_of, scan, with_default, words_with_hit, word_of_row, words_of_row}
+use Rattle.policy_rules.specs.Exports.{IsPolicy, IsSoundRow, by_falling_priority, policy_row_word_hits, first_rule, hit_of, policy_hit_of_rule, is_held, rules_ranked_from, row_matches, rules_of, scan, with_default, policy_words_with_hit, word_of_row, words_of_row}
 use Rattle.policy_rules.proofs.PolicyRowWords.{holds-word_of_row}
 use Rattle.policy_rules.proofs.PolicyFallingRows.{IsPermutation-by_falling_priority, find-by_falling_priority}
 
@@ -18,8 +18,8 @@ found n entries = option_map (λ entry. entry.1) (find (λ entry. holds entry.0 
 -- ---- ranks do not matter
 
 found-ranked : (n k : ℕ) (entries : List (WordValue × Hit))
-    → option_map hit_of_rule (find (is_held n) (ranked_from k entries)) ≡ found n entries
-unfolding ranked_from
+    → option_map policy_hit_of_rule (find (is_held n) (rules_ranked_from k entries)) ≡ found n entries
+unfolding rules_ranked_from
 found-ranked n k [] = refl
 found-ranked n k (entry ∷ entries) = search (rules, found-ranked n (k + 1) entries)
 
@@ -29,10 +29,10 @@ found-append : (n : ℕ) (xs ys : List (WordValue × Hit))
     → found n (xs ++ ys) ≡ option_or (found n xs) (found n ys)
 found-append n xs ys = search (rules, find-append)
 
-found-words_with_hit : (n : ℕ) (row : Row) (words : List WordValue) → found n (words_with_hit row words) ≡ cond
+found-policy_words_with_hit : (n : ℕ) (row : Row) (words : List WordValue) → found n (policy_words_with_hit row words) ≡ cond
     (list_any (λ word. holds word n) words) (Some (hit_of (Some row))) None
-found-words_with_hit n row [] = refl
-found-words_with_hit n row (word ∷ words) = search (rules, found-words_with_hit n row words)
+found-policy_words_with_hit n row [] = refl
+found-policy_words_with_hit n row (word ∷ words) = search (rules, found-policy_words_with_hit n row words)
 
 none_passes : (a b : Bool) → (a && false && b) ≡ false
 none_passes a b = search rules
@@ -65,9 +65,9 @@ holds-words_of_row row h sound bits =
     ∙ rw (sources.exact f.sport bits.sport, destinations.exact f.dport bits.dport) refl
 
 found-row : (row : Row) (h : Header) → IsSoundRow row → IsHeader h
-    → found (number_of h) (row_word_hits row) ≡ cond (row_matches row (fields_of h))
+    → found (number_of h) (policy_row_word_hits row) ≡ cond (row_matches row (fields_of h))
     (Some (hit_of (Some row))) None
-found-row row h sound bits = found-words_with_hit (number_of h) row (words_of_row row)
+found-row row h sound bits = found-policy_words_with_hit (number_of h) row (words_of_row row)
     ∙ ap (λ b. cond b (Some (hit_of (Some row))) None) (holds-words_of_row row h sound bits)
 
 -- ---- all rows
@@ -84,9 +84,9 @@ found-rows (row ∷ rows) h sound bits =
     let n = number_of h in
     let here = found-row row h (sound 0 row (omega arith)) bits in
     let there = found-rows rows h (All-tail IsSoundRow row rows sound) bits in
-    ap (found n) (append_assoc (row_word_hits row) (flat_map row_word_hits rows)
+    ap (found n) (append_assoc (policy_row_word_hits row) (flat_map policy_row_word_hits rows)
     ((any_word, hit_of None) ∷ []))
-    ∙ found-append n (row_word_hits row) (with_default rows)
+    ∙ found-append n (policy_row_word_hits row) (with_default rows)
     ∙ rw (here, there) (by_case (row_matches row (fields_of h)))
   where
     by_case : (b : Bool) → option_or (cond b (Some (hit_of (Some row))) None)
@@ -97,7 +97,7 @@ found-rows (row ∷ rows) h sound bits =
 
 -- the first rule that holds a header has the rule and the action of the first match
 pub first_rule-rules_of : (rows : List Row) (h : Header) → IsPolicy rows → IsHeader h
-    → option_map hit_of_rule (first_rule (rules_of rows) h) ≡ Some (scan rows h)
+    → option_map policy_hit_of_rule (first_rule (rules_of rows) h) ≡ Some (scan rows h)
 unfolding rules_of
 first_rule-rules_of rows h policy bits =
     let sorted = All-permutation IsSoundRow rows (by_falling_priority rows)

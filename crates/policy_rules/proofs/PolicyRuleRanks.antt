@@ -5,33 +5,33 @@ use Rattle.ternary.specs.Exports.{WordValue}
 use Rattle.policy_rules.specs.declared.policy.Hit.{Hit}
 use Rattle.policy_rules.specs.declared.policy.Row.{Row}
 use Rattle.policy_rules.specs.declared.rules.Rule.{Rule}
-use Rattle.policy_rules.specs.Exports.{row_word_hits, ranked_from, ranked_rule, words_with_hit, word_count, word_of_row, word_total, words_of_row}
+use Rattle.policy_rules.specs.Exports.{policy_row_word_hits, rules_ranked_from, ranked_rule, policy_words_with_hit, policy_row_word_count, word_of_row, rule_word_total, words_of_row}
 use Rattle.five_tuple.specs.Exports.{Block, cover_of}
 
-pub length-ranked_from : (n : ℕ) (xs : List (WordValue × Hit)) → length (ranked_from n xs) ≡ length
+pub length-rules_ranked_from : (n : ℕ) (xs : List (WordValue × Hit)) → length (rules_ranked_from n xs) ≡ length
     xs
-unfolding ranked_from
-length-ranked_from n xs = rw (length-map, length-enumerate_from) refl
+unfolding rules_ranked_from
+length-rules_ranked_from n xs = rw (length-map, length-enumerate_from) refl
 
-pub ranked_from-append : (n : ℕ) (xs ys : List (WordValue × Hit))
-    → ranked_from n (xs ++ ys) ≡ ranked_from n xs ++ ranked_from (n + length xs) ys
-unfolding ranked_from
-ranked_from-append n [] ys = ap (λ k. ranked_from k ys) (omega arith)
-ranked_from-append n (x ∷ xs) ys = ap (λ rest. ranked_rule (n, x) ∷ rest)
-    (ranked_from-append (n + 1) xs ys ∙ ap (λ k. ranked_from (n + 1) xs ++ ranked_from k ys)
+pub rules_ranked_from-append : (n : ℕ) (xs ys : List (WordValue × Hit))
+    → rules_ranked_from n (xs ++ ys) ≡ rules_ranked_from n xs ++ rules_ranked_from (n + length xs) ys
+unfolding rules_ranked_from
+rules_ranked_from-append n [] ys = ap (λ k. rules_ranked_from k ys) (omega arith)
+rules_ranked_from-append n (x ∷ xs) ys = ap (λ rest. ranked_rule (n, x) ∷ rest)
+    (rules_ranked_from-append (n + 1) xs ys ∙ ap (λ k. rules_ranked_from (n + 1) xs ++ rules_ranked_from k ys)
     (omega arith))
 
 -- more entries after those that are done
 pub ranked_more : (old now new : List Rule) (done more all : List (WordValue × Hit))
-    → now ≡ old ++ ranked_from (length old) done → new ≡ now ++ ranked_from (length now) more
-    → all ≡ done ++ more → new ≡ old ++ ranked_from (length old) all
+    → now ≡ old ++ rules_ranked_from (length old) done → new ≡ now ++ rules_ranked_from (length now) more
+    → all ≡ done ++ more → new ≡ old ++ rules_ranked_from (length old) all
 ranked_more old now new done more all is pushed joined =
-    search (rules, length-append, length-ranked_from, append_assoc, ranked_from-append)
+    search (rules, length-append, length-rules_ranked_from, append_assoc, rules_ranked_from-append)
 
 -- how many rules there are then
 pub length_ranked : (old now : List Rule) (done : List (WordValue × Hit))
-    → now ≡ old ++ ranked_from (length old) done → length now ≡ length old + length done
-length_ranked old now done is = search (rules, length-append, length-ranked_from)
+    → now ≡ old ++ rules_ranked_from (length old) done → length now ≡ length old + length done
+length_ranked old now done is = search (rules, length-append, length-rules_ranked_from)
 
 -- a word for each pair of blocks
 length-pairs : (row : Row) (destinations sources : List Block)
@@ -49,28 +49,28 @@ length-pairs row destinations (source ∷ sources) =
       length-pairs row destinations sources,
     )
 
-pub length-words_of_row : (row : Row) → length (words_of_row row) ≡ word_count row
+pub length-words_of_row : (row : Row) → length (words_of_row row) ≡ policy_row_word_count row
 length-words_of_row row = length-pairs row (cover_of row.dport) (cover_of row.sport)
 
 -- of at most 30 blocks each, at most 900
 pub few_pairs : (row : Row) (destinations sources : List Block) → length destinations ≤ 30
     → length sources ≤ 30 → length
-    (words_with_hit row (flat_map (λ source. map (word_of_row row source) destinations) sources)) ≤ 900
+    (policy_words_with_hit row (flat_map (λ source. map (word_of_row row source) destinations) sources)) ≤ 900
 few_pairs row destinations sources few most =
     let words = flat_map (λ source. map (word_of_row row source) destinations) sources in
-    let same : length (words_with_hit row words) ≡ length words = length-map _ _ in
+    let same : length (policy_words_with_hit row words) ≡ length words = length-map _ _ in
     omega (arith, same, length-pairs row destinations sources, mul-le-mul_left (length sources) few)
 
 -- as many entries as words
-pub length-entries : (rows : List Row) → length (flat_map row_word_hits rows) ≡ word_total rows
+pub length-entries : (rows : List Row) → length (flat_map policy_row_word_hits rows) ≡ rule_word_total rows
 length-entries [] = refl
 length-entries (row ∷ rows) =
-    let same : length (row_word_hits row) ≡ length (words_of_row row) = length-map _ _ in
+    let same : length (policy_row_word_hits row) ≡ length (words_of_row row) = length-map _ _ in
     omega (
       arith,
-      length-append (row_word_hits row) (flat_map row_word_hits rows),
+      length-append (policy_row_word_hits row) (flat_map policy_row_word_hits rows),
       same,
       length-words_of_row row,
       length-entries rows,
-      sum_by-cons word_count row rows,
+      sum_by-cons policy_row_word_count row rows,
     )

@@ -19,9 +19,9 @@ removal (Remove priority) = Some priority
 removal (Add row) = None
 
 -- the row that it adds, if it adds one
-abbrev pub addition : Edit → Option Row
-addition (Remove priority) = None
-addition (Add row) = Some row
+abbrev pub policy_addition : Edit → Option Row
+policy_addition (Remove priority) = None
+policy_addition (Add row) = Some row
 
 -- the priorities of the rows that edits remove, in order
 abbrev pub removals : List Edit → List ℕ
@@ -29,7 +29,7 @@ removals edits = filter_map removal edits
 
 -- the rows that they add, in order
 abbrev pub additions : List Edit → List Row
-additions edits = filter_map addition edits
+additions edits = filter_map policy_addition edits
 
 -- no priority is removed twice, and none is added twice
 pub record AreDistinctEdits (edits : List Edit) : Type 0 where

@@ -20,7 +20,7 @@ repeats earlier (Remove priority) = removes earlier priority
 repeats earlier (Add row) = edits_add earlier row.priority
 
 -- the edits of an amendment, with what they remove and add
-pub record AreHeld (edits : List Edit) (removed : List ℕ) (added : List Row) : Type 0 where
+pub record ArePolicyEditsHeld (edits : List Edit) (removed : List ℕ) (added : List Row) : Type 0 where
   pub amendment : IsAmendment edits
   pub is_removed : removed ≡ removals edits
   pub is_added : added ≡ additions edits

@@ -7,18 +7,18 @@ use Rattle.ternary.specs.Exports.{holds}
 use Rattle.policy_rules.specs.declared.rules.Partition.{Partition}
 
 -- the region of the partition holds this header
-abbrev pub is_in : Header → Partition → Bool
-is_in header part = holds part.region (number_of header)
+abbrev pub is_in_policy_partition : Header → Partition → Bool
+is_in_policy_partition header part = holds part.region (number_of header)
 
 -- a partition with its targets: the switches that decide its headers
 abbrev pub Hosted : Type 0
 Hosted = Partition × List ℕ
 
 -- why a policy has no plan on a network
-pub data NoPlan : Type 0 where
+pub data NoPolicyPlan : Type 0 where
   -- its rows have this many words, which are more than 4,096
-  TooManyWords : ℕ → NoPlan
+  TooManyWords : ℕ → NoPolicyPlan
   -- its tree has more than 512 leaves
-  TooManyLeaves : NoPlan
+  TooManyLeaves : NoPolicyPlan
   -- too few switches have room for the partition of this number
-  NoRoom : ℕ → NoPlan
+  NoRoom : ℕ → NoPolicyPlan

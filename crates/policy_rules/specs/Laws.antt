@@ -8,14 +8,14 @@ use Rattle.ternary.specs.Exports.{IsWord, WordValue, holds, meets}
 use Rattle.policy_rules.specs.Policy.{IsFirstMatch, row_matches}
 use Rattle.policy_rules.specs.SoundPolicies.{IsPolicy, IsSoundRow}
 use Rattle.policy_rules.specs.Rules.{first_rule}
-use Rattle.policy_rules.specs.RuleList.{IsRuleList, by_falling_priority, hit_of_rule, rules_of, word_count, word_total}
+use Rattle.policy_rules.specs.RuleList.{IsRuleList, by_falling_priority, policy_hit_of_rule, rules_of, policy_row_word_count, rule_word_total}
 use Rattle.policy_rules.specs.Words.{words_of_row}
 use Rattle.policy_rules.specs.Applied.{IsAmendment, additions, applied, rows_after_removal}
 use Rattle.policy_rules.specs.declared.amendment.Edit.{Edit}
 use Rattle.policy_rules.specs.declared.policy.Hit.{Hit}
 use Rattle.policy_rules.specs.declared.policy.Row.{Row}
 use Rattle.policy_rules.specs.Scan.{scan}
-use Rattle.policy_rules.specs.Touched.{touched_rows, touched_words}
+use Rattle.policy_rules.specs.Touched.{touched_policy_rows, touched_policy_words}
 use Rattle.policy_rules.specs.Repeats.{IsPriorityFalling}
 
 pub record PolicyLaws : Type 0 where
@@ -34,7 +34,7 @@ pub record PolicyLaws : Type 0 where
 pub record RowWordsLaws : Type 0 where
   pub words : (row : Row) → IsSoundRow row → All IsWord (words_of_row row)
   -- .. are as many as pairs of blocks ..
-  pub count : (row : Row) → length (words_of_row row) ≡ word_count row
+  pub count : (row : Row) → length (words_of_row row) ≡ policy_row_word_count row
   -- .. and hold exactly the headers that the row matches
   pub holds : (row : Row) (header : Header) → IsSoundRow row → IsHeader header
       → list_any (λ word. holds word (number_of header)) (words_of_row row)
@@ -45,10 +45,10 @@ pub record RuleListLaws : Type 0 where
   -- .. are a rule list ..
   pub list : (rows : List Row) → IsPolicy rows → IsRuleList (rules_of rows)
   -- .. of one rule more than the rows have words, ..
-  pub count : (rows : List Row) → IsPolicy rows → length (rules_of rows) ≡ word_total rows + 1
+  pub count : (rows : List Row) → IsPolicy rows → length (rules_of rows) ≡ rule_word_total rows + 1
   -- .. of which the first that holds a header has the rule and the action of the first match
   pub first_match : (rows : List Row) (header : Header) → IsPolicy rows → IsHeader header
-      → option_map hit_of_rule (first_rule (rules_of rows) header) ≡ Some (scan rows header)
+      → option_map policy_hit_of_rule (first_rule (rules_of rows) header) ≡ Some (scan rows header)
 
 -- the result of a change to a policy ..
 pub record AmendmentLaws : Type 0 where
@@ -68,10 +68,10 @@ pub record AmendmentLaws : Type 0 where
   -- .. a header that no removed and no added row matches has the first match that it had, ..
   pub same : (rows after : List Row) (change : List Edit) (header : Header) → IsPolicy rows
       → applied rows change ≡ Ok after
-      → All (λ row. IsFalse (row_matches row (fields_of header))) (touched_rows rows change)
+      → All (λ row. IsFalse (row_matches row (fields_of header))) (touched_policy_rows rows change)
       → scan after header ≡ scan rows header
   -- .. and so has each header of a word that meets no word of these rows
   pub apart : (rows after : List Row) (change : List Edit) (word : WordValue) (header : Header)
       → IsPolicy rows → IsAmendment change → IsHeader header → applied rows change ≡ Ok after
-      → All (λ touched. IsFalse (meets word touched)) (touched_words rows change)
+      → All (λ touched. IsFalse (meets word touched)) (touched_policy_words rows change)
       → IsTrue (holds word (number_of header)) → scan after header ≡ scan rows header

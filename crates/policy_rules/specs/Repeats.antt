@@ -17,5 +17,5 @@ pub record IsFirstRepeat (rows : List Row) (place : ℕ) : Type 0 where
   pub first : HaveDistinctPriorities (take place rows)
 
 -- why these rows are no policy: one, counted from 1, repeats a priority
-abbrev pub RefusesRows : List Row → SamePriority → Type 0
-RefusesRows rows same = (place : ℕ) × (same.row ≡ place + 1) × IsFirstRepeat rows place
+abbrev pub RefusesSamePriorityRows : List Row → SamePriority → Type 0
+RefusesSamePriorityRows rows same = (place : ℕ) × (same.row ≡ place + 1) × IsFirstRepeat rows place

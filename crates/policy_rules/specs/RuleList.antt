@@ -12,22 +12,22 @@ use Rattle.policy_rules.specs.declared.rules.Rule.{Rule}
 use Rattle.policy_rules.specs.declared.rule_list.TooManyWords.{TooManyWords}
 
 -- the rows whose priority is below this one, by falling priority
-unfoldable pub falling_below : ℕ → List Row → List Row
-falling_below zero rows = []
-falling_below (suc priority) rows =
-    filter (λ row. row.priority == priority) rows ++ falling_below priority rows
+unfoldable pub policy_rows_falling_below : ℕ → List Row → List Row
+policy_rows_falling_below zero rows = []
+policy_rows_falling_below (suc priority) rows =
+    filter (λ row. row.priority == priority) rows ++ policy_rows_falling_below priority rows
 
 -- the rows by falling priority, which has 32 bits
 unfoldable pub by_falling_priority : List Row → List Row
-by_falling_priority rows = falling_below (2 ^ 32) rows
+by_falling_priority rows = policy_rows_falling_below (2 ^ 32) rows
 
 -- words, with what the row does with their headers
-abbrev pub words_with_hit : Row → List WordValue → List (WordValue × Hit)
-words_with_hit row words = map (λ word. (word, hit_of (Some row))) words
+abbrev pub policy_words_with_hit : Row → List WordValue → List (WordValue × Hit)
+policy_words_with_hit row words = map (λ word. (word, hit_of (Some row))) words
 
 -- the words of the row, with what it does with their headers
-abbrev pub row_word_hits : Row → List (WordValue × Hit)
-row_word_hits row = words_with_hit row (words_of_row row)
+abbrev pub policy_row_word_hits : Row → List (WordValue × Hit)
+policy_row_word_hits row = policy_words_with_hit row (words_of_row row)
 
 -- a word and what becomes of its headers, as the rule of a rank
 abbrev pub ranked_rule : ℕ × (WordValue × Hit) → Rule
@@ -35,40 +35,40 @@ ranked_rule (rank, entry) =
     record { word = entry.0; rank = rank; rule = entry.1.rule; action = entry.1.action }
 
 -- the entries as rules, with ranks from this one on
-unfoldable pub ranked_from : ℕ → List (WordValue × Hit) → List Rule
-ranked_from rank entries = map ranked_rule (enumerate_from rank entries)
+unfoldable pub rules_ranked_from : ℕ → List (WordValue × Hit) → List Rule
+rules_ranked_from rank entries = map ranked_rule (enumerate_from rank entries)
 
 -- the new rules are the old ones and after them these entries, each ranked by its place
 abbrev pub AppendsRankedRules : List Rule → List Rule → List (WordValue × Hit) → Type 0
-AppendsRankedRules old new entries = new ≡ old ++ ranked_from (length old) entries
+AppendsRankedRules old new entries = new ≡ old ++ rules_ranked_from (length old) entries
 
 -- the entries of rows, and last the default, whose word holds each header
 abbrev pub with_default : List Row → List (WordValue × Hit)
-with_default rows = flat_map row_word_hits rows ++ (any_word, hit_of None) ∷ []
+with_default rows = flat_map policy_row_word_hits rows ++ (any_word, hit_of None) ∷ []
 
 -- the rules of these rows: each entry has its place as its rank
 unfoldable pub rules_of : List Row → List Rule
-rules_of rows = ranked_from 0 (with_default (by_falling_priority rows))
+rules_of rows = rules_ranked_from 0 (with_default (by_falling_priority rows))
 
 -- how many words a row has
-abbrev pub word_count : Row → ℕ
-word_count row = length (cover_of row.sport) * length (cover_of row.dport)
+abbrev pub policy_row_word_count : Row → ℕ
+policy_row_word_count row = length (cover_of row.sport) * length (cover_of row.dport)
 
 -- how many words the rows have together
-abbrev pub word_total : List Row → ℕ
-word_total rows = sum_by word_count rows
+abbrev pub rule_word_total : List Row → ℕ
+rule_word_total rows = sum_by policy_row_word_count rows
 
 -- why rows have no list of rules: they have too many words
 abbrev pub RefusesRules : List Row → TooManyWords → Type 0
-RefusesRules rows many = (many.words ≡ word_total rows) × (4096 < many.words)
+RefusesRules rows many = (many.words ≡ rule_word_total rows) × (4096 < many.words)
 
 -- the rule for headers that no row matches
 abbrev pub default_rule : ℕ → Rule
 default_rule rank = record { word = any_word; rank = rank; rule = None; action = Drop }
 
 -- what becomes of the headers of a rule
-abbrev pub hit_of_rule : Rule → Hit
-hit_of_rule rule = record { rule = rule.rule; action = rule.action }
+abbrev pub policy_hit_of_rule : Rule → Hit
+policy_hit_of_rule rule = record { rule = rule.rule; action = rule.action }
 
 -- rules by rank from 0, of which the last, the default, holds each header
 pub record IsRuleList (rules : List Rule) : Type 0 where

@@ -28,9 +28,9 @@ hit_of None = record { rule = None; action = Drop }
 hit_of (Some row) = record { rule = Some row.priority; action = row.action }
 
 -- the first match of a header with these fields, as a function
-abbrev pub scan_by : List Row → Fields → Hit
-scan_by rows f = hit_of (highest_row (filter (λ row. row_matches row f) rows))
+abbrev pub policy_scan_by : List Row → Fields → Hit
+policy_scan_by rows f = hit_of (highest_row (filter (λ row. row_matches row f) rows))
 
 -- the first match of a header, as a function
 abbrev pub scan : List Row → Header → Hit
-scan rows header = scan_by rows (fields_of header)
+scan rows header = policy_scan_by rows (fields_of header)

@@ -1,6 +1,6 @@
 -- One to four switches, in four places.
 use Rattle.std.specs.Prelude.{◌-◌, ◌<◌, ◌≡◌, ◌≤◌, List, drop, length, replicate, take, ℕ}
-use Rattle.base.specs.Exports.{filled-take, filled_places}
+use Rattle.base.specs.Exports.{filled-take, zero_filled_list}
 use Rattle.policy_rules.specs.declared.targets.Targets.TheInside.{Inside}
 
 -- the list has one to four of the four places; the others are 0
@@ -12,7 +12,7 @@ pub record AreFilledTargets (t : Inside) : Type 0 where
 
 -- this list, in four places
 abbrev pub filled_targets : List ℕ → Inside
-filled_targets xs = record { places = filled_places 4 xs; len = length xs }
+filled_targets xs = record { places = zero_filled_list 4 xs; len = length xs }
 
 -- the list of four places, put in four places, gives the same places
 pub filled_targets-take : (t : Inside) → AreFilledTargets t

@@ -12,9 +12,9 @@ removed_rows rows change =
     filter_map (λ priority. find (λ row. row.priority == priority) rows) (removals change)
 
 -- the rows that it removes, and then those that it adds
-abbrev pub touched_rows : List Row → List Edit → List Row
-touched_rows rows change = removed_rows rows change ++ additions change
+abbrev pub touched_policy_rows : List Row → List Edit → List Row
+touched_policy_rows rows change = removed_rows rows change ++ additions change
 
 -- their words, those of each row in the order of the rule list
-abbrev pub touched_words : List Row → List Edit → List WordValue
-touched_words rows change = flat_map words_of_row (touched_rows rows change)
+abbrev pub touched_policy_words : List Row → List Edit → List WordValue
+touched_policy_words rows change = flat_map words_of_row (touched_policy_rows rows change)

@@ -1,7 +1,7 @@
 ghost use Rattle.std.specs.Prelude.{◌≡◌, ◌+◌, ◌<◌, ◌^◌, ◌++◌, ◌∷◌, [], List, IfOk, IfErr, OnOk, length, vec_len, not};
 ghost use Rattle.std.specs.BTreeSet.{contains};
 ghost use Rattle.std.specs.Ordering.{nat_cmp};
-ghost use Rattle.policy_rules.specs.Exports.{AreEditsSeen, IsAmendment, IsSoundEdit, RefusesEdits, addition, additions, edits_of, removal, removals, repeats};
+ghost use Rattle.policy_rules.specs.Exports.{AreEditsSeen, IsAmendment, IsSoundEdit, RefusesEdits, policy_addition, additions, edits_of, removal, removals, repeats};
 ghost use Rattle.policy_rules.specs.declared.amendment.Edit.{Edit};
 ghost use Rattle.base.specs.Refusals.{IfRefused};
 
@@ -44,13 +44,13 @@ pub struct Amendment {
 impl Model for Amendment {
     ghost use Rattle.std.specs.Prelude.{List};
     ghost use Rattle.policy_rules.specs.declared.amendment.Edit.{Edit};
-    ghost use Rattle.policy_rules.specs.Edits.{AreHeld};
+    ghost use Rattle.policy_rules.specs.Edits.{ArePolicyEditsHeld};
 
     ghost Value = { List Edit };
 
     ghost view = { λ a. a.edits.items };
 
-    ghost invariant = { λ a. AreHeld a.edits.items a.removed.items a.added.items };
+    ghost invariant = { λ a. ArePolicyEditsHeld a.edits.items a.removed.items a.added.items };
 }
 
 impl Amendment {
@@ -144,8 +144,8 @@ fn removal(edit: &Edit) -> Option<u32>
     }
 }
 
-fn addition(edit: &Edit) -> Option<Row>
-    ensures { result ≡ addition edit.now }
+fn policy_addition(edit: &Edit) -> Option<Row>
+    ensures { result ≡ policy_addition edit.now }
 {
     match edit {
         Edit::Remove(_) => None,
@@ -162,7 +162,7 @@ fn list_removals(alloc: Global, edits: &[Edit]) -> Result<Vec<u32>, AllocError>
 fn list_additions(alloc: Global, edits: &[Edit]) -> Result<Vec<Row>, AllocError>
     ensures { IfOk result (λ added. added.items ≡ additions edits.now) }
 {
-    edits.iter().filter_map(addition).collect(alloc)
+    edits.iter().filter_map(policy_addition).collect(alloc)
 }
 
 // Finds the first edit that repeats an earlier one.

@@ -3,7 +3,7 @@ ghost use Rattle.std.specs.List.{list_any};
 ghost use Rattle.std.specs.BTreeSet.{contains};
 ghost use Rattle.std.specs.Ordering.{nat_cmp};
 ghost use Rattle.policy_rules.specs.Exports.{IsPolicy, applied};
-ghost use Rattle.base.specs.Refusals.{IsRefusal};
+ghost use Rattle.base.specs.Refusals.{IsCallRefusal};
 
 use crate::amendment::Amendment;
 use crate::policy::{Policy, Row};
@@ -43,7 +43,7 @@ pub fn apply(alloc: Global, policy: &Policy, change: &Amendment) -> Result<Polic
     ensures applied { IfOk result (λ amended. applied policy.now change.now ≡ Ok amended) }
     ensures policy { IfOk result IsPolicy }
     ensures few { IfOk result (λ amended. length amended ≤ 2000) }
-    ensures refused { IfErr result (IsRefusal (applied policy.now change.now)) }
+    ensures refused { IfErr result (IsCallRefusal (applied policy.now change.now)) }
 {
     let rows = policy.rows();
     let removed = change.removed();

@@ -1,7 +1,7 @@
 ghost use Rattle.std.specs.Prelude.{◌≡◌, ◌<◌, ◌^◌, nat_lt, true, IfOk, IfErr, IsTrue, OnOk, vec_len, length, Some};
 ghost use Rattle.std.specs.Option.{option_map_or};
 ghost use Rattle.five_tuple.specs.SoundFields.{IsPortRange, IsProtocol};
-ghost use Rattle.policy_rules.specs.Exports.{IsFirstMatch, IsHighestMatch, IsPolicy, IsSoundRow, RefusesRows, hit_of, row_matches, scan};
+ghost use Rattle.policy_rules.specs.Exports.{IsFirstMatch, IsHighestMatch, IsPolicy, IsSoundRow, RefusesSamePriorityRows, hit_of, row_matches, scan};
 ghost use Rattle.base.specs.Refusals.{IfRefused};
 
 use base::Failure;
@@ -106,7 +106,7 @@ impl Policy {
         requires { vec_len rows < 2 ^ 32 }
         ensures rows { IfOk result (λ policy. policy ≡ rows.items) }
         ensures policy { OnOk result (IsPolicy rows.items) }
-        ensures refused { IfErr result (IfRefused (RefusesRows rows.items)) }
+        ensures refused { IfErr result (IfRefused (RefusesSamePriorityRows rows.items)) }
     {
         check_row_priorities(alloc, &rows)?;
         Ok(Policy { rows })
@@ -178,7 +178,7 @@ fn exceeds(row: &Row, other: Option<&Row>) -> bool
 fn check_row_priorities(alloc: Global, rows: &[Row]) -> Result<(), Failure<SamePriority>>
     requires { length rows.now < 2 ^ 32 }
     ensures policy { OnOk result (IsPolicy rows.now) }
-    ensures refused { IfErr result (IfRefused (RefusesRows rows.now)) }
+    ensures refused { IfErr result (IfRefused (RefusesSamePriorityRows rows.now)) }
 {
     // No priority needs to be remembered if each row has a lower one than the row before.
     let falling = are_priorities_falling(rows);

@@ -1,6 +1,6 @@
 ghost use Rattle.std.specs.Prelude.{◌≡◌, Some, IfSome};
 ghost use Rattle.policy_rules.specs.declared.policy.Action.{Action};
-ghost use Rattle.policy_rules.specs.Exports.{HasSmallPort, action_of, action_text};
+ghost use Rattle.policy_rules.specs.Exports.{HasSmallRulePort, action_of, action_text};
 
 use crate::policy::Action;
 use five_tuple::{printed_fields_are_read_back, read_number};
@@ -10,7 +10,7 @@ use five_tuple::{printed_fields_are_read_back, read_number};
 #[tactic(auto, unfolding(crate::specs::Read::action_of))]
 pub fn read_action(text: &[u8]) -> Option<Action>
     ensures value { result ≡ action_of text.now }
-    ensures small_port { IfSome result HasSmallPort }
+    ensures small_port { IfSome result HasSmallRulePort }
 {
     if text == b"drop".as_slice() {
         return Some(Action::Drop);
@@ -22,7 +22,7 @@ pub fn read_action(text: &[u8]) -> Option<Action>
 
 /// Each printed action with a port below 64 is read back to the action: a law about the texts only.
 pub fn printed_actions_are_read_back()
-    ensures { (action : Action) → HasSmallPort action
+    ensures { (action : Action) → HasSmallRulePort action
         → action_of (action_text action) ≡ Some action }
 {
     printed_fields_are_read_back();

@@ -3,7 +3,7 @@ ghost use Rattle.base.specs.Refusals.{IfRefused};
 ghost use Rattle.base.specs.declared.error.Failure.TheVariants.{Refused};
 ghost use Rattle.five_tuple.specs.Exports.{IsHeader};
 ghost use Rattle.five_tuple.specs.declared.header.Header.{Header};
-ghost use Rattle.policy_rules.specs.Exports.{AppendsRankedRules, IsPolicy, IsRuleList, IsSoundRow, RefusesRules, by_falling_priority, row_word_hits, first_rule, hit_of_rule, ranked_from, rules_of, scan, with_default, word_total};
+ghost use Rattle.policy_rules.specs.Exports.{AppendsRankedRules, IsPolicy, IsRuleList, IsSoundRow, RefusesRules, by_falling_priority, policy_row_word_hits, first_rule, policy_hit_of_rule, rules_ranked_from, rules_of, scan, with_default, rule_word_total};
 
 use crate::laws::rule_list_laws;
 use crate::policy::{Hit, Policy, Row};
@@ -36,14 +36,14 @@ pub struct TooManyWords {
 pub fn to_rules(alloc: Global, policy: &Policy) -> Result<Vec<Rule>, Failure<TooManyWords>>
     ensures rules { IfOk result (λ rules. rules.items ≡ rules_of policy.now) }
     ensures first_match { IfOk result (λ rules. (header : Header) → IsHeader header →
-        option_map hit_of_rule (first_rule rules.items header) ≡ Some (scan policy.now header)) }
+        option_map policy_hit_of_rule (first_rule rules.items header) ≡ Some (scan policy.now header)) }
     ensures list { IfOk result (λ rules. IsRuleList rules.items) }
-    ensures count { IfOk result (λ rules. length rules.items ≡ word_total policy.now + 1) }
-    ensures few { OnOk result (word_total policy.now ≤ 4096) }
+    ensures count { IfOk result (λ rules. length rules.items ≡ rule_word_total policy.now + 1) }
+    ensures few { OnOk result (rule_word_total policy.now ≤ 4096) }
     ensures policy { OnOk result (IsPolicy policy.now) }
     ensures refused { IfErr result (IfRefused (RefusesRules policy.now)) }
-    ensures many { 4096 < word_total policy.now
-        → result ≡ Err (Refused (record { words = word_total policy.now })) }
+    ensures many { 4096 < rule_word_total policy.now
+        → result ≡ Err (Refused (record { words = rule_word_total policy.now })) }
 {
     rule_list_laws();
     let words = count_match_words(policy);
@@ -57,7 +57,7 @@ pub fn to_rules(alloc: Global, policy: &Policy) -> Result<Vec<Rule>, Failure<Too
 
 /// How many words the rows of the policy have together: as many as it has rules before the default.
 pub fn count_match_words(policy: &Policy) -> u64
-    ensures { result ≡ word_total policy.now }
+    ensures { result ≡ rule_word_total policy.now }
 {
     let mut words = 0;
     for row in policy.rows() {
@@ -78,9 +78,9 @@ fn by_falling_priority(alloc: Global, rows: &[Row]) -> Result<Vec<Row>, AllocErr
 
 // The rules of rows that are given by falling priority, in a list with room for this many.
 fn list_rules(alloc: Global, rows: &[Row], room: usize) -> Result<Vec<Rule>, AllocError>
-    requires few { word_total rows.now ≤ 4096 }
+    requires few { rule_word_total rows.now ≤ 4096 }
     requires sound { All IsSoundRow rows.now }
-    ensures { IfOk result (λ rules. rules.items ≡ ranked_from 0 (with_default rows.now)) }
+    ensures { IfOk result (λ rules. rules.items ≡ rules_ranked_from 0 (with_default rows.now)) }
 {
     let mut rules = Vec::with_capacity(alloc, room)?;
     let mut words = Vec::new(alloc);
@@ -95,7 +95,7 @@ fn list_rules(alloc: Global, rows: &[Row], room: usize) -> Result<Vec<Rule>, All
 fn push_row(rules: &mut Vec<Rule>, words: &mut Vec<Word>, row: &Row) -> Result<(), AllocError>
     requires few { length rules.old.items ≤ 4096 }
     requires row { IsSoundRow row.now }
-    ensures { OnOk result (AppendsRankedRules rules.old.items rules.new.items (row_word_hits row.now)) }
+    ensures { OnOk result (AppendsRankedRules rules.old.items rules.new.items (policy_row_word_hits row.now)) }
 {
     words.clear();
     push_match_words(words, row)?;

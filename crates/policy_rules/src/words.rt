@@ -1,7 +1,7 @@
 ghost use Rattle.std.specs.Prelude.{◌≡◌, ◌++◌, map, OnOk};
 ghost use Rattle.five_tuple.specs.Cover.{IsPortBlock, cover_of};
-ghost use Rattle.five_tuple.specs.HeaderNumbers.{packed_number};
-ghost use Rattle.policy_rules.specs.Exports.{IsSoundRow, prefix_mask, proto_mask, proto_value, word_of_row};
+ghost use Rattle.five_tuple.specs.HeaderNumbers.{packed_header_number};
+ghost use Rattle.policy_rules.specs.Exports.{IsSoundRow, rule_prefix_mask, rule_proto_mask, rule_proto_value, word_of_row};
 ghost use Rattle.policy_rules.specs.Words.{words_of_row};
 
 use crate::policy::Row;
@@ -57,15 +57,15 @@ pub fn word_of_row(row: &Row, source: PortBlock, destination: PortBlock) -> Word
 // The value of the row's word, with these bits for the ports.
 fn match_value_of_row(row: &Row, sport: u16, dport: u16) -> u128
     ensures { result ≡
-        packed_number row.now.src.address row.now.dst.address sport dport
-        (proto_value row.now.proto) }
+        packed_header_number row.now.src.address row.now.dst.address sport dport
+        (rule_proto_value row.now.proto) }
 {
     let fields = Fields {
         src: row.src.address,
         dst: row.dst.address,
         sport,
         dport,
-        proto: proto_value(row.proto),
+        proto: rule_proto_value(row.proto),
     };
     Header::pack(&fields).number()
 }
@@ -73,22 +73,22 @@ fn match_value_of_row(row: &Row, sport: u16, dport: u16) -> u128
 // The mask of the row's word, with these bits for the ports.
 fn match_mask_of_row(row: &Row, sport: u16, dport: u16) -> u128
     ensures { result ≡
-        packed_number (prefix_mask row.now.src) (prefix_mask row.now.dst) sport dport
-        (proto_mask row.now.proto) }
+        packed_header_number (rule_prefix_mask row.now.src) (rule_prefix_mask row.now.dst) sport dport
+        (rule_proto_mask row.now.proto) }
 {
     let fields = Fields {
-        src: prefix_mask(&row.src),
-        dst: prefix_mask(&row.dst),
+        src: rule_prefix_mask(&row.src),
+        dst: rule_prefix_mask(&row.dst),
         sport,
         dport,
-        proto: proto_mask(row.proto),
+        proto: rule_proto_mask(row.proto),
     };
     Header::pack(&fields).number()
 }
 
 // The bits of an address that the block fixes: the first `len`.
-fn prefix_mask(prefix: &Prefix) -> u32
-    ensures { result ≡ prefix_mask prefix.now }
+fn rule_prefix_mask(prefix: &Prefix) -> u32
+    ensures { result ≡ rule_prefix_mask prefix.now }
 {
     if prefix.len == 0 {
         0
@@ -97,8 +97,8 @@ fn prefix_mask(prefix: &Prefix) -> u32
     }
 }
 
-fn proto_value(proto: Proto) -> u8
-    ensures { result ≡ proto_value proto }
+fn rule_proto_value(proto: Proto) -> u8
+    ensures { result ≡ rule_proto_value proto }
 {
     match proto {
         Proto::Any => 0,
@@ -106,8 +106,8 @@ fn proto_value(proto: Proto) -> u8
     }
 }
 
-fn proto_mask(proto: Proto) -> u8
-    ensures { result ≡ proto_mask proto }
+fn rule_proto_mask(proto: Proto) -> u8
+    ensures { result ≡ rule_proto_mask proto }
 {
     match proto {
         Proto::Any => 0,

@@ -1,16 +1,16 @@
 -- What is proposed for a plan fits it, and its peak is between the bound and the old one.
 use Rattle.std.proofs.Common.{[], ◌++◌, ◌<◌, ◌∙◌, ◌∷◌, ◌≡◌, ◌≤◌, All, Err, Global, IfOk, List, Ok, Result, Vec, ap, arith, get_or, inl, inr, length, length-append, map, refl, subst, suc, sym, zero, ℕ}
 use Rattle.base.proofs.Exports.{firsts-zip, get_or_default, length-map, length-range_with_len, range_with_len}
-use Rattle.controller.specs.Exports.{LeadEveryHeader}
+use Rattle.controller.specs.Exports.{PlanLeadsEveryHeader}
 use Rattle.update_machine.specs.Exports.{Item, Net, Partition, Row}
 use Rattle.net_file.specs.Exports.{IsNet}
 use Rattle.partition.specs.Plan.{Hosted, IsPartitionPlan, rooms_of, sizes_of}
 use Rattle.placement.specs.Placement.{IsPlacement}
 use Rattle.policy_rules.specs.Exports.{LastRuleCovers}
-use Rattle.policy_rules.proofs.CallerLemmas.{first_match-scan}
+use Rattle.policy_rules.proofs.PolicyRulesCallerLemmas.{first_match-scan}
 use Rattle.rebalance.specs.Loads.{Fits, bound, peak, weight}
-use Rattle.rebalance.specs.Proposals.{IsFoundFor, IsProposedFor, ProposesFor, peaks_text, proposal_sizes_in, targets_by_partition, proposal_weights_in, with_targets}
-use Rattle.rebalance.specs.Spread.{ArePartitionsWeighed, IsProposal, SpreadLaws}
+use Rattle.rebalance.specs.Proposals.{IsProposalFoundFor, IsRebalanceProposedFor, ProposesFor, rebalance_peaks_text, proposal_sizes_in, rebalance_partition_targets, proposal_weights_in, with_targets}
+use Rattle.rebalance.specs.Spread.{AreRebalancePartitionsWeighed, IsRebalanceProposal, RebalanceSpreadLaws}
 use Rattle.rebalance.specs.declared.plan_proposal.Proposal.{Proposal}
 use Rattle.show_text.specs.Text.{compile_text}
 use Rattle.switch_table.specs.Exports.{part_of}
@@ -36,7 +36,7 @@ sized journal plan = omega (
 )
 
 pub targeted : (journal : List Item) (plan : List Hosted)
-    → length (targets_by_partition plan) ≡ length (proposal_weights_in journal plan)
+    → length (rebalance_partition_targets plan) ≡ length (proposal_weights_in journal plan)
 targeted journal plan = omega (
   arith,
   length-map plan (λ (hosted : Hosted). hosted.1),
@@ -49,7 +49,7 @@ has_rule part (earlier, last, rules, covers) =
     omega (arith, ap length rules, length-append earlier (last ∷ []))
 
 weighed : (rows : List Row) (plan : List Hosted) (net : Net) (journal : List Item) → IsNet net
-    → IsPartitionPlan rows net plan → ArePartitionsWeighed (proposal_sizes_in plan) (proposal_weights_in journal plan) (rooms_of net)
+    → IsPartitionPlan rows net plan → AreRebalancePartitionsWeighed (proposal_sizes_in plan) (proposal_weights_in journal plan) (rooms_of net)
 weighed rows plan net journal sound is = record {
   each = sized journal plan;
   some = λ k d within. let few : k < length plan =
@@ -73,7 +73,7 @@ weighed rows plan net journal sound is = record {
 -- ---- the proposal
 
 pub proposal_number : (sizes weights rooms : List ℕ) (backups : ℕ) (old new : List (List ℕ))
-    → length old ≡ length weights → IsProposal sizes weights rooms backups old new
+    → length old ≡ length weights → IsRebalanceProposal sizes weights rooms backups old new
     → length new ≡ length weights
 proposal_number sizes weights rooms backups old new len (inl lower) = lower.spread.number
 proposal_number sizes weights rooms backups old new len (inr kept) = ap length kept.same ∙ len
@@ -86,21 +86,21 @@ some_targets sizes rooms backups P fits = λ k d within.
 
 pub proposed_for : (rows : List Row) (plan : List Hosted) (net : Net) (journal : List Item)
     (placement : List (List ℕ))
-    → ((sizes weights rooms : List ℕ) (backups : ℕ) → ArePartitionsWeighed sizes weights rooms
-    → SpreadLaws sizes weights rooms backups) → IsNet net → IsPartitionPlan rows net plan
-    → IsProposal (proposal_sizes_in plan) (proposal_weights_in journal plan) (rooms_of net) net.backups
-    (targets_by_partition plan) placement → (All (λ switches. 0 < length switches) placement
-    → LeadEveryHeader rows (with_targets plan placement))
-    → IsProposedFor rows plan net journal placement
+    → ((sizes weights rooms : List ℕ) (backups : ℕ) → AreRebalancePartitionsWeighed sizes weights rooms
+    → RebalanceSpreadLaws sizes weights rooms backups) → IsNet net → IsPartitionPlan rows net plan
+    → IsRebalanceProposal (proposal_sizes_in plan) (proposal_weights_in journal plan) (rooms_of net) net.backups
+    (rebalance_partition_targets plan) placement → (All (λ switches. 0 < length switches) placement
+    → PlanLeadsEveryHeader rows (with_targets plan placement))
+    → IsRebalanceProposedFor rows plan net journal placement
 proposed_for rows plan net journal placement laws sound is proposal leads =
     let sizes = proposal_sizes_in plan in
     let weights = proposal_weights_in journal plan in
     let rooms = rooms_of net in
     let all = laws sizes weights rooms net.backups (weighed rows plan net journal sound is) in
-    let old : Fits sizes rooms net.backups (targets_by_partition plan) = all.placed (targets_by_partition plan)
-    (subst (λ s. IsPlacement s rooms net.backups (targets_by_partition plan)) (sizes_are plan) is.placement)
+    let old : Fits sizes rooms net.backups (rebalance_partition_targets plan) = all.placed (rebalance_partition_targets plan)
+    (subst (λ s. IsPlacement s rooms net.backups (rebalance_partition_targets plan)) (sizes_are plan) is.placement)
     in
-    let fits = all.proposed (targets_by_partition plan) placement old proposal in
+    let fits = all.proposed (rebalance_partition_targets plan) placement old proposal in
     let count : length placement ≡ length (map part_of plan) = omega (
       arith,
       fits.number,
@@ -109,7 +109,7 @@ proposed_for rows plan net journal placement laws sound is proposal leads =
     ) in record {
       proposal = proposal;
       fits = fits;
-      lower = all.never_higher (targets_by_partition plan) placement proposal;
+      lower = all.never_higher (rebalance_partition_targets plan) placement proposal;
       bounded = all.bounded placement fits;
       parts = is;
       same_parts = firsts-zip (map part_of plan) placement count;
@@ -127,7 +127,7 @@ pub record AreMeasured (plan : List Hosted) (net : Net) (journal : List Item)
   pub sizes_are : sizes ≡ proposal_sizes_in plan
   pub weights_are : weights ≡ proposal_weights_in journal plan
   pub rooms_are : rooms ≡ rooms_of net
-  pub old_is : old ≡ targets_by_partition plan
+  pub old_is : old ≡ rebalance_partition_targets plan
 
 module _ (plan : List Hosted) (net : Net) (journal : List Item) (sizes weights rooms : List ℕ)
     (old : List (List ℕ)) (are : AreMeasured plan net journal sizes weights rooms old) where
@@ -143,19 +143,19 @@ module _ (plan : List Hosted) (net : Net) (journal : List Item) (sizes weights r
 pub found_for : (rows : List Row) (plan : List Hosted) (net : Net) (journal : List Item)
     (found : Proposal) (sizes weights rooms : List ℕ) (old new : List (List ℕ))
     → ((sizes weights rooms : List ℕ) (backups : ℕ)
-    → ArePartitionsWeighed sizes weights rooms → SpreadLaws sizes weights rooms backups) → IsNet net
+    → AreRebalancePartitionsWeighed sizes weights rooms → RebalanceSpreadLaws sizes weights rooms backups) → IsNet net
     → IsPartitionPlan rows net plan → AreMeasured plan net journal sizes weights rooms old
-    → IsProposal sizes weights rooms net.backups old new
+    → IsRebalanceProposal sizes weights rooms net.backups old new
     → found.plan.policy ≡ rows → found.plan.hosted ≡ with_targets plan new
-    → (All (λ switches. 0 < length switches) new → LeadEveryHeader rows found.plan.hosted)
+    → (All (λ switches. 0 < length switches) new → PlanLeadsEveryHeader rows found.plan.hosted)
     → found.old_peak ≡ peak weights old → found.new_peak ≡ peak weights new
-    → found.bound ≡ bound weights rooms → IsFoundFor rows plan net journal found
+    → found.bound ≡ bound weights rooms → IsProposalFoundFor rows plan net journal found
 found_for rows plan net journal found sizes weights rooms old new laws sound is are proposal policy
     hosted leads old_peak new_peak least = record {
       placement = new;
       proposed = proposed_for rows plan net journal new laws sound is
           (rw (are.sizes_are, are.weights_are, are.rooms_are, are.old_is) at proposal)
-          (λ some. subst (LeadEveryHeader rows) hosted (leads some));
+          (λ some. subst (PlanLeadsEveryHeader rows) hosted (leads some));
       policy = policy;
       hosted = hosted;
       old_peak = rw (are.weights_are, are.old_is) at old_peak;
@@ -168,23 +168,23 @@ found_for rows plan net journal found sizes weights rooms old new laws sound is 
 -- the text that was made of what was found
 pub text_of_found : {E : Type 0} (rows : List Row) (plan : List Hosted) (net : Net)
     (journal : List Item) (found : Proposal) (text : List ℕ) (result : Result (Vec ℕ Global) E)
-    → IsFoundFor rows plan net journal found
+    → IsProposalFoundFor rows plan net journal found
     → text ≡ compile_text found.plan.policy found.plan.hosted net → IfOk result
-    (λ whole. whole.items ≡ peaks_text found.old_peak found.new_peak found.bound ++ text)
+    (λ whole. whole.items ≡ rebalance_peaks_text found.old_peak found.new_peak found.bound ++ text)
     → IfOk result (λ whole. ProposesFor rows plan net journal (λ told. whole.items ≡ told))
 text_of_found rows plan net journal found text (Err error) is plan_text made = tt
 text_of_found rows plan net journal found text (Ok whole) is plan_text made =
     let weights = proposal_weights_in journal plan in
-    let old = peak weights (targets_by_partition plan) in
+    let old = peak weights (rebalance_partition_targets plan) in
     let new = peak weights is.placement in
     let least = bound weights (rooms_of net) in
-    let head : peaks_text found.old_peak found.new_peak found.bound ≡ peaks_text old new least =
-    ap (λ n. peaks_text n found.new_peak found.bound) is.old_peak
-    ∙ ap (λ n. peaks_text old n found.bound) is.new_peak ∙ ap (peaks_text old new) is.least in
+    let head : rebalance_peaks_text found.old_peak found.new_peak found.bound ≡ rebalance_peaks_text old new least =
+    ap (λ n. rebalance_peaks_text n found.new_peak found.bound) is.old_peak
+    ∙ ap (λ n. rebalance_peaks_text old n found.bound) is.new_peak ∙ ap (rebalance_peaks_text old new) is.least in
     let lines = ap (λ (rows : List Row). compile_text rows found.plan.hosted net) is.policy
     ∙ ap (λ (hosted : List Hosted). compile_text rows hosted net) is.hosted in record {
       placement = is.placement;
       proposed = is.proposed;
       written = made ∙ ap (λ first. first ++ text) head
-          ∙ ap (λ rest. peaks_text old new least ++ rest) (plan_text ∙ lines);
+          ∙ ap (λ rest. rebalance_peaks_text old new least ++ rest) (plan_text ∙ lines);
     }

@@ -2,20 +2,20 @@
 -- sums come to the traffic.
 use Rattle.std.proofs.Common.{[], ◌*◌, ◌+◌, ◌<◌, ◌||◌, ◌∙◌, ◌∷◌, ◌≡◌, ◌≤◌, All, Bool, List, ap, arith, cond, eq-eqb, eqb, false, fold, get_or, length, map, max, ne_eqb, not, refl, suc, sum, sum_by, sym, take, true, true≢false, zero, zero-add, ℕ}
 use Rattle.base.proofs.Exports.{AllByRecursion, div_ceil, div_ceil_times, fun_ext, get_or-map-range_with_len, get_or_default, length-map-range_with_len, list_any, or_left, range_more, range_with_len, same_lists, sum_by-le-sum_by, sum_by_push}
-use Rattle.placement.specs.Placement.{is_target, placed_targets_at}
-use Rattle.placement.proofs.CallerLemmas.{each_by_count, range-within, sum-filter, sum_none}
-use Rattle.rebalance.specs.Loads.{Fits, bound, greatest, greatest_traffic, is_primary_target, traffic, usable_rooms}
+use Rattle.placement.specs.Placement.{is_placed_target, placed_targets_at}
+use Rattle.placement.proofs.PlacementCallerLemmas.{each_by_count, range-within, sum-filter, sum_none}
+use Rattle.rebalance.specs.Loads.{Fits, bound, greatest, greatest_traffic, is_primary_traffic_target, traffic, rebalance_usable_rooms}
 use Rattle.rebalance.proofs.RebalanceSums.{most-each, most-le, passing-le, places-le, share-le, shared-le, sum-le, sum-places, sum-scaled, term-le}
 
 -- ---- the traffic of a switch
 
 -- what the partitions put on the switch whose first target it is
 abbrev pub carried : List ℕ → List (List ℕ) → ℕ → ℕ → ℕ
-carried weights P s p = cond (is_primary_target P p s) (get_or weights p 0) 0
+carried weights P s p = cond (is_primary_traffic_target P p s) (get_or weights p 0) 0
 
 pub traffic-sum : (weights : List ℕ) (P : List (List ℕ)) (s : ℕ)
     → traffic weights P s ≡ sum_by (carried weights P s) (range_with_len 0 (length weights))
-traffic-sum weights P s = sum-filter (λ p. get_or weights p 0) (λ p. is_primary_target P p s)
+traffic-sum weights P s = sum-filter (λ p. get_or weights p 0) (λ p. is_primary_traffic_target P p s)
     (range_with_len 0 (length weights))
 
 traffic-le : (n : ℕ) (weights : List ℕ) (P : List (List ℕ)) (s : ℕ) → s < n
@@ -60,7 +60,7 @@ abbrev first_of : List (List ℕ) → ℕ → ℕ
 first_of P p = get_or (placed_targets_at P p) 0 0
 
 is-first : (sizes rooms : List ℕ) (backups : ℕ) (P : List (List ℕ)) (p : ℕ)
-    → Fits sizes rooms backups P → p < length sizes → is_primary_target P p (first_of P p) ≡ true
+    → Fits sizes rooms backups P → p < length sizes → is_primary_traffic_target P p (first_of P p) ≡ true
 is-first sizes rooms backups P p fits within =
     primary-among (placed_targets_at P p) (omega (arith, fits.targets p within))
 
@@ -89,7 +89,7 @@ weight-le n sizes weights rooms backups P settled p within =
     (arith, first-there sizes rooms backups P p settled.fits here, settled.few) in
     omega (
       arith,
-      passing-le weights (λ o. is_primary_target P o s) p within
+      passing-le weights (λ o. is_primary_traffic_target P o s) p within
           (is-first sizes rooms backups P p settled.fits here),
       traffic-le n weights P s below,
     )
@@ -101,15 +101,15 @@ no-traffic : (n : ℕ) (sizes weights rooms : List ℕ) (backups : ℕ) (P : Lis
 no-traffic n sizes weights rooms backups P settled s none = traffic-sum weights P s
     ∙ sum_none (carried weights P s) (range_with_len 0 (length weights))
     (each_by_count (λ p. carried weights P s p ≡ 0) (range_with_len 0 (length weights))
-    (λ p there. by_case p (range-within p (length weights) there) (is_primary_target P p s) refl))
+    (λ p there. by_case p (range-within p (length weights) there) (is_primary_traffic_target P p s) refl))
   where
-    by_case : (p : ℕ) → p < length weights → (b : Bool) → is_primary_target P p s ≡ b
+    by_case : (p : ℕ) → p < length weights → (b : Bool) → is_primary_traffic_target P p s ≡ b
         → carried weights P s p ≡ 0
     by_case p within false is = ap (λ b. cond b (get_or weights p 0) 0) is
     by_case p within true is = let here : p < length sizes = omega (arith, settled.each, within) in
         absurd (omega (
           arith,
-          passing-le sizes (λ o. is_target P o s) p here (front-among (eqb s) (placed_targets_at P p) is),
+          passing-le sizes (λ o. is_placed_target P o s) p here (front-among (eqb s) (placed_targets_at P p) is),
           settled.fits.within s,
           settled.some p 0 here,
           none,
@@ -118,7 +118,7 @@ no-traffic n sizes weights rooms backups P settled s none = traffic-sum weights 
 -- what the switches carry is all that is asked, and only those with room carry it
 total-le : (n : ℕ) (sizes weights rooms : List ℕ) (backups : ℕ) (P : List (List ℕ))
     → IsSettled n sizes weights rooms backups P
-    → sum weights ≤ usable_rooms rooms * greatest_traffic n weights P
+    → sum weights ≤ rebalance_usable_rooms rooms * greatest_traffic n weights P
 total-le n sizes weights rooms backups P settled =
     let parts = range_with_len 0 (length weights) in
     let switches = range_with_len 0 n in
@@ -126,10 +126,10 @@ total-le n sizes weights rooms backups P settled =
     let weight : ℕ → ℕ = λ p. get_or weights p 0 in
     let share : ℕ → ℕ = λ room. cond (not (eqb room 0)) most 0 in
     let had : AllByRecursion
-    (λ p. weight p ≤ sum_by (λ s. cond (is_primary_target P p s) (weight p) 0) switches) parts =
-    each_by_count (λ p. weight p ≤ sum_by (λ s. cond (is_primary_target P p s) (weight p) 0) switches) parts
+    (λ p. weight p ≤ sum_by (λ s. cond (is_primary_traffic_target P p s) (weight p) 0) switches) parts =
+    each_by_count (λ p. weight p ≤ sum_by (λ s. cond (is_primary_traffic_target P p s) (weight p) 0) switches) parts
     (λ p there. some_has p (range-within p (length weights) there)) in
-    let spread = shared-le weight (is_primary_target P) switches parts had in
+    let spread = shared-le weight (is_primary_traffic_target P) switches parts had in
     let same : sum_by (λ s. sum_by (carried weights P s) parts) switches
     ≡ sum_by (traffic weights P) switches = ap (λ f. sum_by f switches)
     (fun_ext (λ s. sym (traffic-sum weights P s))) in
@@ -147,16 +147,16 @@ total-le n sizes weights rooms backups P settled =
     )
   where
     some_has : (p : ℕ) → p < length weights → get_or weights p 0
-        ≤ sum_by (λ s. cond (is_primary_target P p s) (get_or weights p 0) 0) (range_with_len 0 n)
+        ≤ sum_by (λ s. cond (is_primary_traffic_target P p s) (get_or weights p 0) 0) (range_with_len 0 n)
     some_has p within =
         let s = first_of P p in
         let here : p < length sizes = omega (arith, settled.each, within) in
         let below : s < n = omega
         (arith, first-there sizes rooms backups P p settled.fits here, settled.few) in
-        let all : cond (is_primary_target P p s) (get_or weights p 0) 0 ≡ get_or weights p 0 =
+        let all : cond (is_primary_traffic_target P p s) (get_or weights p 0) 0 ≡ get_or weights p 0 =
         ap (λ b. cond b (get_or weights p 0) 0)
         (is-first sizes rooms backups P p settled.fits here) in
-        omega (arith, term-le (λ t. cond (is_primary_target P p t) (get_or weights p 0) 0) n s below, all)
+        omega (arith, term-le (λ t. cond (is_primary_traffic_target P p t) (get_or weights p 0) 0) n s below, all)
 
     by_case : (s : ℕ) → s < n → (room : ℕ) → get_or rooms s 0 ≡ room
         → traffic weights P s ≤ cond (not (eqb (get_or rooms s 0) 0)) (greatest_traffic n weights P) 0
@@ -178,18 +178,18 @@ max_le a b m low high = omega arith
 pub bound-le : (n : ℕ) (sizes weights rooms : List ℕ) (backups : ℕ) (P : List (List ℕ))
     → IsSettled n sizes weights rooms backups P → bound weights rooms ≤ greatest_traffic n weights P
 unfolding bound
-bound-le n sizes weights rooms backups P settled = by_case (eqb (usable_rooms rooms) 0) refl where
-  by_case : (b : Bool) → eqb (usable_rooms rooms) 0 ≡ b
-      → cond b 0 (max (greatest weights) (div_ceil (sum weights) (usable_rooms rooms)))
+bound-le n sizes weights rooms backups P settled = by_case (eqb (rebalance_usable_rooms rooms) 0) refl where
+  by_case : (b : Bool) → eqb (rebalance_usable_rooms rooms) 0 ≡ b
+      → cond b 0 (max (greatest weights) (div_ceil (sum weights) (rebalance_usable_rooms rooms)))
       ≤ greatest_traffic n weights P
   by_case true is = omega arith
   by_case false is =
-      let some = some_of (usable_rooms rooms) is in
-      let even : div_ceil (sum weights) (usable_rooms rooms) ≤ greatest_traffic n weights P =
-      share-le (sum weights) (usable_rooms rooms) (greatest_traffic n weights P)
-      (div_ceil (sum weights) (usable_rooms rooms)) (div_ceil_times (sum weights)
-      (usable_rooms rooms) some).1 (total-le n sizes weights rooms backups P settled) in
-      max_le (greatest weights) (div_ceil (sum weights) (usable_rooms rooms))
+      let some = some_of (rebalance_usable_rooms rooms) is in
+      let even : div_ceil (sum weights) (rebalance_usable_rooms rooms) ≤ greatest_traffic n weights P =
+      share-le (sum weights) (rebalance_usable_rooms rooms) (greatest_traffic n weights P)
+      (div_ceil (sum weights) (rebalance_usable_rooms rooms)) (div_ceil_times (sum weights)
+      (rebalance_usable_rooms rooms) some).1 (total-le n sizes weights rooms backups P settled) in
+      max_le (greatest weights) (div_ceil (sum weights) (rebalance_usable_rooms rooms))
       (greatest_traffic n weights P) (most-le (greatest_traffic n weights P) 0 weights (omega arith)
       (weight-le n sizes weights rooms backups P settled)) even
 
@@ -208,7 +208,7 @@ pub carried-within : (weights : List ℕ) (P : List (List ℕ)) (s k : ℕ) → 
 carried-within weights P s k within =
     let weight : ℕ → ℕ = λ p. get_or weights p 0 in
     let few = sum_by-le-sum_by (carried weights P s) weight (range_with_len 0 k)
-    (λ p. part_le (is_primary_target P p s) (weight p)) in
+    (λ p. part_le (is_primary_traffic_target P p s) (weight p)) in
     let next : sum_by weight (range_with_len 0 (k + 1))
     ≡ sum_by weight (range_with_len 0 k) + weight k = ap (sum_by weight)
     (range_more 0 k k (zero-add k)) ∙ sum_by_push weight (range_with_len 0 k) k in

@@ -1,10 +1,10 @@
 -- The spread as partitions in turn, where the load is the traffic.
 use Rattle.std.proofs.Common.{◌+◌, ◌<◌, ◌∙◌, ◌≡◌, ◌≤◌, List, ap, arith, cond, eqb, get_or, inl, inr, length, refl, subst, sum_by, sym, ℕ}
 use Rattle.base.proofs.Exports.{list_any, range_with_len}
-use Rattle.placement.specs.Placement.{AreHosted, PlacementTurnRule, is_target, placing_by_size, placed_targets_at}
-use Rattle.placement.proofs.CallerLemmas.{first_distinct, first_there, hosted_fits, hosted_or_refused, same_hosted, same_refused, sum-filter}
+use Rattle.placement.specs.Placement.{AreHosted, PlacementTurnRule, is_placed_target, placing_by_size, placed_targets_at}
+use Rattle.placement.proofs.PlacementCallerLemmas.{first_distinct, first_there, hosted_fits, hosted_or_refused, same_hosted, same_refused, sum-filter}
 use Rattle.rebalance.specs.Loads.{Fits, peak}
-use Rattle.rebalance.specs.Spread.{ArePartitionsWeighed, SpreadFindsFewer, KeepsPlacement, IsProposal, IsSpread, SpreadLaws, spreading}
+use Rattle.rebalance.specs.Spread.{AreRebalancePartitionsWeighed, RebalanceSpreadFindsFewer, KeepsPlacement, IsRebalanceProposal, IsRebalanceSpread, RebalanceSpreadLaws, spreading}
 use Rattle.rebalance.proofs.RebalanceLoads.{bound-le}
 
 -- ---- where there is room
@@ -23,7 +23,7 @@ hosted-fit t P each hosted =
           sum_by (λ p. cond (list_any (eqb s) (placed_targets_at P p)) (get_or t.sizes p 0) 0) in
           omega (
             arith,
-            sum-filter (λ p. get_or t.sizes p 0) (λ p. is_target P p s)
+            sum-filter (λ p. get_or t.sizes p 0) (λ p. is_placed_target P p s)
                 (range_with_len 0 (length t.sizes)),
             ap (λ n. among (range_with_len 0 n)) each,
             hosted_fits t P hosted s,
@@ -34,7 +34,7 @@ hosted-fit t P each hosted =
 
 -- a spread that isn't lower is none, since there is no other one
 pub kept_by_peak : (sizes weights rooms : List ℕ) (backups : ℕ) (old P : List (List ℕ))
-    → IsSpread sizes weights rooms backups P → peak weights old ≤ peak weights P
+    → IsRebalanceSpread sizes weights rooms backups P → peak weights old ≤ peak weights P
     → KeepsPlacement sizes weights rooms backups old old
 kept_by_peak sizes weights rooms backups old P spread most = record {
   same = refl;
@@ -44,7 +44,7 @@ kept_by_peak sizes weights rooms backups old P spread most = record {
 
 -- where a partition is refused there is none
 pub kept_by_lack : (sizes weights rooms : List ℕ) (backups p : ℕ) (old : List (List ℕ))
-    → SpreadFindsFewer sizes weights rooms backups p → KeepsPlacement sizes weights rooms backups old old
+    → RebalanceSpreadFindsFewer sizes weights rooms backups p → KeepsPlacement sizes weights rooms backups old old
 kept_by_lack sizes weights rooms backups p old fewer = record {
   same = refl;
   none = λ other is.
@@ -54,8 +54,8 @@ kept_by_lack sizes weights rooms backups p old fewer = record {
 -- ---- the laws
 
 proposed-fits : (sizes weights rooms : List ℕ) (backups : ℕ) (old new : List (List ℕ))
-    → ((P : List (List ℕ)) → IsSpread sizes weights rooms backups P → Fits sizes rooms backups P)
-    → Fits sizes rooms backups old → IsProposal sizes weights rooms backups old new
+    → ((P : List (List ℕ)) → IsRebalanceSpread sizes weights rooms backups P → Fits sizes rooms backups P)
+    → Fits sizes rooms backups old → IsRebalanceProposal sizes weights rooms backups old new
     → Fits sizes rooms backups new
 proposed-fits sizes weights rooms backups old new all fits proposal = elim proposal [
   | inl lower ↦ all new lower.spread
@@ -63,14 +63,14 @@ proposed-fits sizes weights rooms backups old new all fits proposal = elim propo
 ]
 
 proposed-le : (sizes weights rooms : List ℕ) (backups : ℕ) (old new : List (List ℕ))
-    → IsProposal sizes weights rooms backups old new → peak weights new ≤ peak weights old
+    → IsRebalanceProposal sizes weights rooms backups old new → peak weights new ≤ peak weights old
 proposed-le sizes weights rooms backups old new proposal = elim proposal [
   | inl lower ↦ omega (arith, lower.lower)
   | inr kept ↦ omega (arith, ap (peak weights) kept.same)
 ]
 
 pub spread_laws_hold : (sizes weights rooms : List ℕ) (backups : ℕ)
-    → ArePartitionsWeighed sizes weights rooms → SpreadLaws sizes weights rooms backups
+    → AreRebalancePartitionsWeighed sizes weights rooms → RebalanceSpreadLaws sizes weights rooms backups
 spread_laws_hold sizes weights rooms backups weighed =
     let t = spreading sizes weights rooms backups in
     let fits = λ (P : List (List ℕ)). hosted-fit t P weighed.each in record {

@@ -1,7 +1,7 @@
 -- Sums over the numbers of partitions and of switches, and the greatest of numbers.
 use Rattle.std.proofs.Common.{[], ◌*◌, ◌+◌, ◌<◌, ◌∙◌, ◌∷◌, ◌≡◌, ◌≤◌, Bool, List, add-one, ap, arith, cond, false, filter, fold, get_or, inl, inr, length, max, mul-le-mul_left, refl, suc, sum, sum_by, true, zero, zero-add, ℕ}
 use Rattle.base.proofs.Exports.{AllByRecursion, cases_lt, fun_ext, get_or-le-sum_by, get_or-range_with_len, length-range_with_len, range_with_len, sum_by-cons}
-use Rattle.placement.proofs.CallerLemmas.{each_by_count, sum-filter, sum_none}
+use Rattle.placement.proofs.PlacementCallerLemmas.{each_by_count, sum-filter, sum_none}
 
 -- ---- over lists
 

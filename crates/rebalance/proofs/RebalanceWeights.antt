@@ -1,23 +1,23 @@
 -- What one more item of a journal adds to the weights.
 use Rattle.std.proofs.Common.{[], ◌++◌, ◌+◌, ◌<◌, ◌∙◌, ◌∷◌, ◌≡◌, ◌≤◌, List, None, Option, Some, ap, arith, cond, count_by, eq-eqb, eqb, filter_map, get_or, inl, inr, length, map, ne_eqb, option_to_list, refl, suc, sum, sum_by, sym, take, unwrap_or, zero, zero-add, ℕ}
 use Rattle.base.proofs.Exports.{cases_eq, count_by-le-length, filter_map-append, get_or-map-range_with_len, get_or_default, length-map-range_with_len, option_or, range_with_len, same_lists, sum-map, sum_by-append, sum_by-cons, take_more}
-use Rattle.update_machine.specs.Exports.{Item, current_mark, gives_current, last_given}
+use Rattle.update_machine.specs.Exports.{Item, journal_current_mark, gives_current, journal_last_given}
 use Rattle.update_machine.proofs.Exports.{last_given_append}
 use Rattle.rebalance.specs.Loads.{weighed_partitions, weighed_partition_in, weight, weights_of}
 
 -- ---- the current version
 
-pub current_start : current_mark [] ≡ 1
-unfolding current_mark
+pub current_start : journal_current_mark [] ≡ 1
+unfolding journal_current_mark
 current_start = refl
 
 pub current_goes_on : (before : List Item) (item : Item) (current : ℕ)
-    → current ≡ current_mark before
-    → unwrap_or (gives_current item) current ≡ current_mark (before ++ item ∷ [])
-unfolding current_mark
+    → current ≡ journal_current_mark before
+    → unwrap_or (gives_current item) current ≡ journal_current_mark (before ++ item ∷ [])
+unfolding journal_current_mark
 current_goes_on before item current is = ap (unwrap_or (gives_current item)) is
     ∙ sym (ap (λ o. unwrap_or o 1) (last_given_append gives_current before (item ∷ []))
-    ∙ go (gives_current item) (last_given gives_current before))
+    ∙ go (gives_current item) (journal_last_given gives_current before))
   where
     go : (told earlier : Option ℕ) → unwrap_or (option_or (option_or None told) earlier) 1
         ≡ unwrap_or told (unwrap_or earlier 1)
@@ -82,7 +82,7 @@ asked-step version p items i item told before after within same tells was is = o
 
 -- so many counts are the weights
 pub weights-are : (journal : List Item) (parts : ℕ) (numbers : List ℕ) → length numbers ≡ parts
-    → ((p : ℕ) → p < parts → get_or numbers p 0 ≡ asked_count (current_mark journal) p journal)
+    → ((p : ℕ) → p < parts → get_or numbers p 0 ≡ asked_count (journal_current_mark journal) p journal)
     → numbers ≡ weights_of journal parts
 unfolding weight
 weights-are journal parts numbers len each = let of : ℕ → ℕ = weight journal in
@@ -144,10 +144,10 @@ counted_once (x ∷ xs) places once =
 pub weights-few : (journal : List Item) (parts : ℕ)
     → sum (weights_of journal parts) ≤ length journal
 unfolding weight
-weights-few journal parts = let asked = weighed_partitions (current_mark journal) journal in
+weights-few journal parts = let asked = weighed_partitions (journal_current_mark journal) journal in
     omega (
       arith,
       (sum-map (weight journal) (range_with_len 0 parts)),
       counted_once asked (range_with_len 0 parts) (one_place 0 parts),
-      length-kept (weighed_partition_in (current_mark journal)) journal,
+      length-kept (weighed_partition_in (journal_current_mark journal)) journal,
     )

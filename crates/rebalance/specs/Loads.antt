@@ -3,9 +3,9 @@
 -- gives each partition, by its number, the list of its targets.
 use Rattle.std.specs.Prelude.{if◌then◌else◌, ◌+◌, ◌<◌, ◌==◌, ◌≡◌, ◌≤◌, All, AllPairs, Bool, List, None, Option, Some, count_by, filter, filter_map, fold, length, map, max, nat_eq, not, slice_index, sum, sum_by, take, ℕ}
 use Rattle.base.specs.Exports.{div_ceil, list_any, range_with_len}
-use Rattle.update_machine.specs.Exports.{How, Item, current_mark}
+use Rattle.update_machine.specs.Exports.{How, Item, journal_current_mark}
 use Rattle.journal.specs.declared.item.Item.TheVariants as item
-use Rattle.placement.specs.Placement.{is_target, placed_targets_at}
+use Rattle.placement.specs.Placement.{is_placed_target, placed_targets_at}
 use Rattle.policy_rules.specs.declared.packet.How.TheVariants as how
 
 -- ---- how often a partition's authorities decided
@@ -26,7 +26,7 @@ weighed_partitions version journal = filter_map (weighed_partition_in version) j
 
 -- how often the partition's authorities decided, by the version that is current at the end
 unfoldable pub weight : List Item → ℕ → ℕ
-weight journal partition = count_by (nat_eq partition) (weighed_partitions (current_mark journal) journal)
+weight journal partition = count_by (nat_eq partition) (weighed_partitions (journal_current_mark journal) journal)
 
 -- the weights of this many partitions, by their numbers
 abbrev pub weights_of : List Item → ℕ → List ℕ
@@ -35,22 +35,22 @@ weights_of journal parts = map (weight journal) (range_with_len 0 parts)
 -- ---- the load of a placement
 
 -- the switch is the first target of the partition
-abbrev pub is_primary_target : List (List ℕ) → ℕ → ℕ → Bool
-is_primary_target placement partition switch =
+abbrev pub is_primary_traffic_target : List (List ℕ) → ℕ → ℕ → Bool
+is_primary_traffic_target placement partition switch =
     list_any (nat_eq switch) (take 1 (placed_targets_at placement partition))
 
 -- the sum of the weights of the partitions whose first target the switch is
 abbrev pub traffic : List ℕ → List (List ℕ) → ℕ → ℕ
 traffic weights placement switch =
     sum_by (slice_index weights)
-    (filter (λ partition. is_primary_target placement partition switch)
+    (filter (λ partition. is_primary_traffic_target placement partition switch)
     (range_with_len 0 (length weights)))
 
 -- the sum of the sizes, in rules, of the partitions of which the switch is a target
-abbrev pub placed_rules_at : List ℕ → List (List ℕ) → ℕ → ℕ
-placed_rules_at sizes placement switch =
+abbrev pub rebalance_rules_at : List ℕ → List (List ℕ) → ℕ → ℕ
+rebalance_rules_at sizes placement switch =
     sum_by (slice_index sizes)
-    (filter (λ partition. is_target placement partition switch) (range_with_len 0 (length sizes)))
+    (filter (λ partition. is_placed_target placement partition switch) (range_with_len 0 (length sizes)))
 
 -- the greatest of numbers; 0 for none
 abbrev pub greatest : List ℕ → ℕ
@@ -66,13 +66,13 @@ abbrev pub peak : List ℕ → List (List ℕ) → ℕ
 peak weights placement = greatest_traffic 64 weights placement
 
 -- how many of these rooms have space for a rule
-abbrev pub usable_rooms : List ℕ → ℕ
-usable_rooms rooms = count_by (λ room. not (room == 0)) rooms
+abbrev pub rebalance_usable_rooms : List ℕ → ℕ
+rebalance_usable_rooms rooms = count_by (λ room. not (room == 0)) rooms
 
 -- the bound of the peak: the greatest weight or, if greater, an even share for switches with room
 unfoldable pub bound : List ℕ → List ℕ → ℕ
-bound weights rooms = if usable_rooms rooms == 0
-    then 0 else max (greatest weights) (div_ceil (sum weights) (usable_rooms rooms))
+bound weights rooms = if rebalance_usable_rooms rooms == 0
+    then 0 else max (greatest weights) (div_ceil (sum weights) (rebalance_usable_rooms rooms))
 
 -- ---- where there is room
 
@@ -86,4 +86,4 @@ pub record Fits (sizes rooms : List ℕ) (backups : ℕ) (placement : List (List
       → AllPairs (λ a b. a ≡ b → ⊥) (placed_targets_at placement partition)
   pub there : (partition : ℕ) → partition < length sizes
       → All (λ switch. switch < length rooms) (placed_targets_at placement partition)
-  pub within : (switch : ℕ) → placed_rules_at sizes placement switch ≤ slice_index rooms switch
+  pub within : (switch : ℕ) → rebalance_rules_at sizes placement switch ≤ slice_index rooms switch

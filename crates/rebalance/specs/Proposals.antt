@@ -1,12 +1,12 @@
 -- The placement that is proposed for a plan after a journal, computed from the weights of its
 -- partitions, and the text of the proposal.
 use Rattle.std.specs.Prelude.{◌++◌, ◌≡◌, ◌≤◌, List, codes, decimal, length, map, zip, ℕ}
-use Rattle.controller.specs.Exports.{LeadEveryHeader}
+use Rattle.controller.specs.Exports.{PlanLeadsEveryHeader}
 use Rattle.update_machine.specs.Exports.{Header, Item, Net, Row}
 use Rattle.partition.specs.Plan.{Hosted, IsPartitionPlan, rooms_of}
 use Rattle.policy_rules.specs.Exports.{IsFirstMatch, scan}
 use Rattle.rebalance.specs.Loads.{Fits, bound, peak, weights_of}
-use Rattle.rebalance.specs.Spread.{IsProposal}
+use Rattle.rebalance.specs.Spread.{IsRebalanceProposal}
 use Rattle.rebalance.specs.declared.plan_proposal.Proposal.{Proposal}
 use Rattle.show_text.specs.Text.{compile_text}
 use Rattle.switch_table.specs.Exports.{part_of}
@@ -14,8 +14,8 @@ use Rattle.switch_table.specs.Exports.{part_of}
 -- ---- a plan, and the sizes and weights of its partitions
 
 -- the targets of each partition
-abbrev pub targets_by_partition : List Hosted → List (List ℕ)
-targets_by_partition plan = map (λ (hosted : Hosted). hosted.1) plan
+abbrev pub rebalance_partition_targets : List Hosted → List (List ℕ)
+rebalance_partition_targets plan = map (λ (hosted : Hosted). hosted.1) plan
 
 -- how many rules each partition has
 abbrev pub proposal_sizes_in : List Hosted → List ℕ
@@ -35,43 +35,43 @@ with_targets plan placement = zip (map part_of plan) placement
 -- it fits, and its peak is at least the bound and not higher than the plan's. The plan's partitions
 -- are the leaves of the tree that is defined for the policy's rules, and each stays. With the new
 -- targets, too, the tables lead each header to its first match, which a scan of the policy finds
-pub record IsProposedFor (rows : List Row) (plan : List Hosted) (net : Net) (journal : List Item)
+pub record IsRebalanceProposedFor (rows : List Row) (plan : List Hosted) (net : Net) (journal : List Item)
     (placement : List (List ℕ)) : Type 0 where
-  pub proposal : IsProposal (proposal_sizes_in plan) (proposal_weights_in journal plan) (rooms_of net) net.backups
-      (targets_by_partition plan) placement
+  pub proposal : IsRebalanceProposal (proposal_sizes_in plan) (proposal_weights_in journal plan) (rooms_of net) net.backups
+      (rebalance_partition_targets plan) placement
   pub fits : Fits (proposal_sizes_in plan) (rooms_of net) net.backups placement
   pub lower : peak (proposal_weights_in journal plan) placement
-      ≤ peak (proposal_weights_in journal plan) (targets_by_partition plan)
+      ≤ peak (proposal_weights_in journal plan) (rebalance_partition_targets plan)
   pub bounded : bound (proposal_weights_in journal plan) (rooms_of net)
       ≤ peak (proposal_weights_in journal plan) placement
   pub parts : IsPartitionPlan rows net plan
   pub same_parts : map part_of (with_targets plan placement) ≡ map part_of plan
-  pub leads : LeadEveryHeader rows (with_targets plan placement)
+  pub leads : PlanLeadsEveryHeader rows (with_targets plan placement)
   -- what a scan finds, to which the tables lead, is the first match
   pub first_match : (header : Header) → IsFirstMatch rows header (scan rows header)
 
 -- the peaks of the old and the new placement, and the bound
-abbrev pub peaks_text : ℕ → ℕ → ℕ → List ℕ
-peaks_text old new least =
+abbrev pub rebalance_peaks_text : ℕ → ℕ → ℕ → List ℕ
+rebalance_peaks_text old new least =
     codes "peak " ++ decimal old ++ codes " " ++ decimal new ++ codes "\nbound " ++ decimal least
     ++ codes "\n"
 
 -- the same of a placement for the plan, and the plan with this placement
-abbrev pub placement_text : List Row → List Hosted → Net → List Item → List (List ℕ) → List ℕ
-placement_text rows plan net journal placement =
+abbrev pub proposal_placement_text : List Row → List Hosted → Net → List Item → List (List ℕ) → List ℕ
+proposal_placement_text rows plan net journal placement =
     let weights = proposal_weights_in journal plan in
-    peaks_text (peak weights (targets_by_partition plan)) (peak weights placement)
+    rebalance_peaks_text (peak weights (rebalance_partition_targets plan)) (peak weights placement)
     (bound weights (rooms_of net)) ++ compile_text rows (with_targets plan placement) net
 
 -- what was found is the plan with the targets of a placement that is proposed, and the peaks of
 -- these and of the plan's own
-pub record IsFoundFor (rows : List Row) (plan : List Hosted) (net : Net) (journal : List Item)
+pub record IsProposalFoundFor (rows : List Row) (plan : List Hosted) (net : Net) (journal : List Item)
     (found : Proposal) : Type 0 where
   pub placement : List (List ℕ)
-  pub proposed : IsProposedFor rows plan net journal placement
+  pub proposed : IsRebalanceProposedFor rows plan net journal placement
   pub policy : found.plan.policy ≡ rows
   pub hosted : found.plan.hosted ≡ with_targets plan placement
-  pub old_peak : found.old_peak ≡ peak (proposal_weights_in journal plan) (targets_by_partition plan)
+  pub old_peak : found.old_peak ≡ peak (proposal_weights_in journal plan) (rebalance_partition_targets plan)
   pub new_peak : found.new_peak ≡ peak (proposal_weights_in journal plan) placement
   pub least : found.bound ≡ bound (proposal_weights_in journal plan) (rooms_of net)
 
@@ -79,5 +79,5 @@ pub record IsFoundFor (rows : List Row) (plan : List Hosted) (net : Net) (journa
 pub record ProposesFor (rows : List Row) (plan : List Hosted) (net : Net) (journal : List Item)
     (IsWritten : List ℕ → Type 0) : Type 0 where
   pub placement : List (List ℕ)
-  pub proposed : IsProposedFor rows plan net journal placement
-  pub written : IsWritten (placement_text rows plan net journal placement)
+  pub proposed : IsRebalanceProposedFor rows plan net journal placement
+  pub written : IsWritten (proposal_placement_text rows plan net journal placement)

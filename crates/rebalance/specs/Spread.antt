@@ -11,60 +11,60 @@ use Rattle.rebalance.specs.Loads.{Fits, bound, peak}
 abbrev pub spreading : List ℕ → List ℕ → List ℕ → ℕ → PlacementTurnRule
 spreading sizes weights rooms backups = placement_turn_rule load.OnFirst weights sizes rooms backups
 
-abbrev pub IsSpread : List ℕ → List ℕ → List ℕ → ℕ → List (List ℕ) → Type 0
-IsSpread sizes weights rooms backups placement =
+abbrev pub IsRebalanceSpread : List ℕ → List ℕ → List ℕ → ℕ → List (List ℕ) → Type 0
+IsRebalanceSpread sizes weights rooms backups placement =
     AreHosted (spreading sizes weights rooms backups) placement
 
-abbrev pub SpreadFindsFewer : List ℕ → List ℕ → List ℕ → ℕ → ℕ → Type 0
-SpreadFindsFewer sizes weights rooms backups partition =
+abbrev pub RebalanceSpreadFindsFewer : List ℕ → List ℕ → List ℕ → ℕ → ℕ → Type 0
+RebalanceSpreadFindsFewer sizes weights rooms backups partition =
     IsPlacementRefused (spreading sizes weights rooms backups) partition
 
 -- ---- what is proposed
 
 -- the peak of the spread is lower than that of the old placement, and so it is proposed
-pub record IsSpreadLower (sizes weights rooms : List ℕ) (backups : ℕ) (old new : List (List ℕ))
+pub record IsRebalancedSpreadLower (sizes weights rooms : List ℕ) (backups : ℕ) (old new : List (List ℕ))
     : Type 0 where
-  pub spread : IsSpread sizes weights rooms backups new
+  pub spread : IsRebalanceSpread sizes weights rooms backups new
   pub lower : peak weights new < peak weights old
 
 -- no spread has a lower peak, and so the old placement stays
 pub record KeepsPlacement (sizes weights rooms : List ℕ) (backups : ℕ) (old new : List (List ℕ))
     : Type 0 where
   pub same : new ≡ old
-  pub none : (other : List (List ℕ)) → IsSpread sizes weights rooms backups other
+  pub none : (other : List (List ℕ)) → IsRebalanceSpread sizes weights rooms backups other
       → peak weights old ≤ peak weights other
 
-abbrev pub IsProposal : List ℕ → List ℕ → List ℕ → ℕ → List (List ℕ) → List (List ℕ) → Type 0
-IsProposal sizes weights rooms backups old new =
-    IsSpreadLower sizes weights rooms backups old new ⊎ KeepsPlacement sizes weights rooms backups old new
+abbrev pub IsRebalanceProposal : List ℕ → List ℕ → List ℕ → ℕ → List (List ℕ) → List (List ℕ) → Type 0
+IsRebalanceProposal sizes weights rooms backups old new =
+    IsRebalancedSpreadLower sizes weights rooms backups old new ⊎ KeepsPlacement sizes weights rooms backups old new
 
 -- ---- what is true of each
 
 -- the partitions have rules, and each has a weight; the switches have numbers below 64
-pub record ArePartitionsWeighed (sizes weights rooms : List ℕ) : Type 0 where
+pub record AreRebalancePartitionsWeighed (sizes weights rooms : List ℕ) : Type 0 where
   pub each : length sizes ≡ length weights
   pub some : All (λ size. 0 < size) sizes
   pub few : length rooms ≤ 64
 
-pub record SpreadLaws (sizes weights rooms : List ℕ) (backups : ℕ) : Type 0 where
+pub record RebalanceSpreadLaws (sizes weights rooms : List ℕ) (backups : ℕ) : Type 0 where
   -- a spread fits, and so does a placement by size, as plans have it
-  pub fits : (placement : List (List ℕ)) → IsSpread sizes weights rooms backups placement
+  pub fits : (placement : List (List ℕ)) → IsRebalanceSpread sizes weights rooms backups placement
       → Fits sizes rooms backups placement
   pub placed : (placement : List (List ℕ)) → IsPlacement sizes rooms backups placement
       → Fits sizes rooms backups placement
   -- there is at most one spread; if a partition is refused there is none, and only one is refused
-  pub one : (placement other : List (List ℕ)) → IsSpread sizes weights rooms backups placement
-      → IsSpread sizes weights rooms backups other → placement ≡ other
+  pub one : (placement other : List (List ℕ)) → IsRebalanceSpread sizes weights rooms backups placement
+      → IsRebalanceSpread sizes weights rooms backups other → placement ≡ other
   pub refused : (placement : List (List ℕ)) (partition : ℕ)
-      → IsSpread sizes weights rooms backups placement
-      → SpreadFindsFewer sizes weights rooms backups partition → ⊥
-  pub first : (partition other : ℕ) → SpreadFindsFewer sizes weights rooms backups partition
-      → SpreadFindsFewer sizes weights rooms backups other → partition ≡ other
+      → IsRebalanceSpread sizes weights rooms backups placement
+      → RebalanceSpreadFindsFewer sizes weights rooms backups partition → ⊥
+  pub first : (partition other : ℕ) → RebalanceSpreadFindsFewer sizes weights rooms backups partition
+      → RebalanceSpreadFindsFewer sizes weights rooms backups other → partition ≡ other
   -- no placement that fits has a lower peak than the bound
   pub bounded : (placement : List (List ℕ)) → Fits sizes rooms backups placement
       → bound weights rooms ≤ peak weights placement
   -- the proposal fits if the old placement does, and its peak isn't higher
   pub proposed : (old new : List (List ℕ)) → Fits sizes rooms backups old
-      → IsProposal sizes weights rooms backups old new → Fits sizes rooms backups new
-  pub never_higher : (old new : List (List ℕ)) → IsProposal sizes weights rooms backups old new
+      → IsRebalanceProposal sizes weights rooms backups old new → Fits sizes rooms backups new
+  pub never_higher : (old new : List (List ℕ)) → IsRebalanceProposal sizes weights rooms backups old new
       → peak weights new ≤ peak weights old

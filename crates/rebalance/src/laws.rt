@@ -1,10 +1,10 @@
 ghost use Rattle.std.specs.Prelude.{ℕ, List};
-ghost use Rattle.rebalance.specs.Spread.{ArePartitionsWeighed, SpreadLaws};
+ghost use Rattle.rebalance.specs.Spread.{AreRebalancePartitionsWeighed, RebalanceSpreadLaws};
 
 /// A spread fits; there is at most one, and none if a partition is refused; no placement that fits
 /// has a peak below the bound; a proposal fits if the old placement does, and its peak is never
 /// higher. A law about the definitions only.
 pub fn spread_laws()
-    ensures { (sizes weights rooms : List ℕ) (backups : ℕ) → ArePartitionsWeighed sizes weights rooms
-        → SpreadLaws sizes weights rooms backups }
+    ensures { (sizes weights rooms : List ℕ) (backups : ℕ) → AreRebalancePartitionsWeighed sizes weights rooms
+        → RebalanceSpreadLaws sizes weights rooms backups }
 {}

@@ -1,6 +1,6 @@
 ghost use Rattle.std.specs.Prelude.{ℕ, ◌≡◌, ◌+◌, ◌<◌, ◌^◌, length, slice_index, sum, take, All, if◌then◌else◌, nat_eq};
 ghost use Rattle.std.specs.List.{list_any};
-ghost use Rattle.rebalance.specs.Loads.{bound, greatest, peak, traffic, usable_rooms};
+ghost use Rattle.rebalance.specs.Loads.{bound, greatest, peak, traffic, rebalance_usable_rooms};
 
 use base::MAX_SWITCHES;
 use policy_rules::Targets;
@@ -25,7 +25,7 @@ pub fn bound(weights: &[u64], rooms: &[u32]) -> u64
     requires { sum weights.now < 2 ^ 64 }
     ensures { result ≡ bound weights.now rooms.now }
 {
-    let usable = usable_rooms(rooms) as u64;
+    let usable = rebalance_usable_rooms(rooms) as u64;
     if usable == 0 {
         return 0;
     }
@@ -74,8 +74,8 @@ fn sum_of_weights(numbers: &[u64]) -> u64
 }
 
 // How many of these rooms have space for a rule.
-fn usable_rooms(rooms: &[u32]) -> usize
-    ensures { result ≡ usable_rooms rooms.now }
+fn rebalance_usable_rooms(rooms: &[u32]) -> usize
+    ensures { result ≡ rebalance_usable_rooms rooms.now }
 {
     rooms.iter().filter(|room| **room != 0).count()
 }

@@ -1,8 +1,8 @@
 ghost use Rattle.std.specs.Prelude.{◌≡◌, ◌++◌, ◌<◌, ◌≤◌, ◌^◌, IfOk, length, sum};
 ghost use Rattle.net_file.specs.Net.{IsNet};
 ghost use Rattle.partition.specs.Plan.{IsPartitionPlan};
-ghost use Rattle.rebalance.specs.Proposals.{IsFoundFor, ProposesFor, peaks_text, targets_by_partition};
-ghost use Rattle.rebalance.specs.Spread.{IsProposal};
+ghost use Rattle.rebalance.specs.Proposals.{IsProposalFoundFor, ProposesFor, rebalance_peaks_text, rebalance_partition_targets};
+ghost use Rattle.rebalance.specs.Spread.{IsRebalanceProposal};
 
 use crate::laws::spread_laws;
 use crate::peaks::{bound, peak};
@@ -60,7 +60,7 @@ fn headed(
     text: &[u8],
 ) -> Result<Vec<u8>, AllocError>
     ensures { IfOk result (λ whole.
-        whole.items ≡ peaks_text old_peak new_peak bound ++ text.now) }
+        whole.items ≡ rebalance_peaks_text old_peak new_peak bound ++ text.now) }
 {
     let mut head = String::new(alloc);
     writeln!(head, "peak {old_peak} {new_peak}\nbound {bound}")?;
@@ -78,7 +78,7 @@ fn find_proposal(
 ) -> Result<Proposal, AllocError>
     requires net { IsNet net.now }
     requires plan { IsPartitionPlan plan.now.policy net.now plan.now.hosted }
-    ensures { IfOk result (IsFoundFor plan.now.policy plan.now.hosted net.now journal.now) }
+    ensures { IfOk result (IsProposalFoundFor plan.now.policy plan.now.hosted net.now journal.now) }
 {
     spread_laws();
     let hosted = plan.hosted();
@@ -117,7 +117,7 @@ fn proposed_targets(
     requires backups { backups ≤ 3 }
     requires small { sum weights.now < 2 ^ 64 }
     ensures { IfOk result (λ new.
-        IsProposal sizes.now weights.now rooms.now backups old.items new.items) }
+        IsRebalanceProposal sizes.now weights.now rooms.now backups old.items new.items) }
 {
     match spread(alloc, sizes, weights, rooms, backups) {
         Ok(new) => Ok(proposed(weights, Some(new), old)),
@@ -128,7 +128,7 @@ fn proposed_targets(
 
 // The targets of each partition.
 fn targets_of(alloc: Global, hosted: &[(Partition, Targets)]) -> Result<Vec<Targets>, AllocError>
-    ensures { IfOk result (λ targets. targets.items ≡ targets_by_partition hosted.now) }
+    ensures { IfOk result (λ targets. targets.items ≡ rebalance_partition_targets hosted.now) }
 {
     let mut all = Vec::with_capacity(alloc, hosted.len())?;
     for (_, targets) in hosted {

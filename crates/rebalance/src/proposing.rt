@@ -1,5 +1,5 @@
 ghost use Rattle.std.specs.Prelude.{ℕ, List, ◌≡◌, ◌<◌, ◌^◌, length, sum, IfSome, IfNone};
-ghost use Rattle.rebalance.specs.Spread.{SpreadFindsFewer, IsProposal, IsSpread};
+ghost use Rattle.rebalance.specs.Spread.{RebalanceSpreadFindsFewer, IsRebalanceProposal, IsRebalanceSpread};
 
 use crate::peaks::peak;
 use policy_rules::Targets;
@@ -11,9 +11,9 @@ pub fn proposed(weights: &[u64], spread: Option<Vec<Targets>>, old: Vec<Targets>
     requires new { IfSome spread (λ new. length new.items ≡ length weights.now) }
     requires small { sum weights.now < 2 ^ 64 }
     ensures { (sizes rooms : List ℕ) (backups : ℕ)
-        → IfSome spread (λ new. IsSpread sizes weights.now rooms backups new.items)
-        → IfNone spread ((refused : ℕ) × SpreadFindsFewer sizes weights.now rooms backups refused)
-        → IsProposal sizes weights.now rooms backups old.items result.items }
+        → IfSome spread (λ new. IsRebalanceSpread sizes weights.now rooms backups new.items)
+        → IfNone spread ((refused : ℕ) × RebalanceSpreadFindsFewer sizes weights.now rooms backups refused)
+        → IsRebalanceProposal sizes weights.now rooms backups old.items result.items }
 {
     let Some(new) = spread else {
         return old;

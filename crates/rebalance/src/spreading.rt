@@ -1,6 +1,6 @@
 ghost use Rattle.std.specs.Prelude.{◌≡◌, ◌<◌, ◌≤◌, ◌^◌, length, sum, IfOk, IfErr};
 ghost use Rattle.base.specs.Refusals.{IfRefused};
-ghost use Rattle.rebalance.specs.Spread.{SpreadFindsFewer, IsSpread};
+ghost use Rattle.rebalance.specs.Spread.{RebalanceSpreadFindsFewer, IsRebalanceSpread};
 
 use base::Failure;
 use placement::{Load, NoRoom, widened};
@@ -30,9 +30,9 @@ pub fn spread(
     requires backups { backups ≤ 3 }
     requires small { sum weights.now < 2 ^ 64 }
     ensures spread { IfOk result (λ targets.
-        IsSpread sizes.now weights.now rooms.now backups targets.items) }
+        IsRebalanceSpread sizes.now weights.now rooms.now backups targets.items) }
     ensures refused { IfErr result (IfRefused (λ lack.
-        SpreadFindsFewer sizes.now weights.now rooms.now backups lack.partition)) }
+        RebalanceSpreadFindsFewer sizes.now weights.now rooms.now backups lack.partition)) }
 {
     let wide = widened(alloc, sizes)?;
     Load::OnFirst.take_turns(alloc, weights, &wide, rooms, backups)

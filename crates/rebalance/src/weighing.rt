@@ -1,6 +1,6 @@
 ghost use Rattle.std.specs.Prelude.{ℕ, ◌≡◌, ◌+◌, ◌<◌, ◌^◌, length, slice_index, count_by, sum, IfOk, nat_eq, option_to_list, unwrap_or, All};
 ghost use Rattle.rebalance.specs.Loads.{weighed_partition_in, weighed_partition, weights_of};
-ghost use Rattle.update_machine.specs.Marks.{current_mark, gives_current};
+ghost use Rattle.update_machine.specs.Marks.{journal_current_mark, gives_current};
 
 use journal::{How, Item, Journal};
 use std::alloc::{AllocError, Global};
@@ -26,7 +26,7 @@ pub fn weights(alloc: Global, journal: &Journal, parts: u32) -> Result<Vec<u64>,
 
 // The version that is current after the items.
 fn weighed_version_at_end(items: &[Item]) -> u32
-    ensures { result ≡ current_mark items.now }
+    ensures { result ≡ journal_current_mark items.now }
 {
     let mut current = 1;
     for item in items {

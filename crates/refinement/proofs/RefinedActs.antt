@@ -3,10 +3,10 @@
 use Rattle.std.proofs.Common.{[], ◌++◌, ◌+◌, ◌<◌, ◌∙◌, ◌∷◌, ◌≡◌, ◌≤◌, All, Bool, IsFalse, List, None, Some, ap, append-nil, append_assoc, arith, cond, eq-eqb, get_or, length, map, ne_eqb, refl, subst, sym, ℕ}
 use Rattle.base.proofs.Exports.{All-from_recursion, AllByRecursion, length-map, sum_by-cons}
 use Rattle.controller.specs.declared.sends.Act.{Act}
-use Rattle.refinement.specs.Exports.{AreMessagesSpelled, RefineUpLinks, RefineUsableLinks, IsBagOf, IsControllerOf, NetworkState, RefineJournal, switch_of, acts_written}
-use Rattle.update_machine.specs.Exports.{Hello, IsReached, Item, Message, NoneConcern, Setting, Step, concerns_calls, concerns_known, concerns_links, concerns_packets, count_of, gives_message, is_packet, is_sending, last_given, message_of, next_message, piece}
+use Rattle.refinement.specs.Exports.{AreRefinedMessagesSpelled, RefineUpLinks, RefineUsableLinks, IsRefinedBagOf, IsControllerOf, RefinedNetworkState, RefineJournal, refined_switch_of, refined_acts_written}
+use Rattle.update_machine.specs.Exports.{Hello, IsJournalReached, Item, Message, NoneConcern, Setting, Step, item_concerns_calls, item_concerns_known, concerns_links, item_concerns_packets, count_of, item_gives_message, is_packet, is_sending, journal_last_given, message_of, journal_next_message, piece}
 use Rattle.update_machine.proofs.Exports.{count_of_append, have_append, last_given_append, messages_keep, near_stays, next_sent, packets_keep}
-use Rattle.world_log.specs.Exports.{IsActSpelled, LogMayNote, LogMaySend, log_act_item, log_act_items, log_act_posts, number_after_act}
+use Rattle.world_log.specs.Exports.{IsLoggedActSpelled, LogMayNote, LogMaySend, log_act_item, log_act_items, log_act_posts, log_number_after_act}
 use Rattle.refinement.proofs.RefinedPacketFacts.{NoneName, none_more}
 use Rattle.refinement.proofs.RefinedPostedFrames.{SendFrom, bag_sends, posts_in}
 use Rattle.control_laws.specs.Exports.{StepsSendFew}
@@ -14,7 +14,7 @@ use Rattle.switch_core.specs.Exports.{SwitchValue}
 use Rattle.refinement.proofs.RefinedSwitchLinks.{kept_is}
 use Rattle.steps.specs.Exports.{IsStep}
 use Rattle.refinement.proofs.RefinedSteps.{flight_stays, reached_known, reached_more, up_stays}
-use Rattle.message_bag.specs.Exports.{HasShortSpelling, Post, new_post}
+use Rattle.message_bag.specs.Exports.{HasShortBagSpelling, Post, new_post}
 use Rattle.ctrl_msg.specs.Exports.{to_controller}
 use Rattle.message_bag.proofs.BagSpellingLengths.{alone_short}
 use Rattle.refinement.proofs.RefinedTableSpellings.{reached_spelled}
@@ -83,7 +83,7 @@ acts_counted number (Act.Post message ∷ acts) =
 -- ---- acts as the journal's definitions have them
 
 pub written_is : (journal : List Item) (acts : List Act)
-    → acts_written journal acts ≡ log_act_items (next_message journal) acts
+    → refined_acts_written journal acts ≡ log_act_items (journal_next_message journal) acts
 unfolding log_act_items
 written_is journal [] = refl
 written_is journal (Act.Current v ∷ acts) =
@@ -92,7 +92,7 @@ written_is journal (Act.Current v ∷ acts) =
 written_is journal (Act.Retired v ∷ acts) =
     ap (λ items. Item.Retired v ∷ items) (written_is (journal ++ Item.Retired v ∷ []) acts
     ∙ ap (λ n. log_act_items n acts) (messages_keep journal (Item.Retired v ∷ []) (refl, tt)).next)
-written_is journal (Act.Post message ∷ acts) = let n : ℕ = next_message journal in
+written_is journal (Act.Post message ∷ acts) = let n : ℕ = journal_next_message journal in
     ap (λ items. Item.Sent n message ∷ items)
     (written_is (journal ++ Item.Sent n message ∷ []) acts
     ∙ ap (λ k. log_act_items k acts) (next_sent journal n message))
@@ -112,8 +112,8 @@ unfolding log_act_items
 acts_bring_none number [] = refl
 acts_bring_none number (one ∷ acts) =
     let sum = sum_by-cons (λ x. cond (is_packet x) 1 0) (log_act_item number one)
-    (log_act_items (number_after_act number one) acts) in
-    omega (arith, sum, none_comes one, acts_bring_none (number_after_act number one) acts)
+    (log_act_items (log_number_after_act number one) acts) in
+    omega (arith, sum, none_comes one, acts_bring_none (log_number_after_act number one) acts)
   where
     none_comes : (one : Act) → ◌≡◌ {A = ℕ} (cond (is_packet (log_act_item number one)) 1 0) 0
     none_comes (Act.Current version) = refl
@@ -125,16 +125,16 @@ acts_bring_none number (one ∷ acts) =
 -- the step of the row writes these items; they name no packet, and what is done leaves the
 -- switches; behind the first items the rest is as in the later state
 pub record IsTold (setting : Setting) (journal : List Item) (row : ℕ) (step : Step)
-    (first : List Item) (acts : List Act) (state later : NetworkState) : Type 0 where
+    (first : List Item) (acts : List Act) (state later : RefinedNetworkState) : Type 0 where
   pub may : IsStep setting.net (length setting.files) step
   pub piece_is : piece setting journal row step
       ≡ Item.Row row step ∷ first ++ log_act_items (length state.posts + 1) acts
   pub packet : (i : ℕ) → NoneName i (Item.Row row step ∷ first)
-  pub packets : NoneConcern concerns_packets journal (Item.Row row step ∷ first)
+  pub packets : NoneConcern item_concerns_packets journal (Item.Row row step ∷ first)
   pub as_many : length later.switches ≡ length state.switches
   pub each : (s : ℕ) (d : SwitchValue) → s < length state.switches
-      → get_or later.switches s d ≡ switch_of setting (journal ++ Item.Row row step ∷ first) s
-  pub bag : IsBagOf (journal ++ Item.Row row step ∷ first) later.posts
+      → get_or later.switches s d ≡ refined_switch_of setting (journal ++ Item.Row row step ∷ first) s
+  pub bag : IsRefinedBagOf (journal ++ Item.Row row step ∷ first) later.posts
   pub number : length later.posts ≡ length state.posts
   pub controller : IsControllerOf setting (journal ++ piece setting journal row step)
       later.controller
@@ -149,21 +149,21 @@ spares_links = record {
   sent = λ before n message. refl;
 }
 
-spares_packets : SparesActs concerns_packets
+spares_packets : SparesActs item_concerns_packets
 spares_packets = record {
   current = λ before v. refl;
   retired = λ before v. refl;
   sent = λ before n message. refl;
 }
 
-spares_known : (s : ℕ) → SparesActs (concerns_known s)
+spares_known : (s : ℕ) → SparesActs (item_concerns_known s)
 spares_known s = record {
   current = λ before v. refl;
   retired = λ before v. refl;
   sent = λ before n message. refl;
 }
 
-spares_calls : (s : ℕ) → SparesActs (concerns_calls s)
+spares_calls : (s : ℕ) → SparesActs (item_concerns_calls s)
 spares_calls s = record {
   current = λ before v. refl;
   retired = λ before v. refl;
@@ -172,10 +172,10 @@ spares_calls s = record {
 
 -- marks and messages leave a switch
 pub acts_leave : (setting : Setting) (journal : List Item) (number : ℕ) (acts : List Act) (s : ℕ)
-    → switch_of setting (journal ++ log_act_items number acts) s ≡ switch_of setting journal s
+    → refined_switch_of setting (journal ++ log_act_items number acts) s ≡ refined_switch_of setting journal s
 acts_leave setting journal number acts s = kept_is setting s journal (log_act_items number acts)
-    (acts_apart (concerns_known s) (spares_known s) journal number acts)
-    (acts_apart (concerns_calls s) (spares_calls s) journal number acts)
+    (acts_apart (item_concerns_known s) (spares_known s) journal number acts)
+    (acts_apart (item_concerns_calls s) (spares_calls s) journal number acts)
 
 all_apart : (concerns : List Item → Item → Bool) → SparesActs concerns → (journal first : List Item)
     (number : ℕ) (acts : List Act) → NoneConcern concerns journal first
@@ -196,8 +196,8 @@ links_left setting journal number acts links near up usable =
       λ s below. usable s below ∙ sym (near_stays setting s journal (log_act_items number acts) none),
     )
 
-module _ {setting : Setting} {journal : List Item} {state : NetworkState}
-    (refines : RefineJournal setting journal state) (later : NetworkState) (row : ℕ)
+module _ {setting : Setting} {journal : List Item} {state : RefinedNetworkState}
+    (refines : RefineJournal setting journal state) (later : RefinedNetworkState) (row : ℕ)
     (step : Step) (first : List Item) (acts : List Act)
     (told : IsTold setting journal row step first acts state later) where
   abbrev number : ℕ
@@ -226,17 +226,17 @@ module _ {setting : Setting} {journal : List Item} {state : NetworkState}
       let linked = links_left setting (journal ++ begun) number acts later.links later.near told.up
       told.usable in record {
         sound = refines.sound;
-        reached = subst (λ more. IsReached setting (journal ++ more)) told.piece_is
+        reached = subst (λ more. IsJournalReached setting (journal ++ more)) told.piece_is
             (reached_more setting journal row step refines.reached told.may);
         many = told.as_many ∙ refines.many;
         each = λ s d there. told.each s d (omega (arith, there, told.as_many))
             ∙ sym (acts_leave setting (journal ++ begun) number acts s)
-            ∙ ap (λ js. switch_of setting js s) split;
+            ∙ ap (λ js. refined_switch_of setting js s) split;
         packet = λ i. refines.packet i ∙ sym (flight_stays setting journal all i
             (reached_known setting journal refines.sound refines.reached) (none_more i begun
             (log_act_items number acts) (told.packet i) (acts_unnamed i number acts)));
         counted = (packets_keep journal all
-            (all_apart concerns_packets spares_packets journal begun number acts
+            (all_apart item_concerns_packets spares_packets journal begun number acts
             told.packets)).next ∙ refines.counted;
         controller = rw told.piece_is at told.controller;
         bag = rw split at (rw (acts_posted number acts) at (bag_sends number
@@ -262,7 +262,7 @@ acts_fit setting journal row step first number acts few is =
 
 -- later numbers are other ones
 untold : (k number : ℕ) (acts : List Act) → k < number
-    → last_given (gives_message k) (log_act_items number acts) ≡ None
+    → journal_last_given (item_gives_message k) (log_act_items number acts) ≡ None
 unfolding log_act_items
 untold k number [] below = refl
 untold k number (Act.Current v ∷ acts) below = rw (untold k number acts below) refl
@@ -275,22 +275,22 @@ sent_there : (before : List Item) (number : ℕ) (message : Message) (acts : Lis
     → message_of (before ++ Item.Sent number message ∷ log_act_items (number + 1) acts) number
     ≡ Some message
 unfolding message_of
-sent_there before number message acts = last_given_append (gives_message number) before
+sent_there before number message acts = last_given_append (item_gives_message number) before
     (Item.Sent number message ∷ log_act_items (number + 1) acts)
     ∙ rw (untold number (number + 1) acts (omega arith), eq-eqb number number refl) refl
 
 acts_spelled : (before : List Item) (number : ℕ) (acts : List Act)
-    → AreMessagesSpelled (before ++ log_act_items number acts) → AllByRecursion IsActSpelled acts
+    → AreRefinedMessagesSpelled (before ++ log_act_items number acts) → AllByRecursion IsLoggedActSpelled acts
 unfolding log_act_items
 acts_spelled before number [] all = tt
 acts_spelled before number (Act.Current v ∷ acts) all = (
   tt,
-  acts_spelled (before ++ Item.Current v ∷ []) number acts (subst AreMessagesSpelled
+  acts_spelled (before ++ Item.Current v ∷ []) number acts (subst AreRefinedMessagesSpelled
       (sym (append_assoc before (Item.Current v ∷ []) (log_act_items number acts))) all),
 )
 acts_spelled before number (Act.Retired v ∷ acts) all = (
   tt,
-  acts_spelled (before ++ Item.Retired v ∷ []) number acts (subst AreMessagesSpelled
+  acts_spelled (before ++ Item.Retired v ∷ []) number acts (subst AreRefinedMessagesSpelled
       (sym (append_assoc before (Item.Retired v ∷ []) (log_act_items number acts))) all),
 )
 acts_spelled before number (Act.Post message ∷ acts) all = (
@@ -301,7 +301,7 @@ acts_spelled before number (Act.Post message ∷ acts) all = (
 
 -- ---- what a step sends
 
-module _ {setting : Setting} {journal : List Item} {state : NetworkState}
+module _ {setting : Setting} {journal : List Item} {state : RefinedNetworkState}
     (refines : RefineJournal setting journal state) where
   -- the acts of a step, behind the first items, may be noted over posts as many as before
   pub may_note : (row : ℕ) (step : Step) (first : List Item) (posts : List Post) (acts : List Act)
@@ -311,7 +311,7 @@ module _ {setting : Setting} {journal : List Item} {state : NetworkState}
   may_note row step first posts acts may is as_many room =
       let number = length state.posts + 1 in
       let begun : List Item = Item.Row row step ∷ first in
-      let spelled = subst (λ items. AreMessagesSpelled (journal ++ items)) is
+      let spelled = subst (λ items. AreRefinedMessagesSpelled (journal ++ items)) is
       (reached_spelled setting (journal ++ piece setting journal row step) refines.sound
       (reached_more setting journal row step refines.reached may)) in record {
         few = omega (
@@ -321,8 +321,8 @@ module _ {setting : Setting} {journal : List Item} {state : NetworkState}
           acts_fit setting journal row step first number acts (sends_few setting journal
               (reached_known setting journal refines.sound refines.reached)) is,
         );
-        spelled = All-from_recursion IsActSpelled acts (acts_spelled (journal ++ begun) number acts
-            (subst AreMessagesSpelled (sym (append_assoc journal begun (log_act_items number acts))) spelled));
+        spelled = All-from_recursion IsLoggedActSpelled acts (acts_spelled (journal ++ begun) number acts
+            (subst AreRefinedMessagesSpelled (sym (append_assoc journal begun (log_act_items number acts))) spelled));
       }
 
 -- messages that may be noted as acts may be sent
@@ -334,7 +334,7 @@ may_send posts messages may = record {
 }
 
 -- a hello of a switch below 64
-pub hello_spelled : (s boot : ℕ) → s < 64 → HasShortSpelling (to_controller (Hello s boot))
+pub hello_spelled : (s boot : ℕ) → s < 64 → HasShortBagSpelling (to_controller (Hello s boot))
 hello_spelled s boot below = record {
   spelling = record { switch = tt; suits = refl; fields = below };
   short = alone_short _ refl;

@@ -3,15 +3,15 @@
 use Rattle.std.proofs.Common.{[], if◌then◌else◌, ◌++◌, ◌+◌, ◌==◌, ◌∙◌, ◌∷◌, ◌≡◌, Bool, IsTrue, List, None, Option, Some, ap, arith, eq-eqb, false, nat_eq, option_and_then, position, refl, slice_get, subst, sym, true, ℕ}
 use Rattle.base.proofs.Exports.{list_any, option_map, option_map_or, unwrap_or, ⊤}
 use Rattle.five_tuple.specs.Exports.{IsHeader, number_of}
-use Rattle.update_machine.specs.Exports.{Exit, Header, Item, Leg, NoneConcern, Ports, Seek, Setting, Tables, arrive_by_leg_items, arrive_items, authority_items, authority_rule, concerns_policies, decision_of, first_place as first_place_in, packet_header_at, holds_version, lookup_items, next_message, plan_at, policy_at, tables_at, targets_of}
-use Rattle.net_file.specs.Exports.{owner_of}
+use Rattle.update_machine.specs.Exports.{Exit, Header, Item, Leg, NoneConcern, Ports, Seek, Setting, Tables, journal_leg_arrival_items, machine_arrive_items, machine_authority_items, journal_authority_rule, item_concerns_policies, journal_decision_of, first_place as first_place_in, journal_packet_header_at, holds_version, lookup_items, journal_next_message, journal_plan_at, policy_at, journal_tables_at, targets_of}
+use Rattle.net_file.specs.Exports.{net_port_owner}
 use Rattle.policy_rules.specs.Exports.{is_held}
-use Rattle.switch_core.specs.Exports.{SwitchArrival, SwitchValue, around, arrived_on_leg, decided_at_switch, decided_in_own_part, held_tables, looked_up, part_numbered, place_of_first}
+use Rattle.switch_core.specs.Exports.{SwitchArrival, SwitchValue, around, switch_arrival_on_leg, switch_answer_by_rule, switch_answer_in_partition, held_tables, looked_up, switch_part_numbered, switch_own_rule_place}
 use Rattle.switch_core.specs.Answers as arrived
 use Rattle.switch_core.specs.declared.tunnel_calls.Packet.{Packet}
 use Rattle.switch_table.specs.Exports.{Hosted}
 use Rattle.update_machine.proofs.Exports.{policies_keep}
-use Rattle.packet_laws.specs.Exports.{IsOnLeg, PacketFacts, what_is_known}
+use Rattle.packet_laws.specs.Exports.{IsPacketOnLeg, PacketFacts, packet_facts_of}
 use Rattle.packet_laws.proofs.Exports.{Finds, current_planned, in_plan, last_here, one_target}
 use Rattle.world_log.specs.Exports.{log_arrived_flight, log_arrived_items}
 use Rattle.travelling.specs.Travelling.{Flight, Standing}
@@ -28,11 +28,11 @@ use Rattle.refinement.proofs.RefinedPacketFacts.{IsSeen, Targets, facts_along, f
 abbrev pub IsAtEnd : Setting → List Item → ℕ → Header → Leg → Type 0
 IsAtEnd setting journal s header (Seek version partition) =
     IsOurs setting journal s header version partition
-IsAtEnd setting journal s header (Exit port) = owner_of setting.net.switches port ≡ Some s
+IsAtEnd setting journal s header (Exit port) = net_port_owner setting.net.switches port ≡ Some s
 
 pub ours_of : (setting : Setting) (journal : List Item) (s : ℕ) (facts : PacketFacts)
     (header : Header) (version partition : ℕ) → Known setting journal → IsHeader header
-    → (seeks : IsOnLeg setting journal facts header (Seek version partition))
+    → (seeks : IsPacketOnLeg setting journal facts header (Seek version partition))
     → IsTrue (list_any (nat_eq s) seeks.hosted.1)
     → IsOurs setting journal s header version partition
 ours_of setting journal s facts header version partition knows sound seeks target =
@@ -41,14 +41,14 @@ ours_of setting journal s facts header version partition knows sound seeks targe
       planned = planned;
       hosted = seeks.hosted;
       finds = in_plan setting (policy_at setting journal version)
-          (plan_at setting journal version) header seeks.hosted planned sound seeks.own.first;
+          (journal_plan_at setting journal version) header seeks.hosted planned sound seeks.own.first;
       number = seeks.own.number;
       target = target;
     }
 
 pub end_of_route : (setting : Setting) (journal : List Item) (s : ℕ) (facts : PacketFacts)
     (header : Header) (leg : Leg) → Known setting journal → IsHeader header
-    → IsOnLeg setting journal facts header leg
+    → IsPacketOnLeg setting journal facts header leg
     → slice_get facts.route facts.hops ≡ Some s → slice_get facts.route (facts.hops + 1) ≡ None
     → IsAtEnd setting journal s header leg
 end_of_route setting journal s facts header (Exit port) knows sound on stands last =
@@ -61,7 +61,7 @@ end_of_route setting journal s facts header (Seek version partition) knows sound
 
 -- items by which no policy comes keep the plan
 pub at_end_on : (setting : Setting) (before items : List Item) (s : ℕ) (header : Header)
-    (leg : Leg) → NoneConcern concerns_policies before items
+    (leg : Leg) → NoneConcern item_concerns_policies before items
     → IsAtEnd setting before s header leg → IsAtEnd setting (before ++ items) s header leg
 at_end_on setting before items s header (Exit port) none end = end
 at_end_on setting before items s header (Seek version partition) none end =
@@ -90,85 +90,85 @@ module _ (setting : Setting) (journal : List Item) (s : ℕ) (w : SwitchValue) (
   -- the place of the first rule that holds the header, in the plan
   place_in_plan : (version partition : ℕ)
       (ours : IsOurs setting journal s packet.header version partition)
-      → first_place_in setting journal version partition (packet_header_at journal packet.number)
+      → first_place_in setting journal version partition (journal_packet_header_at journal packet.number)
       ≡ ours.finds.place
   place_in_plan version partition ours = ap (first_place_in setting journal version partition)
       (header_is journal packet.number packet.header asked.of_packet.entered)
       ∙ ap (λ (o : Option Hosted). unwrap_or
       (option_and_then (λ (p : Hosted). position (is_held (number_of packet.header)) p.0.rules) o)
-      0) (ap (slice_get (plan_at setting journal version)) (sym ours.number) ∙ ours.finds.at)
+      0) (ap (slice_get (journal_plan_at setting journal version)) (sym ours.number) ∙ ours.finds.at)
       ∙ ours.finds.position
 
   -- and in the switch's own partition
   place_in_tables : (version partition : ℕ)
       (ours : IsOurs setting journal s packet.header version partition)
-      → place_of_first packet.header (part_numbered (tables_at setting journal version s) partition)
+      → switch_own_rule_place packet.header (switch_part_numbered (journal_tables_at setting journal version s) partition)
       ≡ ours.finds.place
-  place_in_tables version partition ours = ap (place_of_first packet.header)
-      (own_numbered (plan_at setting journal version) s version partition ours.hosted
-      ours.planned.parts.sound.numbers (ap (slice_get (plan_at setting journal version))
+  place_in_tables version partition ours = ap (switch_own_rule_place packet.header)
+      (own_numbered (journal_plan_at setting journal version) s version partition ours.hosted
+      ours.planned.parts.sound.numbers (ap (slice_get (journal_plan_at setting journal version))
       (sym ours.number) ∙ ours.finds.at) ours.number ours.target) ∙ ours.finds.position
 
   -- at an authority that has the version, or not
   sought_law : (t : Flight) (version partition : ℕ) (b : Bool) → holds_version journal s version ≡ b
       → IsOurs setting journal s packet.header version partition → elim b [
         | false ↦ lookup_items setting packet.number s journal
-        | true ↦ authority_items setting packet.number s (authority_rule setting journal version
+        | true ↦ machine_authority_items setting packet.number s (journal_authority_rule setting journal version
             partition (first_place_in setting journal version partition
-            (packet_header_at journal packet.number))) journal
+            (journal_packet_header_at journal packet.number))) journal
       ]
-      ≡ log_arrived_items (next_message journal) at t.version t.rule
-      (arrived_on_leg w (around mask ports) packet (Seek version partition))
-  unfolding decided_in_own_part
+      ≡ log_arrived_items (journal_next_message journal) at t.version t.rule
+      (switch_arrival_on_leg w (around mask ports) packet (Seek version partition))
+  unfolding switch_answer_in_partition
   sought_law t version partition false missing ours = cc
       (looked_law setting journal s w mask ports packet asked, asked.sees.tables version, missing)
-  sought_law t version partition true held ours = ap (λ place. authority_items setting packet.number
-      s (authority_rule setting journal version partition place) journal)
+  sought_law t version partition true held ours = ap (λ place. machine_authority_items setting packet.number
+      s (journal_authority_rule setting journal version partition place) journal)
       (place_in_plan version partition ours)
       ∙ sym (ruled_law setting journal s w mask ports packet asked version partition ours)
-      ∙ ap (λ place. log_arrived_items (next_message journal) at t.version t.rule
-      (arrived.Answered (decided_at_switch w (around mask ports) packet version
-      (part_numbered (tables_at setting journal version s) partition) place)))
+      ∙ ap (λ place. log_arrived_items (journal_next_message journal) at t.version t.rule
+      (arrived.Answered (switch_answer_by_rule w (around mask ports) packet version
+      (switch_part_numbered (journal_tables_at setting journal version s) partition) place)))
       (sym (place_in_tables version partition ours))
-      ∙ ap (λ (o : Option Tables). log_arrived_items (next_message journal) at t.version t.rule
-      (arrived.Answered (option_map_or (decided_in_own_part w (around mask ports) packet partition) o
+      ∙ ap (λ (o : Option Tables). log_arrived_items (journal_next_message journal) at t.version t.rule
+      (arrived.Answered (option_map_or (switch_answer_in_partition w (around mask ports) packet partition) o
       (looked_up w (around mask ports) packet)))) (sym (asked.sees.tables version
-      ∙ ap (λ b. if b then Some (tables_at setting journal version s) else None) held))
+      ∙ ap (λ b. if b then Some (journal_tables_at setting journal version s) else None) held))
 
   pub arrive_law : (t : Flight) (leg : Leg)
-      → AreOfFacts t.version t.rule (what_is_known journal packet.number)
-      → (what_is_known journal packet.number).leg ≡ Some leg
+      → AreOfFacts t.version t.rule (packet_facts_of journal packet.number)
+      → (packet_facts_of journal packet.number).leg ≡ Some leg
       → IsAtEnd setting journal s packet.header leg
-      → arrive_items setting packet.number s journal ≡ log_arrived_items (next_message journal)
-      (at_switch s packet) t.version t.rule (arrived_on_leg w (around mask ports) packet leg)
-  unfolding arrive_items what_is_known
+      → machine_arrive_items setting packet.number s journal ≡ log_arrived_items (journal_next_message journal)
+      (at_switch s packet) t.version t.rule (switch_arrival_on_leg w (around mask ports) packet leg)
+  unfolding machine_arrive_items packet_facts_of
   arrive_law t (Exit port) of takes end =
       let i : ℕ = packet.number in
       let left : Header → ℕ → Option ℕ → List Item = λ header version rule. Item.Left i port
       (record { packet = i; header = header; version = version; rule = rule }) ∷ [] in
-      ap (λ leg. arrive_by_leg_items setting i s leg journal) takes
+      ap (λ leg. journal_leg_arrival_items setting i s leg journal) takes
       ∙ ap (λ header. left header
-      (unwrap_or (option_map (λ decision. decision.version) (decision_of journal i)) 0)
-      (unwrap_or (option_map (λ decision. decision.rule) (decision_of journal i)) None))
+      (unwrap_or (option_map (λ decision. decision.version) (journal_decision_of journal i)) 0)
+      (unwrap_or (option_map (λ decision. decision.rule) (journal_decision_of journal i)) None))
       (header_is journal i packet.header asked.of_packet.entered)
       ∙ ap (λ version. left packet.header version
-      (unwrap_or (option_map (λ decision. decision.rule) (decision_of journal i)) None))
+      (unwrap_or (option_map (λ decision. decision.rule) (journal_decision_of journal i)) None))
       (sym of.its_version)
       ∙ ap (left packet.header t.version) (sym of.its_rule)
   arrive_law t (Seek version partition) of takes end =
       cc (takes, sought_law t version partition (holds_version journal s version) refl end)
 
   pub arrive_comes : (leg : Leg) → GoesOut (targets_of setting journal) (at_switch s packet)
-      (arrived_on_leg w (around mask ports) packet leg)
-  unfolding decided_in_own_part
+      (switch_arrival_on_leg w (around mask ports) packet leg)
+  unfolding switch_answer_in_partition
   arrive_comes (Exit port) = tt
   arrive_comes (Seek version partition) = by_tables (held_tables w version) where
     by_tables : (o : Option Tables) → IsComing (targets_of setting journal) at
-        (option_map_or (decided_in_own_part w (around mask ports) packet partition) o (looked_up w (around mask ports) packet))
+        (option_map_or (switch_answer_in_partition w (around mask ports) packet partition) o (looked_up w (around mask ports) packet))
     by_tables None = looked_goes setting journal s w mask ports packet asked
     by_tables (Some tables) = ruled_goes setting journal s tables.version
-        (place_of_first packet.header (part_numbered tables partition)) w mask ports packet
-        (part_numbered tables partition) asked.owners
+        (switch_own_rule_place packet.header (switch_part_numbered tables partition)) w mask ports packet
+        (switch_part_numbered tables partition) asked.owners
 
 -- ---- what becomes of the packet
 

@@ -1,8 +1,8 @@
 -- An authority rule decides a packet at a switch as the journal's definitions say.
 use Rattle.std.proofs.Common.{[], ◌++◌, ◌<◌, ◌==◌, ◌∙◌, ◌∷◌, ◌≡◌, Bool, Err, IsSomeAnd, IsTrue, List, None, Ok, Option, Result, Some, ap, append-nil, arith, eq-eqb, false, length, map, option_map, refl, slice_get, subst, sym, true, unwrap_or, ℕ}
 use Rattle.policy_rules.specs.Exports.{ArePartsNumbered}
-use Rattle.update_machine.specs.Exports.{AuthorityRule, CacheEntry, Cause, Found, HaveCauses, Header, IsSetting, Item, Leg, Message, Partition, Ports, Rule, Seek, Setting, Tables, authority_items, authority_rule, cache_items, end_items, found_down, found_items, packet_header_at, in_turn, is_at, is_sending, lookup_at, lookup_items, next_message, plan_at, policy_at, cache_rule as rule_message, send_items, sent_from, serves, stamp_of, tables_at, targets_of}
-use Rattle.switch_core.specs.Exports.{Decided, SwitchSite, SwitchValue, answer_by, around, by_entry, by_rule, decided_at_switch, looked_up, next_of, no_part, no_rule, own_part, part_numbered, rule_for_cache, own_rule_in, seek_by, set_out, stamp_tables}
+use Rattle.update_machine.specs.Exports.{AuthorityRule, CacheEntry, Cause, Found, JournalItemsHaveCauses, Header, IsSetting, Item, Leg, Message, Partition, Ports, Rule, Seek, Setting, Tables, machine_authority_items, journal_authority_rule, journal_cache_items, end_items, journal_found_down, found_items, journal_packet_header_at, in_turn, is_at, is_sending, lookup_at, lookup_items, journal_next_message, journal_plan_at, policy_at, cache_rule as rule_message, send_items, machine_sent_items_from, serves, journal_stamp_of, journal_tables_at, targets_of}
+use Rattle.switch_core.specs.Exports.{Decided, SwitchSite, SwitchValue, switch_answer_by_found, around, by_entry, by_rule, switch_answer_by_rule, looked_up, next_of, no_switch_part, no_rule, own_part, switch_part_numbered, switch_cache_rule_sent, switch_own_rule_in, switch_seek_by, set_out, stamp_tables}
 use Rattle.switch_table.specs.Exports.{Hosted, has_target, part_of, tables_of}
 use Rattle.refinement.proofs.RefinedSwitchKnowledge.{own_has}
 use Rattle.base.proofs.Exports.{get_or_from_slice_get}
@@ -11,26 +11,26 @@ use Rattle.net_file.specs.Exports.{ArePortOwners}
 use Rattle.switch_core.specs.declared.deciding.Decision.{Decision}
 use Rattle.switch_core.specs.declared.tunnel_calls.Packet.{Packet}
 use Rattle.update_machine.proofs.Exports.{count_of_append}
-use Rattle.packet_laws.specs.Exports.{what_is_known}
+use Rattle.packet_laws.specs.Exports.{packet_facts_of}
 use Rattle.packet_laws.proofs.Exports.{Finds, FindsRule, FindsTargets, IsPlanned, IsStamped, authority_found, deciding, facts_grow, redirect_found, rule_there, stamped}
-use Rattle.world_log.specs.Exports.{log_answer_items, cache_message, log_decided_items, log_message_list, log_set_item}
+use Rattle.world_log.specs.Exports.{log_answer_items, log_cache_message, log_decided_items, log_message_list, log_set_item}
 use Rattle.refinement.proofs.RefinedTakenLegs.{IsDecided, Sees, at_switch, end_law, leg_law, sees_one}
 use Rattle.refinement.proofs.RefinedPacketFacts.{facts_all, sends_unnamed, unnamed}
 use Rattle.tunnel.specs.Exports.{TunnelValue}
-use Rattle.control_laws.specs.Exports.{HasItemCause}
+use Rattle.control_laws.specs.Exports.{HasControlItemCause}
 use Rattle.travelling.specs.Travelling.{Standing}
 
 -- ---- a switch's own partition of a number is that of the plan
 
 unwrapped : (o : Option Partition) (this : Partition) → IsSomeAnd o (λ part. part ≡ this)
-    → unwrap_or o no_part ≡ this
+    → unwrap_or o no_switch_part ≡ this
 unwrapped None this is = absurd is
 unwrapped (Some part) this is = is
 
 pub own_numbered : (plan : List Hosted) (s version partition : ℕ) (hosted : Hosted)
     → ArePartsNumbered (map part_of plan) → slice_get plan partition ≡ Some hosted
     → hosted.0.number ≡ partition → IsTrue (has_target s hosted)
-    → part_numbered (tables_of plan version s) partition ≡ part_of hosted
+    → switch_part_numbered (tables_of plan version s) partition ≡ part_of hosted
 own_numbered plan s version partition hosted numbers there number target =
     unwrapped (own_part (tables_of plan version s) partition) (part_of hosted)
     (own_has (λ part. part ≡ part_of hosted) plan s version partition hosted numbers there number
@@ -40,13 +40,13 @@ own_numbered plan s version partition hosted numbers there number target =
 
 -- a packet with this header that entered at this switch and found these links down
 pub record IsPacket (journal : List Item) (packet : Packet) : Type 0 where
-  pub entered : (what_is_known journal packet.number).header ≡ Some packet.header
-  pub came : (what_is_known journal packet.number).ingress ≡ Some packet.ingress
-  pub found : (what_is_known journal packet.number).found ≡ packet.down
+  pub entered : (packet_facts_of journal packet.number).header ≡ Some packet.header
+  pub came : (packet_facts_of journal packet.number).ingress ≡ Some packet.ingress
+  pub found : (packet_facts_of journal packet.number).found ≡ packet.down
 
 pub header_is : (journal : List Item) (i : ℕ) (header : Header)
-    → (what_is_known journal i).header ≡ Some header → packet_header_at journal i ≡ header
-unfolding what_is_known
+    → (packet_facts_of journal i).header ≡ Some header → journal_packet_header_at journal i ≡ header
+unfolding packet_facts_of
 header_is journal i header entered = ap (λ h. unwrap_or h (header_of (record {
   src = 0;
   dst = 0;
@@ -56,8 +56,8 @@ header_is journal i header entered = ap (λ h. unwrap_or h (header_of (record {
 }))) entered
 
 pub found_of : (journal : List Item) (packet : Packet) → IsPacket journal packet
-    → found_down journal packet.number ≡ packet.down
-unfolding what_is_known
+    → journal_found_down journal packet.number ≡ packet.down
+unfolding packet_facts_of
 found_of journal packet is = is.found
 
 -- ---- what is sent
@@ -69,10 +69,10 @@ IsOwnRule found = slice_get found.part.rules found.place ≡ Some found.rule
 -- the message of the switch's answer
 abbrev pub told_by_rule : ℕ → Packet → AuthorityRule → Option Message
 told_by_rule s packet found =
-    cache_message packet.ingress (rule_for_cache s packet found.version found.part found.place)
+    log_cache_message packet.ingress (switch_cache_rule_sent s packet found.version found.part found.place)
 
 -- a rule of this place is what the switch finds there
-own_rule : (found : AuthorityRule) → IsOwnRule found → own_rule_in found.part found.place ≡ found.rule
+own_rule : (found : AuthorityRule) → IsOwnRule found → switch_own_rule_in found.part found.place ≡ found.rule
 own_rule found own = get_or_from_slice_get found.part.rules found.place found.rule no_rule own
 
 -- it tells the rule by which it decides
@@ -81,21 +81,21 @@ pub told_is : (s : ℕ) (packet : Packet) (found : AuthorityRule) → IsOwnRule 
       | true ↦ None
       | false ↦ Some (rule_message found packet.ingress packet.header)
     ]
-unfolding rule_for_cache
+unfolding switch_cache_rule_sent
 told_is s packet found own true here = rw here refl
 told_is s packet found own false other = rw (other, own_rule found own) refl
 
 -- which is what the journal's definitions say
 sends_law : (setting : Setting) (journal : List Item) (s : ℕ) (packet : Packet)
     (found : AuthorityRule) → IsPacket journal packet → IsOwnRule found
-    → cache_items setting packet.number s found journal
-    ≡ sent_from (next_message journal) (log_message_list (told_by_rule s packet found))
-unfolding cache_items sent_from what_is_known
+    → journal_cache_items setting packet.number s found journal
+    ≡ machine_sent_items_from (journal_next_message journal) (log_message_list (told_by_rule s packet found))
+unfolding journal_cache_items machine_sent_items_from packet_facts_of
 sends_law setting journal s packet found is own =
     ap (λ (ingress : Option ℕ). elim (is_at s ingress) [
       | true ↦ []
       | false ↦ send_items journal (rule_message found (unwrap_or ingress 0)
-          (packet_header_at journal packet.number) ∷ [])
+          (journal_packet_header_at journal packet.number) ∷ [])
     ]) is.came
     ∙ ap (λ header. elim (packet.ingress == s) [
       | true ↦ []
@@ -107,15 +107,15 @@ sends_law setting journal s packet found is own =
       | true ↦ []
       | false ↦ send_items journal (rule_message found packet.ingress packet.header ∷ [])
     ]
-        ≡ sent_from (next_message journal) (log_message_list (told_by_rule s packet found))
+        ≡ machine_sent_items_from (journal_next_message journal) (log_message_list (told_by_rule s packet found))
     by_ingress true here = cc (told_is s packet found own true here)
     by_ingress false other = cc (told_is s packet found own false other)
 
 -- the switch is as it was behind it
 sees_sent : (setting : Setting) (journal : List Item) (s : ℕ) (w : SwitchValue) (mask number : ℕ)
     (message : Option Message) → Sees setting journal s w mask
-    → Sees setting (journal ++ sent_from number (log_message_list message)) s w mask
-unfolding sent_from
+    → Sees setting (journal ++ machine_sent_items_from number (log_message_list message)) s w mask
+unfolding machine_sent_items_from
 sees_sent setting journal s w mask number None sees = rw (append-nil journal) sees
 sees_sent setting journal s w mask number (Some message) sees =
     sees_one setting journal (Item.Sent number message) s w mask
@@ -141,7 +141,7 @@ decided_packet journal packet decision is =
 pub decided_facts : (journal : List Item) (packet : Packet) (decision : Decision) → IsPacket journal
     packet → IsDecided (journal ++ Item.Decided packet.number decision.version decision.rule
     decision.action decision.how ∷ []) packet decision
-unfolding what_is_known
+unfolding packet_facts_of
 decided_facts journal packet decision is =
     let decided : Item = Item.Decided packet.number decision.version decision.rule
     decision.action decision.how in
@@ -155,12 +155,12 @@ decided_facts journal packet decision is =
 -- and behind what is sent then
 decided_sent : (journal : List Item) (packet : Packet) (decision : Decision) (number : ℕ)
     (message : Option Message) → IsDecided journal packet decision
-    → IsDecided (journal ++ sent_from number (log_message_list message)) packet decision
-unfolding what_is_known
+    → IsDecided (journal ++ machine_sent_items_from number (log_message_list message)) packet decision
+unfolding packet_facts_of
 decided_sent journal packet decision number message is =
-    let sent : List Item = sent_from number (log_message_list message) in
+    let sent : List Item = machine_sent_items_from number (log_message_list message) in
     let same = facts_all packet.number journal sent ∙ unnamed packet.number journal sent
-    (what_is_known journal packet.number) (sends_unnamed packet.number number message) in record {
+    (packet_facts_of journal packet.number) (sends_unnamed packet.number number message) in record {
       entered = ap (λ facts. facts.header) same ∙ is.entered;
       found = ap (λ facts. facts.found) same ∙ is.found;
       decided = ap (λ facts. facts.decision) same ∙ is.decided;
@@ -168,9 +168,9 @@ decided_sent journal packet decision number message is =
 
 -- no message is sent with a decision itself
 number_stays : (journal : List Item) (packet : Packet) (decision : Decision)
-    → next_message (journal ++ Item.Decided packet.number decision.version decision.rule
-    decision.action decision.how ∷ []) ≡ next_message journal
-unfolding next_message
+    → journal_next_message (journal ++ Item.Decided packet.number decision.version decision.rule
+    decision.action decision.how ∷ []) ≡ journal_next_message journal
+unfolding journal_next_message
 number_stays journal packet decision =
     let decided : Item = Item.Decided packet.number decision.version decision.rule
     decision.action decision.how in
@@ -184,28 +184,28 @@ pub authority_law : (setting : Setting) (journal : List Item) (s : ℕ) (w : Swi
     → Sees setting journal s w mask
     → s < 64 → (ports : Ports) → ArePortOwners setting.net.switches ports
     → (packet : Packet) → IsPacket journal packet → (found : AuthorityRule) → IsOwnRule found
-    → authority_items setting packet.number s (Some found) journal
+    → machine_authority_items setting packet.number s (Some found) journal
     ≡ log_decided_items (at_switch s packet) (by_rule s found.version found.part.number found.rule)
-    (sent_from (next_message journal) (log_message_list (told_by_rule s packet found)))
+    (machine_sent_items_from (journal_next_message journal) (log_message_list (told_by_rule s packet found)))
     (next_of w (around mask ports) packet found.rule.action)
-unfolding authority_items
+unfolding machine_authority_items
 authority_law setting journal s w mask sees there ports owners packet is found own =
     let i : ℕ = packet.number in
     let decision : Decision = by_rule s found.version found.part.number found.rule in
     let decided = Item.Decided i decision.version decision.rule decision.action decision.how in
     let after : List Item = journal ++ decided ∷ [] in
-    let sent = sent_from (next_message journal) (log_message_list (told_by_rule s packet found)) in
-    let told : cache_items setting i s found after ≡ sent =
+    let sent = machine_sent_items_from (journal_next_message journal) (log_message_list (told_by_rule s packet found)) in
+    let told : journal_cache_items setting i s found after ≡ sent =
     sends_law setting after s packet found (decided_packet journal packet decision is) own
-    ∙ ap (λ n. sent_from n (log_message_list (told_by_rule s packet found)))
+    ∙ ap (λ n. machine_sent_items_from n (log_message_list (told_by_rule s packet found)))
     (number_stays journal packet decision) in
     ap (λ items. decided ∷ items)
-    (both_blocks (cache_items setting i s found) (end_items setting i s found.rule.action) after
+    (both_blocks (journal_cache_items setting i s found) (end_items setting i s found.rule.action) after
     ∙ ap (λ items. items ++ end_items setting i s found.rule.action (after ++ items)) told
     ∙ ap (λ items. sent ++ items) (end_law setting (after ++ sent) s w mask (sees_sent setting after
-    s w mask (next_message journal) (told_by_rule s packet found) (sees_one setting journal decided
+    s w mask (journal_next_message journal) (told_by_rule s packet found) (sees_one setting journal decided
     s w mask (record { switch = refl; links = refl; policies = refl }) sees)) there ports owners
-    packet decision (decided_sent after packet decision (next_message journal) (told_by_rule s
+    packet decision (decided_sent after packet decision (journal_next_message journal) (told_by_rule s
     packet found) (decided_facts journal packet decision is)) found.rule.action refl))
 
 -- ---- what a switch answers by a lookup is what the journal's definitions say
@@ -214,7 +214,7 @@ authority_law setting journal s w mask sees there ports owners packet is found o
 pub record IsAsked (setting : Setting) (journal : List Item) (s : ℕ) (w : SwitchValue) (mask : ℕ)
     (ports : Ports) (packet : Packet) : Type 0 where
   pub is : IsSetting setting
-  pub caused : HaveCauses (HasItemCause setting) [] journal
+  pub caused : JournalItemsHaveCauses (HasControlItemCause setting) [] journal
   pub there : s < length setting.net.switches
   pub serving : IsTrue (serves journal s)
   pub sees : Sees setting journal s w mask
@@ -226,23 +226,23 @@ pub record IsAsked (setting : Setting) (journal : List Item) (s : ℕ) (w : Swit
 pub record IsOurs (setting : Setting) (journal : List Item) (s : ℕ) (header : Header)
     (version partition : ℕ) : Type 0 where
   pub planned : IsPlanned setting (policy_at setting journal version)
-      (plan_at setting journal version)
+      (journal_plan_at setting journal version)
   pub hosted : Hosted
-  pub finds : Finds (policy_at setting journal version) (plan_at setting journal version) header
+  pub finds : Finds (policy_at setting journal version) (journal_plan_at setting journal version) header
       hosted
   pub number : hosted.0.number ≡ partition
   pub target : IsTrue (has_target s hosted)
 
 -- the switch sets out for the targets of a partition
 seek_answers : (number : ℕ) (at : Standing) (leg : Leg) (way : Result TunnelValue Cause)
-    → log_answer_items number at (seek_by leg way) ≡ log_set_item at leg way ∷ []
+    → log_answer_items number at (switch_seek_by leg way) ≡ log_set_item at leg way ∷ []
 seek_answers number at leg (Ok tunnel) = refl
 seek_answers number at leg (Err cause) = refl
 
 -- the targets of a partition of a plan
 pub targets_are : (setting : Setting) (journal : List Item) (version partition : ℕ)
     (targets : List ℕ) (hosted : Hosted)
-    → slice_get (plan_at setting journal version) hosted.0.number ≡ Some hosted
+    → slice_get (journal_plan_at setting journal version) hosted.0.number ≡ Some hosted
     → hosted.0.number ≡ partition → hosted.1 ≡ targets
     → targets_of setting journal (Seek version partition) ≡ targets
 targets_are setting journal version partition targets hosted at number own = cc (number, at, own)
@@ -263,9 +263,9 @@ module _ (setting : Setting) (journal : List Item) (s : ℕ) (w : SwitchValue) (
 
   -- a cached rule decides
   cached_law : (tables : Tables) (entry : CacheEntry)
-      → log_answer_items (next_message journal) at (answer_by w site packet tables (Found.Cached entry))
+      → log_answer_items (journal_next_message journal) at (switch_answer_by_found w site packet tables (Found.Cached entry))
       ≡ found_items setting packet.number s (Found.Cached entry) journal
-  unfolding answer_by sent_from
+  unfolding switch_answer_by_found machine_sent_items_from
   cached_law tables entry =
       let decision : Decision = by_entry entry in
       let decided = Item.Decided packet.number entry.version entry.rule entry.action decision.how in
@@ -277,41 +277,41 @@ module _ (setting : Setting) (journal : List Item) (s : ℕ) (w : SwitchValue) (
 
   -- a rule of a partition decides, and the cache rule is sent, if one is
   pub ruled_law : (version partition : ℕ) (ours : IsOurs setting journal s packet.header version
-      partition) → log_answer_items (next_message journal) (at_switch s packet)
-      (decided_at_switch w (around mask ports) packet version
-      (part_numbered (tables_at setting journal version s) partition) ours.finds.place)
-      ≡ authority_items setting packet.number s
-      (authority_rule setting journal version partition ours.finds.place) journal
-  unfolding decided_at_switch
+      partition) → log_answer_items (journal_next_message journal) (at_switch s packet)
+      (switch_answer_by_rule w (around mask ports) packet version
+      (switch_part_numbered (journal_tables_at setting journal version s) partition) ours.finds.place)
+      ≡ machine_authority_items setting packet.number s
+      (journal_authority_rule setting journal version partition ours.finds.place) journal
+  unfolding switch_answer_by_rule
   ruled_law version partition ours =
       let place : ℕ = ours.finds.place in
       let part : Partition = part_of ours.hosted in
       let items_of : ℕ → Partition → Rule → List Item = λ number part rule.
-      log_answer_items (next_message journal) at (Decided (by_rule number version part.number rule)
-      (rule_for_cache number packet version part place) (next_of w site packet rule.action)) in
-      let own = own_numbered (plan_at setting journal version) s version partition ours.hosted
+      log_answer_items (journal_next_message journal) at (Decided (by_rule number version part.number rule)
+      (switch_cache_rule_sent number packet version part place) (next_of w site packet rule.action)) in
+      let own = own_numbered (journal_plan_at setting journal version) s version partition ours.hosted
       ours.planned.parts.sound.numbers
-      (ap (slice_get (plan_at setting journal version)) (sym ours.number) ∙ ours.finds.at)
+      (ap (slice_get (journal_plan_at setting journal version)) (sym ours.number) ∙ ours.finds.at)
       ours.number ours.target in
-      ap (λ part. items_of w.number part (own_rule_in part place)) own
+      ap (λ part. items_of w.number part (switch_own_rule_in part place)) own
       ∙ ap (items_of w.number part)
       (get_or_from_slice_get ours.hosted.0.rules place ours.finds.rule no_rule ours.finds.ruled)
       ∙ ap (λ number. items_of number part ours.finds.rule) asked.sees.number
-      ∙ sym (ap (λ r. authority_items setting packet.number s r journal)
+      ∙ sym (ap (λ r. machine_authority_items setting packet.number s r journal)
       (rule_there setting journal packet.header ours.hosted version partition ours.finds ours.number)
       ∙ authority_law setting journal s w mask asked.sees below ports asked.owners packet
       asked.of_packet (deciding version ours.finds) ours.finds.ruled)
 
   -- what was found under the stamp of the switch
   answer_law : (what : Found) → lookup_at setting journal s packet.header ≡ what
-      → log_answer_items (next_message journal) at
-      (answer_by w site packet (tables_at setting journal (stamp_of journal s) s) what)
+      → log_answer_items (journal_next_message journal) at
+      (switch_answer_by_found w site packet (journal_tables_at setting journal (journal_stamp_of journal s) s) what)
       ≡ found_items setting packet.number s what journal
-  unfolding answer_by
+  unfolding switch_answer_by_found
   answer_law (Found.Cached entry) answer =
-      cached_law (tables_at setting journal (stamp_of journal s) s) entry
+      cached_law (journal_tables_at setting journal (journal_stamp_of journal s) s) entry
   answer_law (Found.Authority partition place) answer =
-      let version : ℕ = stamp_of journal s in
+      let version : ℕ = journal_stamp_of journal s in
       let own : FindsRule setting journal s packet.header partition place =
       authority_found setting journal s packet.header partition place its_stamp asked.sound answer in
       let ours : IsOurs setting journal s packet.header version partition = record {
@@ -321,32 +321,32 @@ module _ (setting : Setting) (journal : List Item) (s : ℕ) (w : SwitchValue) (
         number = own.part.number;
         target = own.target;
       } in
-      subst (λ k. log_answer_items (next_message journal) at (decided_at_switch w site packet version
-      (part_numbered (tables_at setting journal version s) partition) k) ≡ authority_items setting
-      packet.number s (authority_rule setting journal version partition k) journal) own.found_at
+      subst (λ k. log_answer_items (journal_next_message journal) at (switch_answer_by_rule w site packet version
+      (switch_part_numbered (journal_tables_at setting journal version s) partition) k) ≡ machine_authority_items setting
+      packet.number s (journal_authority_rule setting journal version partition k) journal) own.found_at
       (ruled_law version partition ours)
   answer_law (Found.Redirect partition targets) answer =
-      let version : ℕ = stamp_of journal s in
+      let version : ℕ = journal_stamp_of journal s in
       let leg : Leg = Seek version partition in
       let own : FindsTargets setting journal s packet.header partition targets =
       redirect_found setting journal s packet.header partition targets its_stamp asked.sound answer in
       let are = targets_are setting journal version partition targets own.part.hosted
       own.part.finds.at own.part.number own.own in
-      seek_answers (next_message journal) at leg (set_out w mask packet leg targets)
+      seek_answers (journal_next_message journal) at leg (set_out w mask packet leg targets)
       ∙ ap (λ these. log_set_item at leg (set_out w mask packet leg these) ∷ []) (sym are)
       ∙ sym (leg_law setting journal s w mask asked.sees packet (found_of journal packet asked.of_packet)
       leg)
 
   pub looked_law : lookup_items setting packet.number s journal
-      ≡ log_answer_items (next_message journal) (at_switch s packet)
+      ≡ log_answer_items (journal_next_message journal) (at_switch s packet)
       (looked_up w (around mask ports) packet)
   unfolding lookup_items looked_up
   looked_law = let what : Found = lookup_at setting journal s packet.header in
       ap (λ header. found_items setting packet.number s (lookup_at setting journal s header)
       journal) (header_is journal packet.number packet.header asked.of_packet.entered)
       ∙ sym (answer_law what refl)
-      ∙ ap (λ tables. log_answer_items (next_message journal) at (answer_by w site packet tables what))
+      ∙ ap (λ tables. log_answer_items (journal_next_message journal) at (switch_answer_by_found w site packet tables what))
       (sym (asked.sees.stamped asked.serving))
-      ∙ ap (λ f. log_answer_items (next_message journal) at
-      (answer_by w site packet (stamp_tables w) f))
+      ∙ ap (λ f. log_answer_items (journal_next_message journal) at
+      (switch_answer_by_found w site packet (stamp_tables w) f))
       (sym (asked.sees.lookup packet.header asked.serving))

@@ -1,16 +1,16 @@
 -- What the bag says of a message, and a message that is forgotten.
 use Rattle.std.proofs.Common.{[], ◌&&◌, ◌++◌, ◌<◌, ◌∙◌, ◌∷◌, ◌≡◌, Bool, IfSome, IsFalse, List, None, Option, Some, ap, append_assoc, arith, false, get_or, if◌then◌else◌, is_some, length, not, option_and_then, option_map, refl, rules, subst, sym, true, ℕ}
-use Rattle.message_bag.specs.Exports.{IsMessageOf, Post, is_post_deliverable, posted_frames, remembered_frames, posts_with_forgotten}
+use Rattle.message_bag.specs.Exports.{IsMessageOf, Post, is_post_deliverable, posted_frames, bag_frames_remembered, posts_with_forgotten}
 use Rattle.message_bag.proofs.BagFramedMessages.{known_by_frames}
-use Rattle.update_machine.specs.Exports.{Forget, Item, Message, Place, Setting, Step, concerns_calls, forget_items, is_deliverable, is_forgotten, message_of, near, nothing, piece, to_switch, was_delivered}
+use Rattle.update_machine.specs.Exports.{Forget, Item, Message, Place, Setting, Step, item_concerns_calls, forget_items, is_deliverable, is_forgotten_in_journal, message_of, near, nothing, piece, machine_message_to_switch, was_delivered}
 use Rattle.steps.specs.Exports.{IsStep}
 use Rattle.update_machine.proofs.Exports.{message_keeps}
-use Rattle.refinement.specs.Exports.{IsBagOf, NetworkState, RefineJournal, TablesAreKnown, post_in_journal}
+use Rattle.refinement.specs.Exports.{IsRefinedBagOf, RefinedNetworkState, RefineJournal, RefinementTablesAreKnown, refined_post_at}
 use Rattle.refinement.proofs.RefinedSteps.{Known, WroteOne, reached_known, refines_one, switches_stay}
 use Rattle.refinement.proofs.RefinedPostedFrames.{bag_forgotten, bag_on, some_within}
 use Rattle.control_laws.specs.Exports.{StepsSendFew}
 use Rattle.control_laws.proofs.Exports.{piece_few, versions_few}
-use Rattle.switch_core.specs.Exports.{IsSoundBody}
+use Rattle.switch_core.specs.Exports.{IsBodySoundForSwitch}
 use Rattle.refinement.proofs.RefinedSwitchKnowledge.{requirements_hold}
 
 -- ---- what the bag says of a message
@@ -19,28 +19,28 @@ abbrev flagged : Bool → Bool → Option Message → Option Post
 flagged was gone o =
     option_map (λ (m : Message). (posted_frames m, record { delivered = was; forgotten = gone })) o
 
-pub deliverable_as : (journal : List Item) (posts : List Post) (n : ℕ) → IsBagOf journal posts
+pub deliverable_as : (journal : List Item) (posts : List Post) (n : ℕ) → IsRefinedBagOf journal posts
     → is_deliverable journal n ≡ is_post_deliverable posts n
-unfolding is_deliverable post_in_journal
+unfolding is_deliverable refined_post_at
 deliverable_as journal posts n bag =
-    sym (ap (λ o. is_some (option_and_then remembered_frames o)) (bag.each n)
-    ∙ by_flag (message_of journal n) (was_delivered journal n) (is_forgotten journal n))
+    sym (ap (λ o. is_some (option_and_then bag_frames_remembered o)) (bag.each n)
+    ∙ by_flag (message_of journal n) (was_delivered journal n) (is_forgotten_in_journal journal n))
   where
     by_flag : (o : Option Message) (was gone : Bool)
-        → is_some (option_and_then remembered_frames (flagged was gone o)) ≡ (is_some o && not gone)
+        → is_some (option_and_then bag_frames_remembered (flagged was gone o)) ≡ (is_some o && not gone)
     by_flag None was gone = refl
     by_flag (Some m) was true = refl
     by_flag (Some m) was false = refl
 
 pub sent_as : (journal : List Item) (posts : List Post) (n : ℕ) (message : Message)
-    → IsBagOf journal posts → IsMessageOf posts n message → message_of journal n ≡ Some message
-unfolding post_in_journal
+    → IsRefinedBagOf journal posts → IsMessageOf posts n message → message_of journal n ≡ Some message
+unfolding refined_post_at
 sent_as journal posts n message bag is =
-    by_flag (message_of journal n) (was_delivered journal n) (is_forgotten journal n)
-    (sym (ap (option_and_then remembered_frames) (bag.each n)) ∙ is.frames_are)
+    by_flag (message_of journal n) (was_delivered journal n) (is_forgotten_in_journal journal n)
+    (sym (ap (option_and_then bag_frames_remembered) (bag.each n)) ∙ is.frames_are)
   where
     by_flag : (o : Option Message) (was gone : Bool)
-        → option_and_then remembered_frames (flagged was gone o) ≡ Some (posted_frames message)
+        → option_and_then bag_frames_remembered (flagged was gone o) ≡ Some (posted_frames message)
         → o ≡ Some message
     by_flag None was gone none = absurd cc
     by_flag (Some m) was true none = absurd cc
@@ -70,10 +70,10 @@ forget_piece setting journal row n =
 
 -- ---- a step that does nothing
 
-module _ {setting : Setting} {journal : List Item} {state : NetworkState}
+module _ {setting : Setting} {journal : List Item} {state : RefinedNetworkState}
     (refines : RefineJournal setting journal state) where
   pub nothing_happens : (row : ℕ) (step : Step) → IsStep setting.net (length setting.files) step
-      → ((q : ℕ) → IsFalse (concerns_calls q journal (Item.Row row step)))
+      → ((q : ℕ) → IsFalse (item_concerns_calls q journal (Item.Row row step)))
       → piece setting journal row step ≡ Item.Row row step ∷ nothing
       → WroteOne setting journal row step Item.Nothing state
   nothing_happens row step may uncalled is = (
@@ -84,7 +84,7 @@ module _ {setting : Setting} {journal : List Item} {state : NetworkState}
 
 -- ---- a message is forgotten
 
-module _ {setting : Setting} {journal : List Item} {state : NetworkState}
+module _ {setting : Setting} {journal : List Item} {state : RefinedNetworkState}
     (refines : RefineJournal setting journal state) (row n : ℕ)
     (may : IsStep setting.net (length setting.files) (Forget n)) where
   abbrev first : Item
@@ -103,7 +103,7 @@ module _ {setting : Setting} {journal : List Item} {state : NetworkState}
       (Forget n) one (record state { posts = posts_with_forgotten state.posts n })
   forgotten_refines there =
       let is = piece_by true there in
-      let bag = subst (λ js. IsBagOf js (posts_with_forgotten state.posts n))
+      let bag = subst (λ js. IsRefinedBagOf js (posts_with_forgotten state.posts n))
       (append_assoc journal (first ∷ []) (one ∷ []))
       (bag_forgotten (journal ++ first ∷ []) state.posts n (some_within state.posts n there)
       (bag_on journal (first ∷ []) state.posts (refl, tt) refines.bag)) in (
@@ -124,19 +124,19 @@ pub sends_few : (setting : Setting) (journal : List Item) → Known setting jour
 sends_few setting journal knows = λ row step. piece_few setting knows.is.net journal
     (versions_few setting journal knows.caused) row step
 
-module _ {setting : Setting} {journal : List Item} {state : NetworkState}
+module _ {setting : Setting} {journal : List Item} {state : RefinedNetworkState}
     (refines : RefineJournal setting journal state) where
   -- a message's switch is there, and the body is sound
   pub hear_ready : (n s : ℕ) (message : Message) → IsMessageOf state.posts n message
       → message.to ≡ Place.Switch s
-      → (s < length state.switches) × (s < 64) × IsSoundBody message.body
+      → (s < length state.switches) × (s < 64) × IsBodySoundForSwitch message.body
   hear_ready n s message there to =
       let sent = sent_as journal state.posts n message refines.bag there
       ∙ ap (λ p. Some (record { to = p; body = message.body })) to in
-      let tables : TablesAreKnown setting journal =
+      let tables : RefinementTablesAreKnown setting journal =
       (reached_known setting journal refines.sound refines.reached).tables in
       let own : s < length setting.net.switches =
-      (tables.names.sent n (to_switch s message.body) sent).addressed.0 in (
+      (tables.names.sent n (machine_message_to_switch s message.body) sent).addressed.0 in (
         omega (arith, own, refines.many),
         omega (arith, own, refines.sound.net.few_switches),
         requirements_hold.hear setting journal n s message.body tables sent,

@@ -1,31 +1,31 @@
 -- What the calls by which the controller begins, hears something and confirms write.
 use Rattle.std.proofs.Common.{[], if◌then◌else◌, ◌++◌, ◌+◌, ◌-◌, ◌<◌, ◌∙◌, ◌∷◌, ◌≡◌, Bool, IsFalse, IsTrue, List, None, Some, ap, append-nil, append_assoc, arith, false, get_or-set_same, length, length-set, map, nat_lt, refl, subst, sym, true, ℕ}
 use Rattle.base.proofs.Exports.{length-map, map_twice, range_with_len}
-use Rattle.update_machine.specs.Exports.{Body, Confirm, Deliver, Hello, Item, Setting, Step, after_hello, body_to_controller, confirm_items, controller_items, current_mark, deliver_items, delivery_items, install_for, installs_to, is_deliverable, is_new_boot, is_to_controller, is_up, journal_items_then, known_boot, message_of, nothing, piece, received_items, settling, version_count, versions_from_current}
+use Rattle.update_machine.specs.Exports.{Body, Confirm, Deliver, Hello, Item, Setting, Step, after_hello, journal_body_to_controller, confirm_items, controller_items, journal_current_mark, deliver_items, machine_delivery_items, journal_install_for, machine_installs_to, is_deliverable, is_new_boot_in_journal, is_to_controller, is_up, journal_items_then, journal_known_boot, message_of, nothing, piece, machine_received_items, settling, journal_version_count, journal_versions_from_current}
 use Rattle.ctrl_msg.specs.Exports.{to_controller}
 use Rattle.update_machine.proofs.Exports.{controller_keeps, first_touched, have_append, start_laws}
-use Rattle.control_laws.specs.Exports.{HasItemCause}
+use Rattle.control_laws.specs.Exports.{HasControlItemCause}
 use Rattle.control_laws.proofs.Exports.{count_more, current_more, in_two, installs_reopen, leaves_keep, message_more, sends_leave, up_more}
-use Rattle.version_update.specs.Exports.{MarksValue, after_over, at_switch, record_of, takes_hello, unknown_switch_record}
+use Rattle.version_update.specs.Exports.{MarksValue, after_over, at_switch, record_of, update_takes_hello, unknown_switch_record}
 use Rattle.version_update.specs.Record as known
 use Rattle.version_update.specs.declared.record.Phase.TheVariants.{Joining}
 use Rattle.version_update.specs.declared.record.SwitchRecord.{SwitchRecord}
-use Rattle.controller.specs.Exports.{ControllerValue, KeptPlan, ReplyNamesExist, PlanValue, SettlesWith, current_touched, first_controller, hear_acts, install_act, installs_after, marks_after, kept_plans_from}
+use Rattle.controller.specs.Exports.{ControllerValue, KeptPlan, ControllerReplyNamesExist, PlanValue, ControllerSettlesWith, current_plan_touched, controller_at_start, controller_hear_acts, controller_install_act, controller_installs_after, controller_marks_after, kept_plans_from}
 use Rattle.controller.specs.Sends as acts
 use Rattle.controller.specs.declared.sends.Act.{Act}
 use Rattle.controller.specs.declared.sends.Act.TheVariants.{Post}
-use Rattle.refinement.specs.Exports.{AreActsWritten, IsControllerOf, plan_to_keep, acts_written}
+use Rattle.refinement.specs.Exports.{AreRefinedActsWritten, IsControllerOf, refined_plan_to_keep, refined_acts_written}
 use Rattle.refinement.proofs.RefinedControllerHearing.{marks_over, marks_told}
 use Rattle.refinement.proofs.RefinedKeptController.{marks_begun, posted, written_in_two}
 use Rattle.refinement.proofs.RefinedControllerPlans.{controller_on, plans_on, plans_stay, settles_with}
 use Rattle.refinement.proofs.RefinedSettling.{AreCaused, settled_boot, settling_caused}
 use Rattle.ternary.specs.Exports.{WordValue}
-use Rattle.switch_table.specs.Exports.{all_touched}
+use Rattle.switch_table.specs.Exports.{cache_all_touched}
 
 -- ---- the start
 
-pub begins : (setting : Setting) (plan : PlanValue) → plan ≡ (plan_to_keep setting [] 1).plan
-    → IsControllerOf setting [] (first_controller (length setting.net.switches) plan)
+pub begins : (setting : Setting) (plan : PlanValue) → plan ≡ (refined_plan_to_keep setting [] 1).plan
+    → IsControllerOf setting [] (controller_at_start (length setting.net.switches) plan)
 begins setting plan is = record {
   marks = marks_begun setting;
   plans = cc (is, first_touched setting [], start_laws.current, one);
@@ -33,7 +33,7 @@ begins setting plan is = record {
   kept : PlanValue → List WordValue → List KeptPlan
   kept own touched = (record { version = 1; plan = own; touched = touched }) ∷ []
 
-  one : 1 ≡ version_count [] + 1 - current_mark []
+  one : 1 ≡ journal_version_count [] + 1 - journal_current_mark []
   one = let current = start_laws.current in omega (arith, start_laws.count, current)
 
 -- ---- behind a row
@@ -41,7 +41,7 @@ begins setting plan is = record {
 pub behind_row : (setting : Setting) (before : List Item) (row : ℕ) (step : Step)
     → AreCaused setting before → AreCaused setting (before ++ Item.Row row step ∷ [])
 behind_row setting before row step have =
-    have_append (HasItemCause setting) [] before (Item.Row row step ∷ []) have (tt, tt)
+    have_append (HasControlItemCause setting) [] before (Item.Row row step ∷ []) have (tt, tt)
 
 pub row_on : (setting : Setting) (before : List Item) (row : ℕ) (step : Step)
     (controller : ControllerValue) → AreCaused setting before
@@ -59,11 +59,11 @@ behind_two before one two items = sym (append_assoc before (one ∷ []) (two ∷
 
 pub are_written : (setting : Setting) (before : List Item) (one two : Item) (items : List Item)
     (acts : List Act) (new : ControllerValue) → let now = (before ++ one ∷ []) ++ two ∷ [] in
-    acts_written now acts ≡ items → IsControllerOf setting (now ++ items) new
-    → AreActsWritten setting before (one ∷ two ∷ []) acts new (one ∷ two ∷ items)
+    refined_acts_written now acts ≡ items → IsControllerOf setting (now ++ items) new
+    → AreRefinedActsWritten setting before (one ∷ two ∷ []) acts new (one ∷ two ∷ items)
 are_written setting before one two items acts new same after = record {
   same = ap (λ more. one ∷ two ∷ more)
-      (sym same ∙ ap (λ js. acts_written js acts) (append_assoc before (one ∷ []) (two ∷ [])));
+      (sym same ∙ ap (λ js. refined_acts_written js acts) (append_assoc before (one ∷ []) (two ∷ [])));
   after = subst (λ js. IsControllerOf setting js new) (sym (behind_two before one two items)) after;
 }
 
@@ -72,23 +72,23 @@ are_written setting before one two items acts new same after = record {
 -- a switch that told a new boot
 hello_boot_is : (setting : Setting) (now : List Item) (s boot : ℕ) (old new : ControllerValue)
     → IsControllerOf setting (now ++ settling setting now) new
-    → SettlesWith (at_switch s (known.hello_recorded boot) old.marks) old.plans new
-    → s < length old.marks.switches → takes_hello boot (record_of old.marks s) ≡ true
-    → boot ≡ known_boot (now ++ settling setting now) s
+    → ControllerSettlesWith (at_switch s (known.update_hello_recorded boot) old.marks) old.plans new
+    → s < length old.marks.switches → update_takes_hello boot (record_of old.marks s) ≡ true
+    → boot ≡ journal_known_boot (now ++ settling setting now) s
 hello_boot_is setting now s boot old new after settles there taken =
-    let changed : MarksValue = at_switch s (known.hello_recorded boot) old.marks in
+    let changed : MarksValue = at_switch s (known.update_hello_recorded boot) old.marks in
     let long = length-set old.marks.switches s
-    (known.hello_recorded boot (record_of old.marks s)) in
+    (known.update_hello_recorded boot (record_of old.marks s)) in
     let is = settles.marks.1 in
     let below : s < length new.marks.switches = omega (
       arith,
       there,
       long,
       ap length is.switches,
-      length-map changed.switches (known.opened_record new.marks.current),
+      length-map changed.switches (known.opened_update_record new.marks.current),
     ) in
     sym (ap (λ value. boot_in value) (get_or-set_same old.marks.switches s
-    (known.hello_recorded boot (record_of old.marks s)) unknown_switch_record there)
+    (known.update_hello_recorded boot (record_of old.marks s)) unknown_switch_record there)
     ∙ new_boot (record_of old.marks s) taken)
     ∙ sym (settled_boot changed new.marks settles.marks.0 s is (omega (arith, there, long)))
     ∙ (after.marks.each s below).boot
@@ -99,46 +99,46 @@ hello_boot_is setting now s boot old new after settles there taken =
     joined : SwitchRecord
     joined = record { boot = boot; phase = Joining; acked = 0; open_version = 0; acked_stamp = 0 }
 
-    new_boot : (value : SwitchRecord) → takes_hello boot value ≡ true
-        → (known.hello_recorded boot value).boot ≡ boot
+    new_boot : (value : SwitchRecord) → update_takes_hello boot value ≡ true
+        → (known.update_hello_recorded boot value).boot ≡ boot
     new_boot value taken = ap (λ b. boot_in (if b then joined else value)) taken
 
 hello_written : (setting : Setting) (before one : List Item)
     (body : Body) (old : MarksValue) (new : ControllerValue) → AreCaused setting one
     → IsControllerOf setting one new → ((s boot : ℕ) → body ≡ Hello s boot
-    → (takes_hello boot (record_of old s) ≡ is_new_boot before s boot)
-    × (takes_hello boot (record_of old s) ≡ true → boot ≡ known_boot one s))
-    → acts_written one (installs_after body old new) ≡ after_hello setting before body one
-unfolding installs_to
+    → (update_takes_hello boot (record_of old s) ≡ is_new_boot_in_journal before s boot)
+    × (update_takes_hello boot (record_of old s) ≡ true → boot ≡ journal_known_boot one s))
+    → refined_acts_written one (controller_installs_after body old new) ≡ after_hello setting before body one
+unfolding machine_installs_to
 hello_written setting before one (Hello s boot) old new have is told =
-    cc (by_new (takes_hello boot (record_of old s)) refl, (told s boot refl).0)
+    cc (by_new (update_takes_hello boot (record_of old s)) refl, (told s boot refl).0)
   where
     versions : List ℕ
-    versions = versions_from_current one
+    versions = journal_versions_from_current one
 
-    by_new : (b : Bool) → takes_hello boot (record_of old s) ≡ b → acts_written one
-        (if b then map (install_act s boot) (kept_plans_from new.marks.current new.plans) else [])
-        ≡ elim b [ true ↦ installs_to setting s one | false ↦ [] ]
-    by_new true e = ap (acts_written one) (ap (map (install_act s boot))
+    by_new : (b : Bool) → update_takes_hello boot (record_of old s) ≡ b → refined_acts_written one
+        (if b then map (controller_install_act s boot) (kept_plans_from new.marks.current new.plans) else [])
+        ≡ elim b [ true ↦ machine_installs_to setting s one | false ↦ [] ]
+    by_new true e = ap (refined_acts_written one) (ap (map (controller_install_act s boot))
         (plans_stay setting one new.plans new.marks.current have is.marks.current is.plans)
-        ∙ map_twice (plan_to_keep setting one) (install_act s boot) versions
-        ∙ ap (λ b. map (λ v. install_act s b (plan_to_keep setting one v)) versions)
-        ((told s boot refl).1 e) ∙ sym (map_twice (λ v. install_for setting one v s) Post versions))
-        ∙ posted (map (λ v. install_for setting one v s) versions) one
+        ∙ map_twice (refined_plan_to_keep setting one) (controller_install_act s boot) versions
+        ∙ ap (λ b. map (λ v. controller_install_act s b (refined_plan_to_keep setting one v)) versions)
+        ((told s boot refl).1 e) ∙ sym (map_twice (λ v. journal_install_for setting one v s) Post versions))
+        ∙ posted (map (λ v. journal_install_for setting one v s) versions) one
     by_new false e = refl
 hello_written setting before one body old new have is told = refl
 
 installs_leave : (setting : Setting) (before one : List Item) (body : Body)
     (new : ControllerValue) → AreCaused setting one → IsControllerOf setting one new
     → IsControllerOf setting (one ++ after_hello setting before body one) new
-unfolding installs_to
-installs_leave setting before one (Hello s boot) new have is = by_new (is_new_boot before s boot)
+unfolding machine_installs_to
+installs_leave setting before one (Hello s boot) new have is = by_new (is_new_boot_in_journal before s boot)
   where
     by_new : (b : Bool) → IsControllerOf setting
-        (one ++ elim b [ true ↦ installs_to setting s one | false ↦ [] ]) new
-    by_new true = controller_on setting one (installs_to setting s one) new have
-        (leaves_keep one (installs_to setting s one)
-        (sends_leave one _ (installs_reopen setting one s (versions_from_current one)))) is
+        (one ++ elim b [ true ↦ machine_installs_to setting s one | false ↦ [] ]) new
+    by_new true = controller_on setting one (machine_installs_to setting s one) new have
+        (leaves_keep one (machine_installs_to setting s one)
+        (sends_leave one _ (installs_reopen setting one s (journal_versions_from_current one)))) is
     by_new false = subst (λ js. IsControllerOf setting js new) (sym (append-nil one)) is
 installs_leave setting before one body new have is = rw (append-nil one) is
 
@@ -146,8 +146,8 @@ installs_leave setting before one body new have is = rw (append-nil one) is
 module _ (setting : Setting) (before : List Item) (row n : ℕ) (body : Body)
     (old new : ControllerValue) (have : AreCaused setting before)
     (is : IsControllerOf setting before old)
-    (sent : message_of before n ≡ Some (to_controller body)) (there : ReplyNamesExist body old.marks)
-    (settles : SettlesWith (marks_after body old.marks) old.plans new) where
+    (sent : message_of before n ≡ Some (to_controller body)) (there : ControllerReplyNamesExist body old.marks)
+    (settles : ControllerSettlesWith (controller_marks_after body old.marks) old.plans new) where
   abbrev here : List Item
   here = before ++ Item.Row row (Deliver n) ∷ []
 
@@ -161,42 +161,42 @@ module _ (setting : Setting) (before : List Item) (row n : ℕ) (body : Body)
   here_have = behind_row setting before row (Deliver n) have
 
   now_have : AreCaused setting now
-  now_have = have_append (HasItemCause setting) [] here (Item.Delivered n ∷ []) here_have (tt, tt)
+  now_have = have_append (HasControlItemCause setting) [] here (Item.Delivered n ∷ []) here_have (tt, tt)
 
   here_is : IsControllerOf setting here old
   here_is = row_on setting before row (Deliver n) old have is
 
-  said : body_to_controller here n ≡ Some body
+  said : journal_body_to_controller here n ≡ Some body
   said = ap (λ o. elim o [
     | None ↦ None
     | Some message ↦ if is_to_controller message.to then Some message.body else None
   ]) (message_more before (Item.Row row (Deliver n)) n ∙ sent)
 
-  heard_settles : (acts_written now (acts.settling_acts (current_touched new) (marks_after body old.marks) new.marks)
+  heard_settles : (refined_acts_written now (acts.controller_settling_acts (current_plan_touched new) (controller_marks_after body old.marks) new.marks)
       ≡ settling setting now) × IsControllerOf setting one new
-  heard_settles = settles_with setting now (marks_after body old.marks) old.plans new now_have
+  heard_settles = settles_with setting now (controller_marks_after body old.marks) old.plans new now_have
       (marks_told setting here n body old.marks here_have said there here_is.marks)
       (plans_on setting here (Item.Delivered n ∷ []) old.plans here_have
       (count_more here (Item.Delivered n)) (current_more here (Item.Delivered n)) here_is.plans)
       settles
 
   hello_told : (s boot : ℕ) → body ≡ Hello s boot
-      → (takes_hello boot (record_of old.marks s) ≡ is_new_boot before s boot)
-      × (takes_hello boot (record_of old.marks s) ≡ true → boot ≡ known_boot one s)
+      → (update_takes_hello boot (record_of old.marks s) ≡ is_new_boot_in_journal before s boot)
+      × (update_takes_hello boot (record_of old.marks s) ≡ true → boot ≡ journal_known_boot one s)
   hello_told s boot e =
-      let below : s < length old.marks.switches = subst (λ b. ReplyNamesExist b old.marks) e there in (
+      let below : s < length old.marks.switches = subst (λ b. ControllerReplyNamesExist b old.marks) e there in (
         ap (λ known. nat_lt known boot) (is.marks.each s below).boot,
         hello_boot_is setting now s boot old new heard_settles.1 (rw e at settles) below,
       )
 
-  heard_so : (acts_written now (hear_acts body old.marks new)
+  heard_so : (refined_acts_written now (controller_hear_acts body old.marks new)
       ≡ controller_items setting before body now)
       × IsControllerOf setting (now ++ controller_items setting before body now) new
   unfolding controller_items
   heard_so = (
     written_in_two now (settling setting) (after_hello setting before body)
-        (acts.settling_acts (current_touched new) (marks_after body old.marks) new.marks)
-        (installs_after body old.marks new) heard_settles.0 (hello_written setting before one body
+        (acts.controller_settling_acts (current_plan_touched new) (controller_marks_after body old.marks) new.marks)
+        (controller_installs_after body old.marks new) heard_settles.0 (hello_written setting before one body
         old.marks new (settling_caused setting now now_have) heard_settles.1 hello_told),
     rw (in_two (settling setting) (after_hello setting before body) now) (installs_leave setting
         before one body new (settling_caused setting now now_have) heard_settles.1),
@@ -207,54 +207,54 @@ deliver_piece : (setting : Setting) (before : List Item) (row n : ℕ) (body : B
     → let now = (before ++ Item.Row row (Deliver n) ∷ []) ++ Item.Delivered n ∷ [] in
     Item.Row row (Deliver n) ∷ Item.Delivered n ∷ controller_items setting before body now
     ≡ piece setting before row (Deliver n)
-unfolding piece deliver_items delivery_items
+unfolding piece deliver_items machine_delivery_items
 deliver_piece setting before row n body may sent =
     let here : List Item = before ++ Item.Row row (Deliver n) ∷ [] in
     let now : List Item = here ++ Item.Delivered n ∷ [] in
     let told : elim (message_of before n) [
       | None ↦ []
-      | Some message ↦ received_items setting before n message now
+      | Some message ↦ machine_received_items setting before n message now
     ] ≡ controller_items setting before body now = ap (λ o. elim o [
       | None ↦ []
-      | Some message ↦ received_items setting before n message now
+      | Some message ↦ machine_received_items setting before n message now
     ]) sent in
     ap (λ items. Item.Row row (Deliver n) ∷ Item.Delivered n ∷ items) (sym told)
     ∙ ap (λ b. Item.Row row (Deliver n) ∷ elim b [
       | false ↦ nothing
-      | true ↦ journal_items_then (Item.Delivered n ∷ []) (delivery_items setting before n) here
+      | true ↦ journal_items_then (Item.Delivered n ∷ []) (machine_delivery_items setting before n) here
     ]) (sym may)
 
 pub hears : (setting : Setting) (before : List Item) (row n : ℕ) (body : Body)
     (old new : ControllerValue) → AreCaused setting before → IsControllerOf setting before old
     → IsTrue (is_deliverable before n) → message_of before n ≡ Some (to_controller body)
-    → ReplyNamesExist body old.marks → SettlesWith (marks_after body old.marks) old.plans new
-    → AreActsWritten setting before (Item.Row row (Deliver n) ∷ Item.Delivered n ∷ [])
-    (hear_acts body old.marks new) new (piece setting before row (Deliver n))
+    → ControllerReplyNamesExist body old.marks → ControllerSettlesWith (controller_marks_after body old.marks) old.plans new
+    → AreRefinedActsWritten setting before (Item.Row row (Deliver n) ∷ Item.Delivered n ∷ [])
+    (controller_hear_acts body old.marks new) new (piece setting before row (Deliver n))
 hears setting before row n body old new have is may sent there settles =
     let so = heard_so setting before row n body old new have is sent there settles in
-    subst (AreActsWritten setting before (Item.Row row (Deliver n) ∷ Item.Delivered n ∷ [])
-    (hear_acts body old.marks new) new) (deliver_piece setting before row n body may sent)
+    subst (AreRefinedActsWritten setting before (Item.Row row (Deliver n) ∷ Item.Delivered n ∷ [])
+    (controller_hear_acts body old.marks new) new) (deliver_piece setting before row n body may sent)
     (are_written setting before (Item.Row row (Deliver n)) (Item.Delivered n) _
-    (hear_acts body old.marks new) new so.0 so.1)
+    (controller_hear_acts body old.marks new) new so.0 so.1)
 
 -- ---- a switch that is over
 
 pub confirms : (setting : Setting) (before : List Item) (row s : ℕ) (old new : ControllerValue)
     → AreCaused setting before → IsControllerOf setting before old → IsFalse (is_up before s)
-    → s < length old.marks.switches → SettlesWith (at_switch s after_over old.marks) old.plans new
-    → AreActsWritten setting before (Item.Row row (Confirm s) ∷ Item.OverNow s ∷ [])
-    (acts.settling_acts (current_touched new) (at_switch s after_over old.marks) new.marks) new
+    → s < length old.marks.switches → ControllerSettlesWith (at_switch s after_over old.marks) old.plans new
+    → AreRefinedActsWritten setting before (Item.Row row (Confirm s) ∷ Item.OverNow s ∷ [])
+    (acts.controller_settling_acts (current_plan_touched new) (at_switch s after_over old.marks) new.marks) new
     (piece setting before row (Confirm s))
 unfolding piece confirm_items
 confirms setting before row s old new have is down there settles =
-    subst (λ b. AreActsWritten setting before (Item.Row row (Confirm s) ∷ Item.OverNow s ∷ [])
-    (acts.settling_acts (current_touched new) (at_switch s after_over old.marks) new.marks) new (Item.Row row (Confirm s)
+    subst (λ b. AreRefinedActsWritten setting before (Item.Row row (Confirm s) ∷ Item.OverNow s ∷ [])
+    (acts.controller_settling_acts (current_plan_touched new) (at_switch s after_over old.marks) new.marks) new (Item.Row row (Confirm s)
     ∷ elim b [
       | true ↦ nothing
       | false ↦ journal_items_then (Item.OverNow s ∷ []) (settling setting) here
     ])) (sym still)
     (are_written setting before (Item.Row row (Confirm s)) (Item.OverNow s) (settling setting now)
-    (acts.settling_acts (current_touched new) (at_switch s after_over old.marks) new.marks) new so.0 so.1)
+    (acts.controller_settling_acts (current_plan_touched new) (at_switch s after_over old.marks) new.marks) new so.0 so.1)
   where
     here : List Item
     here = before ++ Item.Row row (Confirm s) ∷ []
@@ -271,10 +271,10 @@ confirms setting before row s old new have is down there settles =
     here_is : IsControllerOf setting here old
     here_is = row_on setting before row (Confirm s) old have is
 
-    so : (acts_written now (acts.settling_acts (current_touched new) (at_switch s after_over old.marks) new.marks)
+    so : (refined_acts_written now (acts.controller_settling_acts (current_plan_touched new) (at_switch s after_over old.marks) new.marks)
         ≡ settling setting now) × IsControllerOf setting (now ++ settling setting now) new
     so = settles_with setting now (at_switch s after_over old.marks) old.plans new
-        (have_append (HasItemCause setting) [] here (Item.OverNow s ∷ []) here_have (still, tt))
+        (have_append (HasControlItemCause setting) [] here (Item.OverNow s ∷ []) here_have (still, tt))
         (marks_over setting here s old.marks there here_is.marks)
         (plans_on setting here (Item.OverNow s ∷ []) old.plans here_have
         (count_more here (Item.OverNow s)) (current_more here (Item.OverNow s)) here_is.plans)

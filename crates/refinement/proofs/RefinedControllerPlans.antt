@@ -1,18 +1,18 @@
 -- The plans that a controller keeps are those of the versions from the current one to the last.
 use Rattle.std.proofs.Common.{[], ◌++◌, ◌+◌, ◌-◌, ◌<◌, ◌==◌, ◌∙◌, ◌∷◌, ◌≡◌, ◌≤◌, Bool, List, None, Option, Some, ap, append-nil, arith, eq-eqb, false, find, inl, inr, map, max, nat_le, ne_eqb, option_and_then, option_map, option_to_list, refl, subst, suc, sym, true, zero, ℕ}
 use Rattle.base.proofs.Exports.{cases_eq, filter_made, later_same, map-range_same, map-range_with_len_more, option_map_or, range_with_len}
-use Rattle.controller.specs.Exports.{ControllerValue, KeptPlan, SettlesWith, current_touched, newest_policy, kept_plans_from}
-use Rattle.update_machine.specs.Exports.{ControllerKeeps, HasPlan, Installed, IsSetting, Item, Setting, VersionsAreNumbered, body_to_controller, controller_heard, current_mark, installed_version_in, known_boot, message_of, policy_in, settling, touched_by, version_count, versions_from_current}
+use Rattle.controller.specs.Exports.{ControllerValue, KeptPlan, ControllerSettlesWith, current_plan_touched, controller_newest_policy, kept_plans_from}
+use Rattle.update_machine.specs.Exports.{JournalControllerKeeps, SettingHasPlan, Installed, IsSetting, Item, Setting, VersionsAreNumbered, journal_body_to_controller, controller_heard, journal_current_mark, journal_installed_in_body, journal_known_boot, message_of, policy_in, settling, touched_by, journal_version_count, journal_versions_from_current}
 use Rattle.update_machine.proofs.Exports.{begins_planned, plan_stays, policy_stays, start_laws, touched_stays}
-use Rattle.control_laws.specs.Exports.{HasItemCause, MarksAreBounded}
+use Rattle.control_laws.specs.Exports.{HasControlItemCause, MarksAreBounded}
 use Rattle.control_laws.proofs.Exports.{AreKept, FromCauses, HeardAreKnown, IsKnown, bounded, by_number, caused_numbered, from_causes, heard_known, installed_is, known_at_first, known_kept, known_rises, tells, told_by, told_by_more, told_sent, versions_planned}
-use Rattle.refinement.specs.Exports.{AreMarksOf, IsControllerOf, plan_to_keep, acts_written}
+use Rattle.refinement.specs.Exports.{AreMarksRefined, IsControllerOf, refined_plan_to_keep, refined_acts_written}
 use Rattle.refinement.proofs.RefinedSettling.{AreCaused, settles_so}
 use Rattle.version_update.specs.Exports.{MarksValue}
 use Rattle.controller.specs.Sends as acts
 use Rattle.controller.proofs.ControllerNewestPolicy.{still_found}
 use Rattle.refinement.proofs.RefinedKeptController.{marks_on}
-use Rattle.switch_table.specs.Exports.{all_touched}
+use Rattle.switch_table.specs.Exports.{cache_all_touched}
 use Rattle.ctrl_msg.specs.Exports.{to_controller}
 
 -- ---- the policy of the newest version, which the controller keeps
@@ -23,11 +23,11 @@ is_of version kept = kept.version == version
 -- of the plans of a stretch of versions each is found by its version
 pub find_kept : (setting : Setting) (journal : List Item) (low many version : ℕ) → low ≤ version
     → version < low + many
-    → find (is_of version) (map (plan_to_keep setting journal) (range_with_len low many))
-    ≡ Some (plan_to_keep setting journal version)
+    → find (is_of version) (map (refined_plan_to_keep setting journal) (range_with_len low many))
+    ≡ Some (refined_plan_to_keep setting journal version)
 find_kept setting journal low zero version above below = absurd (omega (arith, above, below))
 find_kept setting journal low (suc many) version above below = elim (cases_eq low version) [
-  | inl same ↦ rw (eq-eqb low version same) (ap (λ v. Some (plan_to_keep setting journal v)) same)
+  | inl same ↦ rw (eq-eqb low version same) (ap (λ v. Some (refined_plan_to_keep setting journal v)) same)
   | inr apart ↦ rw (ne_eqb low version apart) (find_kept setting journal (low + 1) many version
       (omega (arith, above, apart)) (omega (arith, below)))
 ]
@@ -35,20 +35,20 @@ find_kept setting journal low (suc many) version above below = elim (cases_eq lo
 -- the newest version has a plan, so its policy is there
 pub newest_in : (setting : Setting) (journal : List Item) (controller : ControllerValue)
     → IsSetting setting → AreCaused setting journal → IsControllerOf setting journal controller
-    → newest_policy controller ≡ policy_in setting journal (version_count journal)
+    → controller_newest_policy controller ≡ policy_in setting journal (journal_version_count journal)
 newest_in setting journal controller is have refines =
     ap (option_map (λ (kept : KeptPlan). kept.plan.policy))
     (ap (λ n. find (is_of n) controller.plans) refines.marks.count
-    ∙ ap (find (is_of (version_count journal))) refines.plans ∙ find_kept setting journal
-    (current_mark journal) (version_count journal + 1 - current_mark journal)
-    (version_count journal) marks.there (omega (arith, marks.there))) ∙ sym planned.policy
+    ∙ ap (find (is_of (journal_version_count journal))) refines.plans ∙ find_kept setting journal
+    (journal_current_mark journal) (journal_version_count journal + 1 - journal_current_mark journal)
+    (journal_version_count journal) marks.there (omega (arith, marks.there))) ∙ sym planned.policy
   where
     marks : MarksAreBounded setting journal
     marks = bounded setting journal have
 
-    planned : HasPlan setting journal (version_count journal)
+    planned : SettingHasPlan setting journal (journal_version_count journal)
     planned = (versions_planned setting journal have).planned (begins_planned setting is)
-        (version_count journal) (omega (arith, marks.first, marks.there)) (omega arith)
+        (journal_version_count journal) (omega (arith, marks.first, marks.there)) (omega arith)
 
 -- ---- controller plans
 
@@ -56,9 +56,9 @@ newest_in setting journal controller is have refines =
 
 -- a version from the current one on keeps its plan
 planned_on : (setting : Setting) (before items : List Item) (v : ℕ) → AreCaused setting before
-    → current_mark before ≤ v
-    → v < current_mark before + (version_count before + 1 - current_mark before)
-    → plan_to_keep setting before v ≡ plan_to_keep setting (before ++ items) v
+    → journal_current_mark before ≤ v
+    → v < journal_current_mark before + (journal_version_count before + 1 - journal_current_mark before)
+    → refined_plan_to_keep setting before v ≡ refined_plan_to_keep setting (before ++ items) v
 planned_on setting before items v have above below = rw (
   policy_stays setting before items v numbers last,
   plan_stays setting before items v numbers last,
@@ -68,91 +68,91 @@ planned_on setting before items v have above below = rw (
     numbers : VersionsAreNumbered before
     numbers = caused_numbered setting before have
 
-    last : v ≤ version_count before
+    last : v ≤ journal_version_count before
     last = let marks = bounded setting before have in omega (arith, above, below, marks.there)
 
 -- the plans stay, where neither a version nor a rise of the current mark came
 pub plans_on : (setting : Setting) (before items : List Item) (plans : List KeptPlan)
-    → AreCaused setting before → version_count (before ++ items) ≡ version_count before
-    → current_mark (before ++ items) ≡ current_mark before
-    → plans ≡ map (plan_to_keep setting before) (versions_from_current before)
-    → plans ≡ map (plan_to_keep setting (before ++ items)) (versions_from_current (before ++ items))
+    → AreCaused setting before → journal_version_count (before ++ items) ≡ journal_version_count before
+    → journal_current_mark (before ++ items) ≡ journal_current_mark before
+    → plans ≡ map (refined_plan_to_keep setting before) (journal_versions_from_current before)
+    → plans ≡ map (refined_plan_to_keep setting (before ++ items)) (journal_versions_from_current (before ++ items))
 plans_on setting before items plans have count current are =
     let after : List Item = before ++ items in
     are
-    ∙ map-range_same (plan_to_keep setting before) (plan_to_keep setting after) (current_mark before)
-    (version_count before + 1 - current_mark before)
+    ∙ map-range_same (refined_plan_to_keep setting before) (refined_plan_to_keep setting after) (journal_current_mark before)
+    (journal_version_count before + 1 - journal_current_mark before)
     (λ v above below. planned_on setting before items v have above below)
-    ∙ ap (λ n. map (plan_to_keep setting after)
-    (range_with_len (current_mark before) (n + 1 - current_mark before))) (sym count)
-    ∙ ap (λ c. map (plan_to_keep setting after) (range_with_len c (version_count after + 1 - c)))
+    ∙ ap (λ n. map (refined_plan_to_keep setting after)
+    (range_with_len (journal_current_mark before) (n + 1 - journal_current_mark before))) (sym count)
+    ∙ ap (λ c. map (refined_plan_to_keep setting after) (range_with_len c (journal_version_count after + 1 - c)))
     (sym current)
 
 -- one more version
 pub plans_pushed : (setting : Setting) (before items : List Item) (plans : List KeptPlan)
     (kept : KeptPlan) → AreCaused setting before
-    → version_count (before ++ items) ≡ version_count before + 1
-    → current_mark (before ++ items) ≡ current_mark before
-    → kept ≡ plan_to_keep setting (before ++ items) (version_count before + 1)
-    → plans ≡ map (plan_to_keep setting before) (versions_from_current before) → plans ++ kept ∷ []
-    ≡ map (plan_to_keep setting (before ++ items)) (versions_from_current (before ++ items))
+    → journal_version_count (before ++ items) ≡ journal_version_count before + 1
+    → journal_current_mark (before ++ items) ≡ journal_current_mark before
+    → kept ≡ refined_plan_to_keep setting (before ++ items) (journal_version_count before + 1)
+    → plans ≡ map (refined_plan_to_keep setting before) (journal_versions_from_current before) → plans ++ kept ∷ []
+    ≡ map (refined_plan_to_keep setting (before ++ items)) (journal_versions_from_current (before ++ items))
 plans_pushed setting before items plans kept have count current new are =
     let after : List Item = before ++ items in
-    let low : ℕ = current_mark before in
-    let n : ℕ = version_count before + 1 - low in
+    let low : ℕ = journal_current_mark before in
+    let n : ℕ = journal_version_count before + 1 - low in
     let there = (bounded setting before have).there in
-    let many : n + 1 ≡ version_count after + 1 - low = omega (arith, count, there) in
+    let many : n + 1 ≡ journal_version_count after + 1 - low = omega (arith, count, there) in
     ap (λ xs. xs ++ kept ∷ [])
-    (are ∙ map-range_same (plan_to_keep setting before) (plan_to_keep setting after) low n
+    (are ∙ map-range_same (refined_plan_to_keep setting before) (refined_plan_to_keep setting after) low n
     (λ v above below. planned_on setting before items v have above below))
-    ∙ ap (λ k. map (plan_to_keep setting after) (range_with_len low n) ++ k ∷ []) new
-    ∙ sym (map-range_with_len_more (plan_to_keep setting after) low n (version_count before + 1)
+    ∙ ap (λ k. map (refined_plan_to_keep setting after) (range_with_len low n) ++ k ∷ []) new
+    ∙ sym (map-range_with_len_more (refined_plan_to_keep setting after) low n (journal_version_count before + 1)
     (omega (arith, there)))
-    ∙ ap (λ k. map (plan_to_keep setting after) (range_with_len low k)) many
-    ∙ ap (λ c. map (plan_to_keep setting after) (range_with_len c (version_count after + 1 - c)))
+    ∙ ap (λ k. map (refined_plan_to_keep setting after) (range_with_len low k)) many
+    ∙ ap (λ c. map (refined_plan_to_keep setting after) (range_with_len c (journal_version_count after + 1 - c)))
     (sym current)
 
 -- those of the versions before a later current one are let go
 later_plans : (setting : Setting) (before items : List Item) (plans : List KeptPlan)
-    → AreCaused setting before → version_count (before ++ items) ≡ version_count before
-    → current_mark before ≤ current_mark (before ++ items)
-    → current_mark (before ++ items) ≤ version_count before
-    → plans ≡ map (plan_to_keep setting before) (versions_from_current before)
-    → kept_plans_from (current_mark (before ++ items)) plans
-    ≡ map (plan_to_keep setting (before ++ items)) (versions_from_current (before ++ items))
+    → AreCaused setting before → journal_version_count (before ++ items) ≡ journal_version_count before
+    → journal_current_mark before ≤ journal_current_mark (before ++ items)
+    → journal_current_mark (before ++ items) ≤ journal_version_count before
+    → plans ≡ map (refined_plan_to_keep setting before) (journal_versions_from_current before)
+    → kept_plans_from (journal_current_mark (before ++ items)) plans
+    ≡ map (refined_plan_to_keep setting (before ++ items)) (journal_versions_from_current (before ++ items))
 later_plans setting before items plans have count rises bound are =
     let after : List Item = before ++ items in
-    let to : ℕ = current_mark after in
-    let low : ℕ = current_mark before in
-    let n : ℕ = version_count before + 1 - low in
+    let to : ℕ = journal_current_mark after in
+    let low : ℕ = journal_current_mark before in
+    let n : ℕ = journal_version_count before + 1 - low in
     let own : max to low ≡ to = omega (arith, rises) in
-    let many : low + n - to ≡ version_count after + 1 - to = omega (arith, count, rises, bound) in
+    let many : low + n - to ≡ journal_version_count after + 1 - to = omega (arith, count, rises, bound) in
     ap (kept_plans_from to) are
-    ∙ filter_made (plan_to_keep setting before) (λ kept. nat_le to kept.version)
+    ∙ filter_made (refined_plan_to_keep setting before) (λ kept. nat_le to kept.version)
     (range_with_len low n)
-    ∙ later_same (plan_to_keep setting before) (plan_to_keep setting after) to low n
+    ∙ later_same (refined_plan_to_keep setting before) (refined_plan_to_keep setting after) to low n
     (λ v above below. planned_on setting before items v have above below)
-    ∙ ap (λ k. map (plan_to_keep setting after) (range_with_len k (low + n - k))) own
-    ∙ ap (λ k. map (plan_to_keep setting after) (range_with_len to k)) many
+    ∙ ap (λ k. map (refined_plan_to_keep setting after) (range_with_len k (low + n - k))) own
+    ∙ ap (λ k. map (refined_plan_to_keep setting after) (range_with_len to k)) many
 
 -- none is let go twice
 pub plans_stay : (setting : Setting) (journal : List Item) (plans : List KeptPlan) (current : ℕ)
-    → AreCaused setting journal → current ≡ current_mark journal
-    → plans ≡ map (plan_to_keep setting journal) (versions_from_current journal)
-    → kept_plans_from current plans ≡ map (plan_to_keep setting journal) (versions_from_current journal)
+    → AreCaused setting journal → current ≡ journal_current_mark journal
+    → plans ≡ map (refined_plan_to_keep setting journal) (journal_versions_from_current journal)
+    → kept_plans_from current plans ≡ map (refined_plan_to_keep setting journal) (journal_versions_from_current journal)
 plans_stay setting journal plans current have now are =
     let marks = bounded setting journal have in
     let same : journal ++ [] ≡ journal = append-nil journal in
-    ap (λ c. kept_plans_from c plans) (now ∙ sym (ap current_mark same))
-    ∙ later_plans setting journal [] plans have (ap version_count same)
-    (omega (arith, ap current_mark same)) (omega (arith, ap current_mark same, marks.there)) are
-    ∙ ap (λ js. map (plan_to_keep setting js) (versions_from_current js)) same
+    ap (λ c. kept_plans_from c plans) (now ∙ sym (ap journal_current_mark same))
+    ∙ later_plans setting journal [] plans have (ap journal_version_count same)
+    (omega (arith, ap journal_current_mark same)) (omega (arith, ap journal_current_mark same, marks.there)) are
+    ∙ ap (λ js. map (refined_plan_to_keep setting js) (journal_versions_from_current js)) same
 
 -- ---- a controller
 
 -- what leaves what it knows leaves it as it was
 pub controller_on : (setting : Setting) (before items : List Item) (controller : ControllerValue)
-    → AreCaused setting before → ControllerKeeps before (before ++ items)
+    → AreCaused setting before → JournalControllerKeeps before (before ++ items)
     → IsControllerOf setting before controller
     → IsControllerOf setting (before ++ items) controller
 controller_on setting before items controller have keeps is = record {
@@ -162,34 +162,34 @@ controller_on setting before items controller have keeps is = record {
 
 -- what the controller keeps for the version that is current then is what its change touches
 settled_touched : (setting : Setting) (now : List Item) (before : MarksValue)
-    (plans : List KeptPlan) (new : ControllerValue) → AreMarksOf setting now before
-    → plans ≡ map (plan_to_keep setting now) (versions_from_current now)
-    → SettlesWith before plans new → current_touched new ≡ touched_by setting now new.marks.current
+    (plans : List KeptPlan) (new : ControllerValue) → AreMarksRefined setting now before
+    → plans ≡ map (refined_plan_to_keep setting now) (journal_versions_from_current now)
+    → ControllerSettlesWith before plans new → current_plan_touched new ≡ touched_by setting now new.marks.current
 settled_touched setting now before plans new marks are settles =
     let c = new.marks.current in
     let is = settles.marks.1 in
     let low = marks.current in
-    ap (λ o. option_map_or (λ (kept : KeptPlan). kept.touched) o all_touched)
+    ap (λ o. option_map_or (λ (kept : KeptPlan). kept.touched) o cache_all_touched)
     (ap (find (is_of c)) settles.plans ∙ still_found c c plans (omega arith)
-    ∙ ap (find (is_of c)) are ∙ find_kept setting now (current_mark now)
-    (version_count now + 1 - current_mark now) c (omega (arith, low, is.current.rises))
+    ∙ ap (find (is_of c)) are ∙ find_kept setting now (journal_current_mark now)
+    (journal_version_count now + 1 - journal_current_mark now) c (omega (arith, low, is.current.rises))
     (omega (arith, low, marks.count, is.current.rises, is.current.bound)))
 
 -- the marks settle, and the plans are let go that no later call names
 pub settles_with : (setting : Setting) (now : List Item)
     (before : MarksValue) (plans : List KeptPlan) (new : ControllerValue) → AreCaused setting now
-    → AreMarksOf setting now before
-    → plans ≡ map (plan_to_keep setting now) (versions_from_current now)
-    → SettlesWith before plans new
-    → (acts_written now (acts.settling_acts (current_touched new) before new.marks)
+    → AreMarksRefined setting now before
+    → plans ≡ map (refined_plan_to_keep setting now) (journal_versions_from_current now)
+    → ControllerSettlesWith before plans new
+    → (refined_acts_written now (acts.controller_settling_acts (current_plan_touched new) before new.marks)
     ≡ settling setting now) × IsControllerOf setting (now ++ settling setting now) new
 settles_with setting now before plans new have marks are settles =
     let is = settles.marks.1 in
-    let so = settles_so setting now before new.marks settles.marks.0 (current_touched new)
+    let so = settles_so setting now before new.marks settles.marks.0 (current_plan_touched new)
     (settled_touched setting now before plans new marks are settles) have marks is in
     let after = so.1 in
     let current = after.current in
-    let count : version_count (now ++ settling setting now) ≡ version_count now =
+    let count : journal_version_count (now ++ settling setting now) ≡ journal_version_count now =
     sym after.count ∙ is.count ∙ marks.count in (
       so.0,
       record {
@@ -210,48 +210,48 @@ pub record AcksArePast (journal : List Item) : Type 0 where
   pub boots : IsKnown journal
   pub heard : HeardAreKnown journal
   pub sent : (s boot v n : ℕ) → message_of journal n ≡ Some (to_controller (Installed s boot v))
-      → boot ≤ known_boot journal s
-  pub told : (s boot : ℕ) → known_boot journal s < boot → told_by (installed_version_in s boot) journal ≡ []
+      → boot ≤ journal_known_boot journal s
+  pub told : (s boot : ℕ) → journal_known_boot journal s < boot → told_by (journal_installed_in_body s boot) journal ≡ []
 
 -- ---- acknowledgements
 
 sent_on : (setting : Setting) (before : List Item) (next : Item) (s boot v n : ℕ)
-    → HasItemCause setting before next → AcksArePast before
+    → HasControlItemCause setting before next → AcksArePast before
     → message_of (before ++ next ∷ []) n ≡ Some (to_controller (Installed s boot v))
-    → boot ≤ known_boot (before ++ next ∷ []) s
+    → boot ≤ journal_known_boot (before ++ next ∷ []) s
 sent_on setting before next s boot v n cause past is = let rises = known_rises before next s in
     elim (by_number before next n (to_controller (Installed s boot v)) is) [
-      | inl new ↦ let right = subst (HasItemCause setting before) new cause in
+      | inl new ↦ let right = subst (HasControlItemCause setting before) new cause in
           omega (arith, past.heard s v right.heard, right.present.own, rises)
       | inr old ↦ omega (arith, past.sent s boot v n old, rises)
     ]
 
 -- what the controller is told was sent
 told_one : (before : List Item) (next : Item) (s boot : ℕ) → AcksArePast before
-    → known_boot before s < boot → tells (installed_version_in s boot) before next ≡ []
+    → journal_known_boot before s < boot → tells (journal_installed_in_body s boot) before next ≡ []
 told_one before (Item.Delivered number) s boot past later =
-    by_told (option_and_then (installed_version_in s boot) (body_to_controller before number)) refl
+    by_told (option_and_then (journal_installed_in_body s boot) (journal_body_to_controller before number)) refl
   where
     by_told : (o : Option ℕ)
-        → option_and_then (installed_version_in s boot) (body_to_controller before number) ≡ o
+        → option_and_then (journal_installed_in_body s boot) (journal_body_to_controller before number) ≡ o
         → option_to_list o ≡ []
     by_told None e = refl
     by_told (Some v) e =
-        let is = past.sent s boot v number (told_sent (installed_version_in s boot) (Installed s boot)
+        let is = past.sent s boot v number (told_sent (journal_installed_in_body s boot) (Installed s boot)
         (installed_is s boot) before number v e) in
         absurd (omega (arith, is, later))
 told_one before next s boot past later = refl
 
 told_on : (before : List Item) (next : Item) (s boot : ℕ) → AcksArePast before
-    → known_boot (before ++ next ∷ []) s < boot
-    → told_by (installed_version_in s boot) (before ++ next ∷ []) ≡ []
+    → journal_known_boot (before ++ next ∷ []) s < boot
+    → told_by (journal_installed_in_body s boot) (before ++ next ∷ []) ≡ []
 told_on before next s boot past later =
-    let was : known_boot before s < boot = omega (arith, later, known_rises before next s) in
-    told_by_more (installed_version_in s boot) before next
-    ∙ ap (λ xs. xs ++ tells (installed_version_in s boot) before next) (past.told s boot was)
+    let was : journal_known_boot before s < boot = omega (arith, later, known_rises before next s) in
+    told_by_more (journal_installed_in_body s boot) before next
+    ∙ ap (λ xs. xs ++ tells (journal_installed_in_body s boot) before next) (past.told s boot was)
     ∙ told_one before next s boot past was
 
-past_kept : (setting : Setting) → AreKept (HasItemCause setting) AcksArePast
+past_kept : (setting : Setting) → AreKept (HasControlItemCause setting) AcksArePast
 past_kept setting before next cause past = record {
   boots = known_kept setting before next cause past.boots;
   heard = heard_known before next past.boots.boots past.heard;

@@ -3,15 +3,15 @@ use Rattle.std.proofs.Common.{[], ◌++◌, ◌+◌, ◌<◌, ◌==◌, ◌||◌
 use Rattle.base.proofs.Exports.{option_map_or}
 use Rattle.message_bag.specs.Exports.{IsMessageOf, Post, delivered_status, is_post_deliverable, new_post, posts_with_delivered, post_with_status}
 use Rattle.message_bag.proofs.BagNumberedPosts.{length_changed}
-use Rattle.refinement.specs.Exports.{AreActsWritten, HearsShut, IsBagOf, NetworkState, RefineJournal, switch_of}
+use Rattle.refinement.specs.Exports.{AreRefinedActsWritten, RefinementHearsShut, IsRefinedBagOf, RefinedNetworkState, RefineJournal, refined_switch_of}
 use Rattle.refinement.proofs.RefinedControllerCalls.{hears}
 use Rattle.refinement.proofs.RefinedControllerResends.{names_there, steps_leave}
-use Rattle.controller.specs.Exports.{ControllerValue, ReplyNamesExist, SettlesWith, hear_acts, marks_after}
+use Rattle.controller.specs.Exports.{ControllerValue, ControllerReplyNamesExist, ControllerSettlesWith, controller_hear_acts, controller_marks_after}
 use Rattle.controller.specs.declared.sends.Act.{Act}
 use Rattle.controller.specs.declared.sends.Act.TheVariants.{Post as PostAct}
-use Rattle.update_machine.specs.Exports.{Deliver, Item, Message, Place, Setting, deliver_items, delivery_items, is_deliverable, is_message_to, is_message_to_controller, is_to_controller, is_to_switch, message_of, near, next_message, nothing, piece, sent_from, to_switch}
+use Rattle.update_machine.specs.Exports.{Deliver, Item, Message, Place, Setting, deliver_items, machine_delivery_items, is_deliverable, is_journal_message_to, is_journal_controller_message, is_to_controller, is_journal_receiver_switch, message_of, near, journal_next_message, nothing, piece, machine_sent_items_from, machine_message_to_switch}
 use Rattle.ctrl_msg.specs.Exports.{to_controller}
-use Rattle.switch_core.specs.Exports.{SwitchValue, opening_stamp, replies, switch_with_message}
+use Rattle.switch_core.specs.Exports.{SwitchValue, switch_opening_stamp, replies, switch_with_message}
 use Rattle.refinement.proofs.RefinedDeliveredRecords.{hearing_refines}
 use Rattle.refinement.proofs.RefinedSwitchLinks.{kept_is}
 use Rattle.steps.specs.Exports.{IsStep}
@@ -29,13 +29,13 @@ use Rattle.refinement.proofs.RefinedPostedFrames.{bag_delivered, bag_on, within_
 abbrev delivered_if : Setting → List Item → ℕ → ℕ → Bool → List Item
 delivered_if setting journal row n may = Item.Row row (Deliver n) ∷ elim may [
   | false ↦ nothing
-  | true ↦ Item.Delivered n ∷ delivery_items setting journal n
+  | true ↦ Item.Delivered n ∷ machine_delivery_items setting journal n
       (journal ++ Item.Row row (Deliver n) ∷ [] ++ Item.Delivered n ∷ [])
 ]
 
 pub deliver_piece : (setting : Setting) (journal : List Item) (row n : ℕ) → is_deliverable journal n
     ≡ true → piece setting journal row (Deliver n) ≡ Item.Row row (Deliver n) ∷ Item.Delivered n
-    ∷ delivery_items setting journal n (grown journal row (Deliver n) (Item.Delivered n))
+    ∷ machine_delivery_items setting journal n (grown journal row (Deliver n) (Item.Delivered n))
 unfolding piece deliver_items
 deliver_piece setting journal row n may =
     cc (may, append_assoc journal (Item.Row row (Deliver n) ∷ []) (Item.Delivered n ∷ []))
@@ -45,7 +45,7 @@ none_piece : (setting : Setting) (journal : List Item) (row n : ℕ) → is_deli
 unfolding piece deliver_items
 none_piece setting journal row n may = ap (delivered_if setting journal row n) may
 
-module _ {setting : Setting} {journal : List Item} {state : NetworkState}
+module _ {setting : Setting} {journal : List Item} {state : RefinedNetworkState}
     (refines : RefineJournal setting journal state) where
   -- no such message may be delivered
   pub undelivered : (row n : ℕ) → IsStep setting.net (length setting.files) (Deliver n)
@@ -61,10 +61,10 @@ pub record IsThere (setting : Setting) (journal : List Item) (posts : List Post)
     (message : Message) : Type 0 where
   pub sent : message_of journal n ≡ Some message
   pub deliverable : is_deliverable journal n ≡ true
-  pub bag : IsBagOf (grown journal row (Deliver n) (Item.Delivered n)) (posts_with_delivered posts n)
+  pub bag : IsRefinedBagOf (grown journal row (Deliver n) (Item.Delivered n)) (posts_with_delivered posts n)
   pub as_many : length (posts_with_delivered posts n) ≡ length posts
 
-module _ {setting : Setting} {journal : List Item} {state : NetworkState}
+module _ {setting : Setting} {journal : List Item} {state : RefinedNetworkState}
     (refines : RefineJournal setting journal state) where
   pub is_there : (row n : ℕ) (message : Message) → IsMessageOf state.posts n message
       → IsThere setting journal state.posts row n message
@@ -81,7 +81,7 @@ module _ {setting : Setting} {journal : List Item} {state : NetworkState}
   -- it is delivered, and then more is written
   pub first_piece : (row n : ℕ) (message : Message) → IsMessageOf state.posts n message
       → piece setting journal row (Deliver n) ≡ Item.Row row (Deliver n) ∷ Item.Delivered n
-      ∷ delivery_items setting journal n (grown journal row (Deliver n) (Item.Delivered n))
+      ∷ machine_delivery_items setting journal n (grown journal row (Deliver n) (Item.Delivered n))
   first_piece row n message there =
       deliver_piece setting journal row n (is_there row n message there).deliverable
 
@@ -93,10 +93,10 @@ row_keeps journal row n =
 
 -- a switch to which the message isn't stays
 not_to : (setting : Setting) (journal : List Item) (row n q : ℕ) (message : Message)
-    → message_of journal n ≡ Some message → is_to_switch q message.to ≡ false → switch_of setting
-    (grown journal row (Deliver n) (Item.Delivered n)) q ≡ switch_of setting journal q
+    → message_of journal n ≡ Some message → is_journal_receiver_switch q message.to ≡ false → refined_switch_of setting
+    (grown journal row (Deliver n) (Item.Delivered n)) q ≡ refined_switch_of setting journal q
 not_to setting journal row n q message sent other =
-    let to_other = ap (λ o. option_map_or (λ (m : Message). is_to_switch q m.to) o false)
+    let to_other = ap (λ o. option_map_or (λ (m : Message). is_journal_receiver_switch q m.to) o false)
     (row_keeps journal row n ∙ sent) ∙ other in
     kept_is setting q journal (Item.Row row (Deliver n) ∷ Item.Delivered n ∷ [])
     (refl, (ap (λ b. b || false) to_other, tt)) (refl, (refl, tt))
@@ -106,32 +106,32 @@ not_to setting journal row n q message sent other =
 as_told : (message : Message) → message.to ≡ Place.Controller → message ≡ to_controller message.body
 as_told message to = ap (λ p. record { to = p; body = message.body }) to
 
-module _ {setting : Setting} {journal : List Item} {state : NetworkState}
+module _ {setting : Setting} {journal : List Item} {state : RefinedNetworkState}
     (refines : RefineJournal setting journal state) where
   -- what it names is there
   pub names_known : (n : ℕ) (message : Message) → IsMessageOf state.posts n message
-      → message.to ≡ Place.Controller → ReplyNamesExist message.body state.controller.marks
+      → message.to ≡ Place.Controller → ControllerReplyNamesExist message.body state.controller.marks
   names_known n message there to = names_there setting journal n message.body state.controller.marks
       (reached_known setting journal refines.sound refines.reached).tables.names
       refines.controller.marks
       (sent_as journal state.posts n message refines.bag there ∙ ap Some (as_told message to))
 
-module _ {setting : Setting} {journal : List Item} {state : NetworkState}
+module _ {setting : Setting} {journal : List Item} {state : RefinedNetworkState}
     (refines : RefineJournal setting journal state) (row n : ℕ) (message : Message)
     (new : ControllerValue) (may : IsStep setting.net (length setting.files) (Deliver n))
     (there : IsMessageOf state.posts n message) (to : message.to ≡ Place.Controller)
-    (settles : SettlesWith (marks_after message.body state.controller.marks) state.controller.plans
+    (settles : ControllerSettlesWith (controller_marks_after message.body state.controller.marks) state.controller.plans
     new) where
   its : IsThere setting journal state.posts row n message
   its = is_there refines row n message there
 
   abbrev acts : List Act
-  acts = hear_acts message.body state.controller.marks new
+  acts = controller_hear_acts message.body state.controller.marks new
 
   abbrev first : List Item
   first = Item.Row row (Deliver n) ∷ Item.Delivered n ∷ []
 
-  heard_so : AreActsWritten setting journal first acts new (piece setting journal row (Deliver n))
+  heard_so : AreRefinedActsWritten setting journal first acts new (piece setting journal row (Deliver n))
   heard_so = hears setting journal row n message.body state.controller new
       (reached_known setting journal refines.sound refines.reached).caused refines.controller
       its.deliverable (its.sent ∙ ap Some (as_told message to))
@@ -145,9 +145,9 @@ module _ {setting : Setting} {journal : List Item} {state : NetworkState}
       (record state { controller = new; posts = posts_with_delivered state.posts n })
   control_told =
       let each : (s : ℕ) (d : SwitchValue) → s < length state.switches → get_or state.switches s d
-      ≡ switch_of setting (grown journal row (Deliver n) (Item.Delivered n)) s =
+      ≡ refined_switch_of setting (grown journal row (Deliver n) (Item.Delivered n)) s =
       λ s d below. refines.each s d below
-      ∙ sym (not_to setting journal row n s message its.sent (ap (is_to_switch s) to)) in
+      ∙ sym (not_to setting journal row n s message its.sent (ap (is_journal_receiver_switch s) to)) in
       search (rules, control_piece, its.bag, its.as_many, heard_so.after, links_stay, up_stay)
 
   pub control_refines : RefineJournal setting (journal ++ Item.Row row (Deliver n)
@@ -166,10 +166,10 @@ module _ {setting : Setting} {journal : List Item} {state : NetworkState}
 -- ---- at a switch that doesn't open
 
 pub as_sent : (message : Message) (s : ℕ) → message.to ≡ Place.Switch s
-    → message ≡ to_switch s message.body
+    → message ≡ machine_message_to_switch s message.body
 as_sent message s to = ap (λ p. record { to = p; body = message.body }) to
 
-module _ {setting : Setting} {journal : List Item} {state : NetworkState}
+module _ {setting : Setting} {journal : List Item} {state : RefinedNetworkState}
     (refines : RefineJournal setting journal state) (row n s : ℕ) (message : Message)
     (own changed : SwitchValue) (mask : ℕ)
     (may : IsStep setting.net (length setting.files) (Deliver n))
@@ -177,11 +177,11 @@ module _ {setting : Setting} {journal : List Item} {state : NetworkState}
     (within : s < length state.switches) (own_at : own ≡ get_or state.switches s own)
     (near_is : mask ≡ near setting journal s)
     (changed_is : changed ≡ switch_with_message own n message.body)
-    (shut : opening_stamp own message.body ≡ None) where
+    (shut : switch_opening_stamp own message.body ≡ None) where
   mine : IsThere setting journal state.posts row n message
   mine = is_there refines row n message there
 
-  own_is : own ≡ switch_of setting journal s
+  own_is : own ≡ refined_switch_of setting journal s
   own_is = own_at ∙ refines.each s own within
 
   abbrev messages : List Message
@@ -190,31 +190,31 @@ module _ {setting : Setting} {journal : List Item} {state : NetworkState}
   abbrev reply_acts : List Act
   reply_acts = map PostAct messages
 
-  hears_shut : HearsShut setting journal n s message.body
+  hears_shut : RefinementHearsShut setting journal n s message.body
   hears_shut = hearing_refines.shut setting journal n s message.body refines.sound.net (record {
     sent = mine.sent ∙ ap Some (as_sent message s to);
     names = (reached_known setting journal refines.sound refines.reached).tables.names;
     touched = (reached_known setting journal refines.sound refines.reached).touched;
-  }) (ap (λ w. opening_stamp w message.body) (sym own_is) ∙ shut)
+  }) (ap (λ w. switch_opening_stamp w message.body) (sym own_is) ∙ shut)
 
-  number_is : next_message (grown journal row (Deliver n) (Item.Delivered n))
+  number_is : journal_next_message (grown journal row (Deliver n) (Item.Delivered n))
       ≡ length state.posts + 1
   number_is = mine.bag.many ∙ ap (λ k. k + 1) mine.as_many
 
-  items_are : delivery_items setting journal n (grown journal row (Deliver n) (Item.Delivered n))
+  items_are : machine_delivery_items setting journal n (grown journal row (Deliver n) (Item.Delivered n))
       ≡ log_act_items (length state.posts + 1) reply_acts
-  items_are = hears_shut.items row ∙ ap (λ k. sent_from k
-      (replies (switch_of setting journal s) (near setting journal s) message.body)) number_is
-      ∙ ap (λ w. sent_from
+  items_are = hears_shut.items row ∙ ap (λ k. machine_sent_items_from k
+      (replies (refined_switch_of setting journal s) (near setting journal s) message.body)) number_is
+      ∙ ap (λ w. machine_sent_items_from
       (length state.posts + 1) (replies w (near setting journal s) message.body)) (sym own_is)
-      ∙ ap (λ m. sent_from (length state.posts + 1) (replies own m message.body)) (sym near_is)
+      ∙ ap (λ m. machine_sent_items_from (length state.posts + 1) (replies own m message.body)) (sym near_is)
       ∙ sym (sent_as_acts (length state.posts + 1) messages)
 
   shut_piece_acts : piece setting journal row (Deliver n)
       ≡ Item.Row row (Deliver n) ∷ Item.Delivered n ∷ log_act_items (length state.posts + 1) reply_acts
   shut_piece_acts = cc (deliver_piece setting journal row n mine.deliverable, items_are)
 
-  not_controller : is_message_to_controller journal n ≡ false
+  not_controller : is_journal_controller_message journal n ≡ false
   not_controller = cc (mine.sent, to)
 
   shut_told : IsTold setting journal row (Deliver n) (Item.Delivered n ∷ []) reply_acts state
@@ -225,27 +225,27 @@ module _ {setting : Setting} {journal : List Item} {state : NetworkState}
   shut_told =
       let each : (q : ℕ) (d : SwitchValue) → q < length state.switches
       → get_or (set state.switches s changed) q d
-      ≡ switch_of setting (grown journal row (Deliver n) (Item.Delivered n)) q =
+      ≡ refined_switch_of setting (grown journal row (Deliver n) (Item.Delivered n)) q =
       λ q d below. one_changes setting journal (grown journal row (Deliver n) (Item.Delivered n))
       state.switches s q changed d (s == q) refl within (changed_is ∙ ap (λ w. switch_with_message w
       n message.body) own_is ∙ sym (hears_shut.record_of row)) (λ other. not_to setting journal row
-      n q message mine.sent (ap (is_to_switch q) to ∙ other)) (refines.each q d below) in
+      n q message mine.sent (ap (is_journal_receiver_switch q) to ∙ other)) (refines.each q d below) in
       let controller = steps_leave setting journal row (Deliver n) state.controller
       (reached_known setting journal refines.sound refines.reached).caused not_controller
       refines.controller in
       search (rules, shut_piece_acts, mine.bag, mine.as_many, length-set, links_stay, up_stay)
 
   pub shut_piece : piece setting journal row (Deliver n)
-      ≡ Item.Row row (Deliver n) ∷ Item.Delivered n ∷ sent_from (length state.posts + 1) messages
+      ≡ Item.Row row (Deliver n) ∷ Item.Delivered n ∷ machine_sent_items_from (length state.posts + 1) messages
   shut_piece = cc (shut_piece_acts, sent_as_acts (length state.posts + 1) messages)
 
   pub shut_refines : RefineJournal setting (journal ++ Item.Row row (Deliver n) ∷ Item.Delivered n
-      ∷ sent_from (length state.posts + 1) messages) (record state {
+      ∷ machine_sent_items_from (length state.posts + 1) messages) (record state {
         switches = set state.switches s changed;
         posts = posts_with_delivered state.posts n ++ map new_post messages;
       })
   shut_refines =
-      let with : List Post → NetworkState = λ posts. record state {
+      let with : List Post → RefinedNetworkState = λ posts. record state {
         switches = set state.switches s changed;
         posts = posts;
       } in

@@ -4,7 +4,7 @@ use Rattle.base.proofs.Exports.{slice_get-get_or, slice_get_within, some_same}
 use Rattle.five_tuple.specs.Exports.{IsHeader}
 use Rattle.update_machine.specs.Exports.{Header, Item, Leg, Setting, serves, targets_of}
 use Rattle.tunnel.specs.Exports.{TunnelValue}
-use Rattle.packet_laws.specs.Exports.{IsOnLeg, IsOnWay, IsServed, PacketFacts, what_is_known}
+use Rattle.packet_laws.specs.Exports.{IsPacketOnLeg, IsPacketOnWay, IsPacketServed, PacketFacts, packet_facts_of}
 use Rattle.travelling.specs.Travelling.{Flight}
 use Rattle.refinement.proofs.RefinedSteps.{Known, Travels, travels_known}
 use Rattle.refinement.proofs.RefinedPacketFacts.{Targets, flight_by}
@@ -55,17 +55,17 @@ got xs k x is = let within : k < length xs = slice_get_within xs k x is in
 pub record Stands (setting : Setting) (journal : List Item) (i s : ℕ) (header : Header)
     (ingress : ℕ) (leg : Leg) : Type 0 where
   pub knows : Known setting journal
-  pub on : (what_is_known journal i).travels ≡ true
-  pub entered : (what_is_known journal i).header ≡ Some header
-  pub came : (what_is_known journal i).ingress ≡ Some ingress
-  pub stands : (what_is_known journal i).stands ≡ Some s
-  pub takes : (what_is_known journal i).leg ≡ Some leg
+  pub on : (packet_facts_of journal i).travels ≡ true
+  pub entered : (packet_facts_of journal i).header ≡ Some header
+  pub came : (packet_facts_of journal i).ingress ≡ Some ingress
+  pub stands : (packet_facts_of journal i).stands ≡ Some s
+  pub takes : (packet_facts_of journal i).leg ≡ Some leg
   pub at_first : ingress < length setting.net.switches
   pub there : s < length setting.net.switches
   pub serving : IsTrue (serves journal s)
   pub sound : IsHeader header
-  pub on_leg : IsOnLeg setting journal (what_is_known journal i) header leg
-  pub here : slice_get (what_is_known journal i).route (what_is_known journal i).hops ≡ Some s
+  pub on_leg : IsPacketOnLeg setting journal (packet_facts_of journal i) header leg
+  pub here : slice_get (packet_facts_of journal i).route (packet_facts_of journal i).hops ≡ Some s
 
 -- a packet of the table, as the journal says
 pub record IsStanding (setting : Setting) (journal : List Item) (i : ℕ) (t : Flight) : Type 0
@@ -75,25 +75,25 @@ pub record IsStanding (setting : Setting) (journal : List Item) (i : ℕ) (t : F
     pub ingress : ℕ
     pub leg : Leg
     pub stands : Stands setting journal i switch header ingress leg
-    pub is : t ≡ on_leg (targets_of setting journal) i (what_is_known journal i) header ingress leg
+    pub is : t ≡ on_leg (targets_of setting journal) i (packet_facts_of journal i) header ingress leg
 
-serves_here : (setting : Setting) (journal : List Item) (i s : ℕ) → IsServed journal i
-    → (what_is_known journal i).stands ≡ Some s → IsTrue (serves journal s)
-unfolding what_is_known
+serves_here : (setting : Setting) (journal : List Item) (i s : ℕ) → IsPacketServed journal i
+    → (packet_facts_of journal i).stands ≡ Some s → IsTrue (serves journal s)
+unfolding packet_facts_of
 serves_here setting journal i s served stands =
-    rw (sym (some_same (what_is_known journal i).stands served.switch s served.stands stands))
+    rw (sym (some_same (packet_facts_of journal i).stands served.switch s served.stands stands))
     served.serving
 
 pub standing_by : (setting : Setting) (journal : List Item) (i : ℕ) (t : Flight)
     → Known setting journal
-    → flight_by (targets_of setting journal) i (what_is_known journal i) ≡ Some t
+    → flight_by (targets_of setting journal) i (packet_facts_of journal i) ≡ Some t
     → IsStanding setting journal i t
 standing_by setting journal i t knows by =
-    let facts : PacketFacts = what_is_known journal i in
+    let facts : PacketFacts = packet_facts_of journal i in
     let targets : Targets = targets_of setting journal in
     let on : facts.travels ≡ true = travels_by targets i facts t by in
     let travelling : Travels setting journal i = travels_known setting journal i knows on in
-    let way : IsOnWay setting journal facts = travelling.way in record {
+    let way : IsPacketOnWay setting journal facts = travelling.way in record {
       switch = way.under_way.switch;
       header = way.under_way.header;
       ingress = way.under_way.ingress;

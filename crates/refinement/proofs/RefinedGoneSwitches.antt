@@ -1,8 +1,8 @@
 -- A switch that is down is confirmed to be gone: what is written, and the parts after it.
 use Rattle.std.proofs.Common.{[], ◌++◌, ◌+◌, ◌<◌, ◌∙◌, ◌∷◌, ◌≡◌, List, ap, false, get_or, length, refl, rules, sym, true, ℕ}
-use Rattle.refinement.specs.Exports.{AreActsWritten, IsBagOf, NetworkState, RefineJournal, switch_of}
+use Rattle.refinement.specs.Exports.{AreRefinedActsWritten, IsRefinedBagOf, RefinedNetworkState, RefineJournal, refined_switch_of}
 use Rattle.refinement.proofs.RefinedControllerCalls.{confirms}
-use Rattle.controller.specs.Exports.{ControllerValue, SettlesWith, current_touched, settling_acts}
+use Rattle.controller.specs.Exports.{ControllerValue, ControllerSettlesWith, current_plan_touched, controller_settling_acts}
 use Rattle.controller.specs.declared.sends.Act.{Act}
 use Rattle.update_machine.specs.Exports.{Confirm, Item, Setting, confirm_items, is_up, journal_items_then, nothing, piece}
 use Rattle.switch_core.specs.Exports.{SwitchValue}
@@ -19,11 +19,11 @@ use Rattle.refinement.proofs.RefinedNetworkSwitches.{switch_is, switch_known}
 
 -- a switch is up as the journal says
 pub up_as : (setting : Setting) (journal : List Item) (s : ℕ)
-    → (switch_of setting journal s).is_up ≡ is_up journal s
-unfolding switch_of
+    → (refined_switch_of setting journal s).is_up ≡ is_up journal s
+unfolding refined_switch_of
 up_as setting journal s = refl
 
-module _ {setting : Setting} {journal : List Item} {state : NetworkState}
+module _ {setting : Setting} {journal : List Item} {state : RefinedNetworkState}
     (refines : RefineJournal setting journal state) (row s : ℕ) (own : SwitchValue)
     (may : IsStep setting.net (length setting.files) (Confirm s))
     (own_at : own ≡ get_or state.switches s own) where
@@ -43,19 +43,19 @@ module _ {setting : Setting} {journal : List Item} {state : NetworkState}
         | false ↦ journal_items_then (Item.OverNow s ∷ []) (machine.settling setting) rowed
       ]) here)
 
-  module _ (new : ControllerValue) (down : own.is_up ≡ false) (settles : SettlesWith (at_switch s
+  module _ (new : ControllerValue) (down : own.is_up ≡ false) (settles : ControllerSettlesWith (at_switch s
       after_over state.controller.marks) state.controller.plans new) where
     abbrev acts : List Act
-    acts = settling_acts (current_touched new)
+    acts = controller_settling_acts (current_plan_touched new)
         (at_switch s after_over state.controller.marks) new.marks
 
     abbrev first : List Item
     first = Item.Row row (Confirm s) ∷ Item.OverNow s ∷ []
 
-    bag_behind : IsBagOf (journal ++ first) state.posts
+    bag_behind : IsRefinedBagOf (journal ++ first) state.posts
     bag_behind = bag_on journal first state.posts (refl, (refl, tt)) refines.bag
 
-    confirms_so : AreActsWritten setting journal first acts new (piece setting journal row (Confirm s))
+    confirms_so : AreRefinedActsWritten setting journal first acts new (piece setting journal row (Confirm s))
     confirms_so = confirms setting journal row s state.controller new
         (reached_known setting journal refines.sound refines.reached).caused refines.controller
         (own_up ∙ down) (switch_known refines s may) settles

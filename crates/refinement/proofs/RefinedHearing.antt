@@ -1,16 +1,16 @@
 -- What a delivered message makes of the record of its switch.
 use Rattle.std.proofs.Common.{[], ◌&&◌, ◌++◌, ◌==◌, ◌||◌, ◌∙◌, ◌∷◌, ◌≡◌, Bool, List, None, Option, Some, ap, arith, eq-eqb, false, if◌then◌else◌, max, nat_le, nat_lt, not, refl, sym, true, unwrap_or, ℕ}
 use Rattle.base.proofs.Exports.{nat_tests, option_map_or, or_parts}
-use Rattle.update_machine.specs.Exports.{Advertise, Body, Hello, Install, Installed, Item, NoneConcern, OpenAt, Setting, Stamp, Stamped, Tables, body_to_switch, boot_of, cache_after, cache_of, changes_cache, changes_heard, concerns_known, concerns_links, concerns_switch, gives_boot, gives_serving, gives_up, handled_count, heard, is_for_boot, is_up, message_of, near, own_seq, serves, stamp_of, to_switch, touched_by}
-use Rattle.switch_table.specs.Exports.{after_carry, after_expire, cache_after_raise}
+use Rattle.update_machine.specs.Exports.{Advertise, Body, Hello, Install, Installed, Item, NoneConcern, OpenAt, Setting, Stamp, Stamped, Tables, journal_body_to_switch, journal_boot_of, machine_cache_after, journal_cache_of, changes_journal_cache, changes_heard, item_concerns_known, concerns_links, concerns_switch, item_gives_boot, item_gives_serving, item_gives_switch_up, journal_handled_count, heard, journal_body_for_boot, is_up, message_of, near, journal_own_seq, serves, journal_stamp_of, machine_message_to_switch, touched_by}
+use Rattle.switch_table.specs.Exports.{cache_after_carry, after_expire, cache_after_raise}
 use Rattle.update_machine.proofs.Exports.{calls_stay, fewer, folded_append, links_keep, switch_keeps}
 use Rattle.control_laws.proofs.Exports.{boot_more, heard_more, serving_more, up_more}
 use Rattle.refinement.proofs.RefinedSwitchHearing.{SaysTouched, heard_facts, hears_facts}
 use Rattle.refinement.proofs.RefinedSwitchFacts.{AreVersioned, IsVersioned, SwitchFacts, by_facts, facts_of, stamp_by, switch_by, switch_is}
 use Rattle.ctrl_msg.specs.Exports.{body_boot, is_for_controller}
 use Rattle.failover.specs.Exports.{adverts_after_hearing}
-use Rattle.switch_core.specs.Exports.{SwitchValue, switch_after_body, collected_to, holds_version, is_news_here, obeys, opened_by, opening_stamp, stamp_raised_to, replies_to, stamped_with, switch_with_heard, with_installed, switch_with_message}
-use Rattle.refinement.specs.Exports.{switch_of}
+use Rattle.switch_core.specs.Exports.{SwitchValue, switch_after_body, switch_collected_to, holds_version, is_news_here, obeys, opened_by, switch_opening_stamp, switch_stamp_raised_to, replies_to, switch_stamped_with, switch_with_heard, with_installed, switch_with_message}
+use Rattle.refinement.specs.Exports.{refined_switch_of}
 
 -- ---- what one item makes of the facts of a switch
 
@@ -18,13 +18,13 @@ use Rattle.refinement.specs.Exports.{switch_of}
 
 -- they leave its facts as they are, except for the count of its calls
 pub facts_kept : (setting : Setting) (s : ℕ) (before items : List Item)
-    → NoneConcern (concerns_known s) before items → facts_of setting (before ++ items) s
-    ≡ record (facts_of setting before s) { handled = handled_count (before ++ items) s }
+    → NoneConcern (item_concerns_known s) before items → facts_of setting (before ++ items) s
+    ≡ record (facts_of setting before s) { handled = journal_handled_count (before ++ items) s }
 facts_kept setting s before items none =
-    let own = switch_keeps setting s before items (fewer (concerns_switch s) (concerns_known s)
+    let own = switch_keeps setting s before items (fewer (concerns_switch s) (item_concerns_known s)
     (λ js item none. (or_parts (concerns_switch s js item) (concerns_links js item) none).0) before
     items none) in
-    let links = links_keep setting before items (fewer concerns_links (concerns_known s)
+    let links = links_keep setting before items (fewer concerns_links (item_concerns_known s)
     (λ js item none. (or_parts (concerns_switch s js item) (concerns_links js item) none).1) before
     items none) in
     let up = own.up in
@@ -36,10 +36,10 @@ facts_kept setting s before items none =
 
 -- ---- the cache
 
-cache_more : (setting : Setting) (before : List Item) (next : Item) (s : ℕ) → cache_of setting
-    (before ++ next ∷ []) s ≡ changes_cache setting s before (cache_of setting before s) next
-unfolding cache_of
-cache_more setting before next s = folded_append (changes_cache setting s)
+cache_more : (setting : Setting) (before : List Item) (next : Item) (s : ℕ) → journal_cache_of setting
+    (before ++ next ∷ []) s ≡ changes_journal_cache setting s before (journal_cache_of setting before s) next
+unfolding journal_cache_of
+cache_more setting before next s = folded_append (changes_journal_cache setting s)
     (record { entries = []; capacity = setting.net.cache }) before (next ∷ [])
 
 -- the facts behind one more item, each by its own fold
@@ -47,14 +47,14 @@ pub facts_more : (setting : Setting) (before : List Item) (next : Item) (s : ℕ
     → let now = before ++ next ∷ [] in
     facts_of setting now s
     ≡ record {
-      boot = unwrap_or (gives_boot s next) (boot_of before s);
-      up = unwrap_or (gives_up s next) (is_up before s);
-      serving = unwrap_or (gives_serving s next) (serves before s);
+      boot = unwrap_or (item_gives_boot s next) (journal_boot_of before s);
+      up = unwrap_or (item_gives_switch_up s next) (is_up before s);
+      serving = unwrap_or (item_gives_serving s next) (serves before s);
       bodies = changes_heard s before (heard before s) next;
-      cache = changes_cache setting s before (cache_of setting before s) next;
-      seq = own_seq setting now s;
+      cache = changes_journal_cache setting s before (journal_cache_of setting before s) next;
+      seq = journal_own_seq setting now s;
       links = near setting now s;
-      handled = handled_count now s;
+      handled = journal_handled_count now s;
     }
 facts_more setting before next s = rw (boot_more, up_more, serving_more, heard_more, cache_more)
     refl
@@ -62,36 +62,36 @@ facts_more setting before next s = rw (boot_more, up_more, serving_more, heard_m
 -- ---- a delivery
 
 stamp_is : (journal : List Item) (s : ℕ)
-    → stamp_of journal s ≡ stamp_by (is_up journal s && boot_of journal s == 1) (heard journal s)
-unfolding stamp_of
+    → journal_stamp_of journal s ≡ stamp_by (is_up journal s && journal_boot_of journal s == 1) (heard journal s)
+unfolding journal_stamp_of
 stamp_is journal s = refl
 
 -- a message that says nothing to the switch leaves its facts, and a body that is said is heard
 pub facts_delivered : (setting : Setting) (before : List Item) (s n : ℕ) (said : Option Body)
-    → body_to_switch before s n ≡ said → let w = facts_of setting before s in
+    → journal_body_to_switch before s n ≡ said → let w = facts_of setting before s in
     facts_of setting (before ++ Item.Delivered n ∷ []) s
     ≡ option_map_or
     (λ body. heard_facts (touched_by setting before) n body (w.up && w.boot == 1) w) said w
 facts_delivered setting before s n said is =
     let next : Item = Item.Delivered n in
     let now : List Item = before ++ next ∷ [] in
-    let boot : boot_of now s ≡ boot_of before s = boot_more before next s in
+    let boot : journal_boot_of now s ≡ journal_boot_of before s = boot_more before next s in
     let up : is_up now s ≡ is_up before s = up_more before next s in
     let serving : serves now s ≡ serves before s = serving_more before next s in
     let keep = links_keep setting before (next ∷ []) (refl, tt) in
     let near : near setting now s ≡ near setting before s = keep.near s in
-    let handled : handled_count now s ≡ handled_count before s =
+    let handled : journal_handled_count now s ≡ journal_handled_count before s =
     calls_stay s before (next ∷ []) (refl, tt) in
     let bodies : heard now s
     ≡ option_map_or (λ body. heard before s ++ body ∷ []) said (heard before s) =
     heard_more before next s
     ∙ ap (λ o. option_map_or (λ body. heard before s ++ body ∷ []) o (heard before s)) is in
-    let cache : cache_of setting now s
-    ≡ option_map_or (cache_after (touched_by setting before) (stamp_of before s) (stamp_of now s) n
-    (cache_of setting before s)) said (cache_of setting before s) = cache_more setting before next s
-    ∙ ap (λ o. option_map_or (cache_after (touched_by setting before) (stamp_of before s)
-    (stamp_of now s) n (cache_of setting before s)) o (cache_of setting before s)) is in
-    let stamp : stamp_of now s ≡ stamp_by (is_up before s && boot_of before s == 1)
+    let cache : journal_cache_of setting now s
+    ≡ option_map_or (machine_cache_after (touched_by setting before) (journal_stamp_of before s) (journal_stamp_of now s) n
+    (journal_cache_of setting before s)) said (journal_cache_of setting before s) = cache_more setting before next s
+    ∙ ap (λ o. option_map_or (machine_cache_after (touched_by setting before) (journal_stamp_of before s)
+    (journal_stamp_of now s) n (journal_cache_of setting before s)) o (journal_cache_of setting before s)) is in
+    let stamp : journal_stamp_of now s ≡ stamp_by (is_up before s && journal_boot_of before s == 1)
     (option_map_or (λ body. heard before s ++ body ∷ []) said (heard before s)) =
     stamp_is now s ∙ rw (up, boot, bodies) refl in
     let earlier = stamp_is before s in
@@ -105,7 +105,7 @@ facts_delivered setting before s n said is =
 
     by_said : (said : Option Body) → record w {
       bodies = option_map_or (λ body. w.bodies ++ body ∷ []) said w.bodies;
-      cache = option_map_or (cache_after (touched_by setting before)
+      cache = option_map_or (machine_cache_after (touched_by setting before)
           (stamp_by first w.bodies) (stamp_by first (option_map_or (λ body. w.bodies ++ body ∷ []) said w.bodies)) n w.cache) said
           w.cache;
     }
@@ -121,7 +121,7 @@ pub facts_opened : (setting : Setting) (before : List Item) (s v : ℕ)
     facts_of setting now s
     ≡ record (facts_of setting before s) {
       serving = true;
-      seq = own_seq setting now s;
+      seq = journal_own_seq setting now s;
       links = near setting now s;
     }
 facts_opened setting before s v = let next : Item = Item.Opened s v in
@@ -132,7 +132,7 @@ facts_opened setting before s v = let next : Item = Item.Opened s v in
 
 pub facts_expired : (setting : Setting) (before : List Item) (s place message : ℕ)
     → facts_of setting (before ++ Item.Expired s place message ∷ []) s
-    ≡ record (facts_of setting before s) { cache = after_expire place (cache_of setting before s) }
+    ≡ record (facts_of setting before s) { cache = after_expire place (journal_cache_of setting before s) }
 facts_expired setting before s place message =
     let next : Item = Item.Expired s place message in
     let keep = links_keep setting before (next ∷ []) (refl, tt) in
@@ -145,7 +145,7 @@ facts_expired setting before s place message =
 
 -- the switch is up, and the body is of its boot if it carries one
 abbrev pub is_meant : List Item → ℕ → Body → Bool
-is_meant before s body = is_up before s && is_for_boot (boot_of before s) body
+is_meant before s body = is_up before s && journal_body_for_boot (journal_boot_of before s) body
 
 -- upon a body for the controller nothing is done that isn't done anyway
 pub by_obeying : {X : Type 0} (switch : SwitchValue) (body : Body) (up own : Bool)
@@ -193,9 +193,9 @@ obeyed_by switch n body up own is mine = by_obeying switch body up own (switch_a
 
 -- a message that was sent to the switch says its body where it is meant
 pub said_is : (before : List Item) (s n : ℕ) (body : Body)
-    → message_of before n ≡ Some (to_switch s body)
-    → body_to_switch before s n ≡ (if is_meant before s body then Some body else None)
-said_is before s n body sent = rw (sent, eq-eqb s s refl, body_to_switch) refl
+    → message_of before n ≡ Some (machine_message_to_switch s body)
+    → journal_body_to_switch before s n ≡ (if is_meant before s body then Some body else None)
+said_is before s n body sent = rw (sent, eq-eqb s s refl, journal_body_to_switch) refl
 
 -- ---- the record
 
@@ -204,11 +204,11 @@ abbrev hears_shut : ℕ → Body → SwitchValue → SwitchValue
 hears_shut n body switch = record (switch_with_message switch n body) { is_open = switch.is_open }
 
 pub heard_is : (setting : Setting) (before : List Item) (n s : ℕ) (body : Body)
-    → message_of before n ≡ Some (to_switch s body) → AreVersioned (heard before s)
+    → message_of before n ≡ Some (machine_message_to_switch s body) → AreVersioned (heard before s)
     → IsVersioned body → SaysTouched (touched_by setting before) body
-    → switch_of setting (before ++ Item.Delivered n ∷ []) s
-    ≡ record (switch_with_message (switch_of setting before s) n body) {
-      is_open = (switch_of setting before s).is_open;
+    → refined_switch_of setting (before ++ Item.Delivered n ∷ []) s
+    ≡ record (switch_with_message (refined_switch_of setting before s) n body) {
+      is_open = (refined_switch_of setting before s).is_open;
     }
 heard_is setting before n s body sent olds new says =
     cc (by_meant (is_meant before s body) refl, switch_is setting before s)
@@ -227,10 +227,10 @@ heard_is setting before n s body sent olds new says =
         ≡ hears_shut n body switch
     obeyed meant is = ap (λ (after : SwitchValue). record after { is_open = w.serving })
         (ap (λ b. if b then switch_after_body switch n body else switch) (sym is) ∙ sym (obeyed_by switch n
-        body (is_up before s) (is_for_boot (boot_of before s) body) refl refl))
+        body (is_up before s) (journal_body_for_boot (journal_boot_of before s) body) refl refl))
 
     by_meant : (meant : Bool) → is_meant before s body ≡ meant
-        → switch_of setting now s ≡ hears_shut n body switch
+        → refined_switch_of setting now s ≡ hears_shut n body switch
     by_meant true is = by_facts setting now s _ (facts_delivered setting before s n (Some body)
         (said_is before s n body sent ∙ ap (λ b. if b then Some body else None) is))
         ∙ hears_facts setting (touched_by setting before) s n w (w.up && w.boot == 1) body olds new
@@ -249,7 +249,7 @@ or_kept false switch tables = refl
 
 kept_by : (switch : SwitchValue) (n : ℕ) (body : Body) → opened_by switch body ≡ None
     → (switch_after_body switch n body).is_open ≡ switch.is_open
-unfolding with_installed stamp_raised_to stamped_with collected_to switch_with_heard
+unfolding with_installed switch_stamp_raised_to switch_stamped_with switch_collected_to switch_with_heard
 kept_by switch n (Install boot tables) shut =
     or_kept (holds_version switch tables.version || nat_le tables.version switch.collected) switch
     tables
@@ -260,7 +260,7 @@ kept_by switch n (OpenAt boot version) shut = by_open switch.is_open shut where
 kept_by switch n (Stamp boot version touched) shut = by_test (nat_lt switch.stamp version) where
   by_test : (b : Bool) → (if b then record switch {
     stamp = version;
-    cache = after_carry version touched switch.cache;
+    cache = cache_after_carry version touched switch.cache;
   } else switch).is_open ≡ switch.is_open
   by_test true = refl
   by_test false = refl
@@ -273,9 +273,9 @@ kept_by switch n (Advertise advert) shut = by_test (is_news_here switch advert) 
 kept_by switch n _ shut = refl
 
 -- a switch that doesn't open is open or closed as before
-pub open_kept : (switch : SwitchValue) (n : ℕ) (body : Body) → opening_stamp switch body ≡ None
+pub open_kept : (switch : SwitchValue) (n : ℕ) (body : Body) → switch_opening_stamp switch body ≡ None
     → (switch_with_message switch n body).is_open ≡ switch.is_open
-unfolding switch_with_message opening_stamp
+unfolding switch_with_message switch_opening_stamp
 open_kept switch n body shut = by_test (obeys switch body) shut where
   by_test : (b : Bool) → (if b then opened_by switch body else None) ≡ None
       → (if b then switch_after_body switch n body else switch).is_open ≡ switch.is_open
@@ -284,7 +284,7 @@ open_kept switch n body shut = by_test (obeys switch body) shut where
 
 opens_by : (switch : SwitchValue) (n stamp : ℕ) (body : Body) → opened_by switch body ≡ Some stamp
     → ((switch_after_body switch n body).is_open ≡ true) × (stamp ≡ (switch_after_body switch n body).stamp)
-unfolding stamp_raised_to
+unfolding switch_stamp_raised_to
 opens_by switch n stamp (OpenAt boot version) opens = (refl, by_open switch.is_open opens) where
   by_test : (b : Bool) → nat_lt switch.stamp version ≡ b → max switch.stamp version
       ≡ (if b then record switch {
@@ -305,10 +305,10 @@ opens_by switch n stamp (OpenAt boot version) opens = (refl, by_open switch.is_o
 opens_by switch n stamp _ opens = absurd cc
 
 -- one that opens is open, with this stamp
-pub opens_as : (switch : SwitchValue) (n stamp : ℕ) (body : Body) → opening_stamp switch body
+pub opens_as : (switch : SwitchValue) (n stamp : ℕ) (body : Body) → switch_opening_stamp switch body
     ≡ Some stamp
     → ((switch_with_message switch n body).is_open ≡ true) × (stamp ≡ (switch_with_message switch n body).stamp)
-unfolding switch_with_message opening_stamp
+unfolding switch_with_message switch_opening_stamp
 opens_as switch n stamp body opens = by_test (obeys switch body) opens where
   by_test : (b : Bool) → (if b then opened_by switch body else None) ≡ Some stamp
       → ((if b then switch_after_body switch n body else switch).is_open ≡ true)

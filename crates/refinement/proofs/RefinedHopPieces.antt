@@ -1,14 +1,14 @@
 -- What a hop of a packet on its way writes, the calls that it counts, and where packets are then.
 use Rattle.std.proofs.Common.{[], ◌&&◌, ◌++◌, ◌<◌, ◌==◌, ◌∙◌, ◌∷◌, ◌≡◌, Bool, IsTrue, List, None, Option, Some, ap, arith, cond, false, get_or, if◌then◌else◌, length, refl, slice_get, slice_index, subst, sym, true, unwrap_or, ℕ}
-use Rattle.update_machine.specs.Exports.{Exit, Header, Hop, Item, Leg, NoneConcern, Ports, Seek, Setting, concerns_known, count_of, hop_items as hop_items_of, is_at, is_packet, move_items, near, next_message, nothing, piece, plan_at, standing, stays_on_way, targets_of, travels, travels_at}
+use Rattle.update_machine.specs.Exports.{Exit, Header, Hop, Item, Leg, NoneConcern, Ports, Seek, Setting, item_concerns_known, count_of, machine_hop_items as hop_items_of, is_at, is_packet, move_items, near, journal_next_message, nothing, piece, journal_plan_at, standing, journal_stays_on_way, targets_of, travels, journal_travels_at}
 use Rattle.net_file.specs.Exports.{ArePortOwners}
-use Rattle.switch_core.specs.Exports.{CanLookUp, IsAtAuthority, PacketStandsAt, SwitchValue, around, call_counted, hop_answer, link_found_down, received, serves}
+use Rattle.switch_core.specs.Exports.{CanSwitchLookUp, IsAtAuthoritySwitch, PacketStandsAtSwitch, SwitchValue, around, switch_call_counted, switch_hop_answer, switch_found_link_down, received, serves}
 use Rattle.switch_core.specs.declared.tunnel_calls.HopEnd.TheVariants as hop
-use Rattle.refinement.specs.Exports.{AreInStep, NetworkState, RefineJournal, flight_in, switch_of}
+use Rattle.refinement.specs.Exports.{AreRefinedInStep, RefinedNetworkState, RefineJournal, refined_flight_in, refined_switch_of}
 use Rattle.refinement.proofs.RefinedSwitchKnowledge.{requirements_hold}
 use Rattle.tunnel.specs.Exports.{here, next}
 use Rattle.control_laws.specs.Exports.{LegEndsAt}
-use Rattle.packet_laws.specs.Exports.{PacketFacts, what_is_known}
+use Rattle.packet_laws.specs.Exports.{PacketFacts, packet_facts_of}
 use Rattle.travelling.specs.Travelling.{Flight, flight, standing_at}
 use Rattle.refinement.proofs.RefinedArrivals.{IsAtEnd}
 use Rattle.refinement.proofs.RefinedSteps.{Known, flight_stays, reached_known}
@@ -30,16 +30,16 @@ use Rattle.refinement.proofs.RefinedPostedFrames.{are_apart}
 
 -- the switch and its usable links are as the journal says
 pub sees_as : (setting : Setting) (journal : List Item) (s mask : ℕ) (w : SwitchValue)
-    → Known setting journal → s < length setting.net.switches → w ≡ switch_of setting journal s
+    → Known setting journal → s < length setting.net.switches → w ≡ refined_switch_of setting journal s
     → mask ≡ near setting journal s → Sees setting journal s w mask
 sees_as setting journal s mask w knows there own usable = subst (Sees setting journal s w)
     (sym usable) (rw own (sees setting journal s knows there))
 
 pub looks_up_as : (setting : Setting) (journal : List Item) (s : ℕ) (w : SwitchValue)
     → Known setting journal → s < length setting.net.switches
-    → w ≡ switch_of setting journal s → CanLookUp w
+    → w ≡ refined_switch_of setting journal s → CanSwitchLookUp w
 looks_up_as setting journal s w knows there own =
-    subst CanLookUp (sym own) (requirements_hold.enter setting journal s knows.holds there)
+    subst CanSwitchLookUp (sym own) (requirements_hold.enter setting journal s knows.holds there)
 
 -- ---- a packet on its way
 
@@ -47,14 +47,14 @@ pub stands_at : (setting : Setting) (journal : List Item) (i : ℕ) (t : Flight)
     (standing : IsStanding setting journal i t) → here t.tunnel ≡ standing.switch
 stands_at setting journal i t standing =
     ap (λ (u : Flight). here u.tunnel) standing.is
-    ∙ got (what_is_known journal i).route (what_is_known journal i).hops standing.switch standing.stands.here
+    ∙ got (packet_facts_of journal i).route (packet_facts_of journal i).hops standing.switch standing.stands.here
 
 -- at the end of its route, the switch is where its leg leads
 ends_at : (setting : Setting) (journal : List Item) (s : ℕ) (header : Header) (leg : Leg)
     → IsAtEnd setting journal s header leg → LegEndsAt setting journal s header leg
 ends_at setting journal s header (Seek version partition) end = record {
   hosted = end.hosted;
-  found = subst (λ k. slice_get (plan_at setting journal version) k ≡ Some end.hosted) end.number
+  found = subst (λ k. slice_get (journal_plan_at setting journal version) k ≡ Some end.hosted) end.number
       end.finds.at;
   number = end.number;
   holds = end.finds.holds;
@@ -69,16 +69,16 @@ pub record CanAsk (setting : Setting) (journal : List Item) (i : ℕ) (t : Fligh
   pub at : s ≡ standing.switch
   pub hops : Hops setting journal i standing.switch standing.header standing.ingress standing.leg w
       near ports
-  pub stands : PacketStandsAt w t.tunnel.route t.tunnel.place
+  pub stands : PacketStandsAtSwitch w t.tunnel.route t.tunnel.place
   pub serving : IsTrue (serves w)
-  pub stamped : CanLookUp w
-  pub authority : (hop_answer w near t.tunnel).end ≡ hop.Arrive
-      → IsAtAuthority w t.tunnel.header t.tunnel.leg
+  pub stamped : CanSwitchLookUp w
+  pub authority : (switch_hop_answer w near t.tunnel).end ≡ hop.Arrive
+      → IsAtAuthoritySwitch w t.tunnel.header t.tunnel.leg
 
 pub can_be_asked : (setting : Setting) (journal : List Item) (i : ℕ) (t : Flight) (s mask : ℕ)
     (w : SwitchValue) (ports : Ports) → Known setting journal
     → ArePortOwners setting.net.switches ports → IsStanding setting journal i t
-    → s ≡ here t.tunnel → w ≡ switch_of setting journal s → mask ≡ near setting journal s
+    → s ≡ here t.tunnel → w ≡ refined_switch_of setting journal s → mask ≡ near setting journal s
     → CanAsk setting journal i t s mask w ports
 can_be_asked setting journal i t s mask w ports knows owners standing at own usable =
     let here_it : s ≡ standing.switch = at ∙ stands_at setting journal i t standing in
@@ -89,11 +89,11 @@ can_be_asked setting journal i t s mask w ports knows owners standing at own usa
       sees = rw here_it at (sees_as setting journal s mask w knows there own usable);
       owners = owners;
     } in
-    let is_switch = own ∙ ap (switch_of setting journal) here_it in record {
+    let is_switch = own ∙ ap (refined_switch_of setting journal) here_it in record {
       standing = standing;
       at = here_it;
       hops = hops;
-      stands = subst (λ (u : Flight). PacketStandsAt w u.tunnel.route u.tunnel.place) (sym standing.is)
+      stands = subst (λ (u : Flight). PacketStandsAtSwitch w u.tunnel.route u.tunnel.place) (sym standing.is)
           (standing.stands.here ∙ ap Some (sym (ap (λ (v : SwitchValue). v.number) is_switch
           ∙ number_shown setting journal standing.switch)));
       serving = hops.sees.serving ∙ standing.stands.serving;
@@ -103,13 +103,13 @@ can_be_asked setting journal i t s mask w ports knows owners standing at own usa
           knows.tables knows.serving knows.holds standing.stands.there standing.stands.serving
           (ends_at setting journal standing.switch standing.header standing.leg
           (arrives_at_end setting journal 0 i standing.switch standing.header standing.ingress
-          standing.leg w mask ports hops (ap (λ (u : Flight). (hop_answer w mask u.tunnel).end)
+          standing.leg w mask ports hops (ap (λ (u : Flight). (switch_hop_answer w mask u.tunnel).end)
           (sym standing.is) ∙ arrive)))).authority);
     }
 
 -- ---- the switch where a packet enters, or is on its way, when it is asked what becomes of it
 
-module _ {setting : Setting} {journal : List Item} {state : NetworkState}
+module _ {setting : Setting} {journal : List Item} {state : RefinedNetworkState}
     (refines : RefineJournal setting journal state) where
   pub known_of : Known setting journal
   known_of = reached_known setting journal refines.sound refines.reached
@@ -125,7 +125,7 @@ module _ {setting : Setting} {journal : List Item} {state : NetworkState}
       (switch_is refines s w there its) (mask_is s there)
 
   pub can_look_up : (s : ℕ) (w : SwitchValue) → s < length setting.net.switches
-      → w ≡ get_or state.switches s w → CanLookUp w
+      → w ≡ get_or state.switches s w → CanSwitchLookUp w
   can_look_up s w there its =
       looks_up_as setting journal s w known_of there (switch_is refines s w there its)
 
@@ -167,17 +167,17 @@ abbrev begun : List Item → ℕ → ℕ → List Item
 begun journal row i = journal ++ Item.Row row (Hop i) ∷ []
 
 same_facts : (journal : List Item) (row i q : ℕ)
-    → what_is_known (begun journal row i) q ≡ what_is_known journal q
+    → packet_facts_of (begun journal row i) q ≡ packet_facts_of journal q
 same_facts journal row i q = facts_grow q journal (Item.Row row (Hop i))
 
 pub hop_piece : (setting : Setting) (journal : List Item) (row i : ℕ) (t : Flight) (s near : ℕ)
     (w : SwitchValue) (ports : Ports) → CanAsk setting journal i t s near w ports
     → piece setting journal row (Hop i)
-    ≡ Item.Row row (Hop i) ∷ log_hop_written (next_message journal) w near ports t
-unfolding piece hop_items_of what_is_known
+    ≡ Item.Row row (Hop i) ∷ log_hop_written (journal_next_message journal) w near ports t
+unfolding piece hop_items_of packet_facts_of
 hop_piece setting journal row i t s near w ports can =
     let new : List Item = begun journal row i in
-    let same : what_is_known new i ≡ what_is_known journal i = same_facts journal row i i in
+    let same : packet_facts_of new i ≡ packet_facts_of journal i = same_facts journal row i i in
     let refines : IsStanding setting journal i t = can.standing in
     ap (λ b. Item.Row row (Hop i) ∷ elim b [
       | false ↦ nothing
@@ -187,12 +187,12 @@ hop_piece setting journal row i t s near w ports can =
     (ap (λ (facts : PacketFacts). facts.stands) same ∙ refines.stands.stands)
     ∙ ap (λ items. Item.Row row (Hop i) ∷ items)
     (hop_law setting journal row i refines.switch refines.header refines.ingress refines.leg w near
-    ports can.hops ∙ ap (log_hop_written (next_message journal) w near ports) (sym refines.is))
+    ports can.hops ∙ ap (log_hop_written (journal_next_message journal) w near ports) (sym refines.is))
 
 -- a packet that doesn't travel
 pub left_piece : (setting : Setting) (journal : List Item) (row i : ℕ) → travels journal i ≡ false
     → piece setting journal row (Hop i) ≡ Item.Row row (Hop i) ∷ Item.Nothing ∷ []
-unfolding piece hop_items_of what_is_known
+unfolding piece hop_items_of packet_facts_of
 left_piece setting journal row i off = let new : List Item = begun journal row i in
     ap (λ b. Item.Row row (Hop i) ∷ elim b [
       | false ↦ nothing
@@ -202,14 +202,14 @@ left_piece setting journal row i off = let new : List Item = begun journal row i
 -- ---- the calls that it counts
 
 turned_later : (i here : ℕ) (found : Option ℕ) (end : HopEnd) (route : List ℕ)
-    (rest : List Item) → AreInStep rest → AreInStep (log_turned_items i here found end route ++ rest)
+    (rest : List Item) → AreRefinedInStep rest → AreRefinedInStep (log_turned_items i here found end route ++ rest)
 turned_later i here None end route rest later = later
 turned_later i here (Some other) HopEnd.Arrive route rest later = (tt, (tt, later))
 turned_later i here (Some other) (HopEnd.Move next) route rest later = (tt, (tt, later))
 turned_later i here (Some other) (HopEnd.Stuck cause) route rest later = (tt, later)
 
 ended_later : (number : ℕ) (w : SwitchValue) (near : ℕ) (ports : Ports) (t : Flight)
-    (end : HopEnd) → AreInStep (log_ended_items number w near ports t end)
+    (end : HopEnd) → AreRefinedInStep (log_ended_items number w near ports t end)
 unfolding log_arrival_items
 ended_later number w near ports t HopEnd.Arrive =
     arrived_later number (standing_at w.number t) t (received w (around near ports) t.tunnel)
@@ -217,38 +217,38 @@ ended_later number w near ports t (HopEnd.Move other) = (tt, tt)
 ended_later number w near ports t (HopEnd.Stuck cause) = (tt, tt)
 
 pub hop_later : (number : ℕ) (w : SwitchValue) (near : ℕ) (ports : Ports) (t : Flight)
-    → AreInStep (log_hop_written number w near ports t)
+    → AreRefinedInStep (log_hop_written number w near ports t)
 hop_later number w near ports t = turned_later t.tunnel.packet w.number
-    (link_found_down near (next t.tunnel)) (hop_answer w near t.tunnel).end
-    (hop_answer w near t.tunnel).tunnel.route _ (ended_later number (call_counted w) near ports
-    (log_hopped_flight w near t) (hop_answer w near t.tunnel).end)
+    (switch_found_link_down near (next t.tunnel)) (switch_hop_answer w near t.tunnel).end
+    (switch_hop_answer w near t.tunnel).tunnel.route _ (ended_later number (switch_call_counted w) near ports
+    (log_hopped_flight w near t) (switch_hop_answer w near t.tunnel).end)
 
-pub hop_packets : (row i : ℕ) (items : List Item) → AreInStep items
+pub hop_packets : (row i : ℕ) (items : List Item) → AreRefinedInStep items
     → count_of is_packet (Item.Row row (Hop i) ∷ items) ≡ 0
 hop_packets row i items later =
     let sum = sum_by-cons (λ x. cond (is_packet x) 1 0) (Item.Row row (Hop i)) items in
     omega (arith, sum, later_packets items later)
 
 hopped_by : (w : SwitchValue) (end : HopEnd)
-    → (if stays_by end then call_counted w else call_counted (call_counted w)) ≡ log_ended_switch (call_counted w) end
+    → (if stays_by end then switch_call_counted w else switch_call_counted (switch_call_counted w)) ≡ log_ended_switch (switch_call_counted w) end
 hopped_by w HopEnd.Arrive = refl
 hopped_by w (HopEnd.Move other) = refl
 hopped_by w (HopEnd.Stuck cause) = refl
 
 -- the packet's switch is called, and no other
 calls_of_hop : (setting : Setting) (journal items : List Item) (row i s k : ℕ) (end : HopEnd)
-    (b : Bool) → AreInStep items → stays_on_way items ≡ stays_by end
-    → NoneConcern (concerns_known k) journal (Item.Row row (Hop i) ∷ items)
+    (b : Bool) → AreRefinedInStep items → journal_stays_on_way items ≡ stays_by end
+    → NoneConcern (item_concerns_known k) journal (Item.Row row (Hop i) ∷ items)
     → travels journal i ≡ true → standing journal i ≡ Some s → (s == k) ≡ b
-    → switch_of setting (journal ++ Item.Row row (Hop i) ∷ items) k
-    ≡ (if b then log_ended_switch (call_counted (switch_of setting journal k)) end
-    else switch_of setting journal k)
+    → refined_switch_of setting (journal ++ Item.Row row (Hop i) ∷ items) k
+    ≡ (if b then log_ended_switch (switch_call_counted (refined_switch_of setting journal k)) end
+    else refined_switch_of setting journal k)
 calls_of_hop setting journal items row i s k end b later stays none on stands is =
-    let w : SwitchValue = switch_of setting journal k in
+    let w : SwitchValue = refined_switch_of setting journal k in
     let at = ap (λ x. x && is_at k (standing journal i)) on ∙ ap (is_at k) stands ∙ is in
     calls_refine.hopped setting journal row i k items later none
-    ∙ ap (λ x. if x then (if stays_on_way items then call_counted w else call_counted (call_counted w)) else w) at
-    ∙ ap (λ x. if b then (if x then call_counted w else call_counted (call_counted w)) else w) stays
+    ∙ ap (λ x. if x then (if journal_stays_on_way items then switch_call_counted w else switch_call_counted (switch_call_counted w)) else w) at
+    ∙ ap (λ x. if b then (if x then switch_call_counted w else switch_call_counted (switch_call_counted w)) else w) stays
     ∙ ap (λ (u : SwitchValue). if b then u else w) (hopped_by w end)
 
 -- ---- other packets
@@ -271,13 +271,13 @@ ended_other q number w near ports t (HopEnd.Stuck cause) other = (other, tt)
 
 pub hop_other : (q number : ℕ) (w : SwitchValue) (near : ℕ) (ports : Ports) (t : Flight)
     → (t.tunnel.packet == q) ≡ false → NoneName q (log_hop_written number w near ports t)
-hop_other q number w near ports t other = let m = hop_answer w near t.tunnel in
+hop_other q number w near ports t other = let m = switch_hop_answer w near t.tunnel in
     none_more q
-    (log_turned_items t.tunnel.packet w.number (link_found_down near (next t.tunnel)) m.end m.tunnel.route)
-    (log_ended_items number (call_counted w) near ports (log_hopped_flight w near t) m.end)
-    (turned_other q t.tunnel.packet w.number (link_found_down near (next t.tunnel)) m.end
+    (log_turned_items t.tunnel.packet w.number (switch_found_link_down near (next t.tunnel)) m.end m.tunnel.route)
+    (log_ended_items number (switch_call_counted w) near ports (log_hopped_flight w near t) m.end)
+    (turned_other q t.tunnel.packet w.number (switch_found_link_down near (next t.tunnel)) m.end
     m.tunnel.route other)
-    (ended_other q number (call_counted w) near ports (log_hopped_flight w near t) m.end
+    (ended_other q number (switch_call_counted w) near ports (log_hopped_flight w near t) m.end
     (ap (λ k. k == q) (hopped_same w near t.tunnel).packet ∙ other))
 
 -- ---- the packet and its switch
@@ -285,7 +285,7 @@ hop_other q number w near ports t other = let m = hop_answer w near t.tunnel in
 module _ (setting : Setting) (journal : List Item) (row i : ℕ) (t : Flight) (s near : ℕ)
     (w : SwitchValue) (ports : Ports) (can : CanAsk setting journal i t s near w ports) where
   abbrev number : ℕ
-  number = next_message journal
+  number = journal_next_message journal
 
   abbrev items : List Item
   items = log_hop_written number w near ports t
@@ -294,39 +294,39 @@ module _ (setting : Setting) (journal : List Item) (row i : ℕ) (t : Flight) (s
   all = Item.Row row (Hop i) ∷ items
 
   abbrev end : HopEnd
-  end = (hop_answer w near t.tunnel).end
+  end = (switch_hop_answer w near t.tunnel).end
 
   -- the packet itself
-  pub hop_own : log_hop_flight w near ports t ≡ flight_in setting (journal ++ all) i
+  pub hop_own : log_hop_flight w near ports t ≡ refined_flight_in setting (journal ++ all) i
   hop_own = let refines : IsStanding setting journal i t = can.standing in
-      subst (λ (u : Flight). log_hop_flight w near ports u ≡ flight_in setting
+      subst (λ (u : Flight). log_hop_flight w near ports u ≡ refined_flight_in setting
       (journal ++ Item.Row row (Hop i) ∷ log_hop_written number w near ports u) i) (sym refines.is)
       (hop_goes setting journal row i refines.switch refines.header refines.ingress refines.leg w
       near ports can.hops ∙ sym (flight_along setting journal
       (Item.Row row (Hop i) ∷ log_hop_written number w near ports (on_leg (targets_of setting journal) i
-      (what_is_known journal i) refines.header refines.ingress refines.leg)) i (
+      (packet_facts_of journal i) refines.header refines.ingress refines.leg)) i (
         refl,
         (are_apart number (begun journal row i)
             (log_hop_written number w near ports (on_leg (targets_of setting journal) i
-            (what_is_known journal i) refines.header refines.ingress refines.leg))
+            (packet_facts_of journal i) refines.header refines.ingress refines.leg))
             (hop_sends number w near ports (on_leg (targets_of setting journal) i
-            (what_is_known journal i) refines.header refines.ingress refines.leg)).0).policies,
+            (packet_facts_of journal i) refines.header refines.ingress refines.leg)).0).policies,
       )))
 
-  stays : stays_on_way items ≡ stays_by end
+  stays : journal_stays_on_way items ≡ stays_by end
   stays = let refines : IsStanding setting journal i t = can.standing in
-      subst (λ (u : Flight). stays_on_way (log_hop_written number w near ports u)
-      ≡ stays_by (hop_answer w near u.tunnel).end) (sym refines.is)
+      subst (λ (u : Flight). journal_stays_on_way (log_hop_written number w near ports u)
+      ≡ stays_by (switch_hop_answer w near u.tunnel).end) (sym refines.is)
       (hop_stays setting journal row i refines.switch refines.header refines.ingress refines.leg
       w near ports can.hops)
 
   pub hop_is_packet : t.tunnel.packet ≡ i
   hop_is_packet = ap (λ (u : Flight). u.tunnel.packet) can.standing.is
 
-  pub hop_called : (k : ℕ) (b : Bool) → (s == k) ≡ b → switch_of setting (journal ++ all) k
-      ≡ (if b then log_ended_switch (call_counted (switch_of setting journal k)) end
-      else switch_of setting journal k)
-  unfolding what_is_known
+  pub hop_called : (k : ℕ) (b : Bool) → (s == k) ≡ b → refined_switch_of setting (journal ++ all) k
+      ≡ (if b then log_ended_switch (switch_call_counted (refined_switch_of setting journal k)) end
+      else refined_switch_of setting journal k)
+  unfolding packet_facts_of
   hop_called k b is =
       calls_of_hop setting journal items row i s k end b (hop_later number w near ports t) stays (
         refl,
@@ -335,6 +335,6 @@ module _ (setting : Setting) (journal : List Item) (row i : ℕ) (t : Flight) (s
       can.standing.stands.on (can.standing.stands.stands ∙ ap Some (sym can.at)) is
 
   pub hop_others : Known setting journal → (q : ℕ) → (i == q) ≡ false
-      → flight_in setting (journal ++ all) q ≡ flight_in setting journal q
+      → refined_flight_in setting (journal ++ all) q ≡ refined_flight_in setting journal q
   hop_others knows q apart = flight_stays setting journal all q knows
       (refl, hop_other q number w near ports t (ap (λ k. k == q) hop_is_packet ∙ apart))

@@ -1,17 +1,17 @@
 -- A hop of a packet on its way keeps the tie of a world to its journal.
 use Rattle.std.proofs.Common.{[], ◌&&◌, ◌++◌, ◌+◌, ◌<◌, ◌==◌, ◌∙◌, ◌∷◌, ◌≡◌, Bool, List, None, Some, ap, arith, eq-eqb, eqb-true, false, get_or, if◌then◌else◌, is_some, length, length-set, refl, set, subst, sym, true, ℕ}
 use Rattle.base.proofs.Exports.{nat_tests}
-use Rattle.update_machine.specs.Exports.{Hop, Item, Lose, Ports, Setting, Step, is_at, lose_items, next_message, nothing, piece, standing, travels}
+use Rattle.update_machine.specs.Exports.{Hop, Item, Lose, Ports, Setting, Step, is_at, lose_items, journal_next_message, nothing, piece, standing, travels}
 use Rattle.steps.specs.Exports.{IsStep}
-use Rattle.packet_laws.specs.Exports.{what_is_known}
+use Rattle.packet_laws.specs.Exports.{packet_facts_of}
 use Rattle.packet_laws.proofs.Exports.{facts_grow}
-use Rattle.refinement.specs.Exports.{NetworkState, RefineJournal, flight_in, switch_of}
+use Rattle.refinement.specs.Exports.{RefinedNetworkState, RefineJournal, refined_flight_in, refined_switch_of}
 use Rattle.travelling.specs.Travelling.{Flight, Flights, TravellingWithOne, flight}
 use Rattle.refinement.proofs.RefinedSteps.{Known, Steps, WroteOne, flight_stays, numbered, one_changes, packets_are, reached_known, refines_more, refines_silent, switches_are, switches_stay}
 use Rattle.refinement.proofs.RefinedBagDeliveries.{nothing_happens}
 use Rattle.refinement.proofs.RefinedPacketFacts.{flight_along, hop_sends}
 use Rattle.message_bag.specs.Exports.{Post}
-use Rattle.switch_core.specs.Exports.{SwitchValue, call_counted, hop_answer}
+use Rattle.switch_core.specs.Exports.{SwitchValue, switch_call_counted, switch_hop_answer}
 use Rattle.world_log.specs.Exports.{log_ended_switch, log_hop_flight, log_hop_posts, log_hop_written, log_hopped_switch}
 use Rattle.refinement.proofs.RefinedHopPieces.{CanAsk, hop_called, hop_later, hop_others, hop_own, hop_packets, hop_piece, known_of, left_piece}
 use Rattle.refinement.proofs.RefinedPostedFrames.{SendFrom, posts_in}
@@ -21,13 +21,13 @@ use Rattle.refinement.proofs.RefinedPostedFrames.{SendFrom, posts_in}
 -- a row tells nothing of a packet
 pub travels_on : (journal : List Item) (row i : ℕ) (step : Step)
     → travels (journal ++ Item.Row row step ∷ []) i ≡ travels journal i
-unfolding what_is_known
+unfolding packet_facts_of
 travels_on journal row i step = ap (λ facts. facts.travels)
     (facts_grow i journal (Item.Row row step))
 
 pub travels_as : (setting : Setting) (journal : List Item) (i : ℕ)
-    → is_some (flight_in setting journal i) ≡ travels journal i
-unfolding flight_in
+    → is_some (refined_flight_in setting journal i) ≡ travels journal i
+unfolding refined_flight_in
 travels_as setting journal i = by_case (travels journal i) _ where
   by_case : {X : Type 0} (b : Bool) (x : X) → is_some (if b then Some x else None) ≡ b
   by_case true x = refl
@@ -50,8 +50,8 @@ lose_piece setting journal row i =
 -- of the packets, it is gone
 gone : (setting : Setting) (journal : List Item) (row i : ℕ) (before : Flights) (q : ℕ)
     (b : Bool) → Known setting journal → (q == i) ≡ b
-    → flight before q ≡ flight_in setting journal q → (if b then None else flight before q)
-    ≡ flight_in setting (journal ++ Item.Row row (Lose i) ∷ Item.Lost i ∷ []) q
+    → flight before q ≡ refined_flight_in setting journal q → (if b then None else flight before q)
+    ≡ refined_flight_in setting (journal ++ Item.Row row (Lose i) ∷ Item.Lost i ∷ []) q
 gone setting journal row i before q true knows is was =
     let same : (i == q) ≡ true = grind (arith, nat_tests) in
     sym (flight_along setting journal (Item.Row row (Lose i) ∷ Item.Lost i ∷ []) q
@@ -61,7 +61,7 @@ gone setting journal row i before q false knows is was =
     was ∙ sym (flight_stays setting journal (Item.Row row (Lose i) ∷ Item.Lost i ∷ []) q knows
     (refl, (other, tt)))
 
-module _ {setting : Setting} {journal : List Item} {state : NetworkState}
+module _ {setting : Setting} {journal : List Item} {state : RefinedNetworkState}
     (refines : RefineJournal setting journal state) (row i : ℕ) where
   -- it travels where the table has it
   travels_there : travels journal i ≡ is_some (flight state.travelling i)
@@ -102,12 +102,12 @@ module _ {setting : Setting} {journal : List Item} {state : NetworkState}
 
 -- ---- the tie
 
-module _ {setting : Setting} {journal : List Item} {state : NetworkState}
+module _ {setting : Setting} {journal : List Item} {state : RefinedNetworkState}
     (refines : RefineJournal setting journal state) (row i : ℕ) (t : Flight) (s near : ℕ)
     (w : SwitchValue) (ports : Ports) (may : IsStep setting.net (length setting.files) (Hop i))
     (can : CanAsk setting journal i t s near w ports) where
   abbrev items : List Item
-  items = log_hop_written (next_message journal) w near ports t
+  items = log_hop_written (journal_next_message journal) w near ports t
 
   abbrev all : List Item
   all = Item.Row row (Hop i) ∷ items
@@ -115,26 +115,26 @@ module _ {setting : Setting} {journal : List Item} {state : NetworkState}
   knows : Known setting journal
   knows = known_of refines
 
-  sends : SendFrom (next_message journal) items
-  sends = (hop_sends (next_message journal) w near ports t).0
+  sends : SendFrom (journal_next_message journal) items
+  sends = (hop_sends (journal_next_message journal) w near ports t).0
 
   -- and all packets
   travels_then : (after : Flights) → TravellingWithOne state.travelling i (log_hop_flight w near ports t) after
-      → (q : ℕ) → flight state.travelling q ≡ flight_in setting journal q
-      → flight after q ≡ flight_in setting (journal ++ all) q
+      → (q : ℕ) → flight state.travelling q ≡ refined_flight_in setting journal q
+      → flight after q ≡ refined_flight_in setting (journal ++ all) q
   travels_then after with q was = with q ∙ by_test (q == i) refl where
     by_test : (b : Bool) → (q == i) ≡ b
         → (if b then log_hop_flight w near ports t else flight state.travelling q)
-        ≡ flight_in setting (journal ++ all) q
+        ≡ refined_flight_in setting (journal ++ all) q
     by_test true is = cc (hop_own setting journal row i t s near w ports can, eqb-true q i is)
     by_test false is = let apart : (i == q) ≡ false = grind (arith, nat_tests) in
         was ∙ sym (hop_others setting journal row i t s near w ports can knows q apart)
 
   steps_of : (after : Flights) → TravellingWithOne state.travelling i (log_hop_flight w near ports t) after
-      → s < length state.switches → w ≡ switch_of setting journal s
-      → ((q : ℕ) → flight state.travelling q ≡ flight_in setting journal q)
+      → s < length state.switches → w ≡ refined_switch_of setting journal s
+      → ((q : ℕ) → flight state.travelling q ≡ refined_flight_in setting journal q)
       → ((k : ℕ) (d : SwitchValue) → k < length state.switches
-      → get_or state.switches k d ≡ switch_of setting journal k) → Steps setting journal row (Hop i)
+      → get_or state.switches k d ≡ refined_switch_of setting journal k) → Steps setting journal row (Hop i)
       items state.switches (set state.switches s (log_hopped_switch w near t)) after
   steps_of after with there own packets each = record {
     may = may;
@@ -144,14 +144,14 @@ module _ {setting : Setting} {journal : List Item} {state : NetworkState}
     as_many = length-set state.switches s (log_hopped_switch w near t);
     each = λ k d within. one_changes setting journal (journal ++ all) state.switches s k
         (log_hopped_switch w near t) d (s == k) refl there
-        (ap (λ (u : SwitchValue). log_ended_switch (call_counted u) (hop_answer w near t.tunnel).end)
+        (ap (λ (u : SwitchValue). log_ended_switch (switch_call_counted u) (switch_hop_answer w near t.tunnel).end)
         own ∙ sym (hop_called setting journal row i t s near w ports can s true (eq-eqb s s refl)))
         (hop_called setting journal row i t s near w ports can k false) (each k d within);
     travels = λ q. travels_then after with q (packets q);
   }
 
   pub hop_refines : (after : Flights) (other : SwitchValue)
-      → s < length state.switches → w ≡ switch_of setting journal s → other ≡ log_hopped_switch w near t
+      → s < length state.switches → w ≡ refined_switch_of setting journal s → other ≡ log_hopped_switch w near t
       → TravellingWithOne state.travelling i (log_hop_flight w near ports t) after
       → RefineJournal setting (journal ++ Item.Row row (Hop i)
       ∷ log_hop_written (length state.posts + 1) w near ports t) (record state {
@@ -161,17 +161,17 @@ module _ {setting : Setting} {journal : List Item} {state : NetworkState}
       })
   hop_refines after other there own answered left =
       let last : SwitchValue = log_hopped_switch w near t in
-      let with : SwitchValue → List Post → NetworkState = λ changed posts. record state {
+      let with : SwitchValue → List Post → RefinedNetworkState = λ changed posts. record state {
         switches = set state.switches s changed;
         travelling = after;
         posts = state.posts ++ posts;
       } in
       let kept = refines_more refines (set state.switches s last) after state.packets row (Hop i)
       items (steps_of after left there own (packets_are refines) (switches_are refines))
-      (omega (arith, hop_packets row i items (hop_later (next_message journal) w near ports t))) in
+      (omega (arith, hop_packets row i items (hop_later (journal_next_message journal) w near ports t))) in
       subst (λ n. RefineJournal setting (journal ++ Item.Row row (Hop i)
       ∷ log_hop_written n w near ports t) (with other (log_hop_posts w near ports t))) (numbered refines)
-      (rw answered (rw ((hop_sends (next_message journal) w near ports t).1) at kept))
+      (rw answered (rw ((hop_sends (journal_next_message journal) w near ports t).1) at kept))
 
   -- the piece of a hop, by what its switch is told
   pub hop_piece_of : piece setting journal row (Hop i) ≡ Item.Row row (Hop i)
@@ -180,7 +180,7 @@ module _ {setting : Setting} {journal : List Item} {state : NetworkState}
 
 -- ---- a packet that doesn't travel
 
-module _ {setting : Setting} {journal : List Item} {state : NetworkState}
+module _ {setting : Setting} {journal : List Item} {state : RefinedNetworkState}
     (refines : RefineJournal setting journal state) where
   pub hop_left : (row i : ℕ) → IsStep setting.net (length setting.files) (Hop i)
       → is_some (flight state.travelling i) ≡ false

@@ -1,11 +1,11 @@
 -- A packet that enters: its whole step keeps the tie.
 use Rattle.std.proofs.Common.{[], ◌++◌, ◌+◌, ◌<◌, ◌==◌, ◌∙◌, ◌∷◌, ◌≡◌, ◌≤◌, Bool, List, None, Option, Some, ap, arith, cond, eq-eqb, eqb-true, false, get_or, if◌then◌else◌, length, length-set, refl, set, slice_index, subst, sym, true, ℕ}
 use Rattle.base.proofs.Exports.{nat_tests, sum_by-cons}
-use Rattle.update_machine.specs.Exports.{Header, Item, Leg, NoneConcern, Packet as PacketStep, Ports, Setting, Step, concerns_policies, count_of, is_packet, next_message, next_packet, packet_items, piece, targets_of}
-use Rattle.switch_core.specs.Exports.{Answer, SwitchValue, call_counted}
-use Rattle.refinement.specs.Exports.{AreInStep, NetworkState, RefineJournal, flight_in, switch_of}
+use Rattle.update_machine.specs.Exports.{Header, Item, Leg, NoneConcern, Packet as PacketStep, Ports, Setting, Step, item_concerns_policies, count_of, is_packet, journal_next_message, journal_next_packet, packet_items, piece, targets_of}
+use Rattle.switch_core.specs.Exports.{Answer, SwitchValue, switch_call_counted}
+use Rattle.refinement.specs.Exports.{AreRefinedInStep, RefinedNetworkState, RefineJournal, refined_flight_in, refined_switch_of}
 use Rattle.refinement.proofs.RefinedSwitchSteps.{calls_refine}
-use Rattle.packet_laws.specs.Exports.{IsUnknownPacket, what_is_known}
+use Rattle.packet_laws.specs.Exports.{IsUnknownPacket, packet_facts_of}
 use Rattle.world_log.specs.Exports.{log_answer_items, log_coming_in, log_entered_flight, log_entered_items, log_entered_posts, entry}
 use Rattle.travelling.specs.Travelling.{Flight, Flights, Standing, TravellingWithOne, flight}
 use Rattle.refinement.proofs.RefinedOnwardPackets.{ComesTo, GoesIn, come_goes, come_law, entered_goes, looking}
@@ -21,7 +21,7 @@ use Rattle.refinement.proofs.RefinedHopPieces.{known_of, seen}
 
 -- ---- one packet enters, and then none
 
-once : (first : Item) (items : List Item) → is_packet first ≡ true → AreInStep items
+once : (first : Item) (items : List Item) → is_packet first ≡ true → AreRefinedInStep items
     → count_of is_packet (first ∷ items) ≡ 1
 once first items packet later =
     let sum = sum_by-cons (λ x. cond (is_packet x) 1 0) first items in
@@ -39,14 +39,14 @@ entered_once number at (Some what) = once (Item.Entered at.packet at.switch at.h
 -- the switch where it enters is called, and no other
 pub come_called : (setting : Setting) (journal : List Item) (row number q : ℕ) (at : Standing)
     (what : Option Answer) (b : Bool) → SendFrom number (log_entered_items number at what)
-    → (at.switch == q) ≡ b → switch_of setting
+    → (at.switch == q) ≡ b → refined_switch_of setting
     (journal ++ Item.Row row (PacketStep at.switch at.header) ∷ log_entered_items number at what) q
-    ≡ (if b then call_counted (switch_of setting journal q) else switch_of setting journal q)
+    ≡ (if b then switch_call_counted (refined_switch_of setting journal q) else refined_switch_of setting journal q)
 come_called setting journal row number q at what b sends is = cc (by_answer what sends, is) where
   by_answer : (what : Option Answer) → SendFrom number (log_entered_items number at what)
-      → switch_of setting (journal ++ Item.Row row (PacketStep at.switch at.header)
+      → refined_switch_of setting (journal ++ Item.Row row (PacketStep at.switch at.header)
       ∷ log_entered_items number at what) q ≡ (if at.switch == q
-      then call_counted (switch_of setting journal q) else switch_of setting journal q)
+      then switch_call_counted (refined_switch_of setting journal q) else refined_switch_of setting journal q)
   by_answer None sends = calls_refine.closed setting journal row at.packet at.switch q at.header
   by_answer (Some what) sends = calls_refine.entered setting journal row at.packet at.switch q
       at.header (log_answer_items number at what) (answer_later number at what)
@@ -58,22 +58,22 @@ come_called setting journal row number q at what b sends is = cc (by_answer what
 pub come_along : (setting : Setting) (journal : List Item)
     (row number : ℕ) (taken : Step) (targets : Targets) (at : Standing) (answer : Option Answer)
     (kept : Option Flight) (q : ℕ) (b : Bool) → Known setting journal
-    → (q == at.packet) ≡ b → IsUnknownPacket (what_is_known journal at.packet)
-    → (what_is_known journal at.packet).found ≡ at.down → GoesIn targets at answer
+    → (q == at.packet) ≡ b → IsUnknownPacket (packet_facts_of journal at.packet)
+    → (packet_facts_of journal at.packet).found ≡ at.down → GoesIn targets at answer
     → ((leg : Leg) → targets leg ≡ targets_of setting journal leg)
-    → NoneConcern concerns_policies journal (Item.Row row taken ∷ log_entered_items number at answer)
-    → kept ≡ flight_in setting journal q → (if b then log_entered_flight answer else kept)
-    ≡ flight_in setting (journal ++ Item.Row row taken ∷ log_entered_items number at answer) q
+    → NoneConcern item_concerns_policies journal (Item.Row row taken ∷ log_entered_items number at answer)
+    → kept ≡ refined_flight_in setting journal q → (if b then log_entered_flight answer else kept)
+    ≡ refined_flight_in setting (journal ++ Item.Row row taken ∷ log_entered_items number at answer) q
 come_along setting journal row number taken targets at answer kept q true knows is unknown unmarked
     comes same none was =
     let first : Item = Item.Row row taken in
     let i : ℕ = at.packet in
-    entered_goes targets (journal ++ first ∷ []) number at answer (what_is_known journal i) unknown
+    entered_goes targets (journal ++ first ∷ []) number at answer (packet_facts_of journal i) unknown
     unmarked comes
     ∙ by_targets targets (targets_of setting journal) i
-    (facts_along i journal (first ∷ log_entered_items number at answer) (what_is_known journal i)) (same _)
+    (facts_along i journal (first ∷ log_entered_items number at answer) (packet_facts_of journal i)) (same _)
     ∙ sym (flight_along setting journal (first ∷ log_entered_items number at answer) i none)
-    ∙ ap (flight_in setting (journal ++ first ∷ log_entered_items number at answer))
+    ∙ ap (refined_flight_in setting (journal ++ first ∷ log_entered_items number at answer))
     (sym (eqb-true q i is))
 come_along setting journal row number taken targets at answer kept q false knows is unknown unmarked
     comes same none was =
@@ -84,16 +84,16 @@ come_along setting journal row number taken targets at answer kept q false knows
 
 -- ---- the step
 
-module _ {setting : Setting} {journal : List Item} {state : NetworkState}
+module _ {setting : Setting} {journal : List Item} {state : RefinedNetworkState}
     (refines : RefineJournal setting journal state) where
   -- its number has 32 bits
-  pub come_fits : next_packet journal ≤ 4000000000 → state.packets + 1 ≤ 4000000000
+  pub come_fits : journal_next_packet journal ≤ 4000000000 → state.packets + 1 ≤ 4000000000
   come_fits few = omega (arith, refines.counted, few)
 
-  pub counted_is : next_packet journal ≡ state.packets + 1
+  pub counted_is : journal_next_packet journal ≡ state.packets + 1
   counted_is = refines.counted
 
-module _ {setting : Setting} {journal : List Item} {state : NetworkState}
+module _ {setting : Setting} {journal : List Item} {state : RefinedNetworkState}
     (refines : RefineJournal setting journal state) (row s : ℕ) (header : Header) (ports : Ports)
     (own : SwitchValue) (may : IsStep setting.net (length setting.files) (PacketStep s header))
     (owners : ArePortOwners setting.net.switches ports) (its : own ≡ get_or state.switches s own) where
@@ -110,7 +110,7 @@ module _ {setting : Setting} {journal : List Item} {state : NetworkState}
   first = Item.Row row (PacketStep s header)
 
   abbrev number : ℕ
-  number = next_message journal
+  number = journal_next_message journal
 
   abbrev answer : Option Answer
   answer = entry own near ports i header
@@ -121,10 +121,10 @@ module _ {setting : Setting} {journal : List Item} {state : NetworkState}
   knows : Known setting journal
   knows = known_of refines
 
-  is_new : next_packet journal ≡ i
+  is_new : journal_next_packet journal ≡ i
   is_new = counted_is refines
 
-  unknown : IsUnknownPacket (what_is_known journal i)
+  unknown : IsUnknownPacket (packet_facts_of journal i)
   unknown = knows.kept.unknown i (omega (arith, is_new))
 
   comes : ComesTo setting journal i s header own near ports
@@ -152,17 +152,17 @@ module _ {setting : Setting} {journal : List Item} {state : NetworkState}
   once_in = entered_once number (log_coming_in i header s) answer
 
   -- so the tie is kept after it
-  steps_of : (after : Flights) → s < length state.switches → own ≡ switch_of setting journal s
+  steps_of : (after : Flights) → s < length state.switches → own ≡ refined_switch_of setting journal s
       → TravellingWithOne state.travelling i (log_entered_flight answer) after → Steps setting journal row taken
-      items state.switches (set state.switches s (call_counted own)) after
+      items state.switches (set state.switches s (switch_call_counted own)) after
   steps_of after there own_is with = record {
     may = may;
     piece_is = piece_is;
     not_told = refl;
     sends = sends;
-    as_many = length-set state.switches s (call_counted own);
+    as_many = length-set state.switches s (switch_call_counted own);
     each = λ q d below. one_changes setting journal (journal ++ first ∷ items) state.switches s q
-        (call_counted own) d (s == q) refl there (ap call_counted own_is ∙ sym (come_called setting
+        (switch_call_counted own) d (s == q) refl there (ap switch_call_counted own_is ∙ sym (come_called setting
         journal row number s (log_coming_in i header s) answer true sends (eq-eqb s s refl)))
         (come_called setting journal row number q (log_coming_in i header s) answer false sends)
         (switches_are refines q d below);
@@ -187,7 +187,7 @@ module _ {setting : Setting} {journal : List Item} {state : NetworkState}
   come_piece = cc (piece_is, number_is, numbered refines)
 
   pub come_refines : (after : Flights) (changed : SwitchValue) → s < length state.switches
-      → own ≡ switch_of setting journal s → changed ≡ call_counted own
+      → own ≡ refined_switch_of setting journal s → changed ≡ switch_call_counted own
       → TravellingWithOne state.travelling (state.packets + 1) (log_entered_flight
       (entry own (slice_index state.near s) ports (state.packets + 1) header)) after
       → RefineJournal setting (journal ++ Item.Row row (PacketStep s header)
@@ -200,7 +200,7 @@ module _ {setting : Setting} {journal : List Item} {state : NetworkState}
             (entry own (slice_index state.near s) ports (state.packets + 1) header);
       })
   come_refines after changed there own_is changed_is entered =
-      let with : SwitchValue → List Post → NetworkState = λ counted posts. record state {
+      let with : SwitchValue → List Post → RefinedNetworkState = λ counted posts. record state {
         switches = set state.switches s counted;
         travelling = after;
         packets = i;
@@ -212,7 +212,7 @@ module _ {setting : Setting} {journal : List Item} {state : NetworkState}
       (log_coming_in i header k) answer) (with changed (log_entered_posts (log_coming_in i header k) answer)))
       (sym number_is) (subst (λ u. RefineJournal setting (journal ++ first ∷ items) (with u
       (log_entered_posts (log_coming_in i header s) answer))) (sym changed_is) (subst (λ more. RefineJournal
-      setting (journal ++ first ∷ items) (with (call_counted own) more))
+      setting (journal ++ first ∷ items) (with (switch_call_counted own) more))
       (entered_sends number (log_coming_in i header s) answer).1 (refines_more refines
-      (set state.switches s (call_counted own)) after i row taken items (steps_of after there own_is
+      (set state.switches s (switch_call_counted own)) after i row taken items (steps_of after there own_is
       entered) (omega (arith, sum_by-cons (λ x. cond (is_packet x) 1 0) first items, once_in))))))

@@ -1,13 +1,13 @@
 -- What leaves the controller as it was, and the start.
 use Rattle.std.proofs.Common.{[], ◌++◌, ◌+◌, ◌<◌, ◌∙◌, ◌∷◌, ◌≡◌, ◌≢◌, IsFalse, IsTrue, List, Some, ap, append-nil, append_assoc, arith, get_or-set_other, get_or-set_same, inl, inr, length, length-set, map, refl, replicate, subst, sym, unwrap_or, ℕ}
 use Rattle.base.proofs.Exports.{cases_eq, get_or-replicate, length-replicate}
-use Rattle.update_machine.specs.Exports.{ControllerKeeps, Item, Message, Setting, acked_stamp, controller_heard, current_mark, has_acked, in_turn, is_member, is_over, known_boot, next_message, open_sent, opened_at, retired_mark, send_items, sent_from, version_count}
+use Rattle.update_machine.specs.Exports.{JournalControllerKeeps, Item, Message, Setting, acked_stamp, controller_heard, journal_current_mark, has_acked, in_turn, is_member, is_over, journal_known_boot, journal_next_message, machine_open_sent, opened_at, journal_retired_mark, send_items, machine_sent_items_from, journal_version_count}
 use Rattle.update_machine.proofs.Exports.{next_sent, start_laws}
 use Rattle.control_laws.proofs.Exports.{acked_same, count_more, current_more, known_more, member_same, opened_same, over_more, retired_more, stamp_same, told_more}
 use Rattle.version_update.specs.Exports.{MarksValue, at_switch, first_marks, first_record, record_of, unknown_switch_record}
 use Rattle.version_update.specs.declared.record.SwitchRecord.{SwitchRecord}
 use Rattle.version_update.proofs.VersionAcknowledgements.{first_acked}
-use Rattle.refinement.specs.Exports.{AreMarksOf, IsKnown, act_item_of, acts_written}
+use Rattle.refinement.specs.Exports.{AreMarksRefined, IsKnownRefined, refined_act_item, refined_acts_written}
 use Rattle.controller.specs.declared.sends.Act.{Act}
 use Rattle.controller.specs.declared.sends.Act.TheVariants.{Post}
 
@@ -15,14 +15,14 @@ use Rattle.controller.specs.declared.sends.Act.TheVariants.{Post}
 
 -- what is known of a switch stays as it was
 pub record StaysKnown (before after : List Item) (s : ℕ) : Type 0 where
-  pub boot : known_boot after s ≡ known_boot before s
+  pub boot : journal_known_boot after s ≡ journal_known_boot before s
   pub over : is_over after s ≡ is_over before s
   pub opened : opened_at after s ≡ opened_at before s
   pub acked : (v : ℕ) → has_acked after s v ≡ has_acked before s v
   pub stamp : acked_stamp after s ≡ acked_stamp before s
 
 pub known_on : (before after : List Item) (s : ℕ) (known : SwitchRecord)
-    → StaysKnown before after s → IsKnown before s known → IsKnown after s known
+    → StaysKnown before after s → IsKnownRefined before s known → IsKnownRefined after s known
 known_on before after s known stays is =
     let member = member_same before after s stays.over stays.opened in record {
       boot = is.boot ∙ sym stays.boot;
@@ -37,9 +37,9 @@ known_on before after s known stays is =
 -- an item that tells the controller nothing and opens no switch
 pub quiet_stays : (before : List Item) (next : Item) (s : ℕ)
     → controller_heard (before ++ next ∷ []) ≡ controller_heard before
-    → known_boot (before ++ next ∷ []) s ≡ known_boot before s
+    → journal_known_boot (before ++ next ∷ []) s ≡ journal_known_boot before s
     → is_over (before ++ next ∷ []) s ≡ is_over before s
-    → open_sent s (known_boot before s) next ≡ [] → StaysKnown before (before ++ next ∷ []) s
+    → machine_open_sent s (journal_known_boot before s) next ≡ [] → StaysKnown before (before ++ next ∷ []) s
 quiet_stays before next s heard known over none =
     let opened = opened_same before next s known none in record {
       boot = known;
@@ -54,8 +54,8 @@ quiet_stays before next s heard known over none =
 -- what is known of the switches stays, and the marks are what they are now
 pub stay_on : (setting : Setting) (before after : List Item)
     (marks : MarksValue) (count current retired : ℕ) → ((s : ℕ) → StaysKnown before after s)
-    → count ≡ version_count after → current ≡ current_mark after → retired ≡ retired_mark after
-    → AreMarksOf setting before marks → AreMarksOf setting after
+    → count ≡ journal_version_count after → current ≡ journal_current_mark after → retired ≡ journal_retired_mark after
+    → AreMarksRefined setting before marks → AreMarksRefined setting after
     (record marks { count = count; current = current; retired = retired })
 stay_on setting before after marks count current retired stay counts is_current is_retired are =
     record {
@@ -67,8 +67,8 @@ stay_on setting before after marks count current retired stay counts is_current 
     }
 
 pub marks_on : (setting : Setting) (before after : List Item) (marks : MarksValue)
-    → ControllerKeeps before after → AreMarksOf setting before marks
-    → AreMarksOf setting after marks
+    → JournalControllerKeeps before after → AreMarksRefined setting before marks
+    → AreMarksRefined setting after marks
 marks_on setting before after marks keeps are = stay_on setting before after marks marks.count
     marks.current marks.retired (λ s. record {
       boot = keeps.known s;
@@ -81,7 +81,7 @@ marks_on setting before after marks keeps are = stay_on setting before after mar
 
 -- current rises
 pub current_on : (setting : Setting) (journal : List Item) (version : ℕ) (marks : MarksValue)
-    → AreMarksOf setting journal marks → AreMarksOf setting
+    → AreMarksRefined setting journal marks → AreMarksRefined setting
     (journal ++ Item.Current version ∷ []) (record marks { current = version })
 current_on setting journal version marks are = let next : Item = Item.Current version in
     stay_on setting journal (journal ++ next ∷ []) marks marks.count version marks.retired
@@ -91,7 +91,7 @@ current_on setting journal version marks are = let next : Item = Item.Current ve
 
 -- retired rises
 pub retired_on : (setting : Setting) (journal : List Item) (version : ℕ) (marks : MarksValue)
-    → AreMarksOf setting journal marks → AreMarksOf setting
+    → AreMarksRefined setting journal marks → AreMarksRefined setting
     (journal ++ Item.Retired version ∷ []) (record marks { retired = version })
 retired_on setting journal version marks are = let next : Item = Item.Retired version in
     stay_on setting journal (journal ++ next ∷ []) marks marks.count marks.current version
@@ -101,7 +101,7 @@ retired_on setting journal version marks are = let next : Item = Item.Retired ve
 
 -- one more version
 pub count_on : (setting : Setting) (journal : List Item) (file version : ℕ) (marks : MarksValue)
-    → AreMarksOf setting journal marks → AreMarksOf setting
+    → AreMarksRefined setting journal marks → AreMarksRefined setting
     (journal ++ Item.Submitted file version ∷ []) (record marks { count = marks.count + 1 })
 count_on setting journal file version marks are = let next : Item = Item.Submitted file version in
     stay_on setting journal (journal ++ next ∷ []) marks (marks.count + 1) marks.current
@@ -115,24 +115,24 @@ count_on setting journal file version marks are = let next : Item = Item.Submitt
 -- an item of which one switch's record is changed
 pub switch_on : (setting : Setting) (journal : List Item)
     (next : Item) (marks : MarksValue) (s : ℕ) (change : SwitchRecord → SwitchRecord)
-    → version_count (journal ++ next ∷ []) ≡ version_count journal
-    → current_mark (journal ++ next ∷ []) ≡ current_mark journal
-    → retired_mark (journal ++ next ∷ []) ≡ retired_mark journal
+    → journal_version_count (journal ++ next ∷ []) ≡ journal_version_count journal
+    → journal_current_mark (journal ++ next ∷ []) ≡ journal_current_mark journal
+    → journal_retired_mark (journal ++ next ∷ []) ≡ journal_retired_mark journal
     → ((t : ℕ) → t ≢ s → StaysKnown journal (journal ++ next ∷ []) t) → s < length marks.switches
-    → IsKnown (journal ++ next ∷ []) s (change (record_of marks s))
-    → AreMarksOf setting journal marks
-    → AreMarksOf setting (journal ++ next ∷ []) (at_switch s change marks)
+    → IsKnownRefined (journal ++ next ∷ []) s (change (record_of marks s))
+    → AreMarksRefined setting journal marks
+    → AreMarksRefined setting (journal ++ next ∷ []) (at_switch s change marks)
 switch_on setting journal next marks s change count current retired others there own are = record {
   count = are.count ∙ sym count;
   current = are.current ∙ sym current;
   retired = are.retired ∙ sym retired;
   many = length-set marks.switches s (change (record_of marks s)) ∙ are.many;
   each = λ t below. elim (cases_eq t s) [
-    | inl same ↦ rw same (subst (IsKnown (journal ++ next ∷ []) s)
+    | inl same ↦ rw same (subst (IsKnownRefined (journal ++ next ∷ []) s)
         (sym (get_or-set_same marks.switches s (change (record_of marks s)) unknown_switch_record there))
         own)
     | inr other ↦
-        subst (IsKnown (journal ++ next ∷ []) t)
+        subst (IsKnownRefined (journal ++ next ∷ []) t)
         (sym (get_or-set_other marks.switches s t (change (record_of marks s)) unknown_switch_record other))
         (known_on journal (journal ++ next ∷ []) t (record_of marks t) (others t other) (are.each t
         (omega (arith, below, length-set marks.switches s (change (record_of marks s))))))
@@ -142,10 +142,10 @@ switch_on setting journal next marks s change count current retired others there
 -- ---- the start
 
 opened_first : (s : ℕ) → opened_at [] s ≡ Some 1
-unfolding opened_at known_boot controller_heard
+unfolding opened_at journal_known_boot controller_heard
 opened_first s = refl
 
-known_first : (s : ℕ) → IsKnown [] s first_record
+known_first : (s : ℕ) → IsKnownRefined [] s first_record
 known_first s = record {
   boot = sym (start_laws.known s);
   over = sym (start_laws.over s);
@@ -156,7 +156,7 @@ known_first s = record {
 }
 
 pub marks_begun : (setting : Setting)
-    → AreMarksOf setting [] (first_marks (length setting.net.switches))
+    → AreMarksRefined setting [] (first_marks (length setting.net.switches))
 marks_begun setting =
     let n : ℕ = length setting.net.switches in
     let many : length (replicate n first_record) ≡ n = length-replicate n first_record in record {
@@ -164,47 +164,47 @@ marks_begun setting =
       current = sym start_laws.current;
       retired = sym start_laws.retired;
       many = many;
-      each = λ s there. subst (IsKnown [] s)
+      each = λ s there. subst (IsKnownRefined [] s)
           (sym (get_or-replicate n s first_record unknown_switch_record (omega arith))) (known_first s);
     }
 
 -- ---- what acts write, one part after another
 
-pub written_append : (journal : List Item) (xs ys : List Act) → acts_written journal (xs ++ ys)
-    ≡ acts_written journal xs ++ acts_written (journal ++ acts_written journal xs) ys
-written_append journal [] ys = ap (λ js. acts_written js ys) (sym (append-nil journal))
+pub written_append : (journal : List Item) (xs ys : List Act) → refined_acts_written journal (xs ++ ys)
+    ≡ refined_acts_written journal xs ++ refined_acts_written (journal ++ refined_acts_written journal xs) ys
+written_append journal [] ys = ap (λ js. refined_acts_written js ys) (sym (append-nil journal))
 written_append journal (act ∷ xs) ys =
-    let next : Item = act_item_of journal act in
+    let next : Item = refined_act_item journal act in
     let here : List Item = journal ++ next ∷ [] in
     ap (λ items. next ∷ items)
-    (written_append here xs ys ∙ ap (λ js. acts_written here xs ++ acts_written js ys)
-    (append_assoc journal (next ∷ []) (acts_written here xs)))
+    (written_append here xs ys ∙ ap (λ js. refined_acts_written here xs ++ refined_acts_written js ys)
+    (append_assoc journal (next ∷ []) (refined_acts_written here xs)))
 
 -- acts of several parts write blocks in turn
 pub written_in_two : (journal : List Item) (a b : List Item → List Item) (xs ys : List Act)
     → let one = journal ++ a journal in
-    acts_written journal xs ≡ a journal → acts_written one ys ≡ b one
-    → acts_written journal (xs ++ ys) ≡ in_turn (a ∷ b ∷ []) journal
+    refined_acts_written journal xs ≡ a journal → refined_acts_written one ys ≡ b one
+    → refined_acts_written journal (xs ++ ys) ≡ in_turn (a ∷ b ∷ []) journal
 written_in_two journal a b xs ys first second =
     cc (written_append journal xs ys, first, second, append-nil (b (journal ++ a journal)))
 
 pub written_in_three : (journal : List Item) (a b c : List Item → List Item)
     (xs ys zs : List Act) → let one = journal ++ a journal in let two = one ++ b one in
-    acts_written journal xs ≡ a journal → acts_written one ys ≡ b one → acts_written two zs
+    refined_acts_written journal xs ≡ a journal → refined_acts_written one ys ≡ b one → refined_acts_written two zs
     ≡ c two
-    → acts_written journal (xs ++ ys ++ zs) ≡ in_turn (a ∷ b ∷ c ∷ []) journal
+    → refined_acts_written journal (xs ++ ys ++ zs) ≡ in_turn (a ∷ b ∷ c ∷ []) journal
 written_in_three journal a b c xs ys zs first second third =
     let one : List Item = journal ++ a journal in
-    ap (acts_written journal) (append_assoc xs ys zs) ∙ written_append journal xs (ys ++ zs)
-    ∙ ap (λ items. items ++ acts_written (journal ++ items) (ys ++ zs)) first
+    ap (refined_acts_written journal) (append_assoc xs ys zs) ∙ written_append journal xs (ys ++ zs)
+    ∙ ap (λ items. items ++ refined_acts_written (journal ++ items) (ys ++ zs)) first
     ∙ ap (λ items. a journal ++ items) (written_in_two one b c ys zs second third)
 
 -- messages are sent
 pub posted : (messages : List Message) (journal : List Item)
-    → acts_written journal (map Post messages) ≡ send_items journal messages
-unfolding sent_from
+    → refined_acts_written journal (map Post messages) ≡ send_items journal messages
+unfolding machine_sent_items_from
 posted [] journal = refl
-posted (message ∷ messages) journal = let next : Item = Item.Sent (next_message journal) message in
+posted (message ∷ messages) journal = let next : Item = Item.Sent (journal_next_message journal) message in
     ap (λ items. next ∷ items)
     (posted messages (journal ++ next ∷ [])
-    ∙ ap (λ n. sent_from n messages) (next_sent journal (next_message journal) message))
+    ∙ ap (λ n. machine_sent_items_from n messages) (next_sent journal (journal_next_message journal) message))

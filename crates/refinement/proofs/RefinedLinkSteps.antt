@@ -2,17 +2,17 @@
 -- what the parts are behind it.
 use Rattle.std.proofs.Common.{[], if◌then◌else◌, ◌&&◌, ◌++◌, ◌+◌, ◌<◌, ◌==◌, ◌^◌, ◌||◌, ◌∙◌, ◌∷◌, ◌≡◌, Bool, List, None, Option, Some, ap, append_assoc, arith, eqb-true, false, get_or, length, max, min, refl, sym, true, unwrap_or, ℕ}
 use Rattle.base.proofs.Exports.{and_parts, any_filter_by, beq, has_mask, mask_of_is, nat_tests, option_or}
-use Rattle.update_machine.specs.Exports.{Item, LinkRow, Message, Net, Setting, Step, concerns_calls, gives_link, is_link_up, journal_items_then, last_given, link_changes, link_items, near, nothing, piece, sent_from}
+use Rattle.update_machine.specs.Exports.{Item, LinkRow, Message, Net, Setting, Step, item_concerns_calls, gives_journal_link, is_link_up_in_journal, journal_items_then, journal_last_given, journal_link_changes, machine_link_items, near, nothing, piece, machine_sent_items_from}
 use Rattle.base.specs.Exports.{has}
 use Rattle.net_file.specs.Exports.{are_linked, joins}
 use Rattle.net_file.proofs.NetFileRowPlaces.{links as link_laws}
 use Rattle.control_laws.specs.Exports.{asks_controller}
 use Rattle.steps.specs.Exports.{HasLink, IsStep}
-use Rattle.switch_core.specs.Exports.{SwitchValue, next_advert}
-use Rattle.refinement.specs.Exports.{RefinementLeavesSwitch, NetworkState, RefineJournal, is_up_link, link_step, relinked_switch, up_links}
+use Rattle.switch_core.specs.Exports.{SwitchValue, switch_next_advert}
+use Rattle.refinement.specs.Exports.{RefinementLeavesSwitch, RefinedNetworkState, RefineJournal, is_refined_up_link, link_step, refined_relinked_switch, refined_up_links}
 use Rattle.refinement.proofs.RefinedSwitchLinks.{links_refine}
 use Rattle.update_machine.proofs.Exports.{last_given_append}
-use Rattle.world_log.specs.Exports.{AreSwitchesRelinked, LogMaySend, LogSetsLink, all_adverts_sent, near_all}
+use Rattle.world_log.specs.Exports.{AreLogSwitchesRelinked, LogMaySend, LogSetsLink, all_adverts_sent, logged_near_all}
 use Rattle.refinement.proofs.RefinedBagDeliveries.{nothing_happens}
 use Rattle.refinement.proofs.RefinedSteps.{WroteOne}
 use Rattle.refinement.proofs.RefinedPostedFrames.{bag_on}
@@ -22,30 +22,30 @@ use Rattle.refinement.proofs.RefinedLinkChanges.{relinked_state, LinksChange, ch
 
 -- a link that joins two switches is theirs
 joined_up : (journal : List Item) (s k : ℕ) (link : LinkRow) → joins s k link ≡ true
-    → is_up_link journal link ≡ is_link_up journal s k
-unfolding is_link_up
+    → is_refined_up_link journal link ≡ is_link_up_in_journal journal s k
+unfolding is_link_up_in_journal
 joined_up journal s k link joined = by_order (link.one == s && link.two == k) refl joined where
-  turned : is_link_up journal k s ≡ is_link_up journal s k
+  turned : is_link_up_in_journal journal k s ≡ is_link_up_in_journal journal s k
   turned =
       let low : min k s ≡ min s k = omega arith in
       let high : max k s ≡ max s k = omega arith in rw (low, high) refl
 
   by_order : (b : Bool) → (link.one == s && link.two == k) ≡ b
       → (b || (link.one == k && link.two == s)) ≡ true
-      → is_link_up journal link.one link.two ≡ is_link_up journal s k
+      → is_link_up_in_journal journal link.one link.two ≡ is_link_up_in_journal journal s k
   by_order true e is = let parts = and_parts (link.one == s) (link.two == k) e in
-      ap (λ x. is_link_up journal x link.two) (eqb-true link.one s parts.0)
-      ∙ ap (λ x. is_link_up journal s x) (eqb-true link.two k parts.1)
+      ap (λ x. is_link_up_in_journal journal x link.two) (eqb-true link.one s parts.0)
+      ∙ ap (λ x. is_link_up_in_journal journal s x) (eqb-true link.two k parts.1)
   by_order false e is = let parts = and_parts (link.one == k) (link.two == s) is in
-      ap (λ x. is_link_up journal x link.two) (eqb-true link.one k parts.0)
-      ∙ ap (λ x. is_link_up journal k x) (eqb-true link.two s parts.1) ∙ turned
+      ap (λ x. is_link_up_in_journal journal x link.two) (eqb-true link.one k parts.0)
+      ∙ ap (λ x. is_link_up_in_journal journal k x) (eqb-true link.two s parts.1) ∙ turned
 
 -- two switches have a link that is up where they have one, and it is up
 up_linked : (setting : Setting) (journal : List Item) (s k : ℕ)
-    → are_linked (up_links setting journal) s k
-    ≡ (are_linked setting.net.links s k && is_link_up journal s k)
-up_linked setting journal s k = any_filter_by (joins s k) (is_up_link journal)
-    (is_link_up journal s k) (joined_up journal s k) setting.net.links
+    → are_linked (refined_up_links setting journal) s k
+    ≡ (are_linked setting.net.links s k && is_link_up_in_journal journal s k)
+up_linked setting journal s k = any_filter_by (joins s k) (is_refined_up_link journal)
+    (is_link_up_in_journal journal s k) (joined_up journal s k) setting.net.links
 
 -- the lower and the higher switch are those of the link
 same_ends : (one two s k : ℕ) → (min one two == min s k && max one two == max s k)
@@ -54,16 +54,16 @@ same_ends one two s k = grind (arith, nat_tests)
 
 -- after the item that reports it, the link is as that says, and others are as before
 up_behind : (journal : List Item) (row : ℕ) (step : Step) (one two s k : ℕ) (up : Bool)
-    → is_link_up (journal ++ Item.Row row step ∷ Item.LinkIs (min one two) (max one two) up ∷ [])
-    s k ≡ (if joins s k (record { one = one; two = two }) then up else is_link_up journal s k)
-unfolding is_link_up
+    → is_link_up_in_journal (journal ++ Item.Row row step ∷ Item.LinkIs (min one two) (max one two) up ∷ [])
+    s k ≡ (if joins s k (record { one = one; two = two }) then up else is_link_up_in_journal journal s k)
+unfolding is_link_up_in_journal
 up_behind journal row step one two s k up =
-    let tells : Item → Option Bool = gives_link (min s k) (max s k) in
+    let tells : Item → Option Bool = gives_journal_link (min s k) (max s k) in
     ap (λ o. unwrap_or o true) (last_given_append tells journal
     (Item.Row row step ∷ Item.LinkIs (min one two) (max one two) up ∷ []))
     ∙ ap (λ b. unwrap_or (option_or (option_or (if b then Some up else None) None)
-    (last_given tells journal)) true) (same_ends one two s k)
-    ∙ by_test (joins s k (record { one = one; two = two })) (last_given tells journal)
+    (journal_last_given tells journal)) true) (same_ends one two s k)
+    ∙ by_test (joins s k (record { one = one; two = two })) (journal_last_given tells journal)
   where
     by_test : (b : Bool) (was : Option Bool)
         → unwrap_or (option_or (option_or (if b then Some up else None) None) was) true
@@ -81,7 +81,7 @@ row_link net files one two false own = own
 
 -- no call of a switch is made, and the controller isn't told
 uncalled : (journal : List Item) (q row one two : ℕ) (up : Bool)
-    → concerns_calls q journal (Item.Row row (link_step up one two)) ≡ false
+    → item_concerns_calls q journal (Item.Row row (link_step up one two)) ≡ false
 uncalled journal q row one two true = refl
 uncalled journal q row one two false = refl
 
@@ -92,7 +92,7 @@ untold journal one two false = refl
 
 link_piece : (setting : Setting) (journal : List Item) (row one two : ℕ) (up : Bool)
     → piece setting journal row (link_step up one two) ≡ Item.Row row (link_step up one two)
-    ∷ link_items setting journal one two up (journal ++ Item.Row row (link_step up one two) ∷ [])
+    ∷ machine_link_items setting journal one two up (journal ++ Item.Row row (link_step up one two) ∷ [])
 unfolding piece
 link_piece setting journal row one two true = refl
 link_piece setting journal row one two false = refl
@@ -102,27 +102,27 @@ abbrev items_if : Setting → List Item → List Item → ℕ → ℕ → Bool �
 items_if setting before journal one two up same = elim same [
   | true ↦ nothing
   | false ↦ journal_items_then (Item.LinkIs (min one two) (max one two) up ∷ [])
-      (link_changes setting before) journal
+      (journal_link_changes setting before) journal
 ]
 
 -- it is so already
 same_items : (setting : Setting) (before journal : List Item) (one two : ℕ) (up : Bool)
-    → beq (is_link_up before one two) up ≡ true
-    → link_items setting before one two up journal ≡ nothing
-unfolding link_items
+    → beq (is_link_up_in_journal before one two) up ≡ true
+    → machine_link_items setting before one two up journal ≡ nothing
+unfolding machine_link_items
 same_items setting before journal one two up same = cc same
 
 -- or it changes
 other_items : (setting : Setting) (before journal : List Item) (one two : ℕ) (up : Bool)
-    → beq (is_link_up before one two) up ≡ false → link_items setting before one two up journal
+    → beq (is_link_up_in_journal before one two) up ≡ false → machine_link_items setting before one two up journal
     ≡ Item.LinkIs (min one two) (max one two) up
-    ∷ link_changes setting before (journal ++ Item.LinkIs (min one two) (max one two) up ∷ [])
-unfolding link_items
+    ∷ journal_link_changes setting before (journal ++ Item.LinkIs (min one two) (max one two) up ∷ [])
+unfolding machine_link_items
 other_items setting before journal one two up other = cc other
 
 -- ---- the tie
 
-module _ {setting : Setting} {journal : List Item} {state : NetworkState}
+module _ {setting : Setting} {journal : List Item} {state : RefinedNetworkState}
     (refines : RefineJournal setting journal state) (row one two : ℕ) (up : Bool)
     (may : IsStep setting.net (length setting.files) (link_step up one two)) where
   abbrev step : Step
@@ -149,10 +149,10 @@ module _ {setting : Setting} {journal : List Item} {state : NetworkState}
       )
 
   -- the mask of one end has the other one where the link is up
-  end_is : has (get_or state.links one 0) two ≡ is_link_up journal one two
+  end_is : has (get_or state.links one 0) two ≡ is_link_up_in_journal journal one two
   end_is = ap (λ mask. has mask two) (refines.up one ends_below.0)
-      ∙ has_mask (are_linked (up_links setting journal) one) two ends_below.1
-      ∙ up_linked setting journal one two ∙ ap (λ b. b && is_link_up journal one two) linked
+      ∙ has_mask (are_linked (refined_up_links setting journal) one) two ends_below.1
+      ∙ up_linked setting journal one two ∙ ap (λ b. b && is_link_up_in_journal journal one two) linked
 
   -- nothing happens where it is so already
   pub same_refines : beq (has (get_or state.links one 0) two) up ≡ true
@@ -181,11 +181,11 @@ module _ {setting : Setting} {journal : List Item} {state : NetworkState}
     split = append_assoc journal (Item.Row row step ∷ []) told
 
     piece_so : piece setting journal row step
-        ≡ Item.Row row step ∷ first ∷ link_changes setting journal now
+        ≡ Item.Row row step ∷ first ∷ journal_link_changes setting journal now
     piece_so = link_piece setting journal row one two up
         ∙ ap (λ items. Item.Row row step ∷ items) (other_items setting journal
         (journal ++ Item.Row row step ∷ []) one two up (ap (λ b. beq b up) (sym end_is) ∙ other))
-        ∙ ap (λ js. Item.Row row step ∷ first ∷ link_changes setting journal js) split
+        ∙ ap (λ js. Item.Row row step ∷ first ∷ journal_link_changes setting journal js) split
 
     -- no switch hears of it but by its links
     leaves : (q : ℕ) → RefinementLeavesSwitch q journal row step told
@@ -217,12 +217,12 @@ module _ {setting : Setting} {journal : List Item} {state : NetworkState}
     by_end false a was so = refl
 
     up_now : (s k : ℕ) → s < 64 → k < 64
-        → has (get_or links s 0) k ≡ are_linked (up_links setting now) s k
+        → has (get_or links s 0) k ≡ are_linked (refined_up_links setting now) s k
     up_now s k small below = sets s k small below
         ∙ ap (λ b. if joins s k link then up else b) (ap (λ mask. has mask k) (refines.up s small)
-        ∙ has_mask (are_linked (up_links setting journal) s) k below
+        ∙ has_mask (are_linked (refined_up_links setting journal) s) k below
         ∙ up_linked setting journal s k) ∙ by_end (joins s k link)
-        (are_linked setting.net.links s k) (is_link_up journal s k) (joined s k)
+        (are_linked setting.net.links s k) (is_link_up_in_journal journal s k) (joined s k)
         ∙ ap (λ b. are_linked setting.net.links s k && b)
         (sym (up_behind journal row step one two s k up)) ∙ sym (up_linked setting now s k)
 
@@ -235,19 +235,19 @@ module _ {setting : Setting} {journal : List Item} {state : NetworkState}
       as_many = refl;
       number = refl;
       bag = bag_on journal (Item.Row row step ∷ told) state.posts (refl, (refl, tt)) refines.bag;
-      up = λ q below. mask_of_is (get_or links q 0) (are_linked (up_links setting now) q) (fit q)
+      up = λ q below. mask_of_is (get_or links q 0) (are_linked (refined_up_links setting now) q) (fit q)
           (λ k small. up_now q k below small);
       relinks = λ q d below. links_refine.relinked setting q journal row step told (leaves q)
-          ∙ ap (relinked_switch setting journal now q) (sym (refines.each q d below));
+          ∙ ap (refined_relinked_switch setting journal now q) (sym (refines.each q d below));
       own = λ q d below changes. links_refine.advert setting q journal row step told (leaves q)
-          changes ∙ ap (λ w. next_advert w (near setting now q)) (sym (refines.each q d below));
+          changes ∙ ap (λ w. switch_next_advert w (near setting now q)) (sym (refines.each q d below));
     }
 
     abbrev messages : List Message
-    messages = all_adverts_sent state.near (near_all links state.switches) state.switches
+    messages = all_adverts_sent state.near (logged_near_all links state.switches) state.switches
 
     pub set_piece : piece setting journal row step
-        ≡ Item.Row row step ∷ first ∷ sent_from (length state.posts + 1) messages
+        ≡ Item.Row row step ∷ first ∷ machine_sent_items_from (length state.posts + 1) messages
     set_piece = change_piece refines changes
 
     pub set_may : length state.posts < 990_000 → LogMaySend state.posts messages
@@ -255,9 +255,9 @@ module _ {setting : Setting} {journal : List Item} {state : NetworkState}
 
     -- the parts behind the step, where these are the switches
     pub set_refines : (others : List SwitchValue)
-        → AreSwitchesRelinked state.near (near_all links state.switches) state.switches others
+        → AreLogSwitchesRelinked state.near (logged_near_all links state.switches) state.switches others
         → RefineJournal setting (journal ++ Item.Row row step ∷ first
-        ∷ sent_from (length state.posts + 1) messages)
+        ∷ machine_sent_items_from (length state.posts + 1) messages)
         (relinked_state state state.switches links state.posts others state.travelling)
     set_refines others are = change_refines refines changes others state.travelling are
         (unmoved refines changes (λ i. (refl, (refl, tt))))

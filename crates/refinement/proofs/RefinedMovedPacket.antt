@@ -2,18 +2,18 @@
 use Rattle.std.proofs.Common.{[], ◌++◌, ◌+◌, ◌∙◌, ◌∷◌, ◌≡◌, Bool, IsTrue, List, None, Option, Some, ap, false, nat_eq, option_map, refl, rules, slice_get, subst, sym, true, unwrap_or, ℕ}
 use Rattle.base.proofs.Exports.{list_any}
 use Rattle.failover.specs.Exports.{route_of, with_link}
-use Rattle.update_machine.specs.Exports.{Cause, Exit, HaveCauses, Header, Hop, Item, Leg, Ports, Seek, Setting, arrive_items, stuck_cause_at, found_down, go_on, journal_items_then, leg_of, move_items, near, next_message, next_switch, no_switch, owner, reroute_by, reroute_items, packet_route_for, route_from, serves, stays_on_way, stuck_on_leg_items, targets_of}
+use Rattle.update_machine.specs.Exports.{Cause, Exit, JournalItemsHaveCauses, Header, Hop, Item, Leg, Ports, Seek, Setting, machine_arrive_items, journal_stuck_cause_at, journal_found_down, go_on, journal_items_then, journal_leg_of, move_items, near, journal_next_message, next_switch, no_switch, owner, journal_reroute_by, reroute_items, journal_packet_route, journal_route_from, serves, journal_stays_on_way, stuck_on_leg_items, targets_of}
 use Rattle.base.specs.Exports.{has}
 use Rattle.net_file.specs.Exports.{ArePortOwners}
-use Rattle.switch_core.specs.Exports.{SwitchArrival, Moved, SwitchValue, around, arrived_on_leg, call_counted, cause_of, hop_answer, hopped_to, link_found_down as found_by, move_answer, moved_along_route, received, rerouted_here}
+use Rattle.switch_core.specs.Exports.{SwitchArrival, Moved, SwitchValue, around, switch_arrival_on_leg, switch_call_counted, switch_stuck_cause, switch_hop_answer, switch_hopped_to, switch_found_link_down as found_by, switch_move_answer, switch_moved_along_route, received, rerouted_here}
 use Rattle.switch_core.specs.declared.tunnel_calls.HopEnd.{HopEnd}
 use Rattle.switch_core.specs.declared.tunnel_calls.Packet.{Packet}
 use Rattle.switch_table.specs.Exports.{Hosted}
 use Rattle.tunnel.specs.Exports.{TunnelValue, here, next}
 use Rattle.update_machine.proofs.Exports.{have_append, messages_keep, switch_keeps}
-use Rattle.control_laws.specs.Exports.{HasItemCause}
+use Rattle.control_laws.specs.Exports.{HasControlItemCause}
 use Rattle.control_laws.proofs.Exports.{own}
-use Rattle.packet_laws.specs.Exports.{IsOnLeg, PacketFacts, stage_of, what_is_known}
+use Rattle.packet_laws.specs.Exports.{IsPacketOnLeg, PacketFacts, packet_stage_of, packet_facts_of}
 use Rattle.packet_laws.proofs.Exports.{IsWay, Knows, facts_grow, found_in, knows, last_here, next_in, one_target, route_way}
 use Rattle.world_log.specs.Exports.{log_arrival, log_arrival_items, log_arrived_items, log_ended_flight, log_ended_items, log_hop_flight, log_hop_written, log_turned_items}
 use Rattle.travelling.specs.Travelling.{Flight, standing_at, Standing}
@@ -25,8 +25,8 @@ use Rattle.refinement.proofs.RefinedTakenLegs.{Sees, at_switch, cause_law, sees_
 use Rattle.refinement.proofs.RefinedAuthorityDecisions.{IsAsked}
 use Rattle.refinement.proofs.RefinedFlights.{Stands, got, on_leg, on_route_of, tunnel_on}
 
-leg_in_facts : (journal : List Item) (i : ℕ) → leg_of journal i ≡ (what_is_known journal i).leg
-unfolding what_is_known
+leg_in_facts : (journal : List Item) (i : ℕ) → journal_leg_of journal i ≡ (packet_facts_of journal i).leg
+unfolding packet_facts_of
 leg_in_facts journal i = refl
 
 -- the packet goes on, or is stuck before it arrives
@@ -44,17 +44,17 @@ pub record Hops (setting : Setting) (journal : List Item) (i s : ℕ) (header : 
 -- within the step the switch is asked as before it
 pub record StaysAsked (setting : Setting) (journal : List Item) (s : ℕ) (header : Header)
     (leg : Leg) (w : SwitchValue) (mask : ℕ) (now : List Item) : Type 0 where
-  pub caused : HaveCauses (HasItemCause setting) [] now
+  pub caused : JournalItemsHaveCauses (HasControlItemCause setting) [] now
   pub serving : IsTrue (serves now s)
   pub sees : Sees setting now s w mask
-  pub numbered : next_message now ≡ next_message journal
+  pub numbered : journal_next_message now ≡ journal_next_message journal
   pub leads : (leg : Leg) → targets_of setting now leg ≡ targets_of setting journal leg
   pub at_end : IsAtEnd setting journal s header leg → IsAtEnd setting now s header leg
 
 -- and the packet has these facts there, on its leg
 pub record AreFactsNow (facts : PacketFacts) (header : Header) (ingress : ℕ) (leg : Leg) (i : ℕ)
     (now : List Item) (ws : PacketFacts) (found : List ℕ) : Type 0 where
-  pub same : what_is_known now i ≡ ws
+  pub same : packet_facts_of now i ≡ ws
   pub entered : ws.header ≡ Some header
   pub came : ws.ingress ≡ Some ingress
   pub takes : ws.leg ≡ Some leg
@@ -75,7 +75,7 @@ module _ (setting : Setting) (journal : List Item) (row i s : ℕ) (header : Hea
   turned two route = met two ++ Item.Rerouted i route ∷ []
 
   abbrev facts : PacketFacts
-  facts = what_is_known journal i
+  facts = packet_facts_of journal i
 
   abbrev targets : Targets
   targets = targets_of setting journal
@@ -90,7 +90,7 @@ module _ (setting : Setting) (journal : List Item) (row i s : ℕ) (header : Hea
   t = at_place facts.route facts.hops facts.found
 
   abbrev number : ℕ
-  number = next_message journal
+  number = journal_next_message journal
 
   abbrev packet : List ℕ → Packet
   packet found = record { number = i; header = header; ingress = ingress; down = found }
@@ -102,7 +102,7 @@ module _ (setting : Setting) (journal : List Item) (row i s : ℕ) (header : Hea
 
   stays_begun : Stays begun
   stays_begun = record {
-    caused = have_append (HasItemCause setting) [] journal (Item.Row row (Hop i) ∷ [])
+    caused = have_append (HasControlItemCause setting) [] journal (Item.Row row (Hop i) ∷ [])
         hops.stands.knows.caused (tt, tt);
     serving = (switch_keeps setting s journal (Item.Row row (Hop i) ∷ []) (refl, tt)).serving
         ∙ hops.stands.serving;
@@ -115,7 +115,7 @@ module _ (setting : Setting) (journal : List Item) (row i s : ℕ) (header : Hea
 
   stays_met : (two : ℕ) → Stays (met two)
   stays_met two = let one : Item = Item.FoundDown i s two in record {
-    caused = have_append (HasItemCause setting) [] begun (one ∷ []) stays_begun.caused (tt, tt);
+    caused = have_append (HasControlItemCause setting) [] begun (one ∷ []) stays_begun.caused (tt, tt);
     serving = (switch_keeps setting s begun (one ∷ []) (refl, tt)).serving ∙ stays_begun.serving;
     sees = sees_one setting begun one s w mask
         (record { switch = refl; links = refl; policies = refl }) stays_begun.sees;
@@ -127,7 +127,7 @@ module _ (setting : Setting) (journal : List Item) (row i s : ℕ) (header : Hea
 
   stays_turned : (two : ℕ) (route : List ℕ) → Stays (turned two route)
   stays_turned two route = let one : Item = Item.Rerouted i route in record {
-    caused = have_append (HasItemCause setting) [] (met two) (one ∷ []) (stays_met two).caused
+    caused = have_append (HasControlItemCause setting) [] (met two) (one ∷ []) (stays_met two).caused
         (tt, tt);
     serving = (switch_keeps setting s (met two) (one ∷ []) (refl, tt)).serving
         ∙ (stays_met two).serving;
@@ -142,29 +142,29 @@ module _ (setting : Setting) (journal : List Item) (row i s : ℕ) (header : Hea
 
   -- ---- the packet's facts there
 
-  facts_begun : what_is_known begun i ≡ facts
+  facts_begun : packet_facts_of begun i ≡ facts
   facts_begun = facts_grow i journal (Item.Row row (Hop i))
 
   abbrev facts_met : ℕ → PacketFacts
   facts_met two = record facts { found = down two }
 
-  met_is : (two : ℕ) → what_is_known (met two) i ≡ facts_met two
+  met_is : (two : ℕ) → packet_facts_of (met two) i ≡ facts_met two
   met_is two = facts_grow i begun (Item.FoundDown i s two) ∙ rw (own i, facts_begun) refl
 
   abbrev facts_turned : ℕ → List ℕ → PacketFacts
   facts_turned two route = record facts { found = down two; route = route; hops = 0 }
 
   turned_is : (two : ℕ) (route : List ℕ)
-      → what_is_known (turned two route) i ≡ facts_turned two route
+      → packet_facts_of (turned two route) i ≡ facts_turned two route
   turned_is two route = facts_grow i (met two) (Item.Rerouted i route) ∙ rw (own i, met_is two) refl
 
   -- ---- where it arrives
 
   abbrev AreNow : List Item → PacketFacts → List ℕ → Type 0
-  AreNow now ws found = AreFactsNow (what_is_known journal i) header ingress leg i now ws found
+  AreNow now ws found = AreFactsNow (packet_facts_of journal i) header ingress leg i now ws found
 
   asked_now : (now : List Item) (ws : PacketFacts) (found : List ℕ) → Stays now
-      → AreNow now ws found → IsAsked setting now s (call_counted w) mask ports (packet found)
+      → AreNow now ws found → IsAsked setting now s (switch_call_counted w) mask ports (packet found)
   asked_now now ws found stays are = record {
     is = hops.stands.knows.is;
     caused = stays.caused;
@@ -187,13 +187,13 @@ module _ (setting : Setting) (journal : List Item) (row i s : ℕ) (header : Hea
   -- the switch's answer is what the journal's definitions say
   arrival_is : (now : List Item) (ws : PacketFacts) (route : List ℕ) (k : ℕ) (found : List ℕ)
       → Stays now → AreNow now ws found → IsAtEnd setting now s header leg
-      → arrive_items setting i s now
-      ≡ log_arrival_items number (call_counted w) mask ports (at_place route k found)
+      → machine_arrive_items setting i s now
+      ≡ log_arrival_items number (switch_call_counted w) mask ports (at_place route k found)
   unfolding log_arrival_items received
   arrival_is now ws route k found stays are end =
       let u : Flight = at_place route k found in
-      let what : SwitchArrival = arrived_on_leg (call_counted w) (around mask ports) (packet found) leg in
-      arrive_law setting now s (call_counted w) mask ports (packet found)
+      let what : SwitchArrival = switch_arrival_on_leg (switch_call_counted w) (around mask ports) (packet found) leg in
+      arrive_law setting now s (switch_call_counted w) mask ports (packet found)
       (asked_now now ws found stays are) u leg
       (subst (AreOfFacts t.version t.rule) (sym are.same) (of_now now ws found are))
       (ap (λ ws. ws.leg) are.same ∙ are.takes) end
@@ -203,18 +203,18 @@ module _ (setting : Setting) (journal : List Item) (row i s : ℕ) (header : Hea
   -- and so the packet goes on
   arrival_goes_on : (now : List Item) (ws : PacketFacts) (route : List ℕ) (k : ℕ)
       (found : List ℕ) → Stays now → AreNow now ws found
-      → log_arrival (call_counted w) mask ports (at_place route k found)
+      → log_arrival (switch_call_counted w) mask ports (at_place route k found)
       ≡ flight_by targets i (facts_along i now
-      (log_arrival_items number (call_counted w) mask ports (at_place route k found)) ws)
+      (log_arrival_items number (switch_call_counted w) mask ports (at_place route k found)) ws)
   unfolding log_arrival log_arrival_items received
   arrival_goes_on now ws route k found stays are =
       let u : Flight = at_place route k found in
-      let what : SwitchArrival = arrived_on_leg (call_counted w) (around mask ports) (packet found) leg in
+      let what : SwitchArrival = switch_arrival_on_leg (switch_call_counted w) (around mask ports) (packet found) leg in
       let at : Standing = at_switch s (packet found) in
       arrival_goes (targets_of setting now) now number at u what ws
       (record { on = are.on; header = are.entered; came = are.came; found = are.marked })
       (of_now now ws found are)
-      (arrive_comes setting now s (call_counted w) mask ports (packet found)
+      (arrive_comes setting now s (switch_call_counted w) mask ports (packet found)
       (asked_now now ws found stays are) leg)
       ∙ by_targets (targets_of setting now) targets i
       (facts_along i now (log_arrived_items number at u.version u.rule what) ws) (stays.leads _)
@@ -223,11 +223,11 @@ module _ (setting : Setting) (journal : List Item) (row i s : ℕ) (header : Hea
       (sym hops.sees.number)
 
   arrival_stays : (route : List ℕ) (k : ℕ) (found : List ℕ)
-      → stays_on_way (log_arrival_items number (call_counted w) mask ports (at_place route k found)) ≡ false
+      → journal_stays_on_way (log_arrival_items number (switch_call_counted w) mask ports (at_place route k found)) ≡ false
   unfolding log_arrival_items
   arrival_stays route k found = let u : Flight = at_place route k found in
-      arrived_still number (standing_at (call_counted w).number u) u
-      (received (call_counted w) (around mask ports) u.tunnel)
+      arrived_still number (standing_at (switch_call_counted w).number u) u
+      (received (switch_call_counted w) (around mask ports) u.tunnel)
 
   -- ---- what a hop comes to
 
@@ -236,18 +236,18 @@ module _ (setting : Setting) (journal : List Item) (row i s : ℕ) (header : Hea
 
   abbrev written : ℕ → Option ℕ → Moved → List Item
   written at found m = log_turned_items i at found m.end m.tunnel.route
-      ++ log_ended_items number (call_counted w) mask ports (moved_to m) m.end
+      ++ log_ended_items number (switch_call_counted w) mask ports (moved_to m) m.end
 
   -- what it writes, where the packet is then, and how many calls it is
   abbrev Outcome : ℕ → Option ℕ → Moved → Type 0
   Outcome at found m = (move_items setting i s begun ≡ written at found m)
-      × (log_ended_flight (call_counted w) mask ports (moved_to m) m.end
+      × (log_ended_flight (switch_call_counted w) mask ports (moved_to m) m.end
       ≡ flight_by targets i (facts_along i begun (written at found m) facts))
-      × (stays_on_way (written at found m) ≡ stays_by m.end)
+      × (journal_stays_on_way (written at found m) ≡ stays_by m.end)
 
   abbrev move_by : Option ℕ → List Item
   move_by o = elim o [
-    | None ↦ arrive_items setting i s begun
+    | None ↦ machine_arrive_items setting i s begun
     | Some next ↦ elim (has (near setting begun s) next) [
       | true ↦ Item.Hopped i next ∷ []
       | false ↦ journal_items_then (Item.FoundDown i s next ∷ []) (reroute_items setting i s) begun
@@ -268,7 +268,7 @@ module _ (setting : Setting) (journal : List Item) (row i s : ℕ) (header : Hea
   are_begun = search (rules, facts_begun)
 
   -- it is at the end of its route
-  arrives : next t.tunnel ≡ None → Outcome s None (move_answer t.tunnel None)
+  arrives : next t.tunnel ≡ None → Outcome s None (switch_move_answer t.tunnel None)
   arrives last = (
     moves_are None last ∙ arrival_is begun facts facts.route facts.hops facts.found stays_begun
         are_begun (stays_begun.at_end (end_of_route setting journal s facts header leg
@@ -279,7 +279,7 @@ module _ (setting : Setting) (journal : List Item) (row i s : ℕ) (header : Hea
 
   -- it moves over a link that is usable
   moves : (two : ℕ) → next t.tunnel ≡ Some two → has mask two ≡ true
-      → Outcome s None (move_answer t.tunnel (Some two))
+      → Outcome s None (switch_move_answer t.tunnel (Some two))
   moves two goes usable = (
     moves_are (Some two) goes ∙ ap (λ b. elim b [
       | true ↦ Item.Hopped i two ∷ []
@@ -306,23 +306,23 @@ module _ (setting : Setting) (journal : List Item) (row i s : ℕ) (header : Hea
   found_is two goes off = ap (found_by mask) goes ∙ rw off refl
 
   blocked_is : (two : ℕ) → next t.tunnel ≡ Some two → has mask two ≡ false
-      → hop_answer w mask t.tunnel ≡ moved_along_route w mask (tunnel_down two) (route_down two leg)
-  unfolding hop_answer rerouted_here
+      → switch_hop_answer w mask t.tunnel ≡ switch_moved_along_route w mask (tunnel_down two) (route_down two leg)
+  unfolding switch_hop_answer rerouted_here
   blocked_is two goes off =
-      let along : ℕ → ℕ → Moved = λ n k. moved_along_route w mask
+      let along : ℕ → ℕ → Moved = λ n k. switch_moved_along_route w mask
       (tunnel_on targets i header ingress leg facts.route facts.hops (with_link facts.found n two))
       (route_of w.database k (targets leg) mask (with_link facts.found n two)) in
-      ap (hopped_to w mask t.tunnel) (found_is two goes off)
+      ap (switch_hopped_to w mask t.tunnel) (found_is two goes off)
       ∙ ap (λ n. along n n) here_is
       ∙ ap (along s) (sym hops.sees.number)
 
-  found_met : (two : ℕ) → found_down (met two) i ≡ down two
+  found_met : (two : ℕ) → journal_found_down (met two) i ≡ down two
   found_met two = found_in (met two) i ∙ ap (λ (ws : PacketFacts). ws.found) (met_is two)
 
-  route_met : (two : ℕ) → packet_route_for setting (met two) i s leg ≡ route_down two leg
+  route_met : (two : ℕ) → journal_packet_route setting (met two) i s leg ≡ route_down two leg
   route_met two =
-      ap (route_from setting (met two) s (targets_of setting (met two) leg)) (found_met two)
-      ∙ ap (λ to. route_from setting (met two) s to (down two)) ((stays_met two).leads leg)
+      ap (journal_route_from setting (met two) s (targets_of setting (met two) leg)) (found_met two)
+      ∙ ap (λ to. journal_route_from setting (met two) s to (down two)) ((stays_met two).leads leg)
       ∙ sym ((stays_met two).sees.route (targets leg) (down two))
 
   abbrev reroute_by_route : ℕ → Option (List ℕ) → List Item
@@ -351,14 +351,14 @@ module _ (setting : Setting) (journal : List Item) (row i s : ℕ) (header : Hea
 
   -- there is no other route
   stuck : (two : ℕ) → next t.tunnel ≡ Some two → has mask two ≡ false → route_down two leg ≡ None
-      → Outcome s (Some two) (moved_along_route w mask (tunnel_down two) None)
+      → Outcome s (Some two) (switch_moved_along_route w mask (tunnel_down two) None)
   stuck two goes off none = (
     blocked_items two None goes off none
-        ∙ ap (λ found. written_stuck two s (stuck_cause_at setting (met two) s found leg) found)
+        ∙ ap (λ found. written_stuck two s (journal_stuck_cause_at setting (met two) s found leg) found)
         (found_met two) ∙ ap (λ cause. written_stuck two s cause (down two))
         (cause_law setting (met two) s w mask (stays_met two).sees (down two) leg
-        ∙ ap (cause_of w mask (down two) leg) ((stays_met two).leads leg))
-        ∙ ap (λ n. written_stuck two n (cause_of w mask (down two) leg (targets leg)) (down two))
+        ∙ ap (switch_stuck_cause w mask (down two) leg) ((stays_met two).leads leg))
+        ∙ ap (λ n. written_stuck two n (switch_stuck_cause w mask (down two) leg (targets leg)) (down two))
         (sym hops.sees.number),
     rw (own i) refl,
     refl,
@@ -369,7 +369,7 @@ module _ (setting : Setting) (journal : List Item) (row i s : ℕ) (header : Hea
 
   abbrev go_by : ℕ → List ℕ → Option ℕ → List Item
   go_by two route o = elim o [
-    | None ↦ arrive_items setting i s (turned two route)
+    | None ↦ machine_arrive_items setting i s (turned two route)
     | Some next ↦ Item.Hopped i next ∷ []
   ]
 
@@ -377,7 +377,7 @@ module _ (setting : Setting) (journal : List Item) (row i s : ℕ) (header : Hea
   detours : (two : ℕ) (route : List ℕ) (other : ℕ) → next t.tunnel ≡ Some two
       → has mask two ≡ false → route_down two leg ≡ Some route → slice_get route 1 ≡ Some other
       → Outcome s (Some two)
-      (move_answer (record (tunnel_down two) { route = route; place = 0 }) (Some other))
+      (switch_move_answer (record (tunnel_down two) { route = route; place = 0 }) (Some other))
   detours two route other goes off is on = (
     cc (blocked_items two (Some route) goes off is, next_turned two route, on),
     search (rules, own i),
@@ -385,10 +385,10 @@ module _ (setting : Setting) (journal : List Item) (row i s : ℕ) (header : Hea
   )
 
   -- or is at its end, at another target of its leg
-  links_there : Knows setting journal i (stage_of journal i)
+  links_there : Knows setting journal i (packet_stage_of journal i)
   links_there = knows setting journal i (before_of setting journal hops.stands.knows)
 
-  ends_there : (two : ℕ) (route : List ℕ) (l : Leg) → IsOnLeg setting journal facts header l
+  ends_there : (two : ℕ) (route : List ℕ) (l : Leg) → IsPacketOnLeg setting journal facts header l
       → route_down two l ≡ Some route → slice_get route 1 ≡ None
       → IsAtEnd setting journal s header l
   ends_there two route (Exit port) on is last =
@@ -421,11 +421,11 @@ module _ (setting : Setting) (journal : List Item) (row i s : ℕ) (header : Hea
   arrives_there : (two : ℕ) (route : List ℕ) → next t.tunnel ≡ Some two
       → has mask two ≡ false → route_down two leg ≡ Some route → slice_get route 1 ≡ None
       → Outcome s (Some two)
-      (move_answer (record (tunnel_down two) { route = route; place = 0 }) None)
+      (switch_move_answer (record (tunnel_down two) { route = route; place = 0 }) None)
   arrives_there two route goes off is last =
       let now : List Item = turned two route in
       let items : List Item =
-      log_arrival_items number (call_counted w) mask ports (at_place route 0 (down two)) in (
+      log_arrival_items number (switch_call_counted w) mask ports (at_place route 0 (down two)) in (
         blocked_items two (Some route) goes off is
             ∙ ap (λ o. Item.FoundDown i s two ∷ Item.Rerouted i route ∷ go_by two route o)
             (next_turned two route ∙ last)
@@ -441,69 +441,69 @@ module _ (setting : Setting) (journal : List Item) (row i s : ℕ) (header : Hea
   -- ---- all of it
 
   by_route : (two : ℕ) (o : Option (List ℕ)) → next t.tunnel ≡ Some two → has mask two ≡ false
-      → route_down two leg ≡ o → Outcome s (Some two) (moved_along_route w mask (tunnel_down two) o)
+      → route_down two leg ≡ o → Outcome s (Some two) (switch_moved_along_route w mask (tunnel_down two) o)
   by_route two None goes off is = stuck two goes off is
   by_route two (Some route) goes off is = by_next (slice_get route 1) refl where
     by_next : (o : Option ℕ) → slice_get route 1 ≡ o → Outcome s (Some two)
-        (move_answer (record (tunnel_down two) { route = route; place = 0 }) o)
+        (switch_move_answer (record (tunnel_down two) { route = route; place = 0 }) o)
     by_next None last = arrives_there two route goes off is last
     by_next (Some other) on = detours two route other goes off is on
 
   by_outcome : (found : Option ℕ) (m : Moved) → found_by mask (next t.tunnel) ≡ found
-      → hop_answer w mask t.tunnel ≡ m → Outcome s found m
-      → Outcome w.number (found_by mask (next t.tunnel)) (hop_answer w mask t.tunnel)
+      → switch_hop_answer w mask t.tunnel ≡ m → Outcome s found m
+      → Outcome w.number (found_by mask (next t.tunnel)) (switch_hop_answer w mask t.tunnel)
   by_outcome found m found_it moved_it outcome =
-      subst (λ n. Outcome n (found_by mask (next t.tunnel)) (hop_answer w mask t.tunnel))
-      (sym hops.sees.number) (subst (λ f. Outcome s f (hop_answer w mask t.tunnel)) (sym found_it)
+      subst (λ n. Outcome n (found_by mask (next t.tunnel)) (switch_hop_answer w mask t.tunnel))
+      (sym hops.sees.number) (subst (λ f. Outcome s f (switch_hop_answer w mask t.tunnel)) (sym found_it)
       (subst (Outcome s found) (sym moved_it) outcome))
 
   none_found : (o : Option ℕ) → next t.tunnel ≡ o → found_by mask (next t.tunnel) ≡ None
-      → hop_answer w mask t.tunnel ≡ move_answer t.tunnel o
-  unfolding hop_answer
-  none_found o is none = ap (hopped_to w mask t.tunnel) none ∙ ap (move_answer t.tunnel) is
+      → switch_hop_answer w mask t.tunnel ≡ switch_move_answer t.tunnel o
+  unfolding switch_hop_answer
+  none_found o is none = ap (switch_hopped_to w mask t.tunnel) none ∙ ap (switch_move_answer t.tunnel) is
 
-  outcome : Outcome w.number (found_by mask (next t.tunnel)) (hop_answer w mask t.tunnel)
+  outcome : Outcome w.number (found_by mask (next t.tunnel)) (switch_hop_answer w mask t.tunnel)
   outcome = by_next (next t.tunnel) refl where
     by_link : (two : ℕ) (b : Bool) → next t.tunnel ≡ Some two → has mask two ≡ b
-        → Outcome w.number (found_by mask (next t.tunnel)) (hop_answer w mask t.tunnel)
+        → Outcome w.number (found_by mask (next t.tunnel)) (switch_hop_answer w mask t.tunnel)
     by_link two true goes usable = let none = ap (found_by mask) goes ∙ rw usable refl in
-        by_outcome None (move_answer t.tunnel (Some two)) none (none_found (Some two) goes none)
+        by_outcome None (switch_move_answer t.tunnel (Some two)) none (none_found (Some two) goes none)
         (moves two goes usable)
     by_link two false goes off = by_outcome (Some two)
-        (moved_along_route w mask (tunnel_down two) (route_down two leg)) (found_is two goes off)
+        (switch_moved_along_route w mask (tunnel_down two) (route_down two leg)) (found_is two goes off)
         (blocked_is two goes off) (by_route two (route_down two leg) goes off refl)
 
     by_next : (o : Option ℕ) → next t.tunnel ≡ o
-        → Outcome w.number (found_by mask (next t.tunnel)) (hop_answer w mask t.tunnel)
+        → Outcome w.number (found_by mask (next t.tunnel)) (switch_hop_answer w mask t.tunnel)
     by_next None last = let none : found_by mask (next t.tunnel) ≡ None = ap (found_by mask) last in
-        by_outcome None (move_answer t.tunnel None) none (none_found None last none)
+        by_outcome None (switch_move_answer t.tunnel None) none (none_found None last none)
         (arrives last)
     by_next (Some two) goes = by_link two (has mask two) goes refl
 
   -- where it arrives its switch is asked once more
-  pub arrives_at_end : (hop_answer w mask (on_leg (targets_of setting journal) i
-      (what_is_known journal i)
+  pub arrives_at_end : (switch_hop_answer w mask (on_leg (targets_of setting journal) i
+      (packet_facts_of journal i)
       header ingress leg).tunnel).end ≡ HopEnd.Arrive → IsAtEnd setting journal s header leg
   arrives_at_end arrive = by_next (next t.tunnel) refl where
-    ended : (m : Moved) → hop_answer w mask t.tunnel ≡ m → m.end ≡ HopEnd.Arrive
+    ended : (m : Moved) → switch_hop_answer w mask t.tunnel ≡ m → m.end ≡ HopEnd.Arrive
     ended m is = ap (λ (m : Moved). m.end) (sym is) ∙ arrive
 
     by_link : (two : ℕ) (b : Bool) → next t.tunnel ≡ Some two → has mask two ≡ b
         → IsAtEnd setting journal s header leg
-    by_link two true goes usable = absurd (cc (ended (move_answer t.tunnel (Some two))
+    by_link two true goes usable = absurd (cc (ended (switch_move_answer t.tunnel (Some two))
         (none_found (Some two) goes (ap (found_by mask) goes ∙ rw usable refl))))
     by_link two false goes off = by_way (route_down two leg) refl where
       by_turn : (route : List ℕ) (o : Option ℕ) → route_down two leg ≡ Some route
           → slice_get route 1 ≡ o → IsAtEnd setting journal s header leg
       by_turn route None is last = ends_there two route leg hops.stands.on_leg is last
       by_turn route (Some other) is on =
-          absurd (cc (ended (move_answer (record (tunnel_down two) { route = route; place = 0 })
-          (Some other)) (blocked_is two goes off ∙ ap (moved_along_route w mask (tunnel_down two)) is
-          ∙ ap (move_answer (record (tunnel_down two) { route = route; place = 0 })) on)))
+          absurd (cc (ended (switch_move_answer (record (tunnel_down two) { route = route; place = 0 })
+          (Some other)) (blocked_is two goes off ∙ ap (switch_moved_along_route w mask (tunnel_down two)) is
+          ∙ ap (switch_move_answer (record (tunnel_down two) { route = route; place = 0 })) on)))
 
       by_way : (o : Option (List ℕ)) → route_down two leg ≡ o → IsAtEnd setting journal s header leg
-      by_way None none = absurd (cc (ended (moved_along_route w mask (tunnel_down two) None)
-          (blocked_is two goes off ∙ ap (moved_along_route w mask (tunnel_down two)) none)))
+      by_way None none = absurd (cc (ended (switch_moved_along_route w mask (tunnel_down two) None)
+          (blocked_is two goes off ∙ ap (switch_moved_along_route w mask (tunnel_down two)) none)))
       by_way (Some route) is = by_turn route (slice_get route 1) is refl
 
     by_next : (o : Option ℕ) → next t.tunnel ≡ o → IsAtEnd setting journal s header leg
@@ -513,21 +513,21 @@ module _ (setting : Setting) (journal : List Item) (row i s : ℕ) (header : Hea
 
   -- what it writes
   pub hop_law : move_items setting i s (journal ++ Item.Row row (Hop i) ∷ [])
-      ≡ log_hop_written (next_message journal) w mask ports
-      (on_leg (targets_of setting journal) i (what_is_known journal i) header ingress leg)
+      ≡ log_hop_written (journal_next_message journal) w mask ports
+      (on_leg (targets_of setting journal) i (packet_facts_of journal i) header ingress leg)
   hop_law = outcome.0
 
   -- where the packet is then
   pub hop_goes : log_hop_flight w mask ports
-      (on_leg (targets_of setting journal) i (what_is_known journal i) header ingress leg)
+      (on_leg (targets_of setting journal) i (packet_facts_of journal i) header ingress leg)
       ≡ flight_by (targets_of setting journal) i (facts_along i (journal ++ Item.Row row (Hop i)
-      ∷ []) (log_hop_written (next_message journal) w mask ports (on_leg (targets_of setting journal) i
-      (what_is_known journal i) header ingress leg)) (what_is_known journal i))
+      ∷ []) (log_hop_written (journal_next_message journal) w mask ports (on_leg (targets_of setting journal) i
+      (packet_facts_of journal i) header ingress leg)) (packet_facts_of journal i))
   hop_goes = outcome.1
 
   -- and whether its switch is called once or twice
-  pub hop_stays : stays_on_way (log_hop_written (next_message journal) w mask ports
-      (on_leg (targets_of setting journal) i (what_is_known journal i) header ingress leg))
-      ≡ stays_by (hop_answer w mask (on_leg (targets_of setting journal) i (what_is_known journal i)
+  pub hop_stays : journal_stays_on_way (log_hop_written (journal_next_message journal) w mask ports
+      (on_leg (targets_of setting journal) i (packet_facts_of journal i) header ingress leg))
+      ≡ stays_by (switch_hop_answer w mask (on_leg (targets_of setting journal) i (packet_facts_of journal i)
       header ingress leg).tunnel).end
   hop_stays = outcome.2

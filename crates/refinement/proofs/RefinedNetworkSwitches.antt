@@ -3,9 +3,9 @@ use Rattle.std.proofs.Common.{◌<◌, ◌∙◌, ◌≡◌, ◌≤◌, List, ar
 use Rattle.update_machine.specs.Exports.{Item, Setting}
 use Rattle.steps.specs.Exports.{HasSwitch}
 use Rattle.switch_core.specs.Exports.{SwitchValue}
-use Rattle.refinement.specs.Exports.{NetworkState, RefineJournal, switch_of}
+use Rattle.refinement.specs.Exports.{RefinedNetworkState, RefineJournal, refined_switch_of}
 
-module _ {setting : Setting} {journal : List Item} {state : NetworkState}
+module _ {setting : Setting} {journal : List Item} {state : RefinedNetworkState}
     (refines : RefineJournal setting journal state) where
   -- a switch of the network is there
   pub switch_there : (s : ℕ) → HasSwitch setting.net s → s < length state.switches
@@ -17,7 +17,7 @@ module _ {setting : Setting} {journal : List Item} {state : NetworkState}
 
   -- it is as the journal says
   pub switch_is : (s : ℕ) (w : SwitchValue) → HasSwitch setting.net s
-      → w ≡ get_or state.switches s w → w ≡ switch_of setting journal s
+      → w ≡ get_or state.switches s w → w ≡ refined_switch_of setting journal s
   switch_is s w own its = its ∙ refines.each s w (omega (arith, own, refines.many))
 
   pub few_switches : length state.switches ≤ 64

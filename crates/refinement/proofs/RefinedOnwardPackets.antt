@@ -2,24 +2,24 @@
 use Rattle.std.proofs.Common.{[], ◌++◌, ◌<◌, ◌==◌, ◌∙◌, ◌∷◌, ◌≡◌, Bool, List, None, Option, Some, ap, eq-eqb, false, if◌then◌else◌, length, ok_or, option_map, refl, subst, sym, true, unwrap_or, ℕ}
 use Rattle.base.proofs.Exports.{⊤}
 use Rattle.failover.specs.Exports.{no_links, route_of}
-use Rattle.net_file.specs.Exports.{ArePortOwners, owner_of, port_owner}
-use Rattle.update_machine.specs.Exports.{Action, Cause, Exit, Found, Header, Item, Partition, Ports, Rule, Seek, Setting, Step, lookup_at, lookup_items, next_message, no_switch, owner, packet_items, retired_mark, sent_from, serves, stamp_of, tables_at, targets_of}
-use Rattle.switch_core.specs.Exports.{Answer, SwitchValue, admitted, answer_by, around, by_entry, by_rule, cause_of, decided_at_switch, exit_by_switch, incoming_packet, leave_by_switch, looked_up, next_of, part_numbered, own_rule_in, seek_by, serves as serves_now, set_out, stamp_tables}
+use Rattle.net_file.specs.Exports.{ArePortOwners, net_port_owner, port_owner}
+use Rattle.update_machine.specs.Exports.{Action, Cause, Exit, Found, Header, Item, Partition, Ports, Rule, Seek, Setting, Step, lookup_at, lookup_items, journal_next_message, no_switch, owner, packet_items, journal_retired_mark, machine_sent_items_from, serves, journal_stamp_of, journal_tables_at, targets_of}
+use Rattle.switch_core.specs.Exports.{Answer, SwitchValue, admitted, switch_answer_by_found, around, by_entry, by_rule, switch_stuck_cause, switch_answer_by_rule, exit_by_switch, incoming_packet, leave_by_switch, looked_up, next_of, switch_part_numbered, switch_own_rule_in, switch_seek_by, serves as serves_now, set_out, stamp_tables}
 use Rattle.switch_core.specs.Answers as answer
 use Rattle.switch_core.specs.declared.deciding.Decision.{Decision}
 use Rattle.switch_core.specs.declared.tunnel_calls.Next.TheVariants.{Out}
 use Rattle.switch_core.specs.declared.tunnel_calls.Packet.{Packet}
 use Rattle.tunnel.specs.Exports.{TunnelValue, tunnel_begun}
-use Rattle.packet_laws.specs.Exports.{IsUnknownPacket, PacketFacts, packet_facts_after, what_is_known}
+use Rattle.packet_laws.specs.Exports.{IsUnknownPacket, PacketFacts, packet_facts_after, packet_facts_of}
 use Rattle.packet_laws.proofs.Exports.{FindsTargets, facts_grow, redirect_found}
-use Rattle.world_log.specs.Exports.{log_answer_flight, log_answer_items, cache_message, log_coming_in, log_entered_flight, log_entered_items, entry, log_message_list}
+use Rattle.world_log.specs.Exports.{log_answer_flight, log_answer_items, log_cache_message, log_coming_in, log_entered_flight, log_entered_items, entry, log_message_list}
 use Rattle.travelling.specs.Travelling.{Standing}
 use Rattle.refinement.proofs.RefinedTakenLegs.{Sees, at_switch, sees_one}
 use Rattle.refinement.proofs.RefinedAuthorityDecisions.{IsAsked, IsPacket, its_stamp, looked_law, targets_are}
 use Rattle.refinement.proofs.RefinedPacketFacts.{GoesOnward, IsSeen, Targets, decided_goes, facts_along, flight_by, sends_unnamed}
 use Rattle.five_tuple.specs.Exports.{IsHeader}
 use Rattle.update_machine.proofs.Exports.{have_append, messages_keep, switch_keeps}
-use Rattle.control_laws.specs.Exports.{HasItemCause}
+use Rattle.control_laws.specs.Exports.{HasControlItemCause}
 use Rattle.refinement.proofs.RefinedSteps.{Known}
 
 -- ---- once it is decided
@@ -39,14 +39,14 @@ exit_goes setting journal s near packet at port its decision cause (Some route) 
 
 leave_goes : (setting : Setting) (journal : List Item) (s : SwitchValue) (near : ℕ) (packet : Packet) (at : ℕ) (port : ℕ)
     (decision : Decision) (its : Option ℕ)
-    → decision.action ≡ Action.Out port → owner_of setting.net.switches port ≡ its
+    → decision.action ≡ Action.Out port → net_port_owner setting.net.switches port ≡ its
     → GoesOnward (targets_of setting journal) (at_switch at packet) packet.ingress decision
     (leave_by_switch s near packet port its)
 unfolding leave_by_switch set_out
 leave_goes setting journal s near packet at port decision None acts owns = tt
 leave_goes setting journal s near packet at port decision (Some its) acts owns =
     by_place (its == s.number) (exit_goes setting journal s near packet at port its decision
-    (cause_of s near packet.down (Exit port) (its ∷ [])) (route_of s.database s.number
+    (switch_stuck_cause s near packet.down (Exit port) (its ∷ [])) (route_of s.database s.number
     (its ∷ []) near packet.down) acts (ap (λ o. unwrap_or o no_switch) owns))
   where
     by_place : (here : Bool) → GoesOnward (targets_of setting journal) (at_switch at packet)
@@ -85,7 +85,7 @@ IsComing targets at (answer.Stuck cause leg) = ⊤
 
 seek_goes : (targets : Targets) (packet : Packet) (s version partition : ℕ) (to : List ℕ)
     (cause : Cause) (route : Option (List ℕ)) → targets (Seek version partition) ≡ to
-    → IsComing targets (at_switch s packet) (seek_by (Seek version partition)
+    → IsComing targets (at_switch s packet) (switch_seek_by (Seek version partition)
     (ok_or (option_map (λ way. tunnel_begun packet.number packet.header packet.ingress
     (Seek version partition) to way packet.down) route) cause))
 seek_goes targets packet s version partition to cause None is = tt
@@ -100,10 +100,10 @@ seek_goes targets packet s version partition to cause (Some route) is = record {
 pub ruled_goes : (setting : Setting) (journal : List Item) (s version place : ℕ) (w : SwitchValue)
     (mask : ℕ) (ports : Ports) (packet : Packet) (part : Partition) → ArePortOwners setting.net.switches
     ports → IsComing (targets_of setting journal) (at_switch s packet)
-    (decided_at_switch w (around mask ports) packet version part place)
-unfolding decided_at_switch
+    (switch_answer_by_rule w (around mask ports) packet version part place)
+unfolding switch_answer_by_rule
 ruled_goes setting journal s version place w mask ports packet part owners =
-    let rule : Rule = own_rule_in part place in
+    let rule : Rule = switch_own_rule_in part place in
     next_goes setting journal w mask ports packet s (by_rule w.number version part.number rule)
     rule.action owners refl
 
@@ -113,20 +113,20 @@ module _ (setting : Setting) (journal : List Item) (s : ℕ) (w : SwitchValue) (
   leads = targets_of setting journal
 
   found_goes : (what : Found) → lookup_at setting journal s packet.header ≡ what
-      → IsComing leads (at_switch s packet) (answer_by w (around mask ports) packet
-      (tables_at setting journal (stamp_of journal s) s) what)
-  unfolding answer_by set_out
+      → IsComing leads (at_switch s packet) (switch_answer_by_found w (around mask ports) packet
+      (journal_tables_at setting journal (journal_stamp_of journal s) s) what)
+  unfolding switch_answer_by_found set_out
   found_goes (Found.Cached entry) answer =
       next_goes setting journal w mask ports packet s (by_entry entry) entry.action asked.owners refl
   found_goes (Found.Authority partition place) answer =
-      ruled_goes setting journal s (stamp_of journal s) place w mask ports packet
-      (part_numbered (tables_at setting journal (stamp_of journal s) s) partition) asked.owners
+      ruled_goes setting journal s (journal_stamp_of journal s) place w mask ports packet
+      (switch_part_numbered (journal_tables_at setting journal (journal_stamp_of journal s) s) partition) asked.owners
   found_goes (Found.Redirect partition to) answer =
-      let version : ℕ = stamp_of journal s in
+      let version : ℕ = journal_stamp_of journal s in
       let own = redirect_found setting journal s packet.header partition to
       (its_stamp setting journal s w mask ports packet asked) asked.sound answer in
       seek_goes leads packet s version partition to
-      (cause_of w mask packet.down (Seek version partition) to)
+      (switch_stuck_cause w mask packet.down (Seek version partition) to)
       (route_of w.database w.number to mask packet.down)
       (targets_are setting journal version partition to own.part.hosted own.part.finds.at
       own.part.number own.own)
@@ -136,7 +136,7 @@ module _ (setting : Setting) (journal : List Item) (s : ℕ) (w : SwitchValue) (
   unfolding looked_up
   looked_goes = let what : Found = lookup_at setting journal s packet.header in
       subst (λ f. IsComing leads (at_switch s packet)
-      (answer_by w (around mask ports) packet (stamp_tables w) f))
+      (switch_answer_by_found w (around mask ports) packet (stamp_tables w) f))
       (sym (asked.sees.lookup packet.header asked.serving))
       (rw (asked.sees.stamped asked.serving) (found_goes what refl))
 
@@ -165,8 +165,8 @@ pub answer_goes : (targets : Targets) (before : List Item) (number : ℕ) (at : 
     ≡ flight_by targets at.packet (facts_along at.packet before (log_answer_items number at what) facts)
 answer_goes targets before number at version rule (answer.Decided decision cache onward) facts seen
     of comes = decided_goes targets before
-    (sent_from number (log_message_list (cache_message at.ingress cache))) at at.ingress decision onward
-    facts (sends_unnamed at.packet number (cache_message at.ingress cache)) seen comes
+    (machine_sent_items_from number (log_message_list (log_cache_message at.ingress cache))) at at.ingress decision onward
+    facts (sends_unnamed at.packet number (log_cache_message at.ingress cache)) seen comes
 answer_goes targets before number at version rule (answer.Seek tunnel) facts seen of comes =
     let P : ℕ → Option ℕ → TunnelValue → Type 0 = λ v r t. log_answer_flight v r (answer.Seek t)
     ≡ flight_by targets at.packet
@@ -189,10 +189,10 @@ pub entered_goes : (targets : Targets) (before : List Item)
 entered_goes targets before number at None facts unknown unmarked comes = rw unknown.travels refl
 entered_goes targets before number at (Some what) facts unknown unmarked comes =
     let came : Item = Item.Entered at.packet at.switch at.header in
-    let seen : PacketFacts = packet_facts_after (retired_mark before) came facts in
+    let seen : PacketFacts = packet_facts_after (journal_retired_mark before) came facts in
     let P : Bool → Type 0 = λ b. log_answer_flight 0 None what ≡ flight_by targets at.packet
     (facts_along at.packet (before ++ came ∷ []) (log_answer_items number at what)
-    (if b then packet_facts_after (retired_mark before) came facts else facts)) in
+    (if b then packet_facts_after (journal_retired_mark before) came facts else facts)) in
     subst P (sym (eq-eqb _ _ refl))
     (answer_goes targets (before ++ came ∷ []) number at 0 None what seen
     (record { on = refl; header = refl; came = ap Some (sym comes.0); found = unmarked }) (record {
@@ -212,7 +212,7 @@ coming i header s = record { number = i; header = header; ingress = s; down = no
 
 -- the packet has its header there, and found no link down
 coming_packet : (journal : List Item) (row i s : ℕ) (taken : Step) (header : Header)
-    → (what_is_known journal i).found ≡ no_links
+    → (packet_facts_of journal i).found ≡ no_links
     → IsPacket (looking journal row taken i s header) (coming i header s)
 coming_packet journal row i s taken header unmarked =
     let own : (i == i) ≡ true = eq-eqb i i refl in
@@ -232,7 +232,7 @@ pub record ComesTo (setting : Setting) (journal : List Item) (i s : ℕ) (header
   pub there : s < length setting.net.switches
   pub owners : ArePortOwners setting.net.switches ports
   pub sound : IsHeader header
-  pub unmarked : (what_is_known journal i).found ≡ no_links
+  pub unmarked : (packet_facts_of journal i).found ≡ no_links
 
 module _ (setting : Setting) (journal : List Item) (row i s : ℕ) (taken : Step)
     (header : Header) (w : SwitchValue) (mask : ℕ) (ports : Ports)
@@ -255,8 +255,8 @@ module _ (setting : Setting) (journal : List Item) (row i s : ℕ) (taken : Step
   asked : serves journal s ≡ true → IsAsked setting full s w mask ports packet
   asked serving = record {
     is = comes.knows.is;
-    caused = have_append (HasItemCause setting) [] begun (Item.Entered i s header ∷ [])
-        (have_append (HasItemCause setting) [] journal (Item.Row row taken ∷ []) comes.knows.caused
+    caused = have_append (HasControlItemCause setting) [] begun (Item.Entered i s header ∷ [])
+        (have_append (HasControlItemCause setting) [] journal (Item.Row row taken ∷ []) comes.knows.caused
         (tt, tt)) (tt, tt);
     there = comes.there;
     serving = (switch_keeps setting s begun (Item.Entered i s header ∷ []) (refl, tt)).serving
@@ -270,13 +270,13 @@ module _ (setting : Setting) (journal : List Item) (row i s : ℕ) (taken : Step
     of_packet = coming_packet journal row i s taken header comes.unmarked;
   }
 
-  same_number : next_message full ≡ next_message journal
+  same_number : journal_next_message full ≡ journal_next_message journal
   same_number = (messages_keep begun (Item.Entered i s header ∷ []) (refl, tt)).next
       ∙ (messages_keep journal (Item.Row row taken ∷ []) (refl, tt)).next
 
   -- what its switch answers is what the journal's definitions say
   pub come_law : packet_items setting i s header (journal ++ Item.Row row taken ∷ [])
-      ≡ log_entered_items (next_message journal) (log_coming_in i header s) (entry w mask ports i header)
+      ≡ log_entered_items (journal_next_message journal) (log_coming_in i header s) (entry w mask ports i header)
   unfolding packet_items admitted
   come_law = by_serving (serves journal s) refl where
     answer : Bool → Option Answer
@@ -289,15 +289,15 @@ module _ (setting : Setting) (journal : List Item) (row i s : ℕ) (taken : Step
     ]
 
     by_serving : (b : Bool) → serves journal s ≡ b → items (serves begun s)
-        ≡ log_entered_items (next_message journal) (log_coming_in i header s) (if serves_now w
+        ≡ log_entered_items (journal_next_message journal) (log_coming_in i header s) (if serves_now w
         then Some (looked_up w (around mask ports) (incoming_packet w i header)) else None)
     by_serving false off = cc (serving_begun, off, comes.sees.serving)
     by_serving true on = ap items (serving_begun ∙ on) ∙ ap (λ more. Item.Entered i s header
         ∷ more) (looked_law setting full s w mask ports packet (asked on) ∙ ap (λ n. log_answer_items
         n (log_coming_in i header s) (looked_up w (around mask ports) packet)) same_number)
-        ∙ ap (λ (p : Packet). log_entered_items (next_message journal) (log_coming_in i header s)
+        ∙ ap (λ (p : Packet). log_entered_items (journal_next_message journal) (log_coming_in i header s)
         (Some (looked_up w (around mask ports) p))) (sym same_packet)
-        ∙ ap (λ b. log_entered_items (next_message journal) (log_coming_in i header s)
+        ∙ ap (λ b. log_entered_items (journal_next_message journal) (log_coming_in i header s)
         (if b then Some (looked_up w (around mask ports) (incoming_packet w i header)) else None))
         (sym (comes.sees.serving ∙ on))
 

@@ -2,32 +2,32 @@
 use Rattle.std.proofs.Common.{[], ◌++◌, ◌+◌, ◌==◌, ◌∙◌, ◌∷◌, ◌≡◌, List, None, Option, Some, ap, append-nil, append_assoc, arith, cond, eq-eqb, false, if◌then◌else◌, map, option_map, refl, subst, sym, true, unwrap_or, ℕ}
 use Rattle.base.proofs.Exports.{⊤, sum_by-cons}
 use Rattle.message_bag.specs.Exports.{Post, new_post}
-use Rattle.update_machine.specs.Exports.{Action, Exit, Item, Leg, Message, NoneConcern, Ports, Seek, Setting, concerns_policies, count_of, is_packet, retired_mark, sent_from, stays_on_way, takes_route, targets_in, targets_of}
-use Rattle.switch_core.specs.Exports.{Answer, SwitchArrival, SwitchValue, around, call_counted, hop_answer, link_found_down, received}
+use Rattle.update_machine.specs.Exports.{Action, Exit, Item, Leg, Message, NoneConcern, Ports, Seek, Setting, item_concerns_policies, count_of, is_packet, journal_retired_mark, machine_sent_items_from, journal_stays_on_way, takes_route, setting_targets_in, targets_of}
+use Rattle.switch_core.specs.Exports.{Answer, SwitchArrival, SwitchValue, around, switch_call_counted, switch_hop_answer, switch_found_link_down, received}
 use Rattle.switch_core.specs.Answers as answer
 use Rattle.switch_core.specs.declared.deciding.Decision.{Decision}
 use Rattle.switch_core.specs.declared.tunnel_calls.HopEnd.{HopEnd}
 use Rattle.switch_core.specs.declared.tunnel_calls.Next.{Next}
 use Rattle.tunnel.specs.Exports.{TunnelValue, next as next_switch, tunnel_begun}
-use Rattle.refinement.specs.Exports.{AreInStep, IsInStep, flight_in, flight_of}
-use Rattle.world_log.specs.Exports.{log_answer_items, log_answer_posts, log_arrival_items, log_arrival_posts, log_arrived_items, log_arrived_posts, cache_message, log_decided_flight, log_decided_items, log_end_item, log_ended_items, log_ended_posts, log_entered_items, log_entered_posts, log_hop_posts, log_hop_written, log_hopped_flight, log_message_list, log_turned_items}
+use Rattle.refinement.specs.Exports.{AreRefinedInStep, IsRefinedInStep, refined_flight_in, refined_flight_of}
+use Rattle.world_log.specs.Exports.{log_answer_items, log_answer_posts, log_arrival_items, log_arrival_posts, log_arrived_items, log_arrived_posts, log_cache_message, log_decided_flight, log_decided_items, log_end_item, log_ended_items, log_ended_posts, log_entered_items, log_entered_posts, log_hop_posts, log_hop_written, log_hopped_flight, log_message_list, log_turned_items}
 use Rattle.travelling.specs.Travelling.{Flight, Standing, standing_at}
 use Rattle.refinement.proofs.RefinedPostedFrames.{SendFrom, posts_in}
 use Rattle.five_tuple.specs.Exports.{header_of}
 use Rattle.update_machine.proofs.Exports.{policies_keep}
-use Rattle.packet_laws.specs.Exports.{PacketFacts, packet_facts_after, is_of_packet, what_is_known}
+use Rattle.packet_laws.specs.Exports.{PacketFacts, packet_facts_after, is_item_of_packet, packet_facts_of}
 use Rattle.packet_laws.proofs.Exports.{facts_grow}
 
 -- ---- the items that a switch's answer to a packet writes: they begin no step and bring no other
 -- packet in, and what they send.
 
 -- they bring no packet in
-no_packet : (one : Item) → IsInStep one → is_packet one ≡ false
+no_packet : (one : Item) → IsRefinedInStep one → is_packet one ≡ false
 no_packet (Item.Entered packet switch header) is = absurd is
 no_packet (Item.Closed packet switch) is = absurd is
 no_packet _ is = refl
 
-pub later_packets : (items : List Item) → AreInStep items → count_of is_packet items ≡ 0
+pub later_packets : (items : List Item) → AreRefinedInStep items → count_of is_packet items ≡ 0
 later_packets [] later = refl
 later_packets (first ∷ items) later =
     let sum = sum_by-cons (λ x. cond (is_packet x) 1 0) first items in
@@ -35,12 +35,12 @@ later_packets (first ∷ items) later =
     ap (λ b. cond b 1 0) (no_packet first later.0) in
     omega (arith, sum, none, later_packets items later.1)
 
-pub route_later : (i : ℕ) (leg : Leg) (route : List ℕ) → IsInStep (takes_route i leg route)
+pub route_later : (i : ℕ) (leg : Leg) (route : List ℕ) → IsRefinedInStep (takes_route i leg route)
 route_later i (Seek version partition) route = tt
 route_later i (Exit port) route = tt
 
 pub end_later : (at : Standing) (decision : Decision) (onward : Next)
-    → IsInStep (log_end_item at decision onward)
+    → IsRefinedInStep (log_end_item at decision onward)
 end_later at decision Next.Dropped = tt
 end_later at decision (Next.Out port) = tt
 end_later at decision (Next.Exit tunnel) = route_later at.packet tunnel.leg tunnel.route
@@ -48,50 +48,50 @@ end_later at decision (Next.Stuck cause) = tt
 
 pub decided_later : (number : ℕ) (at : Standing) (decision : Decision) (message : Option Message)
     (onward : Next)
-    → AreInStep (log_decided_items at decision (sent_from number (log_message_list message)) onward)
-unfolding sent_from
+    → AreRefinedInStep (log_decided_items at decision (machine_sent_items_from number (log_message_list message)) onward)
+unfolding machine_sent_items_from
 decided_later number at decision None onward = (tt, (end_later at decision onward, tt))
 decided_later number at decision (Some message) onward =
     (tt, (tt, (end_later at decision onward, tt)))
 
 pub answer_later : (number : ℕ) (at : Standing) (what : Answer)
-    → AreInStep (log_answer_items number at what)
+    → AreRefinedInStep (log_answer_items number at what)
 answer_later number at (answer.Decided decision cache onward) =
-    decided_later number at decision (cache_message at.ingress cache) onward
+    decided_later number at decision (log_cache_message at.ingress cache) onward
 answer_later number at (answer.Seek tunnel) = (route_later at.packet tunnel.leg tunnel.route, tt)
 answer_later number at (answer.Stuck cause leg) = (tt, tt)
 
 pub arrived_later : (number : ℕ) (at : Standing) (t : Flight) (what : SwitchArrival)
-    → AreInStep (log_arrived_items number at t.version t.rule what)
+    → AreRefinedInStep (log_arrived_items number at t.version t.rule what)
 arrived_later number at t (answer.Out port) = (tt, tt)
 arrived_later number at t (answer.Answered what) = answer_later number at what
 
 -- ---- none moves the packet on
 
 route_still : (i : ℕ) (leg : Leg) (route : List ℕ)
-    → stays_on_way (takes_route i leg route ∷ []) ≡ false
+    → journal_stays_on_way (takes_route i leg route ∷ []) ≡ false
 route_still i (Seek version partition) route = refl
 route_still i (Exit port) route = refl
 
 end_still : (at : Standing) (decision : Decision) (onward : Next)
-    → stays_on_way (log_end_item at decision onward ∷ []) ≡ false
+    → journal_stays_on_way (log_end_item at decision onward ∷ []) ≡ false
 end_still at decision Next.Dropped = refl
 end_still at decision (Next.Out port) = refl
 end_still at decision (Next.Exit tunnel) = route_still at.packet tunnel.leg tunnel.route
 end_still at decision (Next.Stuck cause) = refl
 
 decided_still : (number : ℕ) (at : Standing) (decision : Decision) (message : Option Message)
-    (onward : Next) → stays_on_way
-    (log_decided_items at decision (sent_from number (log_message_list message)) onward) ≡ false
-unfolding sent_from
+    (onward : Next) → journal_stays_on_way
+    (log_decided_items at decision (machine_sent_items_from number (log_message_list message)) onward) ≡ false
+unfolding machine_sent_items_from
 decided_still number at decision None onward = end_still at decision onward
 decided_still number at decision (Some message) onward = end_still at decision onward
 
 pub arrived_still : (number : ℕ) (at : Standing) (t : Flight) (what : SwitchArrival)
-    → stays_on_way (log_arrived_items number at t.version t.rule what) ≡ false
+    → journal_stays_on_way (log_arrived_items number at t.version t.rule what) ≡ false
 arrived_still number at t (answer.Out port) = refl
 arrived_still number at t (answer.Answered (answer.Decided decision cache onward)) =
-    decided_still number at decision (cache_message at.ingress cache) onward
+    decided_still number at decision (log_cache_message at.ingress cache) onward
 arrived_still number at t (answer.Answered (answer.Seek tunnel)) =
     route_still at.packet tunnel.leg tunnel.route
 arrived_still number at t (answer.Answered (answer.Stuck cause leg)) = refl
@@ -117,9 +117,9 @@ end_sends number at decision (Next.Stuck cause) = (tt, refl)
 
 decided_sends : (number : ℕ) (at : Standing) (decision : Decision) (message : Option Message)
     (onward : Next) → (let items : List Item = log_decided_items at decision
-    (sent_from number (log_message_list message)) onward in
+    (machine_sent_items_from number (log_message_list message)) onward in
     SendFrom number items × (posts_in items ≡ map new_post (log_message_list message)))
-unfolding sent_from
+unfolding machine_sent_items_from
 decided_sends number at decision None onward = end_sends number at decision onward
 decided_sends number at decision (Some message) onward =
     let rest = end_sends (number + 1) at decision onward in
@@ -132,7 +132,7 @@ SendPosts number items posts = SendFrom number items × (posts_in items ≡ post
 answer_sends : (number : ℕ) (at : Standing) (what : Answer)
     → SendPosts number (log_answer_items number at what) (log_answer_posts at what)
 answer_sends number at (answer.Decided decision cache onward) =
-    decided_sends number at decision (cache_message at.ingress cache) onward
+    decided_sends number at decision (log_cache_message at.ingress cache) onward
 answer_sends number at (answer.Seek tunnel) = route_sends number at.packet tunnel.leg tunnel.route
 answer_sends number at (answer.Stuck cause leg) = (tt, refl)
 
@@ -167,9 +167,9 @@ pub hop_sends : (number : ℕ) (switch : SwitchValue) (near : ℕ) (ports : Port
     → SendFrom number (log_hop_written number switch near ports t)
     × (posts_in (log_hop_written number switch near ports t) ≡ log_hop_posts switch near ports t)
 hop_sends number switch near ports t = turned_sends number t.tunnel.packet switch.number
-    (link_found_down near (next_switch t.tunnel)) (hop_answer switch near t.tunnel).end
-    (hop_answer switch near t.tunnel).tunnel.route _ _ (ended_sends number (call_counted switch)
-    near ports (log_hopped_flight switch near t) (hop_answer switch near t.tunnel).end)
+    (switch_found_link_down near (next_switch t.tunnel)) (switch_hop_answer switch near t.tunnel).end
+    (switch_hop_answer switch near t.tunnel).tunnel.route _ _ (ended_sends number (switch_call_counted switch)
+    near ports (log_hopped_flight switch near t) (switch_hop_answer switch near t.tunnel).end)
 
 -- ---- refined packet facts
 
@@ -177,13 +177,13 @@ hop_sends number switch near ports t = turned_sends number t.tunnel.packet switc
 abbrev pub facts_along : ℕ → List Item → List Item → PacketFacts → PacketFacts
 facts_along i before [] facts = facts
 facts_along i before (item ∷ items) facts = facts_along i (before ++ item ∷ []) items
-    (if is_of_packet i item then packet_facts_after (retired_mark before) item facts else facts)
+    (if is_item_of_packet i item then packet_facts_after (journal_retired_mark before) item facts else facts)
 
 pub facts_all : (i : ℕ) (before items : List Item)
-    → what_is_known (before ++ items) i ≡ facts_along i before items (what_is_known before i)
-facts_all i before [] = ap (λ js. what_is_known js i) (append-nil before)
+    → packet_facts_of (before ++ items) i ≡ facts_along i before items (packet_facts_of before i)
+facts_all i before [] = ap (λ js. packet_facts_of js i) (append-nil before)
 facts_all i before (item ∷ items) =
-    ap (λ js. what_is_known js i) (sym (append_assoc before (item ∷ []) items))
+    ap (λ js. packet_facts_of js i) (sym (append_assoc before (item ∷ []) items))
     ∙ facts_all i (before ++ item ∷ []) items
     ∙ ap (facts_along i (before ++ item ∷ []) items) (facts_grow i before item)
 
@@ -195,10 +195,10 @@ Targets = Leg → List ℕ
 
 -- no policy, no other targets
 pub same_targets : (setting : Setting) (before items : List Item)
-    → NoneConcern concerns_policies before items → (leg : Leg)
+    → NoneConcern item_concerns_policies before items → (leg : Leg)
     → targets_of setting (before ++ items) leg ≡ targets_of setting before leg
 same_targets setting before items none (Seek version partition) =
-    ap (λ plan. targets_in plan partition) ((policies_keep before items none).plan setting version)
+    ap (λ plan. setting_targets_in plan partition) ((policies_keep before items none).plan setting version)
 same_targets setting before items none (Exit port) = refl
 
 -- ---- what is known of a packet
@@ -221,9 +221,9 @@ flight_by targets i facts = if facts.travels then Some (record {
   rule = unwrap_or (option_map (λ decision. decision.rule) facts.decision) None;
 }) else None
 
-pub flight_now : (setting : Setting) (journal : List Item) (i : ℕ) → flight_in setting journal i
-    ≡ flight_by (targets_of setting journal) i (what_is_known journal i)
-unfolding flight_in flight_of what_is_known
+pub flight_now : (setting : Setting) (journal : List Item) (i : ℕ) → refined_flight_in setting journal i
+    ≡ flight_by (targets_of setting journal) i (packet_facts_of journal i)
+unfolding refined_flight_in refined_flight_of packet_facts_of
 flight_now setting journal i = refl
 
 -- by the targets of its own leg alone
@@ -234,19 +234,19 @@ by_targets one other i facts same = rw same refl
 
 -- behind items by which no policy comes
 pub flight_along : (setting : Setting) (before items : List Item) (i : ℕ)
-    → NoneConcern concerns_policies before items → flight_in setting (before ++ items) i
-    ≡ flight_by (targets_of setting before) i (facts_along i before items (what_is_known before i))
+    → NoneConcern item_concerns_policies before items → refined_flight_in setting (before ++ items) i
+    ≡ flight_by (targets_of setting before) i (facts_along i before items (packet_facts_of before i))
 flight_along setting before items i none = flight_now setting (before ++ items) i
     ∙ ap (flight_by (targets_of setting (before ++ items)) i) (facts_all i before items)
     ∙ by_targets (targets_of setting (before ++ items)) (targets_of setting before) i
-    (facts_along i before items (what_is_known before i)) (same_targets setting before items none _)
+    (facts_along i before items (packet_facts_of before i)) (same_targets setting before items none _)
 
 -- ---- what a switch's answer to one packet says of all others: nothing
 
 -- none of the items names the packet
 abbrev pub NoneName : ℕ → List Item → Type 0
 NoneName i [] = ⊤
-NoneName i (first ∷ items) = (is_of_packet i first ≡ false) × NoneName i items
+NoneName i (first ∷ items) = (is_item_of_packet i first ≡ false) × NoneName i items
 
 pub unnamed : (i : ℕ) (before items : List Item) (facts : PacketFacts) → NoneName i items
     → facts_along i before items facts ≡ facts
@@ -260,7 +260,7 @@ pub unnamed_first : (i : ℕ) (before first items : List Item) (facts : PacketFa
     → facts_along i before (first ++ items) facts ≡ facts_along i (before ++ first) items facts
 unnamed_first i before [] items facts none = cc (append-nil before)
 unnamed_first i before (one ∷ first) items facts none = ap (λ b. facts_along i (before ++ one ∷ [])
-    (first ++ items) (if b then packet_facts_after (retired_mark before) one facts else facts)) none.0
+    (first ++ items) (if b then packet_facts_after (journal_retired_mark before) one facts else facts)) none.0
     ∙ unnamed_first i (before ++ one ∷ []) first items facts none.1
     ∙ ap (λ js. facts_along i js items facts) (append_assoc before (one ∷ []) first)
 
@@ -271,18 +271,18 @@ none_more i (one ∷ first) items none more = (none.0, none_more i first items n
 
 -- messages name no packet
 pub sends_unnamed : (i number : ℕ) (message : Option Message)
-    → NoneName i (sent_from number (log_message_list message))
-unfolding sent_from
+    → NoneName i (machine_sent_items_from number (log_message_list message))
+unfolding machine_sent_items_from
 sends_unnamed i number None = tt
 sends_unnamed i number (Some message) = (refl, tt)
 
 route_other : (q i : ℕ) (leg : Leg) (route : List ℕ) → (i == q) ≡ false
-    → is_of_packet q (takes_route i leg route) ≡ false
+    → is_item_of_packet q (takes_route i leg route) ≡ false
 route_other q i (Seek version partition) route other = other
 route_other q i (Exit port) route other = other
 
 end_other : (q : ℕ) (at : Standing) (decision : Decision) (onward : Next)
-    → (at.packet == q) ≡ false → is_of_packet q (log_end_item at decision onward) ≡ false
+    → (at.packet == q) ≡ false → is_item_of_packet q (log_end_item at decision onward) ≡ false
 end_other q at decision Next.Dropped other = other
 end_other q at decision (Next.Out port) other = other
 end_other q at decision (Next.Exit tunnel) other =
@@ -293,8 +293,8 @@ answer_other : (q number : ℕ) (at : Standing) (what : Answer) → (at.packet =
     → NoneName q (log_answer_items number at what)
 answer_other q number at (answer.Decided decision cache onward) other = (
   other,
-  none_more q (sent_from number (log_message_list (cache_message at.ingress cache)))
-      (log_end_item at decision onward ∷ []) (sends_unnamed q number (cache_message at.ingress cache))
+  none_more q (machine_sent_items_from number (log_message_list (log_cache_message at.ingress cache)))
+      (log_end_item at decision onward ∷ []) (sends_unnamed q number (log_cache_message at.ingress cache))
       (end_other q at decision onward other, tt),
 )
 answer_other q number at (answer.Seek tunnel) other =

@@ -1,10 +1,10 @@
 -- The packets that stand at a switch: those of the table are those of the journal.
 use Rattle.std.proofs.Common.{[], ◌&&◌, ◌++◌, ◌+◌, ◌<◌, ◌==◌, ◌∙◌, ◌∷◌, ◌≡◌, ◌≤◌, ◌⊎◌, Bool, IsFalse, List, None, Option, Some, ap, arith, cond, eq-eqb, eqb-true, false, filter, get_or, if◌then◌else◌, inl, inr, length, map, refl, rules, suc, sym, true, ℕ}
 use Rattle.base.proofs.Exports.{any-filter_same, cases_lt, filter_agree, list_any, range_with_len, sum_by-cons}
-use Rattle.update_machine.specs.Exports.{Header, Item, NoneConcern, Packet, Ports, Setting, Step, count_of, is_at, is_packet, near, next_message, next_packet, packets_at, piece, retired_mark, standing, targets_of, travels, travels_at}
-use Rattle.packet_laws.specs.Exports.{IsUnknownPacket, PacketFacts, packet_facts_after, what_is_known}
+use Rattle.update_machine.specs.Exports.{Header, Item, NoneConcern, Packet, Ports, Setting, Step, count_of, is_at, is_packet, near, journal_next_message, journal_next_packet, journal_packets_at, piece, journal_retired_mark, standing, targets_of, travels, journal_travels_at}
+use Rattle.packet_laws.specs.Exports.{IsUnknownPacket, PacketFacts, packet_facts_after, packet_facts_of}
 use Rattle.packet_laws.proofs.Exports.{numbered, ways_of_all}
-use Rattle.refinement.specs.Exports.{BagsRefine, Comes, EntriesRefine, HopsRefine, IsOfNet, NetworkState, NoRows, RefineJournal, refined_entry_at, flight_in, flight_of, switch_of}
+use Rattle.refinement.specs.Exports.{BagsRefine, Comes, EntriesRefine, HopsRefine, IsNetRefined, RefinedNetworkState, NoRefinedRows, RefineJournal, refined_entry_at, refined_flight_in, refined_flight_of, refined_switch_of}
 use Rattle.travelling.specs.Travelling.{Flight, Flights, flight, numbers_at, stands_at}
 use Rattle.travelling.proofs.TravellingSlots.{beyond, none_between}
 use Rattle.refinement.proofs.RefinedSteps.{Known, reached_known}
@@ -63,43 +63,43 @@ among_numbers before s i = by_test (test i) refl where
       within (inl less) = omega (arith, less)
       within (inr past) = absurd (let clash : true ≡ false = sym e ∙ beyond before s i past in cc)
 
-module _ {setting : Setting} {journal : List Item} {state : NetworkState}
+module _ {setting : Setting} {journal : List Item} {state : RefinedNetworkState}
     (refines : RefineJournal setting journal state) (s : ℕ) where
   -- a packet is at the same switch by its route and by the journal
-  same_switch : (i : ℕ) → stands_at s (flight state.travelling i) ≡ travels_at journal s i
-  unfolding flight_in what_is_known
+  same_switch : (i : ℕ) → stands_at s (flight state.travelling i) ≡ journal_travels_at journal s i
+  unfolding refined_flight_in packet_facts_of
   same_switch i = by_travels (travels journal i) refl where
     by_travels : (b : Bool) → travels journal i ≡ b
-        → stands_at s (flight state.travelling i) ≡ travels_at journal s i
+        → stands_at s (flight state.travelling i) ≡ journal_travels_at journal s i
     by_travels false off =
         let none : flight state.travelling i ≡ None =
-        refines.packet i ∙ ap (λ b. if b then Some (flight_of setting journal i) else None) off in
+        refines.packet i ∙ ap (λ b. if b then Some (refined_flight_of setting journal i) else None) off in
         rw (none, off) refl
     by_travels true on =
-        let t : Flight = flight_of setting journal i in
+        let t : Flight = refined_flight_of setting journal i in
         let some = refines.packet i ∙ ap (λ b. if b then Some t else None) on in
         let is = standing_of refines i t some in
         let here = ap (λ (u : Flight). get_or u.tunnel.route u.tunnel.place 0) is.is
-        ∙ got (what_is_known journal i).route (what_is_known journal i).hops is.switch
+        ∙ got (packet_facts_of journal i).route (packet_facts_of journal i).hops is.switch
         is.stands.here in
         ap (stands_at s) some ∙ ap (λ k. k == s) here
         ∙ sym (ap (λ b. b && is_at s (standing journal i)) on ∙ ap (is_at s) is.stands.stands)
 
   -- so these are the packets that the journal says
-  pub numbers_are : numbers_at state.travelling s ≡ packets_at journal s
-  unfolding numbers_at next_packet
+  pub numbers_are : numbers_at state.travelling s ≡ journal_packets_at journal s
+  unfolding numbers_at journal_next_packet
   numbers_are =
       let own = numbered setting journal (ways_of_all setting [] journal
       (reached_known setting journal refines.sound refines.reached).settled.causes) in
-      filter_agree (λ i. stands_at s (flight state.travelling i)) (travels_at journal s) same_switch
+      filter_agree (λ i. stands_at s (flight state.travelling i)) (journal_travels_at journal s) same_switch
       (range_with_len 0 (length state.travelling))
-      ∙ same_numbers (travels_at journal s) (length state.travelling) (count_of is_packet journal)
+      ∙ same_numbers (journal_travels_at journal s) (length state.travelling) (count_of is_packet journal)
       (unnumbered 0 (travels journal 0) refl (λ on. absurd (omega (arith, (own 0 on).0))))
       (λ i past. sym (same_switch i) ∙ beyond state.travelling s i past)
       (λ i past. unnumbered i (travels journal i) refl (λ on. absurd (omega (arith, (own i on).1))))
     where
       unnumbered : (i : ℕ) (b : Bool) → travels journal i ≡ b → (travels journal i ≡ true → ⊥)
-          → travels_at journal s i ≡ false
+          → journal_travels_at journal s i ≡ false
       unnumbered i true on never = absurd (never on)
       unnumbered i false off never = rw off refl
 
@@ -113,7 +113,7 @@ losts_apart concerns spares before [] = tt
 losts_apart concerns spares before (k ∷ packets) =
     (spares before k, losts_apart concerns spares (before ++ Item.Lost k ∷ []) packets)
 
-pub losts_no_rows : (packets : List ℕ) → NoRows (map Item.Lost packets)
+pub losts_no_rows : (packets : List ℕ) → NoRefinedRows (map Item.Lost packets)
 losts_no_rows [] = tt
 losts_no_rows (k ∷ packets) = (tt, losts_no_rows packets)
 
@@ -151,10 +151,10 @@ facts_lost i before (k ∷ packets) more facts none =
         → facts_along i before (Item.Lost k ∷ map Item.Lost packets ++ more) facts
         ≡ (if among i (k ∷ packets) then ended facts else facts)
     by_same true e rest = ap (λ b. facts_along i after (map Item.Lost packets ++ more) (if b
-        then packet_facts_after (retired_mark before) (Item.Lost k) facts else facts)) e
+        then packet_facts_after (journal_retired_mark before) (Item.Lost k) facts else facts)) e
         ∙ rest (ended facts) ∙ still (among i packets) ∙ sym (rw e refl)
     by_same false e rest = ap (λ b. facts_along i after (map Item.Lost packets ++ more) (if b
-        then packet_facts_after (retired_mark before) (Item.Lost k) facts else facts)) e ∙ rest facts
+        then packet_facts_after (journal_retired_mark before) (Item.Lost k) facts else facts)) e ∙ rest facts
         ∙ sym (rw e refl)
 
 -- a packet is gone where it is among them, behind items that don't name it
@@ -175,16 +175,16 @@ flight_lost targets i before (one ∷ first) packets more facts none last =
 -- ---- the laws of this crate, of what is known within a step
 
 module _ (setting : Setting) (journal : List Item) (row s : ℕ) (header : Header) (ports : Ports)
-    (of : IsOfNet setting journal ports) (there : s < length setting.net.switches)
+    (of : IsNetRefined setting journal ports) (there : s < length setting.net.switches)
     (sound : IsHeader header) where
   abbrev w : SwitchValue
-  w = switch_of setting journal s
+  w = refined_switch_of setting journal s
 
   abbrev mask : ℕ
   mask = near setting journal s
 
   abbrev i : ℕ
-  i = next_packet journal
+  i = journal_next_packet journal
 
   abbrev taken : Step
   taken = Packet s header
@@ -196,12 +196,12 @@ module _ (setting : Setting) (journal : List Item) (row s : ℕ) (header : Heade
   answer = refined_entry_at setting journal ports s header
 
   abbrev items : List Item
-  items = log_entered_items (next_message journal) (log_coming_in i header s) answer
+  items = log_entered_items (journal_next_message journal) (log_coming_in i header s) answer
 
   knows : Known setting journal
   knows = reached_known setting journal of.sound of.reached
 
-  unknown : IsUnknownPacket (what_is_known journal i)
+  unknown : IsUnknownPacket (packet_facts_of journal i)
   unknown = knows.kept.unknown i (omega arith)
 
   comes : ComesTo setting journal i s header w mask ports
@@ -219,17 +219,17 @@ module _ (setting : Setting) (journal : List Item) (row s : ℕ) (header : Heade
   piece_is = cc (come_law setting journal row i s taken header w mask ports comes)
 
   along : (q : ℕ) (b : Bool) → (q == i) ≡ b
-      → (if b then log_entered_flight answer else flight_in setting journal q)
-      ≡ flight_in setting (journal ++ first ∷ items) q
-  along q b is = come_along setting journal row (next_message journal) taken
+      → (if b then log_entered_flight answer else refined_flight_in setting journal q)
+      ≡ refined_flight_in setting (journal ++ first ∷ items) q
+  along q b is = come_along setting journal row (journal_next_message journal) taken
       (targets_of setting (looking journal row taken i s header)) (log_coming_in i header s) answer
-      (flight_in setting journal q) q b knows is unknown unknown.found
+      (refined_flight_in setting journal q) q b knows is unknown unknown.found
       (come_goes setting journal row i s taken header w mask ports comes)
       (λ leg. same_targets setting (journal ++ first ∷ []) (Item.Entered i s header ∷ []) (refl, tt)
       leg ∙ same_targets setting journal (first ∷ []) (refl, tt) leg) (
         refl,
-        (are_apart (next_message journal) (journal ++ first ∷ []) items
-            (entered_sends (next_message journal) (log_coming_in i header s) answer).0).policies,
+        (are_apart (journal_next_message journal) (journal ++ first ∷ []) items
+            (entered_sends (journal_next_message journal) (log_coming_in i header s) answer).0).policies,
       ) refl
 
   come : Comes setting journal row s header ports
@@ -237,7 +237,7 @@ module _ (setting : Setting) (journal : List Item) (row s : ℕ) (header : Heade
     may = looks_up_as setting journal s w knows there refl;
     written = piece_is;
     goes = cc (piece_is, along i true (eq-eqb i i refl));
-    others = λ q apart. ap (λ more. flight_in setting (journal ++ more) q) piece_is
+    others = λ q apart. ap (λ more. refined_flight_in setting (journal ++ more) q) piece_is
         ∙ sym (along q false apart);
   }
 
@@ -249,7 +249,7 @@ entries_refine = come
 pub hops_refine : HopsRefine
 hops_refine setting journal row i t ports of its =
     let s : ℕ = here t.tunnel in
-    let w : SwitchValue = switch_of setting journal s in
+    let w : SwitchValue = refined_switch_of setting journal s in
     let mask : ℕ = near setting journal s in
     let knows : Known setting journal = reached_known setting journal of.sound of.reached in
     let standing : IsStanding setting journal i t =
@@ -266,7 +266,7 @@ hops_refine setting journal row i t ports of its =
       };
       written = written;
       goes = cc (written, hop_own setting journal row i t s mask w ports can);
-      others = λ k apart. ap (λ more. flight_in setting (journal ++ more) k) written
+      others = λ k apart. ap (λ more. refined_flight_in setting (journal ++ more) k) written
           ∙ hop_others setting journal row i t s mask w ports can knows k apart;
     }
 

@@ -1,26 +1,26 @@
 -- The bag of a world has the frames of the messages that its journal says.
 use Rattle.std.proofs.Common.{[], if◌then◌else◌, ◌++◌, ◌+◌, ◌<◌, ◌==◌, ◌||◌, ◌∙◌, ◌∷◌, ◌≡◌, ◌≤◌, Bool, IsFalse, List, None, Option, Some, ap, append-nil, append_assoc, arith, eq-eqb, eqb-true, false, is_some, length, length-append, ne_eqb, option_and_then, option_map, refl, slice_get, subst, suc, sym, true, zero, ℕ}
 use Rattle.base.proofs.Exports.{option_or, slice_get_within, ⊤}
-use Rattle.message_bag.specs.Exports.{Post, frames_posted, is_post_deliverable, item_numbered, new_post, posted_frames, remembered_frames, with_changed, posts_with_delivered, posts_with_forgotten}
+use Rattle.message_bag.specs.Exports.{Post, frames_posted, is_post_deliverable, item_numbered, new_post, posted_frames, bag_frames_remembered, bag_with_changed, posts_with_delivered, posts_with_forgotten}
 use Rattle.message_bag.proofs.BagNumberedPosts.{length_changed, numbered_changed, numbered_pushed}
-use Rattle.update_machine.specs.Exports.{Item, Message, MessageKeeps, NoneConcern, concerns_known, concerns_links, concerns_message, concerns_messages, concerns_policies, count_of, gives_message, is_delivery, is_forgetting, is_forgotten, is_sending, last_given, message_of, next_message, was_delivered}
+use Rattle.update_machine.specs.Exports.{Item, Message, MachineMessageKeeps, NoneConcern, item_concerns_known, concerns_links, concerns_message, concerns_messages, item_concerns_policies, count_of, item_gives_message, is_delivery_item, is_forgetting, is_forgotten_in_journal, is_sending, journal_last_given, message_of, journal_next_message, was_delivered}
 use Rattle.update_machine.proofs.Exports.{count_of_append, each_silent, fewer, last_given_append, message_keeps, messages_keep, next_sent, start_laws}
 use Rattle.control_laws.proofs.Exports.{some_more}
-use Rattle.refinement.specs.Exports.{IsBagOf, post_in_journal}
+use Rattle.refinement.specs.Exports.{IsRefinedBagOf, refined_post_at}
 
 -- ---- items that concern no message
 
 -- facts that stay give the same post
-same_post : (n : ℕ) (before after : List Item) → MessageKeeps n before after
-    → post_in_journal after n ≡ post_in_journal before n
-unfolding post_in_journal
+same_post : (n : ℕ) (before after : List Item) → MachineMessageKeeps n before after
+    → refined_post_at after n ≡ refined_post_at before n
+unfolding refined_post_at
 same_post n before after keeps = rw (keeps.message, keeps.delivered, keeps.forgotten) refl
 
 pub bag_on : (before items : List Item) (posts : List Post)
-    → NoneConcern concerns_messages before items → IsBagOf before posts
-    → IsBagOf (before ++ items) posts
+    → NoneConcern concerns_messages before items → IsRefinedBagOf before posts
+    → IsRefinedBagOf (before ++ items) posts
 bag_on before items posts apart is =
-    let keeps : (n : ℕ) → MessageKeeps n before (before ++ items) =
+    let keeps : (n : ℕ) → MachineMessageKeeps n before (before ++ items) =
     λ n. message_keeps n before items
     (fewer (concerns_message n) concerns_messages (each_silent n) before items apart) in record {
       many = (messages_keep before items apart).next ∙ is.many;
@@ -33,10 +33,10 @@ bag_on before items posts apart is =
 
 -- behind the item the posts are these
 abbrev BagGoesOn : List Item → List Post → Item → List Post → Type 0
-BagGoesOn before posts item after = IsBagOf before posts → IsBagOf (before ++ item ∷ []) after
+BagGoesOn before posts item after = IsRefinedBagOf before posts → IsRefinedBagOf (before ++ item ∷ []) after
 
 number_on : (n : ℕ) (before : List Item) (item : Item) → IsFalse (concerns_message n before item)
-    → MessageKeeps n before (before ++ item ∷ [])
+    → MachineMessageKeeps n before (before ++ item ∷ [])
 number_on n before item apart = message_keeps n before (item ∷ []) (apart, tt)
 
 -- a message of another number
@@ -50,18 +50,18 @@ sent_facts : (before : List Item) (n : ℕ) (message : Message)
     → message_of (before ++ Item.Sent n message ∷ []) n ≡ Some message
 unfolding message_of
 sent_facts before n message =
-    cc (last_given_append (gives_message n) before (Item.Sent n message ∷ []), eq-eqb n n refl)
+    cc (last_given_append (item_gives_message n) before (Item.Sent n message ∷ []), eq-eqb n n refl)
 
 sent_post : (n : ℕ) (before : List Item) (posts : List Post) (message : Message) (b : Bool)
-    → (n == length posts + 1) ≡ b → IsBagOf before posts
+    → (n == length posts + 1) ≡ b → IsRefinedBagOf before posts
     → (if b then Some (new_post message) else item_numbered posts n)
-    ≡ post_in_journal (before ++ Item.Sent (length posts + 1) message ∷ []) n
-unfolding post_in_journal was_delivered is_forgotten
+    ≡ refined_post_at (before ++ Item.Sent (length posts + 1) message ∷ []) n
+unfolding refined_post_at was_delivered is_forgotten_in_journal
 sent_post n before posts message true is bag = let k : ℕ = length posts + 1 in
     rw (
       (eqb-true n k is),
       sent_facts before k message,
-      some_more (is_delivery k) before (Item.Sent k message),
+      some_more (is_delivery_item k) before (Item.Sent k message),
       some_more (is_forgetting k) before (Item.Sent k message),
       bag.undelivered k (omega arith),
       bag.remembered k (omega arith),
@@ -77,7 +77,7 @@ bag_sent before posts message bag =
     let sent : Item = Item.Sent k message in
     let more = length-append posts (new_post message ∷ []) in
     let keeps : (n : ℕ) → length (posts ++ new_post message ∷ []) < n
-    → MessageKeeps n before (before ++ sent ∷ []) =
+    → MachineMessageKeeps n before (before ++ sent ∷ []) =
     λ n past. number_on n before sent (ne_eqb k n (λ same. absurd (omega arith))) in record {
       many = omega (arith, next_sent before k message, bag.many, more);
       each = λ n. numbered_pushed posts (new_post message) n
@@ -94,7 +94,7 @@ pub within_posts : (posts : List Post) (n : ℕ) (fs : List (List ℕ))
 within_posts posts zero fs is = omega arith
 within_posts posts (suc place) fs is = by_post (slice_get posts place) refl is where
   by_post : (o : Option Post) → slice_get posts place ≡ o
-      → option_and_then remembered_frames o ≡ Some fs → suc place ≤ length posts
+      → option_and_then bag_frames_remembered o ≡ Some fs → suc place ≤ length posts
   by_post None e none = absurd cc
   by_post (Some post) e some = omega (arith, slice_get_within posts place post e)
 
@@ -110,27 +110,27 @@ some_within posts n there = by_frames (frames_posted posts n) refl there where
 abbrev ChangesOne : (Post → Post) → ℕ → List Item → Item → Type 0
 ChangesOne change k before item =
     ((n : ℕ) → (k == n) ≡ false → IsFalse (concerns_message n before item))
-    × (post_in_journal (before ++ item ∷ []) k ≡ option_map change (post_in_journal before k))
+    × (refined_post_at (before ++ item ∷ []) k ≡ option_map change (refined_post_at before k))
 
 changed_post : (change : Post → Post) (k n : ℕ) (before : List Item) (posts : List Post)
-    (item : Item) (b : Bool) → (n == k) ≡ b → ChangesOne change k before item → IsBagOf before posts
+    (item : Item) (b : Bool) → (n == k) ≡ b → ChangesOne change k before item → IsRefinedBagOf before posts
     → (if b then option_map change (item_numbered posts n) else item_numbered posts n)
-    ≡ post_in_journal (before ++ item ∷ []) n
+    ≡ refined_post_at (before ++ item ∷ []) n
 changed_post change k n before posts item true is changes bag =
     let P : ℕ → Type 0 = λ m. option_map change (item_numbered posts m)
-    ≡ post_in_journal (before ++ item ∷ []) m in
+    ≡ refined_post_at (before ++ item ∷ []) m in
     subst P (sym (eqb-true n k is)) (ap (option_map change) (bag.each k) ∙ sym changes.1)
 changed_post change k n before posts item false is changes bag = bag.each n ∙ sym (same_post n
     before (before ++ item ∷ []) (number_on n before item (changes.0 n (other_number n k is))))
 
 bag_changed : (change : Post → Post) (k : ℕ) (before : List Item) (posts : List Post)
     (item : Item) → ChangesOne change k before item → k ≤ length posts
-    → next_message (before ++ item ∷ []) ≡ next_message before
-    → BagGoesOn before posts item (with_changed change posts k)
+    → journal_next_message (before ++ item ∷ []) ≡ journal_next_message before
+    → BagGoesOn before posts item (bag_with_changed change posts k)
 bag_changed change k before posts item changes posted_it as_many bag =
     let same = length_changed change posts k in
-    let keeps : (n : ℕ) → length (with_changed change posts k) < n
-    → MessageKeeps n before (before ++ item ∷ []) = λ n past. number_on n before item (changes.0 n
+    let keeps : (n : ℕ) → length (bag_with_changed change posts k) < n
+    → MachineMessageKeeps n before (before ++ item ∷ []) = λ n past. number_on n before item (changes.0 n
     (ne_eqb k n (λ own. absurd (omega (arith, same, past, own, posted_it))))) in record {
       many = as_many ∙ bag.many ∙ ap (λ count. count + 1) (sym same);
       each = λ n. numbered_changed change posts k n
@@ -142,26 +142,26 @@ bag_changed change k before posts item changes posted_it as_many bag =
 -- an item that sends no message raises flags of one
 bag_flagged : (change : Post → Post) (k : ℕ) (before : List Item) (posts : List Post) (item : Item)
     → ((n : ℕ) → (k == n) ≡ false → IsFalse (concerns_message n before item))
-    → gives_message k item ≡ None → is_sending item ≡ false → ((m : Message) → (
+    → item_gives_message k item ≡ None → is_sending item ≡ false → ((m : Message) → (
       posted_frames m,
       record {
-        delivered = is_delivery k item || was_delivered before k;
-        forgotten = is_forgetting k item || is_forgotten before k;
+        delivered = is_delivery_item k item || was_delivered before k;
+        forgotten = is_forgetting k item || is_forgotten_in_journal before k;
       },
     ) ≡ change (
       posted_frames m,
-      record { delivered = was_delivered before k; forgotten = is_forgotten before k },
+      record { delivered = was_delivered before k; forgotten = is_forgotten_in_journal before k },
     ))
-    → k ≤ length posts → BagGoesOn before posts item (with_changed change posts k)
-unfolding post_in_journal message_of was_delivered is_forgotten next_message
+    → k ≤ length posts → BagGoesOn before posts item (bag_with_changed change posts k)
+unfolding refined_post_at message_of was_delivered is_forgotten_in_journal journal_next_message
 bag_flagged change k before posts item apart untold unsent flags posted_it bag =
     let none : count_of is_sending (item ∷ []) ≡ 0 = rw unsent refl in
     bag_changed change k before posts item (
       apart,
       rw (
-        last_given_append (gives_message k) before (item ∷ []),
+        last_given_append (item_gives_message k) before (item ∷ []),
         untold,
-        some_more (is_delivery k) before item,
+        some_more (is_delivery_item k) before item,
         some_more (is_forgetting k) before item,
       ) (by_told (message_of before k)),
     ) posted_it (omega (arith, none, count_of_append is_sending before (item ∷ []))) bag
@@ -169,12 +169,12 @@ bag_flagged change k before posts item apart untold unsent flags posted_it bag =
     by_told : (o : Option Message) → option_map (λ (m : Message). (
       posted_frames m,
       record {
-        delivered = is_delivery k item || was_delivered before k;
-        forgotten = is_forgetting k item || is_forgotten before k;
+        delivered = is_delivery_item k item || was_delivered before k;
+        forgotten = is_forgetting k item || is_forgotten_in_journal before k;
       },
     )) o ≡ option_map change (option_map (λ (m : Message). (
       posted_frames m,
-      record { delivered = was_delivered before k; forgotten = is_forgotten before k },
+      record { delivered = was_delivered before k; forgotten = is_forgotten_in_journal before k },
     )) o)
     by_told None = refl
     by_told (Some m) = ap Some (flags m)
@@ -214,14 +214,14 @@ posts_in (_ ∷ items) = posts_in items
 
 -- they concern no switch, no link and no policy
 pub record AreApart (before items : List Item) : Type 0 where
-  pub known : (s : ℕ) → NoneConcern (concerns_known s) before items
+  pub known : (s : ℕ) → NoneConcern (item_concerns_known s) before items
   pub links : NoneConcern concerns_links before items
-  pub policies : NoneConcern concerns_policies before items
+  pub policies : NoneConcern item_concerns_policies before items
 
 -- with one more such item in front
 apart_next : (before items : List Item) (item : Item)
-    → ((s : ℕ) → IsFalse (concerns_known s before item)) → IsFalse (concerns_links before item)
-    → IsFalse (concerns_policies before item) → AreApart (before ++ item ∷ []) items
+    → ((s : ℕ) → IsFalse (item_concerns_known s before item)) → IsFalse (concerns_links before item)
+    → IsFalse (item_concerns_policies before item) → AreApart (before ++ item ∷ []) items
     → AreApart before (item ∷ items)
 apart_next before items item known links policies rest = record {
   known = λ s. (known s, rest.known s);
@@ -249,25 +249,25 @@ are_apart number before (x ∷ items) of = apart_next before items x (λ s. refl
 -- behind an item that concerns no message
 bag_next : (before items : List Item) (item : Item) (posts more : List Post)
     → IsFalse (concerns_messages before item) → (number : ℕ)
-    → (number ≡ next_message (before ++ item ∷ []) → IsBagOf (before ++ item ∷ []) posts
-    → IsBagOf ((before ++ item ∷ []) ++ items) (posts ++ more)) → number ≡ next_message before
-    → IsBagOf before posts → IsBagOf (before ++ item ∷ items) (posts ++ more)
+    → (number ≡ journal_next_message (before ++ item ∷ []) → IsRefinedBagOf (before ++ item ∷ []) posts
+    → IsRefinedBagOf ((before ++ item ∷ []) ++ items) (posts ++ more)) → number ≡ journal_next_message before
+    → IsRefinedBagOf before posts → IsRefinedBagOf (before ++ item ∷ items) (posts ++ more)
 bag_next before items item posts more apart number rest is bag =
-    subst (λ js. IsBagOf js (posts ++ more)) (append_assoc before (item ∷ []) items)
+    subst (λ js. IsRefinedBagOf js (posts ++ more)) (append_assoc before (item ∷ []) items)
     (rest (is ∙ sym (messages_keep before (item ∷ []) (apart, tt)).next)
     (bag_on before (item ∷ []) posts (apart, tt) bag))
 
 pub bag_sends : (number : ℕ) (before items : List Item) (posts : List Post)
-    → SendFrom number items → number ≡ next_message before → IsBagOf before posts
-    → IsBagOf (before ++ items) (posts ++ posts_in items)
+    → SendFrom number items → number ≡ journal_next_message before → IsRefinedBagOf before posts
+    → IsRefinedBagOf (before ++ items) (posts ++ posts_in items)
 bag_sends number before [] posts of is bag = rw (append-nil before) (rw (append-nil posts) bag)
 bag_sends number before (Item.Sent n message ∷ items) posts of is bag =
     let sent : Item = Item.Sent n message in
     let rest = bag_sends (number + 1) (before ++ sent ∷ []) items
     (posts ++ new_post message ∷ []) of.1 (ap (λ k. k + 1) is ∙ sym (next_sent before n message))
-    (subst (λ k. IsBagOf (before ++ Item.Sent k message ∷ []) (posts ++ new_post message ∷ []))
+    (subst (λ k. IsRefinedBagOf (before ++ Item.Sent k message ∷ []) (posts ++ new_post message ∷ []))
     (sym (of.0 ∙ is ∙ bag.many)) (bag_sent before posts message bag)) in
-    subst (λ js. IsBagOf js (posts ++ new_post message ∷ posts_in items))
+    subst (λ js. IsRefinedBagOf js (posts ++ new_post message ∷ posts_in items))
     (append_assoc before (sent ∷ []) items)
     (rw (append_assoc posts (new_post message ∷ []) (posts_in items)) at rest)
 bag_sends number before (Item.Delivered n ∷ items) posts of is bag = absurd of
@@ -287,11 +287,11 @@ none_posted : (n : ℕ) → item_numbered {X = Post} [] n ≡ None
 none_posted zero = refl
 none_posted (suc place) = refl
 
-none_sent : (n : ℕ) → post_in_journal [] n ≡ None
-unfolding post_in_journal
+none_sent : (n : ℕ) → refined_post_at [] n ≡ None
+unfolding refined_post_at
 none_sent n = rw (start_laws.message n).message refl
 
-pub bag_begun : IsBagOf [] []
+pub bag_begun : IsRefinedBagOf [] []
 bag_begun = record {
   many = start_laws.messages;
   each = λ n. none_posted n ∙ sym (none_sent n);

@@ -1,17 +1,17 @@
 -- What a switch and the controller send again: what is written, and the parts after it.
 use Rattle.std.proofs.Common.{[], if◌then◌else◌, ◌++◌, ◌+◌, ◌<◌, ◌==◌, ◌∙◌, ◌∷◌, ◌≡◌, ◌≢◌, Bool, List, ap, arith, eqb-true, false, flat_map, get_or, length, map, refl, sym, true, ℕ}
 use Rattle.message_bag.specs.Exports.{Post as BagPost}
-use Rattle.refinement.specs.Exports.{AreActsWritten, IsBagOf, NetworkState, RefineJournal, acts_of_resend, switch_of}
+use Rattle.refinement.specs.Exports.{AreRefinedActsWritten, IsRefinedBagOf, RefinedNetworkState, RefineJournal, refined_resend_acts, refined_switch_of}
 use Rattle.refinement.proofs.RefinedControllerResends.{resends_nothing, resends_some}
 use Rattle.controller.specs.Exports.{ControllerValue, resend_acts}
 use Rattle.controller.specs.declared.sends.Act.{Act}
 use Rattle.controller.specs.declared.sends.Act.TheVariants.{Post}
-use Rattle.update_machine.specs.Exports.{Advert, Hello, Item, Message, Resend, Setting, advert_to, boot_of, held_adverts, is_up, near, piece, resent_by_switch, switches_in}
+use Rattle.update_machine.specs.Exports.{Advert, Hello, Item, Message, Resend, Setting, advert_to, journal_boot_of, journal_held_adverts, is_up, near, piece, journal_resent_by_switch, setting_switches_in}
 use Rattle.ctrl_msg.specs.Exports.{to_controller}
 use Rattle.switch_core.specs.Exports.{SwitchValue}
 use Rattle.refinement.proofs.RefinedSwitchLinks.{kept_is, links_refine}
 use Rattle.update_machine.proofs.Exports.{near_stays}
-use Rattle.world_log.specs.Exports.{LogMayNote, log_act_items, log_act_posts, adverts_again}
+use Rattle.world_log.specs.Exports.{LogMayNote, log_act_items, log_act_posts, log_adverts_again}
 use Rattle.steps.specs.Exports.{IsStep}
 use Rattle.travelling.specs.Travelling.{Flights}
 use Rattle.refinement.proofs.RefinedActs.{may_note, refines_told, written_is}
@@ -30,9 +30,9 @@ some_there acts some e = let none : (length acts == 0) ≡ true = ap (λ xs. len
 
 -- what the calls made is what is to be sent
 pub acts_same : (controller : ControllerValue) (s n count near had : ℕ) (own : SwitchValue)
-    (told : List Message) (acts : List Act) → told ≡ adverts_again s n had own → n ≡ count
+    (told : List Message) (acts : List Act) → told ≡ log_adverts_again s n had own → n ≡ count
     → had ≡ near → acts ≡ resend_acts controller s
-    → map Post told ++ acts ≡ map Post (adverts_again s count near own) ++ resend_acts controller s
+    → map Post told ++ acts ≡ map Post (log_adverts_again s count near own) ++ resend_acts controller s
 acts_same controller s n count near had own told acts told_is count_is near_is acts_is =
     cc (acts_is, told_is, count_is, near_is)
 
@@ -42,24 +42,24 @@ told_by switch s neighbours adverts = if switch.is_up then to_controller (Hello 
     ∷ flat_map (λ other. map (advert_to other) adverts) neighbours else []
 
 as_journal : (setting : Setting) (journal : List Item) (s : ℕ) (neighbours : List ℕ)
-    (adverts : List Advert) → told_by (switch_of setting journal s) s neighbours adverts
+    (adverts : List Advert) → told_by (refined_switch_of setting journal s) s neighbours adverts
     ≡ elim (is_up journal s) [
       | false ↦ []
-      | true ↦ to_controller (Hello s (boot_of journal s))
+      | true ↦ to_controller (Hello s (journal_boot_of journal s))
           ∷ flat_map (λ other. map (advert_to other) adverts) neighbours
     ]
-unfolding switch_of
+unfolding refined_switch_of
 as_journal setting journal s neighbours adverts = by_test (is_up journal s) where
-  by_test : (b : Bool) → (if b then to_controller (Hello s (boot_of journal s))
+  by_test : (b : Bool) → (if b then to_controller (Hello s (journal_boot_of journal s))
       ∷ flat_map (λ other. map (advert_to other) adverts) neighbours else []) ≡ elim b [
         | false ↦ []
-        | true ↦ to_controller (Hello s (boot_of journal s))
+        | true ↦ to_controller (Hello s (journal_boot_of journal s))
             ∷ flat_map (λ other. map (advert_to other) adverts) neighbours
       ]
   by_test true = refl
   by_test false = refl
 
-module _ {setting : Setting} {journal : List Item} {state : NetworkState}
+module _ {setting : Setting} {journal : List Item} {state : RefinedNetworkState}
     (refines : RefineJournal setting journal state) where
   -- the packets on their way stayed
   pub sent_refines : (after : Flights) (bag : List BagPost) → after ≡ state.travelling
@@ -67,7 +67,7 @@ module _ {setting : Setting} {journal : List Item} {state : NetworkState}
       → RefineJournal setting journal (record state { travelling = after; posts = bag })
   sent_refines after bag stayed same = rw (stayed, same) refines
 
-module _ {setting : Setting} {journal : List Item} {state : NetworkState}
+module _ {setting : Setting} {journal : List Item} {state : RefinedNetworkState}
     (refines : RefineJournal setting journal state) (row s : ℕ) (own : SwitchValue)
     (may : IsStep setting.net (length setting.files) (Resend s))
     (own_at : own ≡ get_or state.switches s own) where
@@ -75,12 +75,12 @@ module _ {setting : Setting} {journal : List Item} {state : NetworkState}
   rowed = journal ++ Item.Row row (Resend s) ∷ []
 
   abbrev messages : List Message
-  messages = adverts_again s (length state.switches) (get_or state.near s 0) own
+  messages = log_adverts_again s (length state.switches) (get_or state.near s 0) own
 
   abbrev acts : List Act
   acts = map Post messages ++ resend_acts state.controller s
 
-  own_is : own ≡ switch_of setting rowed s
+  own_is : own ≡ refined_switch_of setting rowed s
   own_is = switch_is refines s own may own_at
       ∙ sym (kept_is setting s journal (Item.Row row (Resend s) ∷ []) (refl, tt) (refl, tt))
 
@@ -89,18 +89,18 @@ module _ {setting : Setting} {journal : List Item} {state : NetworkState}
       ∙ sym (near_stays setting s journal (Item.Row row (Resend s) ∷ []) (refl, tt))
 
   -- what a switch tells again, as the journal says
-  by_switch : adverts_again s (length setting.net.switches) (near setting rowed s)
-      (switch_of setting rowed s) ≡ resent_by_switch setting rowed s
+  by_switch : log_adverts_again s (length setting.net.switches) (near setting rowed s)
+      (refined_switch_of setting rowed s) ≡ journal_resent_by_switch setting rowed s
   by_switch =
-      ap (told_by (switch_of setting rowed s) s (switches_in setting (near setting rowed s)))
+      ap (told_by (refined_switch_of setting rowed s) s (setting_switches_in setting (near setting rowed s)))
       (sym (links_refine.held setting rowed s)) ∙ as_journal setting rowed s
-      (switches_in setting (near setting rowed s)) (held_adverts setting rowed s)
+      (setting_switches_in setting (near setting rowed s)) (journal_held_adverts setting rowed s)
 
-  acts_are : acts ≡ acts_of_resend setting rowed s state.controller
+  acts_are : acts ≡ refined_resend_acts setting rowed s state.controller
   acts_are = ap (λ told. map Post told ++ resend_acts state.controller s)
-      (ap (λ n. adverts_again s n (get_or state.near s 0) own) refines.many
-      ∙ ap (λ n. adverts_again s (length setting.net.switches) n own) near_is
-      ∙ ap (adverts_again s (length setting.net.switches) (near setting rowed s)) own_is
+      (ap (λ n. log_adverts_again s n (get_or state.near s 0) own) refines.many
+      ∙ ap (λ n. log_adverts_again s (length setting.net.switches) n own) near_is
+      ∙ ap (log_adverts_again s (length setting.net.switches) (near setting rowed s)) own_is
       ∙ by_switch)
 
   -- ---- nothing is sent
@@ -115,11 +115,11 @@ module _ {setting : Setting} {journal : List Item} {state : NetworkState}
   -- ---- something is sent
 
   module _ (some : (length acts == 0) ≡ false) where
-    bag_behind : IsBagOf rowed state.posts
+    bag_behind : IsRefinedBagOf rowed state.posts
     bag_behind = bag_on journal (Item.Row row (Resend s) ∷ []) state.posts (refl, tt) refines.bag
 
-    resent_so : AreActsWritten setting journal (Item.Row row (Resend s) ∷ [])
-        (acts_of_resend setting rowed s state.controller) state.controller
+    resent_so : AreRefinedActsWritten setting journal (Item.Row row (Resend s) ∷ [])
+        (refined_resend_acts setting rowed s state.controller) state.controller
         (piece setting journal row (Resend s))
     resent_so = resends_some setting journal row s state.controller
         (reached_known setting journal refines.sound refines.reached).caused refines.controller
@@ -128,8 +128,8 @@ module _ {setting : Setting} {journal : List Item} {state : NetworkState}
     pub again_piece : piece setting journal row (Resend s)
         ≡ Item.Row row (Resend s) ∷ log_act_items (length state.posts + 1) acts
     again_piece = resent_so.same ∙ ap (λ items. Item.Row row (Resend s) ∷ items)
-        (written_is rowed (acts_of_resend setting rowed s state.controller)
-        ∙ ap (λ k. log_act_items k (acts_of_resend setting rowed s state.controller)) bag_behind.many
+        (written_is rowed (refined_resend_acts setting rowed s state.controller)
+        ∙ ap (λ k. log_act_items k (refined_resend_acts setting rowed s state.controller)) bag_behind.many
         ∙ ap (log_act_items (length state.posts + 1)) (sym acts_are))
 
     pub again_refines : RefineJournal setting (journal ++ Item.Row row (Resend s)

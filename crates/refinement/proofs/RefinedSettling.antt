@@ -1,23 +1,23 @@
 -- The marks settle as the journal's rule says, and what is sent then is what the definition says.
 use Rattle.std.proofs.Common.{[], if◌then◌else◌, ◌&&◌, ◌++◌, ◌+◌, ◌-◌, ◌<◌, ◌==◌, ◌||◌, ◌∙◌, ◌∷◌, ◌≡◌, ◌≤◌, Bool, IsFalse, IsTrue, List, None, Option, Some, ap, append-nil, append_assoc, arith, eq-eqb, eqb-true, false, filter, is_some, length, map, nat_lt, not, refl, rules, slice_get, subst, sym, true, unwrap_or, ℕ}
 use Rattle.base.proofs.Exports.{each_always, each_map, fill_by_all, filter_made, get_or-map, length-map, list_all, list_all-map, list_any, map_twice, nat_tests, option_map_or, option_or, picked_same, range_with_len, slice_get-get_or}
-use Rattle.update_machine.specs.Exports.{Body, Collect, HaveCauses, Item, Message, OpenAt, Setting, Stamp, acked_stamp, controller_heard, current_items, current_mark, first_open_number, journal_items_then, known_boot, least_number, next_current, next_message, next_retired, open_for, open_version_in, open_items, open_version, opened_at, opening_switches, retired_items, retired_mark, send_items, sent_from, settling, switches_of, to_switch, touched_by, version_count}
+use Rattle.update_machine.specs.Exports.{Body, Collect, JournalItemsHaveCauses, Item, Message, OpenAt, Setting, Stamp, acked_stamp, controller_heard, current_items, journal_current_mark, machine_first_open, journal_items_then, journal_known_boot, machine_least_number, journal_next_current, journal_next_message, journal_next_retired, journal_open_for, machine_open_version_in, machine_open_items, open_version, opened_at, opening_switches, retired_items, journal_retired_mark, send_items, machine_sent_items_from, settling, switches_of, machine_message_to_switch, touched_by, journal_version_count}
 use Rattle.update_machine.specs.Marks as machine
 use Rattle.update_machine.proofs.Exports.{have_append}
-use Rattle.control_laws.specs.Exports.{HasItemCause, MarksAreBounded}
+use Rattle.control_laws.specs.Exports.{HasControlItemCause, MarksAreBounded}
 use Rattle.control_laws.proofs.Exports.{ReopensAlone, acked_same, acked_stamp_opened, behind, bounded, count_more, current_more, have_front, in_three, known_more, leaves_keep, member_of, member_parts, opened_at_more, over_more, retired_more, sends_leave, settling_have, stamp_same, told_more}
 use Rattle.version_update.specs.Marks as marks
-use Rattle.version_update.specs.Exports.{MarksValue, CurrentRisesTo, Settles, has_acked, is_joining, is_member, is_over, joining_opens_at, record_of, unknown_switch_record}
+use Rattle.version_update.specs.Exports.{MarksValue, CurrentRisesTo, Settles, has_acked, is_joining, is_member, is_over, update_joining_opens_at, record_of, unknown_switch_record}
 use Rattle.version_update.specs.Record as known
 use Rattle.version_update.specs.declared.marks.Settled.{Settled}
 use Rattle.version_update.specs.declared.record.Phase.{Phase}
 use Rattle.version_update.specs.declared.record.Phase.TheVariants.{Joining, Member, Over}
 use Rattle.version_update.specs.declared.record.SwitchRecord.{SwitchRecord}
 use Rattle.controller.specs.Sends as acts
-use Rattle.controller.specs.Exports.{boot_recorded, controller_posts_to, switches_by_record}
+use Rattle.controller.specs.Exports.{controller_recorded_boot, controller_posts_to, controller_switches_by_record}
 use Rattle.controller.specs.declared.sends.Act.{Act}
 use Rattle.controller.specs.declared.sends.Act.TheVariants.{Current, Post, Retired}
-use Rattle.refinement.specs.Exports.{AreMarksOf, IsKnown, act_item_of, acts_written}
+use Rattle.refinement.specs.Exports.{AreMarksRefined, IsKnownRefined, refined_act_item, refined_acts_written}
 use Rattle.refinement.proofs.RefinedKeptController.{current_on, known_on, marks_on, posted, retired_on, written_in_three}
 use Rattle.refinement.proofs.RefinedRanges.{any_picked, passing_is}
 use Rattle.ternary.specs.Exports.{WordValue}
@@ -31,8 +31,8 @@ made value = fill_by_all (record_of value) value.switches (length value.switches
 
 -- what is made of the members is the same
 members_made : {X : Type 0} (f : SwitchRecord → X) (g : ℕ → X) (setting : Setting)
-    (journal : List Item) (value : MarksValue) → AreMarksOf setting journal value
-    → ((s : ℕ) → IsKnown journal s (record_of value s) → IsTrue (machine.is_member journal s)
+    (journal : List Item) (value : MarksValue) → AreMarksRefined setting journal value
+    → ((s : ℕ) → IsKnownRefined journal s (record_of value s) → IsTrue (machine.is_member journal s)
     → f (record_of value s) ≡ g s)
     → map f (marks.member_records value.switches) ≡ map g (machine.members setting journal)
 members_made f g setting journal value are makes =
@@ -50,7 +50,7 @@ members_made f g setting journal value are makes =
 
 -- a version that all members acknowledged
 all_same : (setting : Setting) (journal : List Item) (value : MarksValue) (v : ℕ) → 1 ≤ v
-    → AreMarksOf setting journal value
+    → AreMarksRefined setting journal value
     → marks.all_have_acked v value.switches ≡ machine.all_acked setting journal v
 all_same setting journal value v low are =
     sym (list_all-map (λ b. b) (λ known. has_acked known v) (marks.member_records value.switches))
@@ -65,11 +65,11 @@ pub told_posted : (f : ℕ → Act) (g : ℕ → Message) (passes : SwitchRecord
     → length value.switches ≡ length setting.net.switches
     → ((s : ℕ) → s < length value.switches → passes (record_of value s) ≡ q s)
     → ((s : ℕ) → s < length value.switches → f s ≡ Post (g s))
-    → acts_written journal (map f (switches_by_record passes value.switches))
+    → refined_acts_written journal (map f (controller_switches_by_record passes value.switches))
     ≡ send_items journal (map g (filter q (switches_of setting)))
 told_posted f g passes q setting journal value many tests makes =
     let p : ℕ → Bool = λ s. option_map_or passes (slice_get value.switches s) false in
-    ap (acts_written journal)
+    ap (refined_acts_written journal)
     (ap (λ n. map f (filter p (range_with_len 0 n))) many
     ∙ picked_same f (λ s. Post (g s)) p q 0 (length setting.net.switches)
     (λ s above below. let there : s < length value.switches = omega (arith, below, many) in
@@ -82,8 +82,8 @@ told_posted f g passes q setting journal value many tests makes =
 -- messages that open no switch leave the marks
 pub leave_on : (setting : Setting) (journal : List Item) (value : MarksValue)
     (message : ℕ → Message) (switches : List ℕ)
-    → ((s : ℕ) → ReopensAlone journal (message s)) → AreMarksOf setting journal value
-    → AreMarksOf setting (journal ++ send_items journal (map message switches)) value
+    → ((s : ℕ) → ReopensAlone journal (message s)) → AreMarksRefined setting journal value
+    → AreMarksRefined setting (journal ++ send_items journal (map message switches)) value
 leave_on setting journal value message switches leaves are = marks_on setting journal
     (journal ++ send_items journal (map message switches)) value
     (leaves_keep journal (send_items journal (map message switches))
@@ -93,13 +93,13 @@ leave_on setting journal value message switches leaves are = marks_on setting jo
 -- ---- current rises
 
 rises_same : (setting : Setting) (now : List Item) (before : MarksValue) (current : ℕ)
-    → AreMarksOf setting now before → CurrentRisesTo before current → current ≡ next_current setting now
-unfolding next_current
+    → AreMarksRefined setting now before → CurrentRisesTo before current → current ≡ journal_next_current setting now
+unfolding journal_next_current
 rises_same setting now before current are rises =
     let first = are.current in
     let last = are.count in
     let many = passing_is (machine.all_acked setting now)
-    (current_mark now + 1) (version_count now - current_mark now) (current - before.current)
+    (journal_current_mark now + 1) (journal_version_count now - journal_current_mark now) (current - before.current)
     (omega (arith, first, rises.bound, rises.rises))
     (λ v above below. subst IsTrue (all_same setting now before v (omega arith) are)
     (rises.acknowledged v (omega (arith, first)) (omega (arith, first, rises.rises)))) (λ more.
@@ -110,11 +110,11 @@ rises_same setting now before current are rises =
 
 -- the boots that are known stay so
 abbrev SameBoots : List Item → MarksValue → ℕ → Type 0
-SameBoots journal after n = (s : ℕ) → s < n → boot_recorded after s ≡ known_boot journal s
+SameBoots journal after n = (s : ℕ) → s < n → controller_recorded_boot after s ≡ journal_known_boot journal s
 
 -- members are told of a mark
 abbrev adverts_over : (ℕ → Body) → List Item → ℕ → Message
-adverts_over body journal s = to_switch s (body (known_boot journal s))
+adverts_over body journal s = machine_message_to_switch s (body (journal_known_boot journal s))
 
 -- a mark rises and members are told of it, or it stays
 abbrev risen_items : Setting → List Item → Item → (ℕ → Body) → Bool → List Item
@@ -126,26 +126,26 @@ risen_items setting journal next body b = elim b [
 
 -- then the marks are the risen ones
 rises_by : (setting : Setting) (journal : List Item) (after value risen : MarksValue) (act : Act)
-    (body : ℕ → Body) → AreMarksOf setting journal value
+    (body : ℕ → Body) → AreMarksRefined setting journal value
     → SameBoots journal after (length value.switches)
-    → ((s : ℕ) → ReopensAlone (journal ++ act_item_of journal act ∷ []) (adverts_over body journal s))
-    → AreMarksOf setting (journal ++ act_item_of journal act ∷ []) risen
-    → (b : Bool) → (b ≡ false → AreMarksOf setting journal risen) → (acts_written journal (if b
-    then act ∷ controller_posts_to after body (switches_by_record (λ known. is_member known.phase) value.switches)
-    else []) ≡ risen_items setting journal (act_item_of journal act) body b)
-    × AreMarksOf setting (journal ++ risen_items setting journal (act_item_of journal act) body b) risen
+    → ((s : ℕ) → ReopensAlone (journal ++ refined_act_item journal act ∷ []) (adverts_over body journal s))
+    → AreMarksRefined setting (journal ++ refined_act_item journal act ∷ []) risen
+    → (b : Bool) → (b ≡ false → AreMarksRefined setting journal risen) → (refined_acts_written journal (if b
+    then act ∷ controller_posts_to after body (controller_switches_by_record (λ known. is_member known.phase) value.switches)
+    else []) ≡ risen_items setting journal (refined_act_item journal act) body b)
+    × AreMarksRefined setting (journal ++ risen_items setting journal (refined_act_item journal act) body b) risen
 rises_by setting journal after value risen act body are boots leaves rises false stays = (
   refl,
-  subst (λ js. AreMarksOf setting js risen) (sym (append-nil journal)) (stays refl),
+  subst (λ js. AreMarksRefined setting js risen) (sym (append-nil journal)) (stays refl),
 )
 rises_by setting journal after value risen act body are boots leaves rises true stays =
-    let next : Item = act_item_of journal act in
+    let next : Item = refined_act_item journal act in
     let raised : List Item = journal ++ next ∷ [] in
     let message : ℕ → Message = adverts_over body journal in (
-      ap (λ items. next ∷ items) (told_posted (λ s. acts.post_act s (body (boot_recorded after s)))
+      ap (λ items. next ∷ items) (told_posted (λ s. acts.post_act s (body (controller_recorded_boot after s)))
           message (λ known. is_member known.phase) (machine.is_member journal) setting raised value
           are.many (λ s there. (are.each s there).member)
-          (λ s there. ap (λ boot. Post (to_switch s (body boot))) (boots s there))),
+          (λ s there. ap (λ boot. Post (machine_message_to_switch s (body boot))) (boots s there))),
       rw (append_assoc journal
           (next ∷ []) (send_items raised (map message (machine.members setting journal)))) at
           (leave_on setting raised risen message (machine.members setting journal) leaves rises),
@@ -154,37 +154,37 @@ rises_by setting journal after value risen act body are boots leaves rises true 
 -- so it is where a mark rises to what the journal says
 rises_on : (setting : Setting) (journal : List Item) (after value : MarksValue)
     (risen : ℕ → MarksValue) (act : ℕ → Act) (body : ℕ → ℕ → Body) (low high mark version : ℕ)
-    → low ≡ mark → high ≡ version → AreMarksOf setting journal value
+    → low ≡ mark → high ≡ version → AreMarksRefined setting journal value
     → SameBoots journal after (length value.switches) → ((s : ℕ) → ReopensAlone
-    (journal ++ act_item_of journal (act version) ∷ []) (adverts_over (body version) journal s))
-    → AreMarksOf setting (journal ++ act_item_of journal (act version) ∷ []) (risen version)
-    → (nat_lt mark version ≡ false → AreMarksOf setting journal (risen version))
-    → (let items = risen_items setting journal (act_item_of journal (act version)) (body version)
+    (journal ++ refined_act_item journal (act version) ∷ []) (adverts_over (body version) journal s))
+    → AreMarksRefined setting (journal ++ refined_act_item journal (act version) ∷ []) (risen version)
+    → (nat_lt mark version ≡ false → AreMarksRefined setting journal (risen version))
+    → (let items = risen_items setting journal (refined_act_item journal (act version)) (body version)
     (nat_lt mark version) in
-    (acts_written journal (if nat_lt low high then act high ∷ controller_posts_to after (body high)
-    (switches_by_record (λ known. is_member known.phase) value.switches) else []) ≡ items)
-    × AreMarksOf setting (journal ++ items) (risen high))
+    (refined_acts_written journal (if nat_lt low high then act high ∷ controller_posts_to after (body high)
+    (controller_switches_by_record (λ known. is_member known.phase) value.switches) else []) ≡ items)
+    × AreMarksRefined setting (journal ++ items) (risen high))
 rises_on setting journal after value risen act body low high mark version low_is high_is are boots
     leaves rises stays = rw (low_is, high_is) (rises_by setting journal after value (risen version)
     (act version) (body version) are boots leaves rises (nat_lt mark version) stays)
 
 raises_on : (setting : Setting) (now : List Item) (before after : MarksValue)
     (touched : List WordValue) → touched ≡ touched_by setting now after.current
-    → AreMarksOf setting now before → before.current ≤ after.current
-    → after.current ≡ next_current setting now
+    → AreMarksRefined setting now before → before.current ≤ after.current
+    → after.current ≡ journal_next_current setting now
     → SameBoots now after (length before.switches)
-    → (acts_written now (acts.stamp_acts touched before after) ≡ current_items setting now)
-    × AreMarksOf setting (now ++ current_items setting now)
+    → (refined_acts_written now (acts.stamp_acts touched before after) ≡ current_items setting now)
+    × AreMarksRefined setting (now ++ current_items setting now)
     (record before { current = after.current })
 unfolding current_items
 raises_on setting now before after touched says are up is boots = subst
-    (λ words. (acts_written now (acts.stamp_acts words before after) ≡ current_items setting now)
-    × AreMarksOf setting (now ++ current_items setting now)
+    (λ words. (refined_acts_written now (acts.stamp_acts words before after) ≡ current_items setting now)
+    × AreMarksRefined setting (now ++ current_items setting now)
     (record before { current = after.current })) (sym says) (rises_on setting now after before
     (λ v. record before { current = v }) Current (λ v boot. Stamp boot v (touched_by setting now v))
-    before.current after.current (current_mark now) (next_current setting now) are.current is are
-    boots (λ s. tt) (current_on setting now (next_current setting now) before are)
-    (λ e. let stays : next_current setting now ≡ current_mark now =
+    before.current after.current (journal_current_mark now) (journal_next_current setting now) are.current is are
+    boots (λ s. tt) (current_on setting now (journal_next_current setting now) before are)
+    (λ e. let stays : journal_next_current setting now ≡ journal_current_mark now =
     let first = are.current in grind (arith, nat_tests) in
     search (rules, are.each)))
 
@@ -201,7 +201,7 @@ unfolding machine.is_member
 joining_parts journal s joins = grind arith
 
 opens_same : (journal : List Item) (s version : ℕ) (value : SwitchRecord)
-    → IsKnown journal s value → 1 ≤ version → joining_opens_at version value
+    → IsKnownRefined journal s value → 1 ≤ version → update_joining_opens_at version value
     ≡ (machine.is_joining journal s && machine.has_acked journal s version)
 opens_same journal s version value is low =
     cc (phase_joins value.phase, is.over, is.member, by_joining (machine.is_joining journal s) refl)
@@ -214,15 +214,15 @@ opens_same journal s version value is low =
 -- what messages leave, whichever they are
 record SentStay (before after : List Item) : Type 0 where
   heard : controller_heard after ≡ controller_heard before
-  known : (s : ℕ) → known_boot after s ≡ known_boot before s
+  known : (s : ℕ) → journal_known_boot after s ≡ journal_known_boot before s
   over : (s : ℕ) → machine.is_over after s ≡ machine.is_over before s
-  count : version_count after ≡ version_count before
-  current : current_mark after ≡ current_mark before
-  retired : retired_mark after ≡ retired_mark before
+  count : journal_version_count after ≡ journal_version_count before
+  current : journal_current_mark after ≡ journal_current_mark before
+  retired : journal_retired_mark after ≡ journal_retired_mark before
 
 sent_stay : (messages : List Message) (journal : List Item) (n : ℕ)
-    → SentStay journal (journal ++ sent_from n messages)
-unfolding sent_from
+    → SentStay journal (journal ++ machine_sent_items_from n messages)
+unfolding machine_sent_items_from
 sent_stay [] journal n = subst (SentStay journal) (sym (append-nil journal)) (record {
   heard = refl;
   known = λ s. refl;
@@ -234,7 +234,7 @@ sent_stay [] journal n = subst (SentStay journal) (sym (append-nil journal)) (re
 sent_stay (message ∷ messages) journal n =
     let next : Item = Item.Sent n message in
     let rest = sent_stay messages (journal ++ next ∷ []) (n + 1) in
-    subst (SentStay journal) (append_assoc journal (next ∷ []) (sent_from (n + 1) messages))
+    subst (SentStay journal) (append_assoc journal (next ∷ []) (machine_sent_items_from (n + 1) messages))
     (record {
       heard = rest.heard ∙ told_more journal next;
       known = λ s. rest.known s ∙ known_more journal next s;
@@ -261,14 +261,14 @@ or_none (Some x) = refl
 
 -- switches that are opened one after another
 opened_many : (base journal : List Item) (n version s : ℕ) (switches : List ℕ)
-    → ((t : ℕ) → known_boot journal t ≡ known_boot base t)
-    → opened_at (journal ++ sent_from n (map (open_for base version) switches)) s
+    → ((t : ℕ) → journal_known_boot journal t ≡ journal_known_boot base t)
+    → opened_at (journal ++ machine_sent_items_from n (map (journal_open_for base version) switches)) s
     ≡ option_or (opened_at journal s) (some_if (list_any (λ t. t == s) switches) version)
-unfolding sent_from
+unfolding machine_sent_items_from
 opened_many base journal n version s [] same =
     ap (λ js. opened_at js s) (append-nil journal) ∙ sym (or_none (opened_at journal s))
 opened_many base journal n version s (t ∷ switches) same =
-    ap (λ js. opened_at js s) (sym (append_assoc journal (next ∷ []) (sent_from (n + 1) messages)))
+    ap (λ js. opened_at js s) (sym (append_assoc journal (next ∷ []) (machine_sent_items_from (n + 1) messages)))
     ∙ opened_many base (journal ++ next ∷ []) (n + 1) version s switches
     (λ u. known_more journal next u ∙ same u)
     ∙ ap (λ o. option_or o (some_if (list_any (λ u. u == s) switches) version))
@@ -277,25 +277,25 @@ opened_many base journal n version s (t ∷ switches) same =
     ∙ or_twice (opened_at journal s) (t == s) (list_any (λ u. u == s) switches) version
   where
     next : Item
-    next = Item.Sent n (open_for base version t)
+    next = Item.Sent n (journal_open_for base version t)
 
     messages : List Message
-    messages = map (open_for base version) switches
+    messages = map (journal_open_for base version) switches
 
-    opens : (b : Bool) → (t == s) ≡ b → first_open_number (if b then open_version_in (known_boot journal s)
-        (OpenAt (known_boot base t) version) else []) ≡ some_if b version
-    opens true e = cc (eq-eqb (known_boot base t) (known_boot journal s)
-        (ap (known_boot base) (eqb-true t s e) ∙ sym (same s)))
+    opens : (b : Bool) → (t == s) ≡ b → machine_first_open (if b then machine_open_version_in (journal_known_boot journal s)
+        (OpenAt (journal_known_boot base t) version) else []) ≡ some_if b version
+    opens true e = cc (eq-eqb (journal_known_boot base t) (journal_known_boot journal s)
+        (ap (journal_known_boot base) (eqb-true t s e) ∙ sym (same s)))
     opens false e = refl
 
 -- a switch behind its opening
-opened_known : (one two : List Item) (s version : ℕ) (value : SwitchRecord) → IsKnown one s value
+opened_known : (one two : List Item) (s version : ℕ) (value : SwitchRecord) → IsKnownRefined one s value
     → 1 ≤ version → SentStay one two → opened_at two s ≡ option_or (opened_at one s)
     (some_if (machine.is_joining one s && machine.has_acked one s version) version)
-    → acked_stamp two s ≤ version → IsKnown two s (known.opened_record version value)
-opened_known one two s version value is low stay now most = by_opens (joining_opens_at version value) refl
+    → acked_stamp two s ≤ version → IsKnownRefined two s (known.opened_update_record version value)
+opened_known one two s version value is low stay now most = by_opens (update_joining_opens_at version value) refl
   where
-    tests : joining_opens_at version value ≡ (machine.is_joining one s && machine.has_acked one s version)
+    tests : update_joining_opens_at version value ≡ (machine.is_joining one s && machine.has_acked one s version)
     tests = opens_same one s version value is low
 
     joins : (b c : Bool) → IsTrue (b && c) → IsTrue b
@@ -305,7 +305,7 @@ opened_known one two s version value is low stay now most = by_opens (joining_op
     acked : (v : ℕ) → machine.has_acked two s v ≡ machine.has_acked one s v
     acked v = acked_same two one s v stay.heard
 
-    by_opens : (b : Bool) → joining_opens_at version value ≡ b → IsKnown two s (if b then record value
+    by_opens : (b : Bool) → update_joining_opens_at version value ≡ b → IsKnownRefined two s (if b then record value
         { phase = Member; open_version = version; acked_stamp = version } else value)
     by_opens true e =
         let passes = sym tests ∙ e in
@@ -338,86 +338,86 @@ opened_known one two s version value is low stay now most = by_opens (joining_op
 
 -- what is known of a switch behind the openings
 record_opened : (before after : MarksValue) (version s : ℕ)
-    → after.switches ≡ map (known.opened_record version) before.switches
+    → after.switches ≡ map (known.opened_update_record version) before.switches
     → s < length before.switches
-    → record_of after s ≡ known.opened_record version (record_of before s)
+    → record_of after s ≡ known.opened_update_record version (record_of before s)
 record_opened before after version s switches there =
     ap (λ xs. marks.record_of (record after { switches = xs }) s) switches
-    ∙ get_or-map (known.opened_record version) before.switches s unknown_switch_record unknown_switch_record there
+    ∙ get_or-map (known.opened_update_record version) before.switches s unknown_switch_record unknown_switch_record there
 
 opens_on : (setting : Setting) (one : List Item) (before after : MarksValue)
-    → AreMarksOf setting one before → 1 ≤ before.current
+    → AreMarksRefined setting one before → 1 ≤ before.current
     → after.count ≡ before.count → after.current ≡ before.current
-    → after.switches ≡ map (known.opened_record before.current) before.switches
+    → after.switches ≡ map (known.opened_update_record before.current) before.switches
     → SameBoots one after (length before.switches)
-    → MarksAreBounded setting (one ++ open_items setting one)
-    → (acts_written one (acts.open_acts before after) ≡ open_items setting one)
-    × AreMarksOf setting (one ++ open_items setting one) (record after { retired = before.retired })
-unfolding open_items
+    → MarksAreBounded setting (one ++ machine_open_items setting one)
+    → (refined_acts_written one (acts.controller_open_acts before after) ≡ machine_open_items setting one)
+    × AreMarksRefined setting (one ++ machine_open_items setting one) (record after { retired = before.retired })
+unfolding machine_open_items
 opens_on setting one before after are low count current switches boots bounds = (
-  told_posted (λ s. acts.post_act s (OpenAt (boot_recorded after s) after.current))
-      (open_for one (current_mark one)) (joining_opens_at after.current) test setting one before are.many
-      (λ s there. ap (λ v. joining_opens_at v (record_of before s)) (current ∙ are.current) ∙ opens_same one
-      s (current_mark one) (record_of before s) (are.each s there) first)
-      (λ s there. ap (λ boot. Post (to_switch s (OpenAt boot after.current))) (boots s there)
-      ∙ ap (λ v. Post (open_for one v s)) (current ∙ are.current)),
+  told_posted (λ s. acts.post_act s (OpenAt (controller_recorded_boot after s) after.current))
+      (journal_open_for one (journal_current_mark one)) (update_joining_opens_at after.current) test setting one before are.many
+      (λ s there. ap (λ v. update_joining_opens_at v (record_of before s)) (current ∙ are.current) ∙ opens_same one
+      s (journal_current_mark one) (record_of before s) (are.each s there) first)
+      (λ s there. ap (λ boot. Post (machine_message_to_switch s (OpenAt boot after.current))) (boots s there)
+      ∙ ap (λ v. Post (journal_open_for one v s)) (current ∙ are.current)),
   record {
     count = count ∙ are.count ∙ sym stay.count;
     current = current ∙ are.current ∙ sym stay.current;
     retired = are.retired ∙ sym stay.retired;
     many = long ∙ are.many;
     each = λ s there. let below : s < length before.switches = omega (arith, there, long) in
-        subst (IsKnown two s) (sym (record_opened before after before.current s switches below))
-        (rw are.current (opened_known one two s (current_mark one) (record_of before s)
+        subst (IsKnownRefined two s) (sym (record_opened before after before.current s switches below))
+        (rw are.current (opened_known one two s (journal_current_mark one) (record_of before s)
         (are.each s below) first stay (now s below) (omega (arith, bounds.known s, stay.current))));
   },
 ) where
   test : ℕ → Bool
-  test s = machine.is_joining one s && machine.has_acked one s (current_mark one)
+  test s = machine.is_joining one s && machine.has_acked one s (journal_current_mark one)
 
   two : List Item
-  two = one ++ send_items one (map (open_for one (current_mark one)) (opening_switches setting one))
+  two = one ++ send_items one (map (journal_open_for one (journal_current_mark one)) (opening_switches setting one))
 
-  first : 1 ≤ current_mark one
+  first : 1 ≤ journal_current_mark one
   first = let is = are.current in omega (arith, low, is)
 
   stay : SentStay one two
-  stay = sent_stay (map (open_for one (current_mark one)) (opening_switches setting one)) one
-      (next_message one)
+  stay = sent_stay (map (journal_open_for one (journal_current_mark one)) (opening_switches setting one)) one
+      (journal_next_message one)
 
   long : length after.switches ≡ length before.switches
-  long = ap length switches ∙ length-map before.switches (known.opened_record before.current)
+  long = ap length switches ∙ length-map before.switches (known.opened_update_record before.current)
 
   now : (s : ℕ) → s < length before.switches → opened_at two s
-      ≡ option_or (opened_at one s) (some_if (test s) (current_mark one))
-  now s below = opened_many one one (next_message one) (current_mark one) s
+      ≡ option_or (opened_at one s) (some_if (test s) (journal_current_mark one))
+  now s below = opened_many one one (journal_next_message one) (journal_current_mark one) s
       (opening_switches setting one) (λ t. refl)
-      ∙ ap (λ b. option_or (opened_at one s) (some_if b (current_mark one))) (any_picked test s 0
+      ∙ ap (λ b. option_or (opened_at one s) (some_if b (journal_current_mark one))) (any_picked test s 0
       (length setting.net.switches) (omega arith) (omega (arith, below, are.many)))
 
 -- ---- retired rises
 
 retires_same : (setting : Setting) (two : List Item) (value : MarksValue)
-    → AreMarksOf setting two value → marks.retired_of value ≡ next_retired setting two
-unfolding next_retired
-retires_same setting two value are = ap (λ xs. unwrap_or (least_number xs) value.current - 1)
+    → AreMarksRefined setting two value → marks.retired_of value ≡ journal_next_retired setting two
+unfolding journal_next_retired
+retires_same setting two value are = ap (λ xs. unwrap_or (machine_least_number xs) value.current - 1)
     (members_made (λ known. known.acked_stamp) (acked_stamp two) setting two value are
     (λ s is member. is.stamp member))
-    ∙ ap (λ c. unwrap_or (least_number (map (acked_stamp two) (machine.members setting two))) c - 1)
+    ∙ ap (λ c. unwrap_or (machine_least_number (map (acked_stamp two) (machine.members setting two))) c - 1)
     are.current
 
 retires_on : (setting : Setting) (two : List Item) (before after : MarksValue)
-    → AreMarksOf setting two (record after { retired = before.retired })
-    → after.retired ≡ next_retired setting two → retired_mark two ≤ next_retired setting two
+    → AreMarksRefined setting two (record after { retired = before.retired })
+    → after.retired ≡ journal_next_retired setting two → journal_retired_mark two ≤ journal_next_retired setting two
     → SameBoots two after (length after.switches)
-    → (acts_written two (acts.collect_acts before after) ≡ retired_items setting two)
-    × AreMarksOf setting (two ++ retired_items setting two) after
+    → (refined_acts_written two (acts.controller_collect_acts before after) ≡ retired_items setting two)
+    × AreMarksRefined setting (two ++ retired_items setting two) after
 unfolding retired_items
 retires_on setting two before after are is least_is boots = rises_on setting two after
     (record after { retired = before.retired }) (λ v. record after { retired = v }) Retired
-    (λ v boot. Collect boot v) before.retired after.retired (retired_mark two)
-    (next_retired setting two) are.retired is are boots (λ s. tt) (retired_on setting two
-    (next_retired setting two) (record after { retired = before.retired }) are)
+    (λ v boot. Collect boot v) before.retired after.retired (journal_retired_mark two)
+    (journal_next_retired setting two) are.retired is are boots (λ s. tt) (retired_on setting two
+    (journal_next_retired setting two) (record after { retired = before.retired }) are)
     (λ e. search (rules, are.each))
 
 -- ---- together
@@ -429,43 +429,43 @@ boot_opened false version value = refl
 
 -- each item has its cause
 abbrev pub AreCaused : Setting → List Item → Type 0
-AreCaused setting journal = HaveCauses (HasItemCause setting) [] journal
+AreCaused setting journal = JournalItemsHaveCauses (HasControlItemCause setting) [] journal
 
 -- settling changes no boot
 pub settled_boot : (before after : MarksValue) (answer : Settled) (s : ℕ)
     → Settles before after answer → s < length before.switches
-    → boot_recorded after s ≡ boot_recorded before s
+    → controller_recorded_boot after s ≡ controller_recorded_boot before s
 settled_boot before after answer s is there =
     ap (λ value. value.boot) (record_opened before after after.current s is.switches there)
-    ∙ boot_opened (joining_opens_at after.current (record_of before s)) after.current (record_of before s)
+    ∙ boot_opened (update_joining_opens_at after.current (record_of before s)) after.current (record_of before s)
 
 pub settling_caused : (setting : Setting) (now : List Item) → AreCaused setting now
     → AreCaused setting (now ++ settling setting now)
-settling_caused setting now have = have_append (HasItemCause setting) [] now (settling setting now)
+settling_caused setting now have = have_append (HasControlItemCause setting) [] now (settling setting now)
     have (settling_have setting now)
 
 pub settles_so : (setting : Setting) (now : List Item) (before after : MarksValue)
     (answer : Settled) (touched : List WordValue)
     → touched ≡ touched_by setting now after.current → AreCaused setting now
-    → AreMarksOf setting now before → Settles before after answer
-    → (acts_written now (acts.settling_acts touched before after) ≡ settling setting now)
-    × AreMarksOf setting (now ++ settling setting now) after
+    → AreMarksRefined setting now before → Settles before after answer
+    → (refined_acts_written now (acts.controller_settling_acts touched before after) ≡ settling setting now)
+    × AreMarksRefined setting (now ++ settling setting now) after
 unfolding settling
 settles_so setting now before after answer touched says have are is = (
-  written_in_three now (current_items setting) (open_items setting) (retired_items setting)
-      (acts.stamp_acts touched before after) (acts.open_acts before after)
-      (acts.collect_acts before after) raises.0 opens.0 retires.0,
-  rw (in_three (current_items setting) (open_items setting) (retired_items setting) now) retires.1,
+  written_in_three now (current_items setting) (machine_open_items setting) (retired_items setting)
+      (acts.stamp_acts touched before after) (acts.controller_open_acts before after)
+      (acts.controller_collect_acts before after) raises.0 opens.0 retires.0,
+  rw (in_three (current_items setting) (machine_open_items setting) (retired_items setting) now) retires.1,
 ) where
   one : List Item
   one = now ++ current_items setting now
 
   two : List Item
-  two = one ++ open_items setting one
+  two = one ++ machine_open_items setting one
 
   two_have : AreCaused setting two
-  two_have = have_front (HasItemCause setting) [] two (retired_items setting two)
-      (subst (AreCaused setting) (in_three (current_items setting) (open_items setting)
+  two_have = have_front (HasControlItemCause setting) [] two (retired_items setting two)
+      (subst (AreCaused setting) (in_three (current_items setting) (machine_open_items setting)
       (retired_items setting) now) (settling_caused setting now have))
 
   low : 1 ≤ after.current
@@ -474,22 +474,22 @@ settles_so setting now before after answer touched says have are is = (
   boots : SameBoots now after (length before.switches)
   boots s there = settled_boot before after answer s is there ∙ (are.each s there).boot
 
-  raises : (acts_written now (acts.stamp_acts touched before after) ≡ current_items setting now)
-      × AreMarksOf setting one (record before { current = after.current })
+  raises : (refined_acts_written now (acts.stamp_acts touched before after) ≡ current_items setting now)
+      × AreMarksRefined setting one (record before { current = after.current })
   raises = raises_on setting now before after touched says are is.current.rises
       (rises_same setting now before after.current are is.current) boots
 
-  same : (s : ℕ) → s < length before.switches → known_boot one s ≡ known_boot now s
+  same : (s : ℕ) → s < length before.switches → journal_known_boot one s ≡ journal_known_boot now s
   same s there = sym (raises.1.each s there).boot ∙ (are.each s there).boot
 
-  opens : (acts_written one (acts.open_acts before after) ≡ open_items setting one)
-      × AreMarksOf setting two (record after { retired = before.retired })
+  opens : (refined_acts_written one (acts.controller_open_acts before after) ≡ machine_open_items setting one)
+      × AreMarksRefined setting two (record after { retired = before.retired })
   opens = opens_on setting one (record before { current = after.current }) after raises.1 low
       is.count refl is.switches (λ s there. boots s there ∙ sym (same s there))
       (bounded setting two two_have)
 
-  retires : (acts_written two (acts.collect_acts before after) ≡ retired_items setting two)
-      × AreMarksOf setting (two ++ retired_items setting two) after
+  retires : (refined_acts_written two (acts.controller_collect_acts before after) ≡ retired_items setting two)
+      × AreMarksRefined setting (two ++ retired_items setting two) after
   retires = retires_on setting two before after opens.1
       (is.retired ∙ retires_same setting two (record after { retired = before.retired }) opens.1)
       (behind setting two two_have) (λ s there. (opens.1.each s there).boot)

@@ -1,13 +1,13 @@
 -- One more step keeps the tie of a world to its journal.
 use Rattle.std.proofs.Common.{[], ◌++◌, ◌+◌, ◌<◌, ◌==◌, ◌∙◌, ◌∷◌, ◌≡◌, ◌≢◌, Bool, IsFalse, List, Option, ap, append-nil, arith, cond, eq-eqb, eqb-true, false, filter, get_or, get_or-set_other, get_or-set_same, inl, length, refl, set, subst, sym, true, unwrap_or, ℕ}
 use Rattle.base.proofs.Exports.{All-push}
-use Rattle.update_machine.specs.Exports.{Exit, HaveCauses, IsReached, IsSetting, Item, Leg, LinkRow, NoneConcern, Seek, Setting, Step, StepOfRow, journal_after_steps, concerns_calls, concerns_controller, concerns_known, concerns_links, count_of, is_packet, next_message, next_packet, piece, targets_of}
+use Rattle.update_machine.specs.Exports.{Exit, JournalItemsHaveCauses, IsJournalReached, IsSetting, Item, Leg, LinkRow, NoneConcern, Seek, Setting, Step, StepOfRow, journal_after_steps, item_concerns_calls, concerns_controller, item_concerns_known, concerns_links, count_of, is_packet, journal_next_message, journal_next_packet, piece, targets_of}
 use Rattle.steps.specs.Exports.{IsStep}
 use Rattle.update_machine.proofs.Exports.{count_of_append, links_keep, near_stays, plan_stays}
-use Rattle.control_laws.specs.Exports.{HasItemCause, ServingHoldVersions, ServingIsKnown, StampsSayTouched, asks_controller}
+use Rattle.control_laws.specs.Exports.{HasControlItemCause, ServingHoldVersions, ServingIsKnown, StampsSayTouched, asks_controller}
 use Rattle.control_laws.proofs.Exports.{bodies_named, bounded, caused_known, caused_numbered, serving_hold, serving_known, stamps_touched, tables_planned, versions_planned}
-use Rattle.refinement.specs.Exports.{RefineUpLinks, RefineUsableLinks, IsBagOf, IsControllerOf, NetworkState, RefineJournal, TablesAreKnown, flight_in, is_up_link, switch_of}
-use Rattle.packet_laws.specs.Exports.{AllKept, IsOnLeg, IsOnWay, IsServed, PacketFacts, what_is_known}
+use Rattle.refinement.specs.Exports.{RefineUpLinks, RefineUsableLinks, IsRefinedBagOf, IsControllerOf, RefinedNetworkState, RefineJournal, RefinementTablesAreKnown, refined_flight_in, is_refined_up_link, refined_switch_of}
+use Rattle.packet_laws.specs.Exports.{AllPacketFactsKept, IsPacketOnLeg, IsPacketOnWay, IsPacketServed, PacketFacts, packet_facts_of}
 use Rattle.packet_laws.proofs.Exports.{Before, IsSettled, all_kept, reached_settled, switches_of_all, travels_in}
 use Rattle.refinement.proofs.RefinedPacketFacts.{NoneName, by_targets, facts_all, flight_by, flight_now, unnamed}
 use Rattle.refinement.proofs.RefinedControllerResends.{items_leave, steps_leave}
@@ -26,15 +26,15 @@ use Rattle.message_bag.specs.Exports.{Post}
 pub record Known (setting : Setting) (journal : List Item) : Type 0 where
   pub is : IsSetting setting
   pub settled : IsSettled setting journal
-  pub caused : HaveCauses (HasItemCause setting) [] journal
-  pub tables : TablesAreKnown setting journal
+  pub caused : JournalItemsHaveCauses (HasControlItemCause setting) [] journal
+  pub tables : RefinementTablesAreKnown setting journal
   pub serving : ServingIsKnown journal
   pub holds : ServingHoldVersions setting journal
-  pub kept : AllKept setting journal
+  pub kept : AllPacketFactsKept setting journal
   pub touched : StampsSayTouched setting journal
 
 pub reached_known : (setting : Setting) (journal : List Item) → IsSetting setting
-    → IsReached setting journal → Known setting journal
+    → IsJournalReached setting journal → Known setting journal
 reached_known setting journal is reached =
     let settled : IsSettled setting journal = reached_settled setting journal is reached in
     let caused = switches_of_all setting [] journal settled.causes in record {
@@ -63,8 +63,8 @@ after_more setting before (next ∷ steps) last =
     after_more setting (before ++ piece setting before next.row next.step) steps last
 
 pub reached_more : (setting : Setting) (journal : List Item) (row : ℕ) (step : Step)
-    → IsReached setting journal → IsStep setting.net (length setting.files) step
-    → IsReached setting (journal ++ piece setting journal row step)
+    → IsJournalReached setting journal → IsStep setting.net (length setting.files) step
+    → IsJournalReached setting (journal ++ piece setting journal row step)
 reached_more setting journal row step reached own = record {
   steps = reached.steps ++ record { row = row; step = step } ∷ [];
   own = All-push (λ next. IsStep setting.net (length setting.files) next.step) reached.steps
@@ -83,12 +83,12 @@ before_of setting journal knows =
 
 -- a packet that travels is on its way, where it is served
 pub record Travels (setting : Setting) (journal : List Item) (i : ℕ) : Type 0 where
-  pub way : IsOnWay setting journal (what_is_known journal i)
-  pub served : IsServed journal i
+  pub way : IsPacketOnWay setting journal (packet_facts_of journal i)
+  pub served : IsPacketServed journal i
 
 pub travels_known : (setting : Setting) (journal : List Item) (i : ℕ) → Known setting journal
-    → (what_is_known journal i).travels ≡ true → Travels setting journal i
-unfolding what_is_known
+    → (packet_facts_of journal i).travels ≡ true → Travels setting journal i
+unfolding packet_facts_of
 travels_known setting journal i knows on = record {
   way = (knows.kept.packets i).on_way (travels_in journal i on)
       (inl (knows.settled.rests.moving i on));
@@ -98,8 +98,8 @@ travels_known setting journal i knows on = record {
 -- ---- the targets of a leg
 
 leg_targets : (setting : Setting) (journal items : List Item) (facts : PacketFacts) (leg : Leg)
-    → Known setting journal → (on : IsOnWay setting journal facts)
-    → IsOnLeg setting journal facts on.under_way.header leg
+    → Known setting journal → (on : IsPacketOnWay setting journal facts)
+    → IsPacketOnLeg setting journal facts on.under_way.header leg
     → targets_of setting (journal ++ items) leg ≡ targets_of setting journal leg
 leg_targets setting journal items facts (Seek version partition) knows on leg =
     cc (plan_stays setting journal items version (caused_numbered setting journal knows.caused)
@@ -108,35 +108,35 @@ leg_targets setting journal items facts (Exit port) knows on leg = refl
 
 -- whatever items come that name no packet, also new versions: packets stay on their way
 pub flight_stays : (setting : Setting) (journal items : List Item) (i : ℕ) → Known setting journal
-    → NoneName i items → flight_in setting (journal ++ items) i ≡ flight_in setting journal i
+    → NoneName i items → refined_flight_in setting (journal ++ items) i ≡ refined_flight_in setting journal i
 flight_stays setting journal items i knows none = flight_now setting (journal ++ items) i
     ∙ ap (flight_by (targets_of setting (journal ++ items)) i)
-    (facts_all i journal items ∙ unnamed i journal items (what_is_known journal i) none)
-    ∙ by_travels (what_is_known journal i).travels refl ∙ sym (flight_now setting journal i)
+    (facts_all i journal items ∙ unnamed i journal items (packet_facts_of journal i) none)
+    ∙ by_travels (packet_facts_of journal i).travels refl ∙ sym (flight_now setting journal i)
   where
-    by_travels : (b : Bool) → (what_is_known journal i).travels ≡ b
-        → flight_by (targets_of setting (journal ++ items)) i (what_is_known journal i)
-        ≡ flight_by (targets_of setting journal) i (what_is_known journal i)
+    by_travels : (b : Bool) → (packet_facts_of journal i).travels ≡ b
+        → flight_by (targets_of setting (journal ++ items)) i (packet_facts_of journal i)
+        ≡ flight_by (targets_of setting journal) i (packet_facts_of journal i)
     by_travels false off = rw off refl
     by_travels true on =
-        let way : IsOnWay setting journal (what_is_known journal i) =
+        let way : IsPacketOnWay setting journal (packet_facts_of journal i) =
         (travels_known setting journal i knows on).way in
         by_targets (targets_of setting (journal ++ items)) (targets_of setting journal) i
-        (what_is_known journal i)
+        (packet_facts_of journal i)
         (rw way.takes
-        (leg_targets setting journal items (what_is_known journal i) way.leg knows way way.on_leg))
+        (leg_targets setting journal items (packet_facts_of journal i) way.leg knows way way.on_leg))
 
 -- ---- step refines
 
 -- where one switch became what it is now, and another one stays if it isn't that one
 pub one_changes : (setting : Setting) (journal after : List Item) (switches : List SwitchValue)
     (s q : ℕ) (changed d : SwitchValue) (b : Bool) → (s == q) ≡ b → s < length switches
-    → changed ≡ switch_of setting after s
-    → ((s == q) ≡ false → switch_of setting after q ≡ switch_of setting journal q)
-    → get_or switches q d ≡ switch_of setting journal q
-    → get_or (set switches s changed) q d ≡ switch_of setting after q
+    → changed ≡ refined_switch_of setting after s
+    → ((s == q) ≡ false → refined_switch_of setting after q ≡ refined_switch_of setting journal q)
+    → get_or switches q d ≡ refined_switch_of setting journal q
+    → get_or (set switches s changed) q d ≡ refined_switch_of setting after q
 one_changes setting journal after switches s q changed d true is there own others its =
-    subst (λ k. get_or (set switches s changed) k d ≡ switch_of setting after k) (eqb-true s q is)
+    subst (λ k. get_or (set switches s changed) k d ≡ refined_switch_of setting after k) (eqb-true s q is)
     (get_or-set_same switches s changed d there ∙ own)
 one_changes setting journal after switches s q changed d false is there own others its =
     let other : q ≢ s = λ e. let yes : (s == q) ≡ true = eq-eqb s q (sym e) in cc in
@@ -148,7 +148,7 @@ one_changes setting journal after switches s q changed d false is there own othe
 abbrev pub stepped : List Item → ℕ → Step → List Item → List Item
 stepped journal row step items = journal ++ Item.Row row step ∷ items
 
-module _ {setting : Setting} {journal : List Item} {state : NetworkState}
+module _ {setting : Setting} {journal : List Item} {state : RefinedNetworkState}
     (refines : RefineJournal setting journal state) where
   -- the controller, where the step isn't for it
   pub controller_stays : (row : ℕ) (step : Step) (items : List Item)
@@ -161,8 +161,8 @@ module _ {setting : Setting} {journal : List Item} {state : NetworkState}
 
 -- links that are up as before are the same
 pub same_links : (now before : List Item) (links : List LinkRow)
-    → ((link : LinkRow) → is_up_link now link ≡ is_up_link before link)
-    → filter (is_up_link now) links ≡ filter (is_up_link before) links
+    → ((link : LinkRow) → is_refined_up_link now link ≡ is_refined_up_link before link)
+    → filter (is_refined_up_link now) links ≡ filter (is_refined_up_link before) links
 same_links now before [] same = refl
 same_links now before (link ∷ links) same = cc (same link, same_links now before links same)
 
@@ -174,7 +174,7 @@ up_stays setting journal items links none up = λ s below. up s below
     (λ link. (links_keep setting journal items none).up link.one link.two)))
 
 -- and the links and the switches, where it does nothing to them
-module _ {setting : Setting} {journal : List Item} {state : NetworkState}
+module _ {setting : Setting} {journal : List Item} {state : RefinedNetworkState}
     (refines : RefineJournal setting journal state) (items : List Item) where
   pub links_stay : NoneConcern concerns_links journal items
       → RefineUsableLinks setting (journal ++ items) state.near
@@ -185,26 +185,26 @@ module _ {setting : Setting} {journal : List Item} {state : NetworkState}
       → RefineUpLinks setting (journal ++ items) state.links
   up_stay none = up_stays setting journal items state.links none refines.up
 
-  pub switches_stay : ((s : ℕ) → NoneConcern (concerns_known s) journal items)
-      → ((s : ℕ) → NoneConcern (concerns_calls s) journal items)
+  pub switches_stay : ((s : ℕ) → NoneConcern (item_concerns_known s) journal items)
+      → ((s : ℕ) → NoneConcern (item_concerns_calls s) journal items)
       → (s : ℕ) (d : SwitchValue) → s < length state.switches
-      → get_or state.switches s d ≡ switch_of setting (journal ++ items) s
+      → get_or state.switches s d ≡ refined_switch_of setting (journal ++ items) s
   switches_stay none calls s d there =
       refines.each s d there ∙ sym (kept_is setting s journal items (none s) (calls s))
 
 -- what a step writes, and the switches, the packets on their way and the control plane after it
 pub record IsTaken (setting : Setting) (journal : List Item) (row : ℕ) (step : Step)
-    (items : List Item) (state later : NetworkState) : Type 0 where
+    (items : List Item) (state later : RefinedNetworkState) : Type 0 where
   pub may : IsStep setting.net (length setting.files) step
   pub piece_is : piece setting journal row step ≡ Item.Row row step ∷ items
   pub as_many : length later.switches ≡ length state.switches
   pub each : (s : ℕ) (d : SwitchValue) → s < length state.switches
-      → get_or later.switches s d ≡ switch_of setting (stepped journal row step items) s
+      → get_or later.switches s d ≡ refined_switch_of setting (stepped journal row step items) s
   pub travels : (i : ℕ) → flight later.travelling i
-      ≡ flight_in setting (stepped journal row step items) i
+      ≡ refined_flight_in setting (stepped journal row step items) i
   pub counted : later.packets ≡ state.packets + count_of is_packet (Item.Row row step ∷ items)
   pub controller : IsControllerOf setting (stepped journal row step items) later.controller
-  pub bag : IsBagOf (stepped journal row step items) later.posts
+  pub bag : IsRefinedBagOf (stepped journal row step items) later.posts
   pub up : RefineUpLinks setting (stepped journal row step items) later.links
   pub usable : RefineUsableLinks setting (stepped journal row step items) later.near
 
@@ -215,28 +215,28 @@ pub record Steps (setting : Setting) (journal : List Item) (row : ℕ) (step : S
   pub piece_is : piece setting journal row step ≡ Item.Row row step ∷ items
   pub not_told : IsFalse (asks_controller journal step)
   -- the messages that it sends have the next numbers
-  pub sends : SendFrom (next_message journal) items
+  pub sends : SendFrom (journal_next_message journal) items
   pub as_many : length others ≡ length switches
   pub each : (s : ℕ) (d : SwitchValue) → s < length switches
-      → get_or others s d ≡ switch_of setting (stepped journal row step items) s
-  pub travels : (i : ℕ) → flight after i ≡ flight_in setting (stepped journal row step items) i
+      → get_or others s d ≡ refined_switch_of setting (stepped journal row step items) s
+  pub travels : (i : ℕ) → flight after i ≡ refined_flight_in setting (stepped journal row step items) i
 
 reached_on : (setting : Setting) (journal : List Item) (row : ℕ) (step : Step) (items : List Item)
-    → IsReached setting journal → IsStep setting.net (length setting.files) step
+    → IsJournalReached setting journal → IsStep setting.net (length setting.files) step
     → piece setting journal row step ≡ Item.Row row step ∷ items
-    → IsReached setting (journal ++ Item.Row row step ∷ items)
+    → IsJournalReached setting (journal ++ Item.Row row step ∷ items)
 reached_on setting journal row step items reached may is =
-    let P : List Item → Type 0 = λ more. IsReached setting (journal ++ more) in
+    let P : List Item → Type 0 = λ more. IsJournalReached setting (journal ++ more) in
     subst P is (reached_more setting journal row step reached may)
 
-next_on : (journal items : List Item) (count next : ℕ) → next_packet journal ≡ count + 1
-    → next ≡ count + count_of is_packet items → next_packet (journal ++ items) ≡ next + 1
-unfolding next_packet
+next_on : (journal items : List Item) (count next : ℕ) → journal_next_packet journal ≡ count + 1
+    → next ≡ count + count_of is_packet items → journal_next_packet (journal ++ items) ≡ next + 1
+unfolding journal_next_packet
 next_on journal items count next is more = rw count_of_append (omega arith)
 
-module _ {setting : Setting} {journal : List Item} {state : NetworkState}
+module _ {setting : Setting} {journal : List Item} {state : RefinedNetworkState}
     (refines : RefineJournal setting journal state) where
-  pub refines_taken : (later : NetworkState) (row : ℕ) (step : Step) (items : List Item)
+  pub refines_taken : (later : RefinedNetworkState) (row : ℕ) (step : Step) (items : List Item)
       → IsTaken setting journal row step items state later
       → RefineJournal setting (journal ++ Item.Row row step ∷ items) later
   refines_taken later row step items taken = record {
@@ -254,21 +254,21 @@ module _ {setting : Setting} {journal : List Item} {state : NetworkState}
   }
 
 -- what the tie says of one packet, of one switch and of the next message's number
-module _ {setting : Setting} {journal : List Item} {state : NetworkState}
+module _ {setting : Setting} {journal : List Item} {state : RefinedNetworkState}
     (refines : RefineJournal setting journal state) where
-  pub packets_are : (i : ℕ) → flight state.travelling i ≡ flight_in setting journal i
+  pub packets_are : (i : ℕ) → flight state.travelling i ≡ refined_flight_in setting journal i
   packets_are = refines.packet
 
   pub switches_are : (s : ℕ) (d : SwitchValue) → s < length state.switches
-      → get_or state.switches s d ≡ switch_of setting journal s
+      → get_or state.switches s d ≡ refined_switch_of setting journal s
   switches_are = refines.each
 
-  pub numbered : next_message journal ≡ length state.posts + 1
+  pub numbered : journal_next_message journal ≡ length state.posts + 1
   numbered = refines.bag.many
 
 -- ---- a step of packets
 
-module _ {setting : Setting} {journal : List Item} {state : NetworkState}
+module _ {setting : Setting} {journal : List Item} {state : RefinedNetworkState}
     (refines : RefineJournal setting journal state) where
   pub refines_more : (others : List SwitchValue) (after : Flights) (next row : ℕ) (step : Step)
       (items : List Item) → Steps setting journal row step items state.switches others after
@@ -295,15 +295,15 @@ module _ {setting : Setting} {journal : List Item} {state : NetworkState}
         controller = controller_stays refines row step items steps.piece_is steps.not_told;
         up = up_stay refines (Item.Row row step ∷ items) (
           refl,
-          (are_apart (next_message journal) (journal ++ Item.Row row step ∷ []) items
+          (are_apart (journal_next_message journal) (journal ++ Item.Row row step ∷ []) items
               steps.sends).links,
         );
         usable = links_stay refines (Item.Row row step ∷ items) (
           refl,
-          (are_apart (next_message journal) (journal ++ Item.Row row step ∷ []) items
+          (are_apart (journal_next_message journal) (journal ++ Item.Row row step ∷ []) items
               steps.sends).links,
         );
-        bag = bag_sends (next_message journal) journal (Item.Row row step ∷ items) state.posts
+        bag = bag_sends (journal_next_message journal) journal (Item.Row row step ∷ items) state.posts
             steps.sends refl refines.bag;
       })
 
@@ -324,7 +324,7 @@ abbrev pub grown : List Item → ℕ → Step → Item → List Item
 grown journal row step one = journal ++ Item.Row row step ∷ one ∷ []
 
 -- the step wrote this one item, and behind it the parts refine the journal
-abbrev pub WroteOne : Setting → List Item → ℕ → Step → Item → NetworkState → Type 0
+abbrev pub WroteOne : Setting → List Item → ℕ → Step → Item → RefinedNetworkState → Type 0
 WroteOne setting journal row step one state =
     (piece setting journal row step ≡ Item.Row row step ∷ one ∷ [])
     × RefineJournal setting (grown journal row step one) state
@@ -342,10 +342,10 @@ pub record WritesOne (setting : Setting) (journal : List Item) (row : ℕ) (step
   pub as_before : count_of is_packet (Item.Row row step ∷ one ∷ []) ≡ 0
   pub as_many : length others ≡ length switches
   pub each : (s : ℕ) (d : SwitchValue) → s < length switches
-      → get_or others s d ≡ switch_of setting (grown journal row step one) s
-  pub bag : IsBagOf (grown journal row step one) posts
+      → get_or others s d ≡ refined_switch_of setting (grown journal row step one) s
+  pub bag : IsRefinedBagOf (grown journal row step one) posts
 
-module _ {setting : Setting} {journal : List Item} {state : NetworkState}
+module _ {setting : Setting} {journal : List Item} {state : RefinedNetworkState}
     (refines : RefineJournal setting journal state) where
   pub refines_one : (posts : List Post) (others : List SwitchValue) (row : ℕ) (step : Step)
       (one : Item) → WritesOne setting journal row step one state.switches others posts

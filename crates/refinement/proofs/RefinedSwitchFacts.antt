@@ -1,13 +1,13 @@
 -- What a journal says of a switch, by eight facts of it.
 use Rattle.std.proofs.Common.{[], ◌&&◌, ◌++◌, ◌==◌, ◌||◌, ◌∙◌, ◌∷◌, ◌≡◌, ◌≤◌, Bool, List, Option, ap, arith, eq-eqb, eqb-true, false, filter, filter_map, find, fold, if◌then◌else◌, is_some, length, map, max, nat_le, nat_lt, not, refl, slice_set, subst, sym, true, ℕ}
 use Rattle.base.proofs.Exports.{⊤, AllByRecursion, each_append, filter_same_on, list_any, nat_tests, or-false, or_assoc, or_left, or_right}
-use Rattle.update_machine.specs.Exports.{Advert, Body, Collect, Install, Item, Setting, Tables, adverts_known, boot_of, cache_of, collects_version, greatest_stamp_number, handled_count, heard, holds_version, installs_version, is_up, near, other_advert, own_advert, own_if_sent, own_seq, serves, stamp_in, stamp_of, switches_of, tables_at}
+use Rattle.update_machine.specs.Exports.{Advert, Body, Collect, Install, Item, Setting, Tables, journal_adverts_known, journal_boot_of, journal_cache_of, journal_collects_version, machine_greatest_stamp_number, journal_handled_count, heard, holds_version, installs_version, is_up, near, journal_other_advert, own_advert, journal_own_advert_sent, journal_own_seq, serves, journal_stamp_in_body, journal_stamp_of, switches_of, journal_tables_at}
 use Rattle.failover.specs.Exports.{after_hearing_all, first_adverts, no_adverts}
 use Rattle.net_file.specs.Exports.{links_of}
 use Rattle.switch_core.specs.Exports.{SwitchValue}
 use Rattle.switch_table.specs.Exports.{CacheValue}
 use Rattle.update_machine.proofs.Exports.{first_plan_stays}
-use Rattle.refinement.specs.Exports.{collect_in, switch_of, tables_in, with_tables}
+use Rattle.refinement.specs.Exports.{refined_collect_in, refined_switch_of, refined_tables_in, refined_with_tables}
 
 pub record SwitchFacts : Type 0 where
   pub boot : ℕ
@@ -23,42 +23,42 @@ pub record SwitchFacts : Type 0 where
 
 abbrev pub facts_of : Setting → List Item → ℕ → SwitchFacts
 facts_of setting journal s = record {
-  boot = boot_of journal s;
+  boot = journal_boot_of journal s;
   up = is_up journal s;
   serving = serves journal s;
   bodies = heard journal s;
-  cache = cache_of setting journal s;
-  seq = own_seq setting journal s;
+  cache = journal_cache_of setting journal s;
+  seq = journal_own_seq setting journal s;
   links = near setting journal s;
-  handled = handled_count journal s;
+  handled = journal_handled_count journal s;
 }
 
 -- ---- what follows from what was heard, in the first boot or in a later one
 
 abbrev pub stamp_by : Bool → List Body → ℕ
-stamp_by first bodies = greatest_stamp_number ((if first then 1 ∷ [] else [])
-    ++ filter_map stamp_in bodies)
+stamp_by first bodies = machine_greatest_stamp_number ((if first then 1 ∷ [] else [])
+    ++ filter_map journal_stamp_in_body bodies)
 
 abbrev pub collected_by : List Body → ℕ
-collected_by bodies = greatest_stamp_number (filter_map collect_in bodies)
+collected_by bodies = machine_greatest_stamp_number (filter_map refined_collect_in bodies)
 
 -- all tables that came, the first ones among them
 abbrev pub all_by : Tables → Bool → List Body → List Tables
 all_by tables first bodies =
-    fold with_tables (if first then tables ∷ [] else []) (filter_map tables_in bodies)
+    fold refined_with_tables (if first then tables ∷ [] else []) (filter_map refined_tables_in bodies)
 
 abbrev pub came_by : Bool → List Body → ℕ → Bool
 came_by first bodies v = list_any (installs_version v) bodies || (v == 1 && first)
 
 abbrev pub tables_by : Tables → Bool → List Body → List Tables
 tables_by tables first bodies = filter (λ tables. came_by first bodies tables.version
-    && not (list_any (collects_version tables.version) bodies)) (all_by tables first bodies)
+    && not (list_any (journal_collects_version tables.version) bodies)) (all_by tables first bodies)
 
 -- the adverts of others
 abbrev pub others_by : Setting → ℕ → Bool → List Body → List (Option Advert)
 others_by setting s first bodies = after_hearing_all (if first
     then first_adverts (map (links_of setting.net.links) (switches_of setting))
-    (length setting.net.switches) else no_adverts) (filter_map (other_advert s) bodies)
+    (length setting.net.switches) else no_adverts) (filter_map (journal_other_advert s) bodies)
 
 -- ---- the record
 
@@ -76,13 +76,13 @@ filled s w stamp collected tables others = record {
   collected = collected;
   tables = tables;
   cache = w.cache;
-  database = slice_set others s (own_if_sent (told_by_facts s w));
+  database = slice_set others s (journal_own_advert_sent (told_by_facts s w));
   seq = w.seq;
   handled = w.handled;
 }
 
 abbrev pub first_tables : Setting → ℕ → Tables
-first_tables setting s = tables_at setting [] 1 s
+first_tables setting s = journal_tables_at setting [] 1 s
 
 -- in the first boot or in a later one
 abbrev pub switch_in : Setting → ℕ → SwitchFacts → Bool → SwitchValue
@@ -94,44 +94,44 @@ switch_by setting s w = switch_in setting s w (w.up && w.boot == 1)
 
 -- the switch is what its facts say
 pub switch_is : (setting : Setting) (journal : List Item) (s : ℕ)
-    → switch_of setting journal s ≡ switch_by setting s (facts_of setting journal s)
-unfolding switch_of stamp_of holds_version adverts_known own_advert
+    → refined_switch_of setting journal s ≡ switch_by setting s (facts_of setting journal s)
+unfolding refined_switch_of journal_stamp_of holds_version journal_adverts_known own_advert
 switch_is setting journal s = rw (first_plan_stays setting journal) refl
 
 pub by_facts : (setting : Setting) (after : List Item) (s : ℕ) (w : SwitchFacts)
-    → facts_of setting after s ≡ w → switch_of setting after s ≡ switch_by setting s w
+    → facts_of setting after s ≡ w → refined_switch_of setting after s ≡ switch_by setting s w
 by_facts setting after s w is = cc (switch_is setting after s, is)
 
 -- ---- single parts
 
 pub boot_shown : (setting : Setting) (journal : List Item) (s : ℕ)
-    → boot_of journal s ≡ (switch_of setting journal s).boot
-unfolding switch_of
+    → journal_boot_of journal s ≡ (refined_switch_of setting journal s).boot
+unfolding refined_switch_of
 boot_shown setting journal s = refl
 
 pub number_shown : (setting : Setting) (journal : List Item) (s : ℕ)
-    → (switch_of setting journal s).number ≡ s
-unfolding switch_of
+    → (refined_switch_of setting journal s).number ≡ s
+unfolding refined_switch_of
 number_shown setting journal s = refl
 
 pub seq_shown : (setting : Setting) (journal : List Item) (s : ℕ)
-    → own_seq setting journal s ≡ (switch_of setting journal s).seq
-unfolding switch_of
+    → journal_own_seq setting journal s ≡ (refined_switch_of setting journal s).seq
+unfolding refined_switch_of
 seq_shown setting journal s = refl
 
 pub advert_of : (setting : Setting) (journal : List Item) (s : ℕ) → own_advert setting journal s
     ≡ record {
       origin = s;
-      boot = boot_of journal s;
-      seq = own_seq setting journal s;
+      boot = journal_boot_of journal s;
+      seq = journal_own_seq setting journal s;
       up = near setting journal s;
     }
 unfolding own_advert
 advert_of setting journal s = refl
 
 pub stamp_shown : (setting : Setting) (journal : List Item) (s : ℕ)
-    → (switch_of setting journal s).stamp ≡ stamp_of journal s
-unfolding switch_of
+    → (refined_switch_of setting journal s).stamp ≡ journal_stamp_of journal s
+unfolding refined_switch_of
 stamp_shown setting journal s = refl
 
 -- ---- the tables that a switch holds are those that came and are above its collect mark
@@ -154,12 +154,12 @@ le_max : (v k c : ℕ) → nat_le v (max k c) ≡ (nat_le v k || nat_le v c)
 le_max v k c = grind (arith, nat_tests)
 
 collected_from : (v k : ℕ) (bodies : List Body)
-    → (nat_le v k || list_any (collects_version v) bodies)
-    ≡ nat_le v (fold max k (filter_map collect_in bodies))
+    → (nat_le v k || list_any (journal_collects_version v) bodies)
+    ≡ nat_le v (fold max k (filter_map refined_collect_in bodies))
 collected_from v k [] = or-false (nat_le v k)
 collected_from v k (Collect boot c ∷ bodies) =
-    sym (or_assoc (nat_le v k) (nat_le v c) (list_any (collects_version v) bodies))
-    ∙ ap (λ b. b || list_any (collects_version v) bodies) (sym (le_max v k c))
+    sym (or_assoc (nat_le v k) (nat_le v c) (list_any (journal_collects_version v) bodies))
+    ∙ ap (λ b. b || list_any (journal_collects_version v) bodies) (sym (le_max v k c))
     ∙ collected_from v (max k c) bodies
 collected_from v k (_ ∷ bodies) = collected_from v k bodies
 
@@ -168,7 +168,7 @@ none_le v one = grind (arith, nat_tests)
 
 -- a version is collected exactly if it isn't above the mark
 collected_is : (v : ℕ) (bodies : List Body) → 1 ≤ v
-    → list_any (collects_version v) bodies ≡ nat_le v (collected_by bodies)
+    → list_any (journal_collects_version v) bodies ≡ nat_le v (collected_by bodies)
 collected_is v bodies one = cc (none_le v one, collected_from v 0 bodies)
 
 not_le : (v mark : ℕ) → not (nat_le v mark) ≡ nat_lt mark v
@@ -180,9 +180,9 @@ abbrev HasCome : Bool → List Body → Tables → Type 0
 HasCome first bodies tables = (came_by first bodies tables.version ≡ true) × (1 ≤ tables.version)
 
 pub with_each : (P : Tables → Type 0) (all more : List Tables) → AllByRecursion P all
-    → AllByRecursion P more → AllByRecursion P (fold with_tables all more)
+    → AllByRecursion P more → AllByRecursion P (fold refined_with_tables all more)
 with_each P all [] have brought = have
-with_each P all (tables ∷ more) have brought = with_each P (with_tables all tables) more
+with_each P all (tables ∷ more) have brought = with_each P (refined_with_tables all tables) more
     (by_test (list_any (λ other. other.version == tables.version) all)) brought.1
   where
     by_test : (b : Bool) → AllByRecursion P (if b then all else all ++ tables ∷ [])
@@ -192,7 +192,7 @@ with_each P all (tables ∷ more) have brought = with_each P (with_tables all ta
 -- of these bodies, all of which came
 brought_each : (first : Bool) (all bodies : List Body)
     → ((v : ℕ) → list_any (installs_version v) bodies ≡ true → list_any (installs_version v) all
-    ≡ true) → AreVersioned bodies → AllByRecursion (HasCome first all) (filter_map tables_in bodies)
+    ≡ true) → AreVersioned bodies → AllByRecursion (HasCome first all) (filter_map refined_tables_in bodies)
 brought_each first all [] among versioned = tt
 brought_each first all (Install boot tables ∷ bodies) among versioned =
     let v : ℕ = tables.version in (
@@ -211,7 +211,7 @@ brought_each first all (_ ∷ bodies) among versioned =
 all_came : (tables : Tables) (first : Bool) (bodies : List Body) → tables.version ≡ 1
     → AreVersioned bodies → AllByRecursion (HasCome first bodies) (all_by tables first bodies)
 all_came tables first bodies one versioned = with_each (HasCome first bodies)
-    (if first then tables ∷ [] else []) (filter_map tables_in bodies) (begun first refl)
+    (if first then tables ∷ [] else []) (filter_map refined_tables_in bodies) (begun first refl)
     (brought_each first bodies bodies (λ v there. there) versioned)
   where
     begun : (b : Bool) → first ≡ b
@@ -233,9 +233,9 @@ pub tables_are : (tables : Tables) (first : Bool) (bodies : List Body) → table
     → tables_by tables first bodies ≡ above (collected_by bodies) (all_by tables first bodies)
 tables_are tables first bodies one versioned = filter_same_on (HasCome first bodies)
     (λ tables. came_by first bodies tables.version
-    && not (list_any (collects_version tables.version) bodies))
+    && not (list_any (journal_collects_version tables.version) bodies))
     (λ tables. nat_lt (collected_by bodies) tables.version)
-    (λ each come. ap (λ b. b && not (list_any (collects_version each.version) bodies)) come.0
+    (λ each come. ap (λ b. b && not (list_any (journal_collects_version each.version) bodies)) come.0
     ∙ ap not (collected_is each.version bodies come.1) ∙ not_le each.version (collected_by bodies))
     (all_by tables first bodies) (all_came tables first bodies one versioned)
 

@@ -1,12 +1,12 @@
 -- What a body that a switch hears makes of its record.
 use Rattle.std.proofs.Common.{[], if◌then◌else◌, ◌&&◌, ◌++◌, ◌==◌, ◌||◌, ◌∙◌, ◌∷◌, ◌≡◌, ◌≢◌, Bool, List, None, Option, Some, ap, append-nil, arith, eq-eqb, false, filter_map, find, fold, get_or-set_other, is_some, max, nat_le, nat_lt, not, refl, set, sym, true, ℕ}
 use Rattle.base.proofs.Exports.{each_append, filter_map-append, fold-append, list_any, nat_tests, option_map_or, set_comm, ⊤}
-use Rattle.update_machine.specs.Exports.{Advert, Advertise, Body, CacheRule, Collect, Hello, Install, Installed, OpenAt, Setting, Stamp, Stamped, Tables, cache_after, cache_carried_from, other_advert, raised_from, stamp_in}
+use Rattle.update_machine.specs.Exports.{Advert, Advertise, Body, CacheRule, Collect, Hello, Install, Installed, OpenAt, Setting, Stamp, Stamped, Tables, machine_cache_after, machine_cache_carried_from, journal_other_advert, raised_from, journal_stamp_in_body}
 use Rattle.failover.specs.Exports.{adverts_after_hearing, held_advert, is_newer, is_news}
 use Rattle.failover.proofs.FailoverHeldAdverts.{after_no_news}
-use Rattle.switch_core.specs.Exports.{SwitchValue, switch_after_body, collected_to, is_news_here, stamp_raised_to, stamped_with, switch_with_heard, with_installed}
-use Rattle.switch_table.specs.Exports.{after_carry, cache_after_raise}
-use Rattle.refinement.specs.Exports.{collect_in, tables_in, with_tables}
+use Rattle.switch_core.specs.Exports.{SwitchValue, switch_after_body, switch_collected_to, is_news_here, switch_stamp_raised_to, switch_stamped_with, switch_with_heard, with_installed}
+use Rattle.switch_table.specs.Exports.{cache_after_carry, cache_after_raise}
+use Rattle.refinement.specs.Exports.{refined_collect_in, refined_tables_in, refined_with_tables}
 use Rattle.refinement.proofs.RefinedSwitchFacts.{AreVersioned, IsVersioned, SwitchFacts, above, above_more, above_twice, all_by, collected_by, filled, first_tables, found_above, others_by, stamp_by, switch_in, tables_are}
 use Rattle.ternary.specs.Exports.{WordValue}
 
@@ -28,12 +28,12 @@ fold_one {X = X} {Y = Y} gives f start bodies body =
     by_given (Some x) is = rw is refl
 
 stamp_one : (first : Bool) (bodies : List Body) (body : Body) → stamp_by first (bodies ++ body ∷ [])
-    ≡ option_map_or (max (stamp_by first bodies)) (stamp_in body) (stamp_by first bodies)
+    ≡ option_map_or (max (stamp_by first bodies)) (journal_stamp_in_body body) (stamp_by first bodies)
 stamp_one first bodies body = let begun : List ℕ = if first then 1 ∷ [] else [] in
-    fold-append max 0 begun (filter_map stamp_in (bodies ++ body ∷ []))
-    ∙ fold_one stamp_in max (fold max 0 begun) bodies body
-    ∙ ap (λ stamp. option_map_or (max stamp) (stamp_in body) stamp)
-    (sym (fold-append max 0 begun (filter_map stamp_in bodies)))
+    fold-append max 0 begun (filter_map journal_stamp_in_body (bodies ++ body ∷ []))
+    ∙ fold_one journal_stamp_in_body max (fold max 0 begun) bodies body
+    ∙ ap (λ stamp. option_map_or (max stamp) (journal_stamp_in_body body) stamp)
+    (sym (fold-append max 0 begun (filter_map journal_stamp_in_body bodies)))
 
 -- ---- the record
 
@@ -41,11 +41,11 @@ stamp_one first bodies body = let begun : List ℕ = if first then 1 ∷ [] else
 abbrev heard_as : (ℕ → List WordValue) → ℕ → ℕ → SwitchFacts → Body → ℕ → ℕ → List Tables
     → List (Option Advert) → SwitchValue
 heard_as touched_of s number w body stamp collected all others =
-    let after = option_map_or (max stamp) (stamp_in body) stamp in
-    let mark = option_map_or (max collected) (collect_in body) collected in
-    filled s (record w { cache = cache_after touched_of stamp after number w.cache body }) after mark
-    (above mark (option_map_or (with_tables all) (tables_in body) all))
-    (option_map_or (adverts_after_hearing others) (other_advert s body) others)
+    let after = option_map_or (max stamp) (journal_stamp_in_body body) stamp in
+    let mark = option_map_or (max collected) (refined_collect_in body) collected in
+    filled s (record w { cache = machine_cache_after touched_of stamp after number w.cache body }) after mark
+    (above mark (option_map_or (refined_with_tables all) (refined_tables_in body) all))
+    (option_map_or (adverts_after_hearing others) (journal_other_advert s body) others)
 
 -- the switch before
 abbrev was : ℕ → SwitchFacts → ℕ → ℕ → List Tables → List (Option Advert) → SwitchValue
@@ -53,7 +53,7 @@ was s w stamp collected all others = filled s w stamp collected (above collected
 
 hears_tables : (s : ℕ) (w : SwitchFacts) (stamp collected boot : ℕ) (all : List Tables)
     (others : List (Option Advert)) (tables : Tables)
-    → filled s w stamp collected (above collected (with_tables all tables)) others
+    → filled s w stamp collected (above collected (refined_with_tables all tables)) others
     ≡ with_installed (was s w stamp collected all others) tables
 unfolding with_installed
 hears_tables s w stamp collected boot all others tables =
@@ -103,7 +103,7 @@ hears_tables s w stamp collected boot all others tables =
     same false is = cc (found_above collected tables.version (over_mark false is) all)
 
     by_mark : (past : Bool) → nat_le tables.version collected ≡ past
-        → filled s w stamp collected (above collected (with_tables all tables)) others
+        → filled s w stamp collected (above collected (refined_with_tables all tables)) others
         ≡ (if held || nat_le tables.version collected then filled s w stamp collected old others
         else filled s w stamp collected (old ++ tables ∷ []) others)
     by_mark past is = rw is (by_came past (over_mark past is) came ∙ same past is
@@ -123,8 +123,8 @@ hears_stamp : (s : ℕ) (w : SwitchFacts) (stamp collected version : ℕ) (table
     (others : List (Option Advert)) → filled s (record w {
       cache = raised_from stamp (max stamp version) w.cache;
     }) (max stamp version) collected tables others
-    ≡ stamp_raised_to (filled s w stamp collected tables others) version
-unfolding stamp_raised_to
+    ≡ switch_stamp_raised_to (filled s w stamp collected tables others) version
+unfolding switch_stamp_raised_to
 hears_stamp s w stamp collected version tables others = cc (rises, at_greater by stamp version)
   where
     by : ℕ → Bool → SwitchValue
@@ -138,13 +138,13 @@ hears_stamp s w stamp collected version tables others = cc (rises, at_greater by
 -- .. or carries it, past what is touched
 hears_told : (s : ℕ) (w : SwitchFacts) (stamp collected version : ℕ) (touched : List WordValue)
     (tables : List Tables) (others : List (Option Advert)) → filled s (record w {
-      cache = cache_carried_from touched stamp version w.cache;
+      cache = machine_cache_carried_from touched stamp version w.cache;
     }) (max stamp version) collected tables others
-    ≡ stamped_with (filled s w stamp collected tables others) version touched
-unfolding stamped_with
+    ≡ switch_stamped_with (filled s w stamp collected tables others) version touched
+unfolding switch_stamped_with
 hears_told s w stamp collected version touched tables others =
     at_greater (λ after rises. filled s (record w {
-      cache = if rises then after_carry version touched w.cache else w.cache;
+      cache = if rises then cache_after_carry version touched w.cache else w.cache;
     }) after collected tables others) stamp version
 
 -- an advert of another switch is heard beside the own one
@@ -163,7 +163,7 @@ hears_beside others own s advert other =
 
 hears_advert : (s : ℕ) (w : SwitchFacts) (stamp collected : ℕ) (tables : List Tables)
     (others : List (Option Advert)) (advert : Advert) → filled s w stamp collected tables
-    (option_map_or (adverts_after_hearing others) (other_advert s (Advertise advert)) others)
+    (option_map_or (adverts_after_hearing others) (journal_other_advert s (Advertise advert)) others)
     ≡ switch_with_heard (filled s w stamp collected tables others) advert
 unfolding switch_with_heard is_news_here
 hears_advert s w stamp collected tables others advert = by_origin (advert.origin == s) refl where
@@ -198,7 +198,7 @@ hears : (touched_of : ℕ → List WordValue) (s number : ℕ) (w : SwitchFacts)
     (stamp collected : ℕ) (all : List Tables) (others : List (Option Advert))
     → SaysTouched touched_of body → heard_as touched_of s number w body stamp collected all others
     ≡ record (switch_after_body (was s w stamp collected all others) number body) { is_open = w.serving }
-unfolding collected_to
+unfolding switch_collected_to
 hears touched_of s number w (Install boot tables) stamp collected all others says =
     ap (λ (switch : SwitchValue). record switch { is_open = w.serving })
     (hears_tables s w stamp collected boot all others tables)
@@ -208,7 +208,7 @@ hears touched_of s number w (OpenAt boot version) stamp collected all others say
 hears touched_of s number w (Stamp boot version touched) stamp collected all others says =
     ap (λ (switch : SwitchValue). record switch { is_open = w.serving })
     (hears_told s w stamp collected version (touched_of version) (above collected all) others
-    ∙ ap (stamped_with (was s w stamp collected all others) version) (sym says))
+    ∙ ap (switch_stamped_with (was s w stamp collected all others) version) (sym says))
 hears touched_of s number w (Collect boot version) stamp collected all others says =
     ap (λ tables. filled s w stamp (max collected version) tables others)
     (sym (above_twice collected version all))
@@ -226,7 +226,7 @@ hears touched_of s number w (Stamped switch boot version) stamp collected all ot
 abbrev pub heard_facts : (ℕ → List WordValue) → ℕ → Body → Bool → SwitchFacts → SwitchFacts
 heard_facts touched_of number body first w = record w {
   bodies = w.bodies ++ body ∷ [];
-  cache = cache_after touched_of (stamp_by first w.bodies)
+  cache = machine_cache_after touched_of (stamp_by first w.bodies)
       (stamp_by first (w.bodies ++ body ∷ [])) number w.cache body;
 }
 
@@ -242,11 +242,11 @@ hears_facts setting touched_of s number w first body olds new says =
     ∙ ap (λ stamp. now stamp (collected_by more) (all_by tables first more)
     (others_by setting s first more)) (stamp_one first w.bodies body)
     ∙ ap (λ mark. now after mark (all_by tables first more) (others_by setting s first more))
-    (fold_one collect_in max 0 w.bodies body)
+    (fold_one refined_collect_in max 0 w.bodies body)
     ∙ ap (λ all. now after mark_after all (others_by setting s first more))
-    (fold_one tables_in with_tables (if first then tables ∷ [] else []) w.bodies body)
-    ∙ ap (now after mark_after (option_map_or (with_tables all) (tables_in body) all))
-    (fold_one (other_advert s) adverts_after_hearing (others_by setting s first []) w.bodies body)
+    (fold_one refined_tables_in refined_with_tables (if first then tables ∷ [] else []) w.bodies body)
+    ∙ ap (now after mark_after (option_map_or (refined_with_tables all) (refined_tables_in body) all))
+    (fold_one (journal_other_advert s) adverts_after_hearing (others_by setting s first []) w.bodies body)
     ∙ hears touched_of s number w body stamp collected all others says
     ∙ ap (λ these. record (switch_after_body (filled s w stamp collected these others) number body) {
       is_open = w.serving;
@@ -271,12 +271,12 @@ hears_facts setting touched_of s number w first body olds new says =
     others = others_by setting s first w.bodies
 
     after : ℕ
-    after = option_map_or (max stamp) (stamp_in body) stamp
+    after = option_map_or (max stamp) (journal_stamp_in_body body) stamp
 
     mark_after : ℕ
-    mark_after = option_map_or (max collected) (collect_in body) collected
+    mark_after = option_map_or (max collected) (refined_collect_in body) collected
 
     now : ℕ → ℕ → List Tables → List (Option Advert) → SwitchValue
     now after mark all others =
-        filled s (record w { cache = cache_after touched_of stamp after number w.cache body })
+        filled s (record w { cache = machine_cache_after touched_of stamp after number w.cache body })
         after mark (above mark all) others

@@ -1,16 +1,16 @@
 -- What a switch has and knows is what the journal says.
 use Rattle.std.proofs.Common.{[], ◌&&◌, ◌++◌, ◌-◌, ◌<◌, ◌==◌, ◌^◌, ◌||◌, ◌∙◌, ◌∷◌, ◌≡◌, ◌≤◌, All, Bool, IfSome, IsSomeAnd, IsTrue, List, None, Option, Some, ap, arith, eq-eqb, eqb-true, false, filter, filter_map, find, fold, get_or, if◌then◌else◌, is_some, length, map, not, refl, slice_get, subst, sym, true, unwrap_or, ℕ}
 use Rattle.base.proofs.Exports.{All-contains, All-from_recursion, AllByRecursion, and_parts, any_passes_from_place, each_kept, find-there, get_or-map, length-map, list_any, list_any-append, nat_tests, or-false, or_assoc, or_comm, recursion_from_All, slice_get-get_or}
-use Rattle.update_machine.specs.Exports.{Body, Exit, Header, Install, Item, Leg, Partition, Row, Seek, Setting, Tables, boot_of, collects_version, heard, holds_version as holds_in, installs_version, is_cut_off, is_up, lookup_at, message_of, plan_at, policy_at, route_from, serves as serves_in, stamp_of, tables_at, to_switch, version_count}
+use Rattle.update_machine.specs.Exports.{Body, Exit, Header, Install, Item, Leg, Partition, Row, Seek, Setting, Tables, journal_boot_of, journal_collects_version, heard, holds_version as holds_in, installs_version, is_cut_off_in_journal, is_up, lookup_at, message_of, journal_plan_at, policy_at, journal_route_from, serves as serves_in, journal_stamp_of, journal_tables_at, machine_message_to_switch, journal_version_count}
 use Rattle.partition.specs.Plan.{IsPartitionPlan}
-use Rattle.switch_core.specs.Exports.{CanLookUp, IsAtAuthority, IsSoundBody, SwitchValue, held_tables, holds_version, no_tables, own_part, serves}
-use Rattle.switch_table.specs.Exports.{AreSoundTables, Hosted, has_target, lookup_of, part_of, tables_of}
+use Rattle.switch_core.specs.Exports.{CanSwitchLookUp, IsAtAuthoritySwitch, IsBodySoundForSwitch, SwitchValue, held_tables, holds_version, no_switch_tables, own_part, serves}
+use Rattle.switch_table.specs.Exports.{AreSoundSwitchTables, Hosted, has_target, lookup_of, part_of, tables_of}
 use Rattle.switch_table.proofs.SwitchTableLemmas.{tables_are_sound}
 use Rattle.update_machine.proofs.Exports.{begins_planned, first_plan_stays, version_is_planned}
-use Rattle.control_laws.specs.Exports.{BringsPlannedTables, LegEndsAt, ServingHoldVersions}
-use Rattle.refinement.specs.Exports.{KnowledgeRefines, RequirementsHold, TablesAreKnown, switch_of, tables_in, with_tables}
+use Rattle.control_laws.specs.Exports.{MessageBringsPlannedTables, LegEndsAt, ServingHoldVersions}
+use Rattle.refinement.specs.Exports.{KnowledgeRefines, RefinementRequirementsHold, RefinementTablesAreKnown, refined_switch_of, refined_tables_in, refined_with_tables}
 use Rattle.refinement.proofs.RefinedSwitchFacts.{all_by, came_by, first_tables, stamp_shown, switch_is, with_each}
-use Rattle.policy_rules.specs.Exports.{ArePartsNumbered, is_in}
+use Rattle.policy_rules.specs.Exports.{ArePartsNumbered, is_in_policy_partition}
 use Rattle.switch_core.proofs.SwitchLaws.{heard_keeps}
 
 -- ---- which versions it has
@@ -20,7 +20,7 @@ of_version v tables = tables.version == v
 
 -- one more, where there is none of its version
 with_one : (v : ℕ) (all : List Tables) (tables : Tables) → list_any (of_version v)
-    (with_tables all tables) ≡ (list_any (of_version v) all || (tables.version == v))
+    (refined_with_tables all tables) ≡ (list_any (of_version v) all || (tables.version == v))
 with_one v all tables =
     by_there (list_any (of_version tables.version) all) refl (tables.version == v) refl
   where
@@ -34,10 +34,10 @@ with_one v all tables =
         cc (list_any-append (of_version v) all (tables ∷ []), or-false (tables.version == v), e)
 
 came_as : (v : ℕ) (all : List Tables) (bodies : List Body)
-    → list_any (of_version v) (fold with_tables all (filter_map tables_in bodies))
+    → list_any (of_version v) (fold refined_with_tables all (filter_map refined_tables_in bodies))
     ≡ (list_any (of_version v) all || list_any (installs_version v) bodies)
 came_as v all [] = sym (or-false (list_any (of_version v) all))
-came_as v all (Install boot tables ∷ bodies) = came_as v (with_tables all tables) bodies
+came_as v all (Install boot tables ∷ bodies) = came_as v (refined_with_tables all tables) bodies
     ∙ ap (λ b. b || list_any (installs_version v) bodies) (with_one v all tables)
     ∙ or_assoc (list_any (of_version v) all) (tables.version == v)
     (list_any (installs_version v) bodies)
@@ -90,32 +90,32 @@ twice true b = refl
 twice false b = refl
 
 holds_facts : (journal : List Item) (s v : ℕ) → holds_in journal s v
-    ≡ (came_by (is_up journal s && boot_of journal s == 1) (heard journal s) v
-    && not (list_any (collects_version v) (heard journal s)))
+    ≡ (came_by (is_up journal s && journal_boot_of journal s == 1) (heard journal s) v
+    && not (list_any (journal_collects_version v) (heard journal s)))
 unfolding holds_in
 holds_facts journal s v = refl
 
 pub held_shown : (setting : Setting) (journal : List Item) (s v : ℕ)
-    → holds_version (switch_of setting journal s) v ≡ holds_in journal s v
+    → holds_version (refined_switch_of setting journal s) v ≡ holds_in journal s v
 held_shown setting journal s v =
-    let first : Bool = is_up journal s && boot_of journal s == 1 in
+    let first : Bool = is_up journal s && journal_boot_of journal s == 1 in
     let bodies : List Body = heard journal s in
     let kept : ℕ → Bool = λ u. came_by first bodies u
-    && not (list_any (collects_version u) bodies) in
+    && not (list_any (journal_collects_version u) bodies) in
     ap (λ (switch : SwitchValue). holds_version switch v) (switch_is setting journal s)
     ∙ found_in kept v (all_by (first_tables setting s) first bodies)
     ∙ ap (λ b. b && kept v) (all_came (first_tables setting s) first bodies v refl)
-    ∙ twice (came_by first bodies v) (not (list_any (collects_version v) bodies))
+    ∙ twice (came_by first bodies v) (not (list_any (journal_collects_version v) bodies))
     ∙ sym (holds_facts journal s v)
 
 -- ---- plans
 
 pub record IsOfPlan (setting : Setting) (journal : List Item) (version : ℕ) : Type 0 where
   pub rows : List Row
-  pub plan : IsPartitionPlan rows setting.net (plan_at setting journal version)
+  pub plan : IsPartitionPlan rows setting.net (journal_plan_at setting journal version)
 
 pub planned : (setting : Setting) (journal : List Item) (version : ℕ)
-    → TablesAreKnown setting journal → 1 ≤ version → version ≤ version_count journal
+    → RefinementTablesAreKnown setting journal → 1 ≤ version → version ≤ journal_version_count journal
     → IsOfPlan setting journal version
 planned setting journal version known first last = record {
   rows = policy_at setting journal version;
@@ -124,11 +124,11 @@ planned setting journal version known first last = record {
 }
 
 pub tables_sound : (setting : Setting) (journal : List Item) (version s : ℕ)
-    → TablesAreKnown setting journal → 1 ≤ version → version ≤ version_count journal
-    → AreSoundTables (tables_at setting journal version s)
+    → RefinementTablesAreKnown setting journal → 1 ≤ version → version ≤ journal_version_count journal
+    → AreSoundSwitchTables (journal_tables_at setting journal version s)
 tables_sound setting journal version s known first last =
     let of = planned setting journal version known first last in
-    let plan : List Hosted = plan_at setting journal version in
+    let plan : List Hosted = journal_plan_at setting journal version in
     let few : length plan < 2 ^ 32 = omega (arith, of.plan.few) in
     let few_rules : All (λ hosted. length hosted.0.rules < 2 ^ 32) plan =
     λ k d within. omega (arith, of.plan.leaves k d within, known.sound.net.leaf_rules) in
@@ -139,12 +139,12 @@ tables_sound setting journal version s known first last =
 -- tables as they are planned for the switch
 record IsPlanned (setting : Setting) (journal : List Item) (s : ℕ) (tables : Tables) : Type 0 where
   first : 1 ≤ tables.version
-  last : tables.version ≤ version_count journal
-  planned : tables ≡ tables_at setting journal tables.version s
+  last : tables.version ≤ journal_version_count journal
+  planned : tables ≡ journal_tables_at setting journal tables.version s
 
 brought : (setting : Setting) (journal : List Item) (s : ℕ) (bodies : List Body)
-    → AllByRecursion (BringsPlannedTables setting journal s) bodies
-    → AllByRecursion (IsPlanned setting journal s) (filter_map tables_in bodies)
+    → AllByRecursion (MessageBringsPlannedTables setting journal s) bodies
+    → AllByRecursion (IsPlanned setting journal s) (filter_map refined_tables_in bodies)
 brought setting journal s [] all = tt
 brought setting journal s (Install boot tables ∷ bodies) all = (
   record { first = all.0.first; last = all.0.last; planned = all.0.planned },
@@ -154,25 +154,25 @@ brought setting journal s (_ ∷ bodies) all = brought setting journal s bodies 
 
 first_planned : (setting : Setting) (journal : List Item) (s : ℕ)
     → IsPlanned setting journal s (first_tables setting s)
-unfolding version_count
+unfolding journal_version_count
 first_planned setting journal s = record {
   first = omega arith;
   last = omega arith;
   planned = sym (ap (λ plan. tables_of plan 1 s) (first_plan_stays setting journal));
 }
 
-all_planned : (setting : Setting) (journal : List Item) (s : ℕ) → TablesAreKnown setting journal
-    → All (IsPlanned setting journal s) (switch_of setting journal s).tables
+all_planned : (setting : Setting) (journal : List Item) (s : ℕ) → RefinementTablesAreKnown setting journal
+    → All (IsPlanned setting journal s) (refined_switch_of setting journal s).tables
 all_planned setting journal s known =
     let bodies : List Body = heard journal s in
-    let first : Bool = is_up journal s && boot_of journal s == 1 in
+    let first : Bool = is_up journal s && journal_boot_of journal s == 1 in
     let P : Tables → Type 0 = IsPlanned setting journal s in
     subst (All P) (sym (ap (λ (switch : SwitchValue). switch.tables) (switch_is setting journal s)))
     (All-from_recursion P _ (each_kept P (λ tables. came_by first bodies tables.version
-    && not (list_any (collects_version tables.version) bodies)) (all_by (first_tables setting s)
+    && not (list_any (journal_collects_version tables.version) bodies)) (all_by (first_tables setting s)
     first bodies) (with_each P (if first then first_tables setting s ∷ [] else [])
-    (filter_map tables_in bodies) (begun first) (brought setting journal s bodies
-    (recursion_from_All (BringsPlannedTables setting journal s) bodies (known.tables.heard s))))))
+    (filter_map refined_tables_in bodies) (begun first) (brought setting journal s bodies
+    (recursion_from_All (MessageBringsPlannedTables setting journal s) bodies (known.tables.heard s))))))
   where
     begun : (b : Bool) → AllByRecursion (IsPlanned setting journal s)
         (if b then first_tables setting s ∷ [] else [])
@@ -181,30 +181,30 @@ all_planned setting journal s known =
 
 -- of a version that it has they are those of the plan
 pub planned_tables : (setting : Setting) (journal : List Item) (s version : ℕ) (tables : Tables)
-    → TablesAreKnown setting journal
-    → held_tables (switch_of setting journal s) version ≡ Some tables
-    → (tables ≡ tables_at setting journal version s) × (1 ≤ version)
-    × (version ≤ version_count journal)
+    → RefinementTablesAreKnown setting journal
+    → held_tables (refined_switch_of setting journal s) version ≡ Some tables
+    → (tables ≡ journal_tables_at setting journal version s) × (1 ≤ version)
+    × (version ≤ journal_version_count journal)
 planned_tables setting journal s version tables known is =
     let there = find-there (λ (tables : Tables). tables.version == version)
-    (switch_of setting journal s).tables tables is in
-    let are = All-contains (IsPlanned setting journal s) (switch_of setting journal s).tables tables
+    (refined_switch_of setting journal s).tables tables is in
+    let are = All-contains (IsPlanned setting journal s) (refined_switch_of setting journal s).tables tables
     (all_planned setting journal s known) there.0 in
     let v_is : tables.version ≡ version = eqb-true tables.version version there.1 in (
-      are.planned ∙ ap (λ v. tables_at setting journal v s) v_is,
+      are.planned ∙ ap (λ v. journal_tables_at setting journal v s) v_is,
       subst (λ v. 1 ≤ v) v_is are.first,
-      subst (λ v. v ≤ version_count journal) v_is are.last,
+      subst (λ v. v ≤ journal_version_count journal) v_is are.last,
     )
 
-held_are : (setting : Setting) (journal : List Item) (s v : ℕ) → TablesAreKnown setting journal
-    → held_tables (switch_of setting journal s) v
-    ≡ (if holds_in journal s v then Some (tables_at setting journal v s) else None)
+held_are : (setting : Setting) (journal : List Item) (s v : ℕ) → RefinementTablesAreKnown setting journal
+    → held_tables (refined_switch_of setting journal s) v
+    ≡ (if holds_in journal s v then Some (journal_tables_at setting journal v s) else None)
 held_are setting journal s v known =
-    by_held (held_tables (switch_of setting journal s) v) refl (held_shown setting journal s v)
+    by_held (held_tables (refined_switch_of setting journal s) v) refl (held_shown setting journal s v)
   where
-    by_held : (o : Option Tables) → held_tables (switch_of setting journal s) v ≡ o
-        → is_some (held_tables (switch_of setting journal s) v) ≡ holds_in journal s v
-        → o ≡ (if holds_in journal s v then Some (tables_at setting journal v s) else None)
+    by_held : (o : Option Tables) → held_tables (refined_switch_of setting journal s) v ≡ o
+        → is_some (held_tables (refined_switch_of setting journal s) v) ≡ holds_in journal s v
+        → o ≡ (if holds_in journal s v then Some (journal_tables_at setting journal v s) else None)
     by_held None is holds = rw (sym holds ∙ ap (λ o. is_some o) is) refl
     by_held (Some tables) is holds =
         let some : holds_in journal s v ≡ true = sym holds ∙ ap (λ o. is_some o) is in
@@ -213,17 +213,17 @@ held_are setting journal s v known =
 -- ---- what it knows
 
 pub knowledge_refines : KnowledgeRefines
-unfolding switch_of lookup_at route_from is_cut_off
+unfolding refined_switch_of lookup_at journal_route_from is_cut_off_in_journal
 knowledge_refines = record {
   held = held_shown;
   tables = held_are;
   lookup = λ setting journal s header known holds.
-      let switch : SwitchValue = switch_of setting journal s in
+      let switch : SwitchValue = refined_switch_of setting journal s in
       ap (λ tables. lookup_of switch.cache.entries tables header)
-      (ap (λ v. unwrap_or (held_tables switch v) no_tables) (stamp_shown setting journal s)
-      ∙ ap (λ o. unwrap_or o no_tables) (held_are setting journal s (stamp_of journal s) known)
-      ∙ ap (λ b. unwrap_or (if b then Some (tables_at setting journal (stamp_of journal s) s)
-      else None) no_tables) holds);
+      (ap (λ v. unwrap_or (held_tables switch v) no_switch_tables) (stamp_shown setting journal s)
+      ∙ ap (λ o. unwrap_or o no_switch_tables) (held_are setting journal s (journal_stamp_of journal s) known)
+      ∙ ap (λ b. unwrap_or (if b then Some (journal_tables_at setting journal (journal_stamp_of journal s) s)
+      else None) no_switch_tables) holds);
   route = λ setting journal s targets down. refl;
   cut_off = λ setting journal s target down. refl;
 }
@@ -234,29 +234,29 @@ knowledge_refines = record {
 -- ---- tables
 
 sound_body : (setting : Setting) (journal : List Item) (n s : ℕ) (body : Body)
-    → TablesAreKnown setting journal → message_of journal n ≡ Some (to_switch s body)
-    → IsSoundBody body
+    → RefinementTablesAreKnown setting journal → message_of journal n ≡ Some (machine_message_to_switch s body)
+    → IsBodySoundForSwitch body
 sound_body setting journal n s (Install boot tables) known sent =
     let are = known.tables.sent s boot n tables sent in
-    subst AreSoundTables (sym are.planned)
+    subst AreSoundSwitchTables (sym are.planned)
     (tables_sound setting journal tables.version s known are.first are.last)
 sound_body setting journal n s _ known sent = tt
 
 -- ---- lookups
 
 pub open_shown : (setting : Setting) (journal : List Item) (s : ℕ)
-    → serves (switch_of setting journal s) ≡ (is_up journal s && serves_in journal s)
-unfolding switch_of
+    → serves (refined_switch_of setting journal s) ≡ (is_up journal s && serves_in journal s)
+unfolding refined_switch_of
 open_shown setting journal s = refl
 
 pub looks_up : (setting : Setting) (journal : List Item) (s : ℕ) → ServingHoldVersions setting journal
-    → s < length setting.net.switches → CanLookUp (switch_of setting journal s)
+    → s < length setting.net.switches → CanSwitchLookUp (refined_switch_of setting journal s)
 looks_up setting journal s hold there serving =
     let opened : IsTrue (serves_in journal s) =
     (and_parts _ _ (sym (open_shown setting journal s) ∙ serving)).1 in
-    subst (λ stamp. IsTrue (holds_version (switch_of setting journal s) stamp))
+    subst (λ stamp. IsTrue (holds_version (refined_switch_of setting journal s) stamp))
     (sym (stamp_shown setting journal s))
-    (held_shown setting journal s (stamp_of journal s) ∙ (hold s there opened).stamp)
+    (held_shown setting journal s (journal_stamp_of journal s) ∙ (hold s there opened).stamp)
 
 -- ---- at an authority
 
@@ -314,39 +314,39 @@ own_has P plan s version partition hosted numbers there number target holds = ow
     partition hosted there (rw (eq-eqb hosted.0.number partition number) target))
 
 at_leg : (setting : Setting) (journal : List Item) (s : ℕ) (header : Header) (leg : Leg)
-    → TablesAreKnown setting journal → LegEndsAt setting journal s header leg
-    → IsAtAuthority (switch_of setting journal s) header leg
+    → RefinementTablesAreKnown setting journal → LegEndsAt setting journal s header leg
+    → IsAtAuthoritySwitch (refined_switch_of setting journal s) header leg
 at_leg setting journal s header (Exit port) known ends = tt
 at_leg setting journal s header (Seek version partition) known sought =
-    by_held (held_tables (switch_of setting journal s) version) refl
+    by_held (held_tables (refined_switch_of setting journal s) version) refl
   where
     plan : List Hosted
-    plan = plan_at setting journal version
+    plan = journal_plan_at setting journal version
 
     own : (rows : List Row) → IsPartitionPlan rows setting.net plan
         → IsSomeAnd (own_part (tables_of plan version s) partition)
-        (λ part. IsTrue (is_in header part))
-    own rows holds = own_has (λ part. IsTrue (is_in header part)) plan s version partition
+        (λ part. IsTrue (is_in_policy_partition header part))
+    own rows holds = own_has (λ part. IsTrue (is_in_policy_partition header part)) plan s version partition
         sought.hosted holds.sound.numbers sought.found sought.number sought.target sought.holds
 
-    by_held : (o : Option Tables) → held_tables (switch_of setting journal s) version ≡ o → IfSome o
-        (λ tables. IsSomeAnd (own_part tables partition) (λ part. IsTrue (is_in header part)))
+    by_held : (o : Option Tables) → held_tables (refined_switch_of setting journal s) version ≡ o → IfSome o
+        (λ tables. IsSomeAnd (own_part tables partition) (λ part. IsTrue (is_in_policy_partition header part)))
     by_held None none = tt
     by_held (Some tables) is =
         let are = planned_tables setting journal s version tables known is in
         let of = planned setting journal version known are.1 are.2 in
         subst (λ (t : Tables). IsSomeAnd (own_part t partition)
-        (λ part. IsTrue (is_in header part)))
+        (λ part. IsTrue (is_in_policy_partition header part)))
         (sym are.0) (own of.rows of.plan)
 
-pub requirements_hold : RequirementsHold
-unfolding switch_of
+pub requirements_hold : RefinementRequirementsHold
+unfolding refined_switch_of
 requirements_hold = record {
   hear = sound_body;
   near_changed = λ setting journal s fit there. record {
     now = fit.seqs s there;
     then = λ n body. subst (λ k. k < 2 ^ 32 - 1)
-        (sym (ap (λ (s : SwitchValue). s.seq) (heard_keeps (switch_of setting journal s) n body).rest))
+        (sym (ap (λ (s : SwitchValue). s.seq) (heard_keeps (refined_switch_of setting journal s) n body).rest))
         (fit.seqs s there);
   };
   restart = λ setting journal s fit down. record { down = down; boot = fit.boots s };

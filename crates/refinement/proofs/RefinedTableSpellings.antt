@@ -1,29 +1,29 @@
 -- How long the spelling of small tables is.
 use Rattle.std.proofs.Common.{[], ◌++◌, ◌<◌, ◌^◌, ◌∙◌, ◌≡◌, ◌≤◌, All, List, Some, ap, arith, filter, flat_map, get_or, length, length-append, map, not, refl, subst, sym, ℕ}
 use Rattle.base.proofs.Exports.{All-filter, All-map, each_short, get_or-map, length-filter_both, length-map}
-use Rattle.update_machine.specs.Exports.{Advertise, Body, Hello, Install, Installed, IsReached, IsSetting, Item, Net, PartRow, Partition, Place, Row, Rule, Setting, Stamp, Stamped, Tables, message_of, plan_at, to_switch}
-use Rattle.wire.specs.Exports.{AreWireShort, AreSwitches, action, install_form, message, n1, n4, partition, region, rule, rule_name, spelled_number, switch, tables, target_count, targets, word}
+use Rattle.update_machine.specs.Exports.{Advertise, Body, Hello, Install, Installed, IsJournalReached, IsSetting, Item, Net, PartRow, Partition, Place, Row, Rule, Setting, Stamp, Stamped, Tables, message_of, journal_plan_at, machine_message_to_switch}
+use Rattle.wire.specs.Exports.{AreWireShort, AreSwitches, action, install_form, message, n1, n4, partition, region, rule, rule_name, wire_spelled_number, switch, tables, wire_target_count, targets, word}
 use Rattle.wire.proofs.WireFrameBytes.{length_n4}
 use Rattle.message_bag.proofs.BagSpellingLengths.{action_len, alone_short, length_message, rule_len, stamp_sent_short, word_len}
 use Rattle.net_file.specs.Exports.{IsNet}
 use Rattle.partition.specs.Plan.{Hosted, IsPartitionPlan}
 use Rattle.switch_table.specs.Exports.{has_target, part_of, row_of, tables_of}
-use Rattle.message_bag.specs.Exports.{HasShortSpelling}
-use Rattle.control_laws.specs.Exports.{AdvertsAreOfSwitches, BodiesNameThere, IsMessageAddressed, StampsSayTouched, TablesArePlanned, VersionsArePlanned, stamp_message_to}
+use Rattle.message_bag.specs.Exports.{HasShortBagSpelling}
+use Rattle.control_laws.specs.Exports.{AdvertsAreOfSwitches, ControlBodiesNameThere, IsControlMessageAddressed, StampsSayTouched, TablesArePlanned, ControlVersionsArePlanned, stamp_message_to}
 use Rattle.control_laws.proofs.Exports.{always, behind_both, bodies_named, of_switches, stamps_touched, tables_planned, versions_planned}
 use Rattle.update_machine.proofs.Exports.{begins_planned, touched_few}
 use Rattle.packet_laws.proofs.Exports.{version_planned}
-use Rattle.refinement.specs.Exports.{AreMessagesSpelled}
+use Rattle.refinement.specs.Exports.{AreRefinedMessagesSpelled}
 use Rattle.ternary.specs.Exports.{WordValue}
 
 -- ---- regions
 
 switch_len : (s : ℕ) → length (switch.spell s) ≡ 1
-unfolding switch n1 spelled_number
+unfolding switch n1 wire_spelled_number
 switch_len s = refl
 
-count_len : (n : ℕ) → length (target_count.spell n) ≡ 1
-unfolding target_count n1 spelled_number
+count_len : (n : ℕ) → length (wire_target_count.spell n) ≡ 1
+unfolding wire_target_count n1 wire_spelled_number
 count_len n = refl
 
 region_len : (row : PartRow) → length row.targets ≤ 4 → length (region.spell row) ≤ 37
@@ -37,8 +37,8 @@ region_len row few =
       word_len row.region,
       count_len (length row.targets),
       length-append (word.spell row.region)
-          (target_count.spell (length row.targets) ++ flat_map switch.spell row.targets),
-      length-append (target_count.spell (length row.targets)) (flat_map switch.spell row.targets),
+          (wire_target_count.spell (length row.targets) ++ flat_map switch.spell row.targets),
+      length-append (wire_target_count.spell (length row.targets)) (flat_map switch.spell row.targets),
     )
 
 -- ---- partitions
@@ -164,31 +164,31 @@ tables_short to boot t are = omega (
 )
 
 module _ (setting : Setting) (journal : List Item) (is : IsSetting setting)
-    (reached : IsReached setting journal) where
-  names : BodiesNameThere setting journal
+    (reached : IsJournalReached setting journal) where
+  names : ControlBodiesNameThere setting journal
   names = bodies_named.reached setting journal reached is.net
 
   adverts : AdvertsAreOfSwitches setting journal
   adverts = subst (AdvertsAreOfSwitches setting) (sym reached.written)
       ((behind_both _ of_switches).ends.stepped setting reached.steps is.net)
 
-  versions : VersionsArePlanned setting journal
-  versions = subst (VersionsArePlanned setting) (sym reached.written)
+  versions : ControlVersionsArePlanned setting journal
+  versions = subst (ControlVersionsArePlanned setting) (sym reached.written)
       ((always _ versions_planned).behind.ends.stepped setting reached.steps)
 
   planned : TablesArePlanned setting journal
   planned = rw reached.written ((always _ tables_planned).behind.ends.stepped setting reached.steps)
 
   installed : (n s boot : ℕ) (t : Tables)
-      → message_of journal n ≡ Some (to_switch s (Install boot t)) → AreWireShort t × AreSmall t
+      → message_of journal n ≡ Some (machine_message_to_switch s (Install boot t)) → AreWireShort t × AreSmall t
   installed n s boot t sent =
       let own = planned.sent s boot n t sent in
       let plan = version_planned setting journal t.version is
       (versions.planned (begins_planned setting is) t.version own.first own.last) in (
         subst AreWireShort (sym own.planned)
-            (short _ setting.net (plan_at setting journal t.version) t.version s is.net plan.parts),
+            (short _ setting.net (journal_plan_at setting journal t.version) t.version s is.net plan.parts),
         subst AreSmall (sym own.planned)
-            (small _ setting.net (plan_at setting journal t.version) t.version s is.net plan.parts),
+            (small _ setting.net (journal_plan_at setting journal t.version) t.version s is.net plan.parts),
       )
 
   touches : StampsSayTouched setting journal
@@ -203,8 +203,8 @@ module _ (setting : Setting) (journal : List Item) (is : IsSetting setting)
   below s there = omega (arith, there, is.net.few_switches)
 
   spelled : (n : ℕ) (to : Place) (body : Body)
-      → message_of journal n ≡ Some (record { to = to; body = body }) → IsMessageAddressed setting to body
-      → HasShortSpelling (record { to = to; body = body })
+      → message_of journal n ≡ Some (record { to = to; body = body }) → IsControlMessageAddressed setting to body
+      → HasShortBagSpelling (record { to = to; body = body })
   spelled n (Place.Switch s) (Install boot t) sent named =
       let its = installed n s boot t sent in record {
         spelling = record { switch = below s named.0; suits = refl; fields = its.0 };
@@ -244,5 +244,5 @@ module _ (setting : Setting) (journal : List Item) (is : IsSetting setting)
   }
   spelled n Place.Controller body sent named = absurd named
 
-  pub reached_spelled : AreMessagesSpelled journal
+  pub reached_spelled : AreRefinedMessagesSpelled journal
   reached_spelled n m sent = spelled n m.to m.body sent (names.sent n m sent).addressed

@@ -1,15 +1,15 @@
 -- A switch takes a leg as the journal's definitions say.
 use Rattle.std.proofs.Common.{[], ◌&&◌, ◌++◌, ◌<◌, ◌==◌, ◌||◌, ◌∙◌, ◌∷◌, ◌≡◌, Bool, Err, IsFalse, IsTrue, List, None, Ok, Option, Result, Some, ap, arith, ext_get_or, false, get_or, if◌then◌else◌, length, ltb-true, map, nat_lt, ok_or, option_map, refl, rules, sym, true, unwrap_or, ℕ}
 use Rattle.base.proofs.Exports.{get_or-map-range_with_len, list_all, range_with_len}
-use Rattle.controller.specs.Exports.{ControllerValue, PlanValue, first_controller, kept_tables}
+use Rattle.controller.specs.Exports.{ControllerValue, PlanValue, controller_at_start, kept_plan_tables}
 use Rattle.switch_table.specs.Exports.{lookup_of, tables_of}
-use Rattle.update_machine.specs.Exports.{Action, Cause, Exit, Header, Item, KnownKeeps, Leg, Net, NoAuthority, NoRoute, Ports, Seek, Setting, SwitchKeeps, Tables, stuck_cause_at, concerns_links, concerns_policies, concerns_switch, decision_of, end_items, found_down, header_in, holds_version as holds_in, is_cut_off, is_up, leaving_item as left, leg_items, lookup_at, near, no_switch, owner, plan_at, route_from, serves as serves_in, stamp_of, tables_at, takes_route, targets_of}
+use Rattle.update_machine.specs.Exports.{Action, Cause, Exit, Header, Item, JournalKnownKeeps, Leg, Net, NoAuthority, NoRoute, Ports, Seek, Setting, JournalSwitchKeeps, Tables, journal_stuck_cause_at, concerns_links, item_concerns_policies, concerns_switch, journal_decision_of, end_items, journal_found_down, journal_packet_header, holds_version as holds_in, is_cut_off_in_journal, is_up, journal_leaving_item as left, machine_leg_items, lookup_at, near, no_switch, owner, journal_plan_at, journal_route_from, serves as serves_in, journal_stamp_of, journal_tables_at, takes_route, targets_of}
 use Rattle.failover.proofs.FailoverHeldAdverts.{by_origin-first, held-first}
 use Rattle.failover.specs.Exports.{first_advert, first_adverts, first_of, is_isolated, route_of}
-use Rattle.net_file.specs.Exports.{ArePortOwners, IsNet, links_of, owner_of, port_owner}
-use Rattle.world_log.specs.Exports.{AreNearMasks, log_end_item, log_left_item, log_set_item}
-use Rattle.switch_core.specs.Exports.{SwitchValue, are_isolated, around, call_counted, cause_of, exit_by_switch, held_tables, holds_version, leave_by_switch, next_of, no_tables, serves, set_out, stamp_tables}
-use Rattle.refinement.specs.Exports.{switch_of}
+use Rattle.net_file.specs.Exports.{ArePortOwners, IsNet, links_of, net_port_owner, port_owner}
+use Rattle.world_log.specs.Exports.{AreLogNearMasks, log_end_item, log_left_item, log_set_item}
+use Rattle.switch_core.specs.Exports.{SwitchValue, are_isolated, around, switch_call_counted, switch_stuck_cause, exit_by_switch, held_tables, holds_version, leave_by_switch, next_of, no_switch_tables, serves, set_out, stamp_tables}
+use Rattle.refinement.specs.Exports.{refined_switch_of}
 use Rattle.refinement.proofs.RefinedSwitchKnowledge.{knowledge_refines, open_shown}
 use Rattle.refinement.proofs.RefinedSwitchFacts.{number_shown, stamp_shown}
 use Rattle.update_machine.proofs.Exports.{known_keeps, known_link_laws, lookup_stays, near_stays, policies_keep, switch_keeps}
@@ -44,7 +44,7 @@ all_first near other count same =
     ∙ sym (held-first other count s below))
 
 -- the masks of all 64 places tell what those of the network's switches tell
-pub first_near : (net : Net) (near : List ℕ) → IsNet net → AreNearMasks net near
+pub first_near : (net : Net) (near : List ℕ) → IsNet net → AreLogNearMasks net near
     → first_adverts near (length net.switches) ≡ first_adverts (map (links_of net.links)
     (range_with_len 0 (length net.switches))) (length net.switches)
 first_near net near sound are = all_first near
@@ -54,10 +54,10 @@ first_near net near sound are = all_first near
 
 -- the first controller's tables of version 1 are those of its plan
 pub first_tables : (net : Net) (controller : ControllerValue) (plan : PlanValue)
-    (tables : Tables) (s : ℕ) → controller ≡ first_controller (length net.switches) plan
-    → kept_tables controller 1 s ≡ Some tables → tables ≡ tables_of plan.hosted 1 s
+    (tables : Tables) (s : ℕ) → controller ≡ controller_at_start (length net.switches) plan
+    → kept_plan_tables controller 1 s ≡ Some tables → tables ≡ tables_of plan.hosted 1 s
 first_tables net controller plan tables s is found =
-    cc (sym found ∙ ap (λ (c : ControllerValue). kept_tables c 1 s) is)
+    cc (sym found ∙ ap (λ (c : ControllerValue). kept_plan_tables c 1 s) is)
 
 -- ---- what a switch has and knows is what the journal says, also within a step
 
@@ -66,18 +66,18 @@ pub record Sees (setting : Setting) (journal : List Item) (s : ℕ) (w : SwitchV
     : Type 0 where
   pub number : w.number ≡ s
   pub serving : serves w ≡ serves_in journal s
-  pub stamp : w.stamp ≡ stamp_of journal s
+  pub stamp : w.stamp ≡ journal_stamp_of journal s
   pub held : (v : ℕ) → holds_version w v ≡ holds_in journal s v
   pub tables : (v : ℕ) → held_tables w v
-      ≡ (if holds_in journal s v then Some (tables_at setting journal v s) else None)
+      ≡ (if holds_in journal s v then Some (journal_tables_at setting journal v s) else None)
   pub lookup : (header : Header) → IsTrue (serves_in journal s)
       → lookup_of w.cache.entries (stamp_tables w) header ≡ lookup_at setting journal s header
   pub stamped : IsTrue (serves_in journal s)
-      → stamp_tables w ≡ tables_at setting journal (stamp_of journal s) s
+      → stamp_tables w ≡ journal_tables_at setting journal (journal_stamp_of journal s) s
   pub route : (targets down : List ℕ) → route_of w.database w.number targets mask down
-      ≡ route_from setting journal s targets down
+      ≡ journal_route_from setting journal s targets down
   pub cut_off : (target : ℕ) (down : List ℕ) → is_isolated w.database w.number target mask down
-      ≡ is_cut_off setting journal s down target
+      ≡ is_cut_off_in_journal setting journal s down target
   pub usable : mask ≡ near setting journal s
 
 serving_of : (up serving : Bool) → (serving ≡ true → up ≡ true) → (up && serving) ≡ serving
@@ -87,11 +87,11 @@ serving_of false false is = refl
 
 pub sees : (setting : Setting) (journal : List Item) (s : ℕ) → Known setting journal
     → s < length setting.net.switches
-    → Sees setting journal s (switch_of setting journal s) (near setting journal s)
+    → Sees setting journal s (refined_switch_of setting journal s) (near setting journal s)
 sees setting journal s knows there =
-    let w : SwitchValue = switch_of setting journal s in
+    let w : SwitchValue = refined_switch_of setting journal s in
     let mask : ℕ = near setting journal s in
-    let stamp : w.stamp ≡ stamp_of journal s = stamp_shown setting journal s in
+    let stamp : w.stamp ≡ journal_stamp_of journal s = stamp_shown setting journal s in
     let number : w.number ≡ s = number_shown setting journal s in record {
       number = number;
       serving = open_shown setting journal s
@@ -101,9 +101,9 @@ sees setting journal s knows there =
       tables = λ v. knowledge_refines.tables setting journal s v knows.tables;
       lookup = λ header serving. knowledge_refines.lookup setting journal s header knows.tables
           (knows.holds s there serving).stamp;
-      stamped = λ serving. ap (λ o. unwrap_or o no_tables) (ap (held_tables w) stamp
-          ∙ knowledge_refines.tables setting journal s (stamp_of journal s) knows.tables
-          ∙ ap (λ b. if b then Some (tables_at setting journal (stamp_of journal s) s) else None)
+      stamped = λ serving. ap (λ o. unwrap_or o no_switch_tables) (ap (held_tables w) stamp
+          ∙ knowledge_refines.tables setting journal s (journal_stamp_of journal s) knows.tables
+          ∙ ap (λ b. if b then Some (journal_tables_at setting journal (journal_stamp_of journal s) s) else None)
           (knows.holds s there serving).stamp);
       route = λ targets down. ap (λ n. route_of w.database n targets mask down) number
           ∙ knowledge_refines.route setting journal s targets down;
@@ -114,14 +114,14 @@ sees setting journal s knows there =
 
 -- one more call changes nothing of it
 pub sees_counted : (setting : Setting) (journal : List Item) (s : ℕ) (w : SwitchValue) (mask : ℕ)
-    → Sees setting journal s w mask → Sees setting journal s (call_counted w) mask
+    → Sees setting journal s w mask → Sees setting journal s (switch_call_counted w) mask
 sees_counted setting journal s w mask sees = search (rules, sees.held, sees.tables, sees.lookup, sees.stamped, sees.route, sees.cut_off)
 
 -- nor does an item that concerns neither the switch, nor links, nor policies
 pub record Spares (s : ℕ) (before : List Item) (next : Item) : Type 0 where
   pub switch : IsFalse (concerns_switch s before next)
   pub links : IsFalse (concerns_links before next)
-  pub policies : IsFalse (concerns_policies before next)
+  pub policies : IsFalse (item_concerns_policies before next)
 
 neither : (a b : Bool) → a ≡ false → b ≡ false → (a || b) ≡ false
 neither a b one other = rw (one, other) refl
@@ -132,11 +132,11 @@ pub sees_one : (setting : Setting) (before : List Item) (next : Item) (s : ℕ) 
 sees_one setting before next s w mask spares sees =
     let after : List Item = before ++ next ∷ [] in
     let keeps = switch_keeps setting s before (next ∷ []) (spares.switch, tt) in
-    let knows : KnownKeeps setting s before after =
+    let knows : JournalKnownKeeps setting s before after =
     known_keeps setting s before (next ∷ []) (neither _ _ spares.switch spares.links, tt) in
-    let plans : (v : ℕ) → plan_at setting after v ≡ plan_at setting before v =
+    let plans : (v : ℕ) → journal_plan_at setting after v ≡ journal_plan_at setting before v =
     (policies_keep before (next ∷ []) (spares.policies, tt)).plan setting in
-    let same : (v : ℕ) → tables_at setting before v s ≡ tables_at setting after v s =
+    let same : (v : ℕ) → journal_tables_at setting before v s ≡ journal_tables_at setting after v s =
     λ v. ap (λ plan. tables_of plan v s) (sym (plans v)) in
     let was : IsTrue (serves_in after s) → IsTrue (serves_in before s) =
     λ serving. sym keeps.serving ∙ serving in record {
@@ -144,13 +144,13 @@ sees_one setting before next s w mask spares sees =
       serving = sees.serving ∙ sym keeps.serving;
       stamp = sees.stamp ∙ sym keeps.stamp;
       held = λ v. sees.held v ∙ sym (keeps.versions v);
-      tables = λ v. sees.tables v ∙ ap (λ b. if b then Some (tables_at setting before v s)
+      tables = λ v. sees.tables v ∙ ap (λ b. if b then Some (journal_tables_at setting before v s)
           else None) (sym (keeps.versions v))
           ∙ ap (λ (t : Tables). if holds_in after s v then Some t else None) (same v);
       lookup = λ header serving. sees.lookup header (was serving) ∙ sym (lookup_stays setting s
           header before (next ∷ []) (neither _ _ spares.switch spares.policies, tt));
-      stamped = λ serving. sees.stamped (was serving) ∙ same (stamp_of before s)
-          ∙ ap (λ v. tables_at setting after v s) (sym keeps.stamp);
+      stamped = λ serving. sees.stamped (was serving) ∙ same (journal_stamp_of before s)
+          ∙ ap (λ v. journal_tables_at setting after v s) (sym keeps.stamp);
       route = λ targets down. sees.route targets down ∙ sym (knows.route targets down);
       cut_off = λ target down. sees.cut_off target down ∙ sym (knows.cut_off down target);
       usable = sees.usable ∙ sym (near_stays setting s before (next ∷ []) (spares.links, tt));
@@ -174,11 +174,11 @@ all_same one other same (x ∷ xs) = cc (same x, all_same one other same xs)
 
 pub cause_law : (setting : Setting) (journal : List Item) (s : ℕ) (w : SwitchValue) (mask : ℕ)
     → Sees setting journal s w mask → (down : List ℕ) (leg : Leg)
-    → stuck_cause_at setting journal s down leg
-    ≡ cause_of w mask down leg (targets_of setting journal leg)
-unfolding cause_of are_isolated
+    → journal_stuck_cause_at setting journal s down leg
+    ≡ switch_stuck_cause w mask down leg (targets_of setting journal leg)
+unfolding switch_stuck_cause are_isolated
 cause_law setting journal s w mask sees down (Seek version partition) =
-    ap (λ b. if b then NoAuthority else NoRoute) (all_same (is_cut_off setting journal s down)
+    ap (λ b. if b then NoAuthority else NoRoute) (all_same (is_cut_off_in_journal setting journal s down)
     (λ target. is_isolated w.database w.number target mask down) (λ target. sym
     (sees.cut_off target down)) (targets_of setting journal (Seek version partition)))
 cause_law setting journal s w mask sees down (Exit port) = refl
@@ -196,24 +196,24 @@ by_route s packet leg targets cause None = refl
 by_route s packet leg targets cause (Some route) = refl
 
 pub leg_law : (setting : Setting) (journal : List Item) (s : ℕ) (w : SwitchValue) (mask : ℕ)
-    → Sees setting journal s w mask → (packet : Packet) → found_down journal packet.number
-    ≡ packet.down → (leg : Leg) → leg_items setting journal packet.number s leg
+    → Sees setting journal s w mask → (packet : Packet) → journal_found_down journal packet.number
+    ≡ packet.down → (leg : Leg) → machine_leg_items setting journal packet.number s leg
     ≡ log_set_item (at_switch s packet) leg (set_out w mask packet leg (targets_of setting journal leg))
     ∷ []
-unfolding leg_items set_out
+unfolding machine_leg_items set_out
 leg_law setting journal s w mask sees packet found leg =
     let targets : List ℕ = targets_of setting journal leg in
     let by : Cause → List ℕ → Option (List ℕ) → List Item = λ cause down route. elim route [
       | None ↦ Item.Stuck packet.number s cause leg down ∷ []
       | Some way ↦ takes_route packet.number leg way ∷ []
     ] in
-    ap (λ down. by (stuck_cause_at setting journal s down leg) down
-    (route_from setting journal s targets down)) found
-    ∙ ap (by (stuck_cause_at setting journal s packet.down leg) packet.down)
+    ap (λ down. by (journal_stuck_cause_at setting journal s down leg) down
+    (journal_route_from setting journal s targets down)) found
+    ∙ ap (by (journal_stuck_cause_at setting journal s packet.down leg) packet.down)
     (sym (sees.route targets packet.down))
     ∙ ap (λ cause. by cause packet.down (route_of w.database w.number targets mask packet.down))
     (cause_law setting journal s w mask sees packet.down leg)
-    ∙ by_route s packet leg targets (cause_of w mask packet.down leg targets)
+    ∙ by_route s packet leg targets (switch_stuck_cause w mask packet.down leg targets)
     (route_of w.database w.number targets mask packet.down)
 
 -- ---- a decided packet ends at a switch, or sets out for its port, as the journal's definitions
@@ -221,9 +221,9 @@ leg_law setting journal s w mask sees packet found leg =
 
 -- what the journal says of a packet that was decided just now
 pub record IsDecided (journal : List Item) (packet : Packet) (decision : Decided) : Type 0 where
-  pub entered : header_in journal packet.number ≡ Some packet.header
-  pub found : found_down journal packet.number ≡ packet.down
-  pub decided : decision_of journal packet.number ≡ Some (record {
+  pub entered : journal_packet_header journal packet.number ≡ Some packet.header
+  pub found : journal_found_down journal packet.number ≡ packet.down
+  pub decided : journal_decision_of journal packet.number ≡ Some (record {
     version = decision.version;
     rule = decision.rule;
     action = decision.action;
@@ -248,7 +248,7 @@ out_law setting journal s w mask sees packet decision said port its acts owns tr
     let way : Result TunnelValue Cause = set_out w mask packet (Exit port) (its ∷ []) in
     ap (λ b. elim b [
       | true ↦ left journal i port ∷ []
-      | false ↦ leg_items setting journal i s (Exit port)
+      | false ↦ machine_leg_items setting journal i s (Exit port)
     ]) (ap (λ o. o == s) owns ∙ here)
     ∙ ap (λ one. one ∷ []) (rw (said.entered, said.decided) refl)
     ∙ sym (ap (λ b. log_end_item (at_switch s packet) decision
@@ -259,7 +259,7 @@ out_law setting journal s w mask sees packet decision said port its acts owns fa
     let way : Result TunnelValue Cause = set_out w mask packet (Exit port) (its ∷ []) in
     ap (λ b. elim b [
       | true ↦ left journal i port ∷ []
-      | false ↦ leg_items setting journal i s (Exit port)
+      | false ↦ machine_leg_items setting journal i s (Exit port)
     ]) (ap (λ o. o == s) owns ∙ here)
     ∙ leg_law setting journal s w mask sees packet said.found (Exit port)
     ∙ ap (λ o. log_set_item at (Exit port) (set_out w mask packet (Exit port) (o ∷ [])) ∷ []) owns
@@ -270,7 +270,7 @@ out_law setting journal s w mask sees packet decision said port its acts owns fa
 -- a port that no switch has
 portless_law : (setting : Setting) (journal : List Item) (s : ℕ) (w : SwitchValue) (mask : ℕ)
     → s < 64 → (packet : Packet) (decision : Decided) → IsDecided journal packet decision
-    → (port : ℕ) → decision.action ≡ Action.Out port → owner_of setting.net.switches port ≡ None
+    → (port : ℕ) → decision.action ≡ Action.Out port → net_port_owner setting.net.switches port ≡ None
     → end_items setting packet.number s (Action.Out port) journal
     ≡ log_end_item (at_switch s packet) decision (leave_by_switch w mask packet port None) ∷ []
 unfolding leave_by_switch
@@ -290,12 +290,12 @@ unfolding end_items next_of
 end_law setting journal s w mask sees there ports owners packet decision said Action.Drop acts =
     refl
 end_law setting journal s w mask sees there ports owners packet decision said (Action.Out port)
-    acts = by_owner (owner_of setting.net.switches port) refl
+    acts = by_owner (net_port_owner setting.net.switches port) refl
   where
     at_owner : Option ℕ → Item
     at_owner o = log_end_item (at_switch s packet) decision (leave_by_switch w mask packet port o)
 
-    by_owner : (o : Option ℕ) → owner_of setting.net.switches port ≡ o
+    by_owner : (o : Option ℕ) → net_port_owner setting.net.switches port ≡ o
         → end_items setting packet.number s (Action.Out port) journal
         ≡ at_owner (port_owner ports port) ∷ []
     by_owner None none =

@@ -1,17 +1,17 @@
 -- A policy is submitted or refused: what is written then, and what the parts are behind it.
 use Rattle.std.proofs.Common.{[], ◌++◌, ◌+◌, ◌-◌, ◌<◌, ◌==◌, ◌∙◌, ◌∷◌, ◌≡◌, ◌≢◌, ◌≤◌, All, Err, List, None, Ok, Some, ap, append-nil, arith, cond, false, filter, get_or, if◌then◌else◌, length, map, refl, rules, slice_get, subst, sym, ℕ}
 use Rattle.base.proofs.Exports.{All-nil, get_or-map-range_with_len, length-map-range_with_len, nat_tests, range_with_len}
-use Rattle.refinement.specs.Exports.{AreActsWritten, IsBagOf, IsControllerOf, IsPlanOfNext, NetworkState, RefineJournal, flight_in, is_up_link, plan_to_keep, switch_begun, switch_of}
+use Rattle.refinement.specs.Exports.{AreRefinedActsWritten, IsRefinedBagOf, IsControllerOf, IsNextPlanRefined, RefinedNetworkState, RefineJournal, refined_flight_in, is_refined_up_link, refined_plan_to_keep, refined_switch_begun, refined_switch_of}
 use Rattle.refinement.proofs.RefinedControllerResends.{items_leave}
 use Rattle.refinement.proofs.RefinedSubmissions.{submits, too_many_live, too_many_versions}
-use Rattle.controller.specs.Exports.{ControllerValue, PlanValue, SubmitsPlan, first_controller, newest_policy, next_kept_plan, submit_acts}
+use Rattle.controller.specs.Exports.{ControllerValue, PlanValue, ControllerSubmitsPlan, controller_at_start, controller_newest_policy, next_kept_plan, submit_acts}
 use Rattle.controller.specs.declared.sends.Act.{Act}
-use Rattle.update_machine.specs.Exports.{Inapplicable, IsSetting, Item, LinkRow, NamesOwnPort, Net, PoliciesKeep, PolicyFile, Row, Setting, Step, Update, Whole, apply_code, journal_items_then, made_by, next_packet, piece, plan_at, plan_code, policy_at, policy_in, setting_of, submitted_items, touched_of, travels, update_code, update_items, version_count}
-use Rattle.partition.specs.Plan.{Hosted, plan_of}
-use Rattle.policy_rules.specs.Exports.{PolicyFileGivesOnly, IsPolicyFile, NoPlan}
+use Rattle.update_machine.specs.Exports.{Inapplicable, IsSetting, Item, LinkRow, NamesSettingPort, Net, JournalPoliciesKeep, PolicyFile, Row, Setting, Step, Update, Whole, machine_apply_code, journal_items_then, made_by, journal_next_packet, piece, journal_plan_at, machine_plan_code, policy_at, policy_in, setting_of, submitted_items, touched_of, travels, machine_update_code, update_items, journal_version_count}
+use Rattle.partition.specs.Plan.{Hosted, partition_plan_of}
+use Rattle.policy_rules.specs.Exports.{PolicyRulesGiveOnly, IsPolicyOrAmendment, NoPolicyPlan}
 use Rattle.steps.specs.Exports.{IsStep}
 use Rattle.update_machine.proofs.Exports.{first_version_is, next_by, policies_keep, setting_begun, start_laws, unapplied_code, unplanned_code}
-use Rattle.world_log.specs.Exports.{AreNearMasks, LogMayNote, log_act_items, log_act_posts}
+use Rattle.world_log.specs.Exports.{AreLogNearMasks, LogMayNote, log_act_items, log_act_posts}
 use Rattle.refinement.proofs.RefinedActs.{may_note, refines_told, written_is}
 use Rattle.refinement.proofs.RefinedSteps.{grown, links_stay, reached_known, switches_stay, up_stay}
 use Rattle.refinement.proofs.RefinedControllerPlans.{newest_in}
@@ -23,62 +23,62 @@ use Rattle.switch_core.specs.Exports.{SwitchValue}
 
 -- ---- the file of an update
 
-module _ {setting : Setting} {journal : List Item} {state : NetworkState}
+module _ {setting : Setting} {journal : List Item} {state : RefinedNetworkState}
     (refines : RefineJournal setting journal state) where
   -- the policy of the newest version is the one that the controller keeps, and a row leaves it
   pub newest_refines : (row : ℕ) (step : Step) (newest : List Row)
-      → newest_policy state.controller ≡ Some newest
-      → (policy_in setting journal (version_count journal) ≡ Some newest)
+      → controller_newest_policy state.controller ≡ Some newest
+      → (policy_in setting journal (journal_version_count journal) ≡ Some newest)
       × (policy_in setting (journal ++ Item.Row row step ∷ [])
-      (version_count (journal ++ Item.Row row step ∷ [])) ≡ Some newest)
+      (journal_version_count (journal ++ Item.Row row step ∷ [])) ≡ Some newest)
   newest_refines row step newest is =
       let here : List Item = journal ++ Item.Row row step ∷ [] in
       let keep = policies_keep journal (Item.Row row step ∷ []) (refl, tt) in
-      let own : policy_in setting journal (version_count journal) ≡ Some newest =
+      let own : policy_in setting journal (journal_version_count journal) ≡ Some newest =
       sym (newest_in setting journal state.controller refines.sound (reached_known setting journal
       refines.sound refines.reached).caused refines.controller) ∙ is in (
         own,
-        ap (policy_in setting here) keep.count ∙ keep.rows setting (version_count journal) ∙ own,
+        ap (policy_in setting here) keep.count ∙ keep.rows setting (journal_version_count journal) ∙ own,
       )
 
 -- a plan of what the file makes of it is that of the next version
 pub planned_next : (net : Net) (files : List PolicyFile) (journal : List Item) (file : ℕ)
     (newest : List Row) (plan : PlanValue) (touched : List WordValue) → 1 ≤ file
-    → policy_in (setting_of net files) journal (version_count journal) ≡ Some newest
+    → policy_in (setting_of net files) journal (journal_version_count journal) ≡ Some newest
     → made_by (slice_get files (file - 1)) (Some newest) ≡ Ok plan.policy
-    → plan_of plan.policy net ≡ Ok plan.hosted
+    → partition_plan_of plan.policy net ≡ Ok plan.hosted
     → touched ≡ touched_of (slice_get files (file - 1)) (Some newest)
-    → IsPlanOfNext (setting_of net files) journal file plan touched
+    → IsNextPlanRefined (setting_of net files) journal file plan touched
 planned_next net files journal file newest plan touched first is made planned told = record {
   policy = next_by (setting_of net files) journal file newest first is ∙ made;
   hosted = planned;
   touches = let later : (file == 0) ≡ false = grind (arith, nat_tests) in
       told ∙ ap (touched_of (slice_get files (file - 1))) (sym is)
       ∙ ap (λ b. touched_of (if b then None else slice_get files (file - 1))
-      (policy_in (setting_of net files) journal (version_count journal))) (sym later);
+      (policy_in (setting_of net files) journal (journal_version_count journal))) (sym later);
 }
 
 -- where it makes none, or one without a plan, the update is refused with the code of the cause
 pub unapplied_next : (net : Net) (files : List PolicyFile) (journal : List Item) (file : ℕ)
     (newest : List Row) (why : Inapplicable) → 1 ≤ file
-    → policy_in (setting_of net files) journal (version_count journal) ≡ Some newest
+    → policy_in (setting_of net files) journal (journal_version_count journal) ≡ Some newest
     → made_by (slice_get files (file - 1)) (Some newest) ≡ Err why
-    → update_code (setting_of net files) journal file ≡ Some (apply_code why)
+    → machine_update_code (setting_of net files) journal file ≡ Some (machine_apply_code why)
 unapplied_next net files journal file newest why first is made =
     unapplied_code (setting_of net files) journal file why
     (next_by (setting_of net files) journal file newest first is ∙ made)
 
 pub unplanned_next : (net : Net) (files : List PolicyFile) (journal : List Item) (file : ℕ)
-    (newest rows : List Row) (why : NoPlan) → 1 ≤ file
-    → policy_in (setting_of net files) journal (version_count journal) ≡ Some newest
-    → made_by (slice_get files (file - 1)) (Some newest) ≡ Ok rows → plan_of rows net ≡ Err why
-    → update_code (setting_of net files) journal file ≡ Some (plan_code why)
+    (newest rows : List Row) (why : NoPolicyPlan) → 1 ≤ file
+    → policy_in (setting_of net files) journal (journal_version_count journal) ≡ Some newest
+    → made_by (slice_get files (file - 1)) (Some newest) ≡ Ok rows → partition_plan_of rows net ≡ Err why
+    → machine_update_code (setting_of net files) journal file ≡ Some (machine_plan_code why)
 unplanned_next net files journal file newest rows why first is made none =
     unplanned_code (setting_of net files) journal file rows why
     (next_by (setting_of net files) journal file newest first is ∙ made) none
 
 pub refused_piece : (setting : Setting) (journal : List Item) (row file code : ℕ)
-    → update_code setting (journal ++ Item.Row row (Update file) ∷ []) file ≡ Some code
+    → machine_update_code setting (journal ++ Item.Row row (Update file) ∷ []) file ≡ Some code
     → piece setting journal row (Update file)
     ≡ Item.Row row (Update file) ∷ Item.Refused file code ∷ []
 unfolding piece update_items
@@ -86,13 +86,13 @@ refused_piece setting journal row file code is =
     let rowed : List Item = journal ++ Item.Row row (Update file) ∷ [] in
     ap (λ o. Item.Row row (Update file) ∷ elim o [
       | Some k ↦ Item.Refused file k ∷ []
-      | None ↦ journal_items_then (Item.Submitted file (version_count rowed + 1) ∷ [])
+      | None ↦ journal_items_then (Item.Submitted file (journal_version_count rowed + 1) ∷ [])
           (submitted_items setting) rowed
     ]) is
 
 -- ---- the tie
 
-module _ {setting : Setting} {journal : List Item} {state : NetworkState}
+module _ {setting : Setting} {journal : List Item} {state : RefinedNetworkState}
     (refines : RefineJournal setting journal state) (row file : ℕ)
     (may : IsStep setting.net (length setting.files) (Update file)) where
   abbrev first : Item → List Item
@@ -114,10 +114,10 @@ module _ {setting : Setting} {journal : List Item} {state : NetworkState}
       (search (rules, switches_stay, bag_on, links_stay, up_stay)))
 
   module _ (plan : PlanValue) (touched : List WordValue) (new : ControllerValue)
-      (of_next : IsPlanOfNext setting journal file plan touched)
+      (of_next : IsNextPlanRefined setting journal file plan touched)
       (live : state.controller.marks.count - state.controller.marks.retired ≢ 8)
       (versions : state.controller.marks.count ≢ 64)
-      (submitted : SubmitsPlan state.controller (next_kept_plan state.controller plan touched) new)
+      (submitted : ControllerSubmitsPlan state.controller (next_kept_plan state.controller plan touched) new)
     where
       abbrev version : ℕ
       version = state.controller.marks.count + 1
@@ -128,10 +128,10 @@ module _ {setting : Setting} {journal : List Item} {state : NetworkState}
       abbrev acts : List Act
       acts = submit_acts state.controller.marks (next_kept_plan state.controller plan touched) new
 
-      bag_behind : IsBagOf (grown journal row (Update file) one) state.posts
+      bag_behind : IsRefinedBagOf (grown journal row (Update file) one) state.posts
       bag_behind = bag_on journal (first one) state.posts (refl, (refl, tt)) refines.bag
 
-      submits_so : AreActsWritten setting journal (first one) acts new
+      submits_so : AreRefinedActsWritten setting journal (first one) acts new
           (piece setting journal row (Update file))
       submits_so = submits setting journal row file state.controller new plan touched
           (reached_known setting journal refines.sound refines.reached).caused refines.controller
@@ -156,9 +156,9 @@ module _ {setting : Setting} {journal : List Item} {state : NetworkState}
 
 -- ---- what the marks refuse
 
-module _ {setting : Setting} {journal : List Item} {state : NetworkState}
+module _ {setting : Setting} {journal : List Item} {state : RefinedNetworkState}
     (refines : RefineJournal setting journal state) (row file : ℕ) (plan : PlanValue)
-    (touched : List WordValue) (of_next : IsPlanOfNext setting journal file plan touched) where
+    (touched : List WordValue) (of_next : IsNextPlanRefined setting journal file plan touched) where
   pub live_piece : state.controller.marks.count - state.controller.marks.retired ≡ 8
       → piece setting journal row (Update file)
       ≡ Item.Row row (Update file) ∷ Item.Refused file 16 ∷ []
@@ -178,8 +178,8 @@ module _ {setting : Setting} {journal : List Item} {state : NetworkState}
 -- a switch before the first item
 switch_first : (setting : Setting) (s : ℕ) → s < length setting.net.switches
     → length setting.net.switches ≤ 64
-    → switch_of setting [] s ≡ switch_begun setting.net (plan_at setting [] 1) s
-unfolding switch_of
+    → refined_switch_of setting [] s ≡ refined_switch_begun setting.net (journal_plan_at setting [] 1) s
+unfolding refined_switch_of
 switch_first setting s there few = rw (
   start_laws.boot s,
   start_laws.up s,
@@ -195,8 +195,8 @@ switch_first setting s there few = rw (
 
 -- the controller's plan is that of the first version
 of_first : (net : Net) (files : List PolicyFile) (plan : PlanValue)
-    → slice_get files 0 ≡ Some (Whole plan.policy) → plan_of plan.policy net ≡ Ok plan.hosted
-    → plan ≡ (plan_to_keep (setting_of net files) [] 1).plan
+    → slice_get files 0 ≡ Some (Whole plan.policy) → partition_plan_of plan.policy net ≡ Ok plan.hosted
+    → plan ≡ (refined_plan_to_keep (setting_of net files) [] 1).plan
 of_first net files plan whole is =
     let first = first_version_is net files plan.policy plan.hosted whole is in
     ap (λ policy. of policy plan.hosted) (sym first.0)
@@ -206,17 +206,17 @@ of_first net files plan whole is =
     of policy hosted = record { policy = policy; hosted = hosted }
 
 -- all links are up
-all_up : (links : List LinkRow) → filter (is_up_link []) links ≡ links
+all_up : (links : List LinkRow) → filter (is_refined_up_link []) links ≡ links
 all_up [] = refl
 all_up (link ∷ links) = cc (start_laws.links link.one link.two, all_up links)
 
 pub begun_refines : (net : Net) (files : List PolicyFile) (plan : PlanValue)
     (switches : List SwitchValue) (controller : ControllerValue) (near : List ℕ) → IsNet net
-    → slice_get files 0 ≡ Some (Whole plan.policy) → All IsPolicyFile files
-    → All (PolicyFileGivesOnly (λ row. NamesOwnPort (setting_of net files) row.action)) files
-    → plan_of plan.policy net ≡ Ok plan.hosted
-    → switches ≡ map (switch_begun net plan.hosted) (range_with_len 0 (length net.switches))
-    → controller ≡ first_controller (length net.switches) plan → AreNearMasks net near
+    → slice_get files 0 ≡ Some (Whole plan.policy) → All IsPolicyOrAmendment files
+    → All (PolicyRulesGiveOnly (λ row. NamesSettingPort (setting_of net files) row.action)) files
+    → partition_plan_of plan.policy net ≡ Ok plan.hosted
+    → switches ≡ map (refined_switch_begun net plan.hosted) (range_with_len 0 (length net.switches))
+    → controller ≡ controller_at_start (length net.switches) plan → AreLogNearMasks net near
     → RefineJournal (setting_of net files) [] (record {
       switches = switches;
       travelling = [];
@@ -226,15 +226,15 @@ pub begun_refines : (net : Net) (files : List PolicyFile) (plan : PlanValue)
       links = near;
       near = near;
     })
-unfolding flight_in travels next_packet
+unfolding refined_flight_in travels journal_next_packet
 begun_refines net files plan switches controller near sound whole given ports is made first_is
     masks =
     let setting : Setting = setting_of net files in
     let own = setting_begun net files plan.policy plan.hosted sound whole given ports is in
-    let first : plan_at setting [] 1 ≡ plan.hosted =
+    let first : journal_plan_at setting [] 1 ≡ plan.hosted =
     (first_version_is net files plan.policy plan.hosted whole is).1 in
     let many = ap length made
-    ∙ length-map-range_with_len (switch_begun net plan.hosted) 0 (length net.switches) in record {
+    ∙ length-map-range_with_len (refined_switch_begun net plan.hosted) 0 (length net.switches) in record {
       sound = own;
       reached = record {
         steps = [];
@@ -244,10 +244,10 @@ begun_refines net files plan switches controller near sound whole given ports is
       many = many;
       each = λ s d there. let own : s < length net.switches = omega (arith, there, many) in
           ap (λ all. get_or all s d) made
-          ∙ get_or-map-range_with_len (switch_begun net plan.hosted) 0 (length net.switches) s s d
+          ∙ get_or-map-range_with_len (refined_switch_begun net plan.hosted) 0 (length net.switches) s s d
           own (omega arith)
           ∙ sym (switch_first setting s own sound.few_switches
-          ∙ ap (λ hosted. switch_begun net hosted s) first);
+          ∙ ap (λ hosted. refined_switch_begun net hosted s) first);
       packet = λ i. refl;
       counted = refl;
       controller = rw first_is (begins setting plan (of_first net files plan whole is));

@@ -1,46 +1,46 @@
 -- The items of one step, and which of them are calls of a switch.
 use Rattle.std.specs.Prelude.{[], if◌then◌else◌, ◌++◌, ◌==◌, ◌∷◌, ◌≡◌, List, ℕ, ⊤}
-use Rattle.update_machine.specs.Exports.{Header, Hop, Item, NoneConcern, Packet, Setting, concerns_known, stays_on_way, travels_at}
+use Rattle.update_machine.specs.Exports.{Header, Hop, Item, NoneConcern, Packet, Setting, item_concerns_known, journal_stays_on_way, journal_travels_at}
 use Rattle.journal.specs.declared.item.Item.TheVariants as item
-use Rattle.switch_core.specs.Exports.{call_counted}
-use Rattle.refinement.specs.SwitchOf.{switch_of}
+use Rattle.switch_core.specs.Exports.{switch_call_counted}
+use Rattle.refinement.specs.SwitchOf.{refined_switch_of}
 
 -- an item that begins no step
-abbrev pub BeginsNoStep : Item → Type 0
-BeginsNoStep (item.Row row step) = ⊥
-BeginsNoStep _ = ⊤
+abbrev pub BeginsNoRefinedStep : Item → Type 0
+BeginsNoRefinedStep (item.Row row step) = ⊥
+BeginsNoRefinedStep _ = ⊤
 
-abbrev pub NoRows : List Item → Type 0
-NoRows [] = ⊤
-NoRows (first ∷ items) = BeginsNoStep first × NoRows items
+abbrev pub NoRefinedRows : List Item → Type 0
+NoRefinedRows [] = ⊤
+NoRefinedRows (first ∷ items) = BeginsNoRefinedStep first × NoRefinedRows items
 
 -- an item that begins no step, and by which no packet enters or is closed
-abbrev pub IsInStep : Item → Type 0
-IsInStep (item.Row row step) = ⊥
-IsInStep (item.Entered packet switch header) = ⊥
-IsInStep (item.Closed packet switch) = ⊥
-IsInStep _ = ⊤
+abbrev pub IsRefinedInStep : Item → Type 0
+IsRefinedInStep (item.Row row step) = ⊥
+IsRefinedInStep (item.Entered packet switch header) = ⊥
+IsRefinedInStep (item.Closed packet switch) = ⊥
+IsRefinedInStep _ = ⊤
 
-abbrev pub AreInStep : List Item → Type 0
-AreInStep [] = ⊤
-AreInStep (first ∷ items) = IsInStep first × AreInStep items
+abbrev pub AreRefinedInStep : List Item → Type 0
+AreRefinedInStep [] = ⊤
+AreRefinedInStep (first ∷ items) = IsRefinedInStep first × AreRefinedInStep items
 
 -- what a packet or a hop does to a switch's record. It counts one call if the packet enters or is
 -- closed there, one if a packet there moves on or is stuck at a down link, two if it arrives
 pub record CallsRefine : Type 0 where
   pub entered : (setting : Setting) (before : List Item) (row i s t : ℕ) (header : Header)
-      (items : List Item) → AreInStep items →
+      (items : List Item) → AreRefinedInStep items →
       let all = item.Row row (Packet s header) ∷ item.Entered i s header ∷ items in
-      NoneConcern (concerns_known t) before all →
-      switch_of setting (before ++ all) t
-      ≡ (if s == t then call_counted (switch_of setting before t) else switch_of setting before t)
+      NoneConcern (item_concerns_known t) before all →
+      refined_switch_of setting (before ++ all) t
+      ≡ (if s == t then switch_call_counted (refined_switch_of setting before t) else refined_switch_of setting before t)
   pub closed : (setting : Setting) (before : List Item) (row i s t : ℕ) (header : Header) →
-      switch_of setting (before ++ item.Row row (Packet s header) ∷ item.Closed i s ∷ []) t
-      ≡ (if s == t then call_counted (switch_of setting before t) else switch_of setting before t)
+      refined_switch_of setting (before ++ item.Row row (Packet s header) ∷ item.Closed i s ∷ []) t
+      ≡ (if s == t then switch_call_counted (refined_switch_of setting before t) else refined_switch_of setting before t)
   pub hopped : (setting : Setting) (before : List Item) (row i t : ℕ) (items : List Item) →
-      AreInStep items → let all = item.Row row (Hop i) ∷ items in
-      NoneConcern (concerns_known t) before all →
-      switch_of setting (before ++ all) t
-      ≡ (if travels_at before t i then (if stays_on_way items
-      then call_counted (switch_of setting before t)
-      else call_counted (call_counted (switch_of setting before t))) else switch_of setting before t)
+      AreRefinedInStep items → let all = item.Row row (Hop i) ∷ items in
+      NoneConcern (item_concerns_known t) before all →
+      refined_switch_of setting (before ++ all) t
+      ≡ (if journal_travels_at before t i then (if journal_stays_on_way items
+      then switch_call_counted (refined_switch_of setting before t)
+      else switch_call_counted (switch_call_counted (refined_switch_of setting before t))) else refined_switch_of setting before t)

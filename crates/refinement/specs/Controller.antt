@@ -3,17 +3,17 @@
 -- "Abstractions for Network Update", SIGCOMM 2012.
 use Rattle.std.specs.Prelude.{◌≡◌, List, Ok, map, ℕ}
 use Rattle.controller.specs.Exports.{ControllerValue, KeptPlan, PlanValue}
-use Rattle.update_machine.specs.Exports.{Item, Setting, next_policy, next_touched, plan_at, policy_at, touched_by, versions_from_current}
-use Rattle.refinement.specs.Marks.{AreMarksOf}
+use Rattle.update_machine.specs.Exports.{Item, Setting, journal_next_policy, journal_next_touched, journal_plan_at, policy_at, touched_by, journal_versions_from_current}
+use Rattle.refinement.specs.Marks.{AreMarksRefined}
 use Rattle.ternary.specs.Exports.{WordValue}
 
 -- a version with its policy and its plan, and what its change touches
-abbrev pub plan_to_keep : Setting → List Item → ℕ → KeptPlan
-plan_to_keep setting journal version = record {
+abbrev pub refined_plan_to_keep : Setting → List Item → ℕ → KeptPlan
+refined_plan_to_keep setting journal version = record {
   version = version;
   plan = record {
     policy = policy_at setting journal version;
-    hosted = plan_at setting journal version;
+    hosted = journal_plan_at setting journal version;
   };
   touched = touched_by setting journal version;
 }
@@ -22,13 +22,13 @@ plan_to_keep setting journal version = record {
 -- one to the last
 pub record IsControllerOf (setting : Setting) (journal : List Item)
     (controller : ControllerValue) : Type 0 where
-  pub marks : AreMarksOf setting journal controller.marks
-  pub plans : controller.plans ≡ map (plan_to_keep setting journal) (versions_from_current journal)
+  pub marks : AreMarksRefined setting journal controller.marks
+  pub plans : controller.plans ≡ map (refined_plan_to_keep setting journal) (journal_versions_from_current journal)
 
 -- the plan is that of the next version, if this file is submitted, and these are the words that
 -- the file touches
-pub record IsPlanOfNext (setting : Setting) (journal : List Item) (file : ℕ) (plan : PlanValue)
+pub record IsNextPlanRefined (setting : Setting) (journal : List Item) (file : ℕ) (plan : PlanValue)
     (touched : List WordValue) : Type 0 where
-  pub policy : next_policy setting journal file ≡ Ok plan.policy
+  pub policy : journal_next_policy setting journal file ≡ Ok plan.policy
   pub hosted : setting.plan plan.policy ≡ Ok plan.hosted
-  pub touches : touched ≡ next_touched setting journal file
+  pub touches : touched ≡ journal_next_touched setting journal file

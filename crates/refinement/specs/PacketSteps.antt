@@ -1,23 +1,23 @@
 -- What a switch returns for a packet is what its step writes by the definitions over journals.
 use Rattle.std.specs.Prelude.{[], ◌++◌, ◌+◌, ◌<◌, ◌==◌, ◌∷◌, ◌≡◌, ◌≤◌, IsTrue, List, Option, Some, false, length, ℕ}
 use Rattle.message_bag.specs.Exports.{Post, new_post, posts_with_delivered, posts_with_forgotten}
-use Rattle.update_machine.specs.Exports.{Header, Hop, IsReached, IsSetting, Item, Message, NoneConcern, Packet, Ports, Setting, concerns_messages, near, next_message, next_packet, piece}
+use Rattle.update_machine.specs.Exports.{Header, Hop, IsJournalReached, IsSetting, Item, Message, NoneConcern, Packet, Ports, Setting, concerns_messages, near, journal_next_message, journal_next_packet, piece}
 use Rattle.five_tuple.specs.Exports.{IsHeader}
 use Rattle.journal.specs.declared.item.Item.TheVariants as item
 use Rattle.net_file.specs.Exports.{ArePortOwners}
-use Rattle.switch_core.specs.Exports.{Answer, CanLookUp, IsAtAuthority, PacketStandsAt, hop_answer, serves}
+use Rattle.switch_core.specs.Exports.{Answer, CanSwitchLookUp, IsAtAuthoritySwitch, PacketStandsAtSwitch, switch_hop_answer, serves}
 use Rattle.switch_core.specs.declared.tunnel_calls.HopEnd.TheVariants as hop
-use Rattle.refinement.specs.SwitchOf.{switch_of}
+use Rattle.refinement.specs.SwitchOf.{refined_switch_of}
 use Rattle.travelling.specs.Travelling.{Flight}
 use Rattle.tunnel.specs.Exports.{here}
 use Rattle.world_log.specs.Exports.{log_coming_in, log_entered_flight, log_entered_items, entry, log_hop_flight, log_hop_written}
-use Rattle.refinement.specs.Bags.{IsBagOf}
-use Rattle.refinement.specs.Flights.{flight_in}
+use Rattle.refinement.specs.Bags.{IsRefinedBagOf}
+use Rattle.refinement.specs.Flights.{refined_flight_in}
 
 -- the journal is of steps of the network, and the table of the ports is the network's
-pub record IsOfNet (setting : Setting) (journal : List Item) (ports : Ports) : Type 0 where
+pub record IsNetRefined (setting : Setting) (journal : List Item) (ports : Ports) : Type 0 where
   pub sound : IsSetting setting
-  pub reached : IsReached setting journal
+  pub reached : IsJournalReached setting journal
   pub owners : ArePortOwners setting.net.switches ports
 
 -- ---- a packet enters
@@ -25,71 +25,71 @@ pub record IsOfNet (setting : Setting) (journal : List Item) (ports : Ports) : T
 -- what the switch that the journal describes returns for the next packet
 abbrev pub refined_entry_at : Setting → List Item → Ports → ℕ → Header → Option Answer
 refined_entry_at setting journal ports s header =
-    entry (switch_of setting journal s) (near setting journal s) ports (next_packet journal) header
+    entry (refined_switch_of setting journal s) (near setting journal s) ports (journal_next_packet journal) header
 
 -- the switch's call may be made, its result is what the step writes, and the packet is then where
 -- the result leaves it, while all others are where they were
 pub record Comes (setting : Setting) (journal : List Item) (row s : ℕ) (header : Header)
     (ports : Ports) : Type 0 where
-  pub may : CanLookUp (switch_of setting journal s)
+  pub may : CanSwitchLookUp (refined_switch_of setting journal s)
   pub written : piece setting journal row (Packet s header)
-      ≡ item.Row row (Packet s header) ∷ log_entered_items (next_message journal)
-      (log_coming_in (next_packet journal) header s) (refined_entry_at setting journal ports s header)
-  pub goes : flight_in setting (journal ++ piece setting journal row (Packet s header))
-      (next_packet journal) ≡ log_entered_flight (refined_entry_at setting journal ports s header)
-  pub others : (i : ℕ) → (i == next_packet journal) ≡ false
-      → flight_in setting (journal ++ piece setting journal row (Packet s header)) i
-      ≡ flight_in setting journal i
+      ≡ item.Row row (Packet s header) ∷ log_entered_items (journal_next_message journal)
+      (log_coming_in (journal_next_packet journal) header s) (refined_entry_at setting journal ports s header)
+  pub goes : refined_flight_in setting (journal ++ piece setting journal row (Packet s header))
+      (journal_next_packet journal) ≡ log_entered_flight (refined_entry_at setting journal ports s header)
+  pub others : (i : ℕ) → (i == journal_next_packet journal) ≡ false
+      → refined_flight_in setting (journal ++ piece setting journal row (Packet s header)) i
+      ≡ refined_flight_in setting journal i
 
 abbrev pub EntriesRefine : Type 0
 EntriesRefine = (setting : Setting) (journal : List Item) (row s : ℕ) (header : Header)
-    (ports : Ports) → IsOfNet setting journal ports → s < length setting.net.switches
+    (ports : Ports) → IsNetRefined setting journal ports → s < length setting.net.switches
     → IsHeader header → Comes setting journal row s header ports
 
 -- ---- a packet moves on
 
 -- what a hop requires of the switch where the packet is
-pub record HopMayBeAsked (setting : Setting) (journal : List Item) (t : Flight) : Type 0 where
+pub record RefinedHopMayBeAsked (setting : Setting) (journal : List Item) (t : Flight) : Type 0 where
   pub there : here t.tunnel < length setting.net.switches
-  pub stands : PacketStandsAt (switch_of setting journal (here t.tunnel)) t.tunnel.route t.tunnel.place
-  pub serving : IsTrue (serves (switch_of setting journal (here t.tunnel)))
-  pub stamped : CanLookUp (switch_of setting journal (here t.tunnel))
-  pub authority : (hop_answer (switch_of setting journal (here t.tunnel))
+  pub stands : PacketStandsAtSwitch (refined_switch_of setting journal (here t.tunnel)) t.tunnel.route t.tunnel.place
+  pub serving : IsTrue (serves (refined_switch_of setting journal (here t.tunnel)))
+  pub stamped : CanSwitchLookUp (refined_switch_of setting journal (here t.tunnel))
+  pub authority : (switch_hop_answer (refined_switch_of setting journal (here t.tunnel))
       (near setting journal (here t.tunnel)) t.tunnel).end ≡ hop.Arrive
-      → IsAtAuthority (switch_of setting journal (here t.tunnel)) t.tunnel.header t.tunnel.leg
+      → IsAtAuthoritySwitch (refined_switch_of setting journal (here t.tunnel)) t.tunnel.header t.tunnel.leg
 
 -- the same is true of the hop of a packet on its way, at the switch where it is
-pub record GoesOn (setting : Setting) (journal : List Item) (row i : ℕ) (t : Flight)
+pub record RefinedHopGoesOn (setting : Setting) (journal : List Item) (row i : ℕ) (t : Flight)
     (ports : Ports) : Type 0 where
-  pub may : HopMayBeAsked setting journal t
+  pub may : RefinedHopMayBeAsked setting journal t
   pub written : piece setting journal row (Hop i)
-      ≡ item.Row row (Hop i) ∷ log_hop_written (next_message journal)
-      (switch_of setting journal (here t.tunnel)) (near setting journal (here t.tunnel)) ports t
-  pub goes : flight_in setting (journal ++ piece setting journal row (Hop i)) i
-      ≡ log_hop_flight (switch_of setting journal (here t.tunnel))
+      ≡ item.Row row (Hop i) ∷ log_hop_written (journal_next_message journal)
+      (refined_switch_of setting journal (here t.tunnel)) (near setting journal (here t.tunnel)) ports t
+  pub goes : refined_flight_in setting (journal ++ piece setting journal row (Hop i)) i
+      ≡ log_hop_flight (refined_switch_of setting journal (here t.tunnel))
       (near setting journal (here t.tunnel)) ports t
   pub others : (k : ℕ) → (i == k) ≡ false
-      → flight_in setting (journal ++ piece setting journal row (Hop i)) k
-      ≡ flight_in setting journal k
+      → refined_flight_in setting (journal ++ piece setting journal row (Hop i)) k
+      ≡ refined_flight_in setting journal k
 
 abbrev pub HopsRefine : Type 0
 HopsRefine = (setting : Setting) (journal : List Item) (row i : ℕ) (t : Flight) (ports : Ports)
-    → IsOfNet setting journal ports → flight_in setting journal i ≡ Some t
-    → GoesOn setting journal row i t ports
+    → IsNetRefined setting journal ports → refined_flight_in setting journal i ≡ Some t
+    → RefinedHopGoesOn setting journal row i t ports
 
 -- ---- messages
 
 -- the posts stay those of the journal when a message is sent, delivered or forgotten; no other
 -- item changes them
 pub record BagsRefine : Type 0 where
-  pub begun : IsBagOf [] []
-  pub sent : (before : List Item) (posts : List Post) (message : Message) → IsBagOf before posts
-      → IsBagOf (before ++ item.Sent (length posts + 1) message ∷ [])
+  pub begun : IsRefinedBagOf [] []
+  pub sent : (before : List Item) (posts : List Post) (message : Message) → IsRefinedBagOf before posts
+      → IsRefinedBagOf (before ++ item.Sent (length posts + 1) message ∷ [])
       (posts ++ new_post message ∷ [])
   pub delivered : (before : List Item) (posts : List Post) (n : ℕ) → n ≤ length posts
-      → IsBagOf before posts → IsBagOf (before ++ item.Delivered n ∷ []) (posts_with_delivered posts n)
+      → IsRefinedBagOf before posts → IsRefinedBagOf (before ++ item.Delivered n ∷ []) (posts_with_delivered posts n)
   pub forgotten : (before : List Item) (posts : List Post) (n : ℕ) → n ≤ length posts
-      → IsBagOf before posts → IsBagOf (before ++ item.Forgotten n ∷ []) (posts_with_forgotten posts n)
+      → IsRefinedBagOf before posts → IsRefinedBagOf (before ++ item.Forgotten n ∷ []) (posts_with_forgotten posts n)
   pub others : (before items : List Item) (posts : List Post)
-      → NoneConcern concerns_messages before items → IsBagOf before posts
-      → IsBagOf (before ++ items) posts
+      → NoneConcern concerns_messages before items → IsRefinedBagOf before posts
+      → IsRefinedBagOf (before ++ items) posts

@@ -1,5 +1,5 @@
 //! Laws about switches: what steps, messages and links do to them.
-ghost use Rattle.refinement.specs.Exports.{RequirementsHold, CallsRefine, HearingRefines, KnowledgeRefines, LivesRefine, LinksRefine};
+ghost use Rattle.refinement.specs.Exports.{RefinementRequirementsHold, CallsRefine, HearingRefines, KnowledgeRefines, LivesRefine, LinksRefine};
 
 /// Items that don't concern a switch don't change its record. In a step that does nothing to the
 /// switch itself, whatever happens to links and to other switches, its record changes by its next
@@ -34,5 +34,5 @@ pub fn switches_know()
 
 /// What a call requires of its switch follows from the laws of versions, tables, boots and adverts.
 pub fn calls_may_be_made()
-    ensures { RequirementsHold }
+    ensures { RefinementRequirementsHold }
 {}

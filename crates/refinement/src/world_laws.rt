@@ -5,20 +5,20 @@ ghost use Rattle.version_update.specs.Record.{after_over};
 ghost use Rattle.ctrl_msg.specs.Kinds.{to_controller};
 ghost use Rattle.ctrl_msg.specs.declared.message.Body.{Body};
 ghost use Rattle.ctrl_msg.specs.declared.message.Message.{Message};
-ghost use Rattle.controller.specs.Exports.{ControllerValue, ReplyNamesExist, PlanValue, SettlesWith, SubmitsPlan, current_touched, first_controller, hear_acts, marks_after, newest_policy, next_kept_plan, resend_acts, settling_acts, submit_acts};
+ghost use Rattle.controller.specs.Exports.{ControllerValue, ControllerReplyNamesExist, PlanValue, ControllerSettlesWith, ControllerSubmitsPlan, current_plan_touched, controller_at_start, controller_hear_acts, controller_marks_after, controller_newest_policy, next_kept_plan, resend_acts, controller_settling_acts, submit_acts};
 ghost use Rattle.controller.specs.declared.sends.Act.{Act};
 ghost use Rattle.controller.specs.declared.sends.Act.TheVariants.{Post};
 ghost use Rattle.ternary.specs.Word.{WordValue};
 ghost use Rattle.steps.specs.declared.step.Step.TheVariants.{Confirm, Deliver, Resend, Update};
 ghost use Rattle.journal.specs.declared.item.Item.TheVariants.{Row, Delivered, Nothing, OverNow, Refused, Submitted};
-ghost use Rattle.update_machine.specs.Exports.{HaveCauses, IsReached, IsSetting, Item, NoneConcern, Setting, Step, concerns_controller, is_deliverable, is_up, message_of, piece, policy_in, resent_by_controller, send_items, version_count};
-ghost use Rattle.control_laws.specs.Exports.{BodiesNameThere, HasItemCause, asks_controller};
-ghost use Rattle.refinement.specs.Exports.{AreMarksOf, AreMessagesSpelled, AreActsWritten, BagsRefine, EntriesRefine, HopsRefine, IsControllerOf, IsPlanOfNext, plan_to_keep, acts_of_resend, acts_written};
+ghost use Rattle.update_machine.specs.Exports.{JournalItemsHaveCauses, IsJournalReached, IsSetting, Item, NoneConcern, Setting, Step, concerns_controller, is_deliverable, is_up, message_of, piece, policy_in, journal_resent_by_controller, send_items, journal_version_count};
+ghost use Rattle.control_laws.specs.Exports.{ControlBodiesNameThere, HasControlItemCause, asks_controller};
+ghost use Rattle.refinement.specs.Exports.{AreMarksRefined, AreRefinedMessagesSpelled, AreRefinedActsWritten, BagsRefine, EntriesRefine, HopsRefine, IsControllerOf, IsNextPlanRefined, refined_plan_to_keep, refined_resend_acts, refined_acts_written};
 
 /// A new controller is as the empty journal says, if its plan is that of version 1.
 pub fn controllers_begin()
-    ensures { (setting : Setting) (plan : PlanValue) → plan ≡ (plan_to_keep setting [] 1).plan
-        → IsControllerOf setting [] (first_controller (length setting.net.switches) plan) }
+    ensures { (setting : Setting) (plan : PlanValue) → plan ≡ (refined_plan_to_keep setting [] 1).plan
+        → IsControllerOf setting [] (controller_at_start (length setting.net.switches) plan) }
 {}
 
 /// The submission of the next version's plan writes what an update writes; if the marks refuse it,
@@ -27,30 +27,30 @@ pub fn controllers_begin()
 pub fn controllers_submit()
     ensures taken { (setting : Setting) (before : List Item) (row file : ℕ)
         (old new : ControllerValue) (plan : PlanValue) (touched : List WordValue)
-        → HaveCauses (HasItemCause setting) [] before → IsControllerOf setting before old
-        → IsPlanOfNext setting before file plan touched → old.marks.count - old.marks.retired ≢ 8
-        → old.marks.count ≢ 64 → SubmitsPlan old (next_kept_plan old plan touched) new
-        → AreActsWritten setting before
+        → JournalItemsHaveCauses (HasControlItemCause setting) [] before → IsControllerOf setting before old
+        → IsNextPlanRefined setting before file plan touched → old.marks.count - old.marks.retired ≢ 8
+        → old.marks.count ≢ 64 → ControllerSubmitsPlan old (next_kept_plan old plan touched) new
+        → AreRefinedActsWritten setting before
         (Row row (Update file) ∷ Submitted file (old.marks.count + 1) ∷ [])
         (submit_acts old.marks (next_kept_plan old plan touched) new) new
         (piece setting before row (Update file)) }
     ensures live { (setting : Setting) (before : List Item) (row file : ℕ)
         (old : ControllerValue) (plan : PlanValue) (touched : List WordValue)
-        → HaveCauses (HasItemCause setting) [] before → IsControllerOf setting before old
-        → IsPlanOfNext setting before file plan touched → old.marks.count - old.marks.retired ≡ 8
-        → AreActsWritten setting before (Row row (Update file) ∷ Refused file 16 ∷ []) [] old
+        → JournalItemsHaveCauses (HasControlItemCause setting) [] before → IsControllerOf setting before old
+        → IsNextPlanRefined setting before file plan touched → old.marks.count - old.marks.retired ≡ 8
+        → AreRefinedActsWritten setting before (Row row (Update file) ∷ Refused file 16 ∷ []) [] old
         (piece setting before row (Update file)) }
     ensures versions { (setting : Setting) (before : List Item) (row file : ℕ)
         (old : ControllerValue) (plan : PlanValue) (touched : List WordValue)
-        → HaveCauses (HasItemCause setting) [] before → IsControllerOf setting before old
-        → IsPlanOfNext setting before file plan touched → old.marks.count - old.marks.retired ≢ 8
+        → JournalItemsHaveCauses (HasControlItemCause setting) [] before → IsControllerOf setting before old
+        → IsNextPlanRefined setting before file plan touched → old.marks.count - old.marks.retired ≢ 8
         → old.marks.count ≡ 64
-        → AreActsWritten setting before (Row row (Update file) ∷ Refused file 17 ∷ []) [] old
+        → AreRefinedActsWritten setting before (Row row (Update file) ∷ Refused file 17 ∷ []) [] old
         (piece setting before row (Update file)) }
     ensures newest { (setting : Setting) (before : List Item) (controller : ControllerValue)
-        → IsSetting setting → HaveCauses (HasItemCause setting) [] before
+        → IsSetting setting → JournalItemsHaveCauses (HasControlItemCause setting) [] before
         → IsControllerOf setting before controller
-        → newest_policy controller ≡ policy_in setting before (version_count before) }
+        → controller_newest_policy controller ≡ policy_in setting before (journal_version_count before) }
 {}
 
 /// What the controller does when it hears a message is what the delivery of that message writes.
@@ -58,26 +58,26 @@ pub fn controllers_submit()
 pub fn controllers_hear()
     ensures items { (setting : Setting) (before : List Item) (row number : ℕ) (body : Body)
         (old new : ControllerValue)
-        → HaveCauses (HasItemCause setting) [] before → IsControllerOf setting before old
+        → JournalItemsHaveCauses (HasControlItemCause setting) [] before → IsControllerOf setting before old
         → IsTrue (is_deliverable before number)
-        → message_of before number ≡ Some (to_controller body) → ReplyNamesExist body old.marks
-        → SettlesWith (marks_after body old.marks) old.plans new
-        → AreActsWritten setting before (Row row (Deliver number) ∷ Delivered number ∷ [])
-        (hear_acts body old.marks new) new (piece setting before row (Deliver number)) }
+        → message_of before number ≡ Some (to_controller body) → ControllerReplyNamesExist body old.marks
+        → ControllerSettlesWith (controller_marks_after body old.marks) old.plans new
+        → AreRefinedActsWritten setting before (Row row (Deliver number) ∷ Delivered number ∷ [])
+        (controller_hear_acts body old.marks new) new (piece setting before row (Deliver number)) }
     ensures there { (setting : Setting) (journal : List Item) (number : ℕ) (body : Body)
-        (marks : MarksValue) → BodiesNameThere setting journal
-        → AreMarksOf setting journal marks
-        → message_of journal number ≡ Some (to_controller body) → ReplyNamesExist body marks }
+        (marks : MarksValue) → ControlBodiesNameThere setting journal
+        → AreMarksRefined setting journal marks
+        → message_of journal number ≡ Some (to_controller body) → ControllerReplyNamesExist body marks }
 {}
 
 /// What the controller does when a switch is confirmed as down is what that step writes.
 pub fn controllers_confirm()
     ensures { (setting : Setting) (before : List Item) (row s : ℕ) (old new : ControllerValue)
-        → HaveCauses (HasItemCause setting) [] before → IsControllerOf setting before old
+        → JournalItemsHaveCauses (HasControlItemCause setting) [] before → IsControllerOf setting before old
         → IsFalse (is_up before s) → s < length old.marks.switches
-        → SettlesWith (at_switch s after_over old.marks) old.plans new
-        → AreActsWritten setting before (Row row (Confirm s) ∷ OverNow s ∷ [])
-        (settling_acts (current_touched new) (at_switch s after_over old.marks) new.marks) new
+        → ControllerSettlesWith (at_switch s after_over old.marks) old.plans new
+        → AreRefinedActsWritten setting before (Row row (Confirm s) ∷ OverNow s ∷ [])
+        (controller_settling_acts (current_plan_touched new) (at_switch s after_over old.marks) new.marks) new
         (piece setting before row (Confirm s)) }
 {}
 
@@ -85,21 +85,21 @@ pub fn controllers_confirm()
 /// that after what the switch itself sends again, or `Nothing` if both send nothing.
 pub fn controllers_resend()
     ensures messages { (setting : Setting) (journal : List Item) (s : ℕ)
-        (controller : ControllerValue) → HaveCauses (HasItemCause setting) [] journal
+        (controller : ControllerValue) → JournalItemsHaveCauses (HasControlItemCause setting) [] journal
         → IsControllerOf setting journal controller → s < length controller.marks.switches
-        → resend_acts controller s ≡ map Post (resent_by_controller setting journal s) }
+        → resend_acts controller s ≡ map Post (journal_resent_by_controller setting journal s) }
     ensures nothing { (setting : Setting) (before : List Item) (row s : ℕ)
-        (controller : ControllerValue) → HaveCauses (HasItemCause setting) [] before
+        (controller : ControllerValue) → JournalItemsHaveCauses (HasControlItemCause setting) [] before
         → IsControllerOf setting before controller → s < length controller.marks.switches
-        → acts_of_resend setting (before ++ Row row (Resend s) ∷ []) s controller ≡ []
-        → AreActsWritten setting before (Row row (Resend s) ∷ Nothing ∷ []) [] controller
+        → refined_resend_acts setting (before ++ Row row (Resend s) ∷ []) s controller ≡ []
+        → AreRefinedActsWritten setting before (Row row (Resend s) ∷ Nothing ∷ []) [] controller
         (piece setting before row (Resend s)) }
     ensures some { (setting : Setting) (before : List Item) (row s : ℕ)
-        (controller : ControllerValue) → HaveCauses (HasItemCause setting) [] before
+        (controller : ControllerValue) → JournalItemsHaveCauses (HasControlItemCause setting) [] before
         → IsControllerOf setting before controller → s < length controller.marks.switches
-        → acts_of_resend setting (before ++ Row row (Resend s) ∷ []) s controller ≢ []
-        → AreActsWritten setting before (Row row (Resend s) ∷ [])
-        (acts_of_resend setting (before ++ Row row (Resend s) ∷ []) s controller) controller
+        → refined_resend_acts setting (before ++ Row row (Resend s) ∷ []) s controller ≢ []
+        → AreRefinedActsWritten setting before (Row row (Resend s) ∷ [])
+        (refined_resend_acts setting (before ++ Row row (Resend s) ∷ []) s controller) controller
         (piece setting before row (Resend s)) }
 {}
 
@@ -107,12 +107,12 @@ pub fn controllers_resend()
 /// except for a delivery to it, an update and a confirmation.
 pub fn others_leave_controllers()
     ensures items { (setting : Setting) (before items : List Item) (controller : ControllerValue)
-        → HaveCauses (HasItemCause setting) [] before
+        → JournalItemsHaveCauses (HasControlItemCause setting) [] before
         → NoneConcern concerns_controller before items
         → IsControllerOf setting before controller
         → IsControllerOf setting (before ++ items) controller }
     ensures steps { (setting : Setting) (before : List Item) (row : ℕ) (step : Step)
-        (controller : ControllerValue) → HaveCauses (HasItemCause setting) [] before
+        (controller : ControllerValue) → JournalItemsHaveCauses (HasControlItemCause setting) [] before
         → IsFalse (asks_controller before step) → IsControllerOf setting before controller
         → IsControllerOf setting (before ++ piece setting before row step) controller }
 {}
@@ -120,11 +120,11 @@ pub fn others_leave_controllers()
 /// The acts of a list write their items in order, and messages as acts write that they are sent.
 pub fn acts_write_in_turn()
     ensures parts { (journal : List Item) (first later : List Act)
-        → acts_written journal (first ++ later)
-        ≡ acts_written journal first ++ acts_written (journal ++ acts_written journal first)
+        → refined_acts_written journal (first ++ later)
+        ≡ refined_acts_written journal first ++ refined_acts_written (journal ++ refined_acts_written journal first)
         later }
     ensures messages { (messages : List Message) (journal : List Item)
-        → acts_written journal (map Post messages) ≡ send_items journal messages }
+        → refined_acts_written journal (map Post messages) ≡ send_items journal messages }
 {}
 
 /// A packet enters at a switch that is as the journal says: the call may be made, and its result
@@ -150,5 +150,5 @@ pub fn messages_are_kept()
 /// its receiver suits its body: so it has an encoding, which is short enough for frames.
 pub fn messages_have_spellings()
     ensures { (setting : Setting) (journal : List Item) → IsSetting setting
-        → IsReached setting journal → AreMessagesSpelled journal }
+        → IsJournalReached setting journal → AreRefinedMessagesSpelled journal }
 {}

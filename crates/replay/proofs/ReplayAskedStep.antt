@@ -1,10 +1,10 @@
 -- The step that an event asks for next: it may be played, and leaves the event fewer to ask for.
 use Rattle.std.proofs.Common.{◌++◌, ◌+◌, ◌-◌, ◌<◌, ◌^◌, ◌≡◌, ◌≤◌, Bool, List, None, Option, Some, arith, false, length, option_map, refl, subst, sym, true, ℕ}
-use Rattle.update_machine.specs.Exports.{Deliver, Drain, Event, Flush, HasRoom, Hop, IsReached, IsSetting, Item, One, Packet, Setting, Step, next_packet, next_travelling, next_waiting, piece}
+use Rattle.update_machine.specs.Exports.{Deliver, Drain, Event, Flush, HasRoom, Hop, IsJournalReached, IsSetting, Item, One, Packet, Setting, Step, journal_next_packet, next_travelling, next_waiting, piece}
 use Rattle.steps.specs.Exports.{IsEvent, IsStep, max_events}
-use Rattle.packet_laws.specs.Exports.{drain_left}
-use Rattle.world.specs.Exports.{RefinesJournal, WorldValue, comes_in, world_setting_at}
-use Rattle.replay.specs.Playing.{brought_in_by_event, next_step}
+use Rattle.packet_laws.specs.Exports.{packet_drain_left}
+use Rattle.world.specs.Exports.{WorldRefinesJournal, WorldValue, comes_in, world_setting_at}
+use Rattle.replay.specs.Playing.{replay_event_brings_in, replay_next_step}
 use Rattle.replay.proofs.ReplaySmallNumbers.{least_is_packet, least_is_small}
 use Rattle.replay.proofs.ReplayedWorld.{reached_of, tie_of}
 
@@ -25,14 +25,14 @@ abbrev pub steps_left : Event → Bool → List Item → ℕ
 steps_left (One step) false journal = 1
 steps_left (One step) true journal = 0
 steps_left Flush is_begun journal = flush_left (next_waiting journal)
-steps_left Drain is_begun journal = drain_left journal
+steps_left Drain is_begun journal = packet_drain_left journal
 
 -- ---- a step that is asked for
 
 pub record Asked (setting : Setting) (row : ℕ) (event : Event) (is_begun : Bool)
     (journal : List Item) (step : Step) : Type 0 where
   pub may : IsEvent setting.net (length setting.files) event
-      → next_packet journal ≤ max_events + 1 → HasRoom journal
+      → journal_next_packet journal ≤ max_events + 1 → HasRoom journal
       → IsStep setting.net (length setting.files) step
   -- it is the first that may bring one in
   pub none : brought_so_far event is_begun ≡ 0
@@ -54,8 +54,8 @@ found_by make (Some number) step is = record { number = number; is = refl; made 
 -- the laws by which drains and flushes end
 abbrev pub DrainsEnd : Type 0
 DrainsEnd = (setting : Setting) (journal : List Item) (row i : ℕ) → IsSetting setting
-    → IsReached setting journal → next_travelling journal ≡ Some i
-    → drain_left (journal ++ piece setting journal row (Hop i)) < drain_left journal
+    → IsJournalReached setting journal → next_travelling journal ≡ Some i
+    → packet_drain_left (journal ++ piece setting journal row (Hop i)) < packet_drain_left journal
 
 abbrev pub DeliveriesRise : Type 0
 DeliveriesRise = (setting : Setting) (journal : List Item) (row n m : ℕ)
@@ -70,8 +70,8 @@ nearer None n small rises = omega (arith, small)
 nearer (Some m) n small rises = omega (arith, small, rises m refl)
 
 pub asked : DrainsEnd → DeliveriesRise → (world : WorldValue) (row : ℕ) (event : Event)
-    (is_begun : Bool) (step : Step) → RefinesJournal world
-    → next_step event is_begun world.journal ≡ Some step
+    (is_begun : Bool) (step : Step) → WorldRefinesJournal world
+    → replay_next_step event is_begun world.journal ≡ Some step
     → Asked (world_setting_at world) row event is_begun world.journal step
 asked hops rise world row (One own) true step refines is = cc is
 asked hops rise world row (One own) false step refines is = let same : own ≡ step = cc is in
@@ -112,7 +112,7 @@ none_yet Drain = refl
 
 -- where it asks for no further step
 pub brought_all : (event : Event) (is_begun : Bool) (journal : List Item)
-    → next_step event is_begun journal ≡ None → brought_so_far event is_begun ≡ brought_in_by_event event
+    → replay_next_step event is_begun journal ≡ None → brought_so_far event is_begun ≡ replay_event_brings_in event
 brought_all (One own) false journal is = cc is
 brought_all (One own) true journal is = refl
 brought_all Flush is_begun journal is = refl
@@ -122,7 +122,7 @@ comes_few : (step : Step) → comes_in step ≤ 1
 comes_few (Packet switch header) = omega arith
 comes_few _ = omega arith
 
-pub brought_few : (event : Event) → brought_in_by_event event ≤ 1
+pub brought_few : (event : Event) → replay_event_brings_in event ≤ 1
 brought_few (One step) = comes_few step
 brought_few Flush = omega arith
 brought_few Drain = omega arith

@@ -3,10 +3,10 @@ use Rattle.std.proofs.Common.{[], ◌++◌, ◌-◌, ◌∙◌, ◌≡◌, List,
 use Rattle.base.proofs.Exports.{drop-append_seam, flat_map-append}
 use Rattle.update_machine.specs.Exports.{Item}
 use Rattle.meters.specs.Exports.{BoardValue, PortLeavings, Seen, board_after}
-use Rattle.replay.specs.Leavings.{MetersKeepUp, MetersStayOn, left_by, left_in}
+use Rattle.replay.specs.Leavings.{ReplayMetersKeepUp, ReplayMetersStayOn, replay_left_by, left_in}
 
 left_append : (here items : List Item) → left_in here ++ left_in items ≡ left_in (here ++ items)
-left_append here items = sym (flat_map-append left_by here items)
+left_append here items = sym (flat_map-append replay_left_by here items)
 
 -- what follows the items that were there before
 pub rest_is : (here after before items : List Item) → before ≡ here → items ≡ after
@@ -17,8 +17,8 @@ rest_is here after before items old is = take_all (length items - length before)
 
 -- they keep up with a step that wrote some items, which they noted
 pub keep_up_next : (start here after items noted : List Item) (old now new : BoardValue Seen)
-    → after ≡ here ++ items → MetersKeepUp start here old now → MetersStayOn (left_in noted) now new
-    → noted ≡ drop (length here) after → MetersKeepUp start after old new
+    → after ≡ here ++ items → ReplayMetersKeepUp start here old now → ReplayMetersStayOn (left_in noted) now new
+    → noted ≡ drop (length here) after → ReplayMetersKeepUp start after old new
 keep_up_next start here after items noted old now new written keep stay own =
     let own_items : noted ≡ items =
     own ∙ ap (drop (length here)) written ∙ drop-append_seam here items in
@@ -36,7 +36,7 @@ keep_up_next start here after items noted old now new written keep stay own =
 
 -- while nothing happens
 pub keep_up_none : (journal : List Item) (board : BoardValue Seen)
-    → MetersKeepUp journal journal board board
+    → ReplayMetersKeepUp journal journal board board
 keep_up_none journal board = record {
   more = [];
   left = sym (append-nil (left_in journal));
@@ -46,7 +46,7 @@ keep_up_none journal board = record {
 
 -- where the old board was the one of a journal, the new one is the one of the longer journal
 pub kept_up : (before after : List Item) (old new : BoardValue Seen) (ports : ℕ)
-    (meters : List Seen) → MetersKeepUp before after old new
+    (meters : List Seen) → ReplayMetersKeepUp before after old new
     → old ≡ board_after ports (left_in before) meters
     → new ≡ board_after ports (left_in after) meters
 kept_up before after old new ports meters keep is =

@@ -1,16 +1,16 @@
 -- Plays that go on by the steps of events.
 use Rattle.std.proofs.Common.{[], ◌++◌, ◌+◌, ◌<◌, ◌∙◌, ◌∷◌, ◌≡◌, List, None, Option, Some, add-one, ap, append_assoc, drop, drop-cons, get_or, inl, inr, length, refl, subst, sym, ℕ}
-use Rattle.update_machine.specs.Exports.{AreFirstSteps, AreSteps, Event, JournalsHaveRoom, IsFull, IsPlay, Item, Setting, StepOfRow, journal_after_steps}
+use Rattle.update_machine.specs.Exports.{AreJournalFirstSteps, AreMachineSteps, Event, MachineJournalsHaveRoom, IsJournalFull, IsMachinePlay, Item, Setting, StepOfRow, journal_after_steps}
 use Rattle.update_machine.proofs.Exports.{after_append, rooms_append}
-use Rattle.replay.specs.Playing.{EventHappens, EventStopsWithin}
+use Rattle.replay.specs.Playing.{ReplayEventHappens, EventStopsWithin}
 
 -- the journal is what stood before and the pieces of all steps of these events, of which the first
 -- has this row; each began with room
 pub record GoesOn (setting : Setting) (before : List Item) (row : ℕ) (events : List Event)
     (journal : List Item) : Type 0 where
   pub steps : List StepOfRow
-  pub allowed : AreSteps setting row events before steps
-  pub room : JournalsHaveRoom setting before steps
+  pub allowed : AreMachineSteps setting row events before steps
+  pub room : MachineJournalsHaveRoom setting before steps
   pub written : journal ≡ journal_after_steps setting before steps
 
 -- the same of first steps, in front of a step of a row that would begin full
@@ -18,10 +18,10 @@ pub record StopsOn (setting : Setting) (before : List Item) (row : ℕ) (events 
     (journal : List Item) (at : ℕ) : Type 0 where
   pub steps : List StepOfRow
   pub next : StepOfRow
-  pub allowed : AreFirstSteps setting row events before (steps ++ next ∷ [])
+  pub allowed : AreJournalFirstSteps setting row events before (steps ++ next ∷ [])
   pub written : journal ≡ journal_after_steps setting before steps
-  pub room : JournalsHaveRoom setting before steps
-  pub full : IsFull journal
+  pub room : MachineJournalsHaveRoom setting before steps
+  pub full : IsJournalFull journal
   pub of_row : next.row ≡ at
 
 -- a play of these events goes on from this journal to that one
@@ -32,10 +32,10 @@ PlaysOn setting before row events journal (Some at) = StopsOn setting before row
 -- ---- one more event
 
 room_on : (setting : Setting) (before after : List Item) (mine rest : List StepOfRow)
-    → after ≡ journal_after_steps setting before mine → JournalsHaveRoom setting before mine
-    → JournalsHaveRoom setting after rest → JournalsHaveRoom setting before (mine ++ rest)
+    → after ≡ journal_after_steps setting before mine → MachineJournalsHaveRoom setting before mine
+    → MachineJournalsHaveRoom setting after rest → MachineJournalsHaveRoom setting before (mine ++ rest)
 room_on setting before after mine rest written room more = rooms_append setting before mine rest
-    room (subst (λ journal. JournalsHaveRoom setting journal rest) written more)
+    room (subst (λ journal. MachineJournalsHaveRoom setting journal rest) written more)
 
 written_on : (setting : Setting) (before after whole : List Item) (mine rest : List StepOfRow)
     → after ≡ journal_after_steps setting before mine → whole ≡ journal_after_steps setting after rest
@@ -45,7 +45,7 @@ written_on setting before after whole mine rest written more =
     ∙ sym (after_append setting before mine rest)
 
 plays_on : (setting : Setting) (before after whole : List Item) (row : ℕ) (event : Event)
-    (events : List Event) (stop : Option ℕ) → EventHappens setting row event before after
+    (events : List Event) (stop : Option ℕ) → ReplayEventHappens setting row event before after
     → PlaysOn setting after (row + 1) events whole stop
     → PlaysOn setting before row (event ∷ events) whole stop
 plays_on setting before after whole row event events None happens rest = record {
@@ -55,7 +55,7 @@ plays_on setting before after whole row event events None happens rest = record 
     rest.steps,
     record { split = refl },
     happens.all,
-    subst (λ journal. AreSteps setting (row + 1) events journal rest.steps) happens.written
+    subst (λ journal. AreMachineSteps setting (row + 1) events journal rest.steps) happens.written
         rest.allowed,
   );
   room = room_on setting before after happens.steps rest.steps happens.written happens.room
@@ -71,7 +71,7 @@ plays_on setting before after whole row event events (Some at) happens rest = re
     rest.steps ++ rest.next ∷ [],
     record { split = append_assoc happens.steps rest.steps (rest.next ∷ []) },
     happens.all,
-    subst (λ journal. AreFirstSteps setting (row + 1) events journal (rest.steps ++ rest.next ∷ []))
+    subst (λ journal. AreJournalFirstSteps setting (row + 1) events journal (rest.steps ++ rest.next ∷ []))
         happens.written rest.allowed,
   );
   written = written_on setting before after whole happens.steps rest.steps happens.written
@@ -85,7 +85,7 @@ plays_on setting before after whole row event events (Some at) happens rest = re
 -- the next event is before those that are left
 pub plays_on_by : (setting : Setting) (before after whole : List Item) (row : ℕ)
     (events : List Event) (i : ℕ) (d : Event) (stop : Option ℕ) → i < length events
-    → EventHappens setting row (get_or events i d) before after
+    → ReplayEventHappens setting row (get_or events i d) before after
     → PlaysOn setting after (row + 1) (drop (i + 1) events) whole stop
     → PlaysOn setting before row (drop i events) whole stop
 plays_on_by setting before after whole row events i d stop within happens rest =
@@ -120,7 +120,7 @@ stops_by setting before after row events i d within stops =
 -- ---- from the start
 
 pub plays_from_start : (setting : Setting) (events : List Event) (whole : List Item)
-    (stop : Option ℕ) → PlaysOn setting [] 1 events whole stop → IsPlay setting events whole stop
+    (stop : Option ℕ) → PlaysOn setting [] 1 events whole stop → IsMachinePlay setting events whole stop
 plays_from_start setting events whole None rest = record {
   answers = record { steps = rest.steps; allowed = rest.allowed; written = rest.written };
   room = rest.room;

@@ -1,9 +1,9 @@
 -- An event that takes its steps one after another.
 use Rattle.std.proofs.Common.{[], ◌++◌, ◌∙◌, ◌∷◌, ◌≡◌, ◌⊎◌, Bool, List, None, Option, Some, ap, append-nil, append_assoc, false, inl, inr, refl, subst, sym, true, ℕ}
-use Rattle.update_machine.specs.Exports.{AreAllEventSteps, AreFirstStepsOf, AreFirstEventSteps, AreStepsOf, Drain, Event, Flush, HasRoom, JournalsHaveRoom, IsFull, Item, One, Setting, Step, StepOfRow, journal_after_steps, next_delivery, next_hop, piece}
+use Rattle.update_machine.specs.Exports.{AreAllMachineEventSteps, AreFirstStepsOf, AreFirstMachineEventSteps, AreMachineStepsOf, Drain, Event, Flush, HasRoom, MachineJournalsHaveRoom, IsJournalFull, Item, One, Setting, Step, StepOfRow, journal_after_steps, journal_next_delivery, journal_next_hop, piece}
 use Rattle.update_machine.proofs.Exports.{after_append, rooms_append}
 use Rattle.world_log.specs.Exports.{IsLogPart}
-use Rattle.replay.specs.Playing.{BeginsEvent, EventHappens, EventStopsWithin, next_step}
+use Rattle.replay.specs.Playing.{BeginsReplayEvent, ReplayEventHappens, EventStopsWithin, replay_next_step}
 
 abbrev pub is_some_step : List StepOfRow → Bool
 is_some_step [] = false
@@ -14,7 +14,7 @@ pub record Took (setting : Setting) (row : ℕ) (event : Event) (is_begun : Bool
     (start here : List Item) : Type 0 where
   pub steps : List StepOfRow
   pub first : AreFirstStepsOf setting row event start steps
-  pub room : JournalsHaveRoom setting start steps
+  pub room : MachineJournalsHaveRoom setting start steps
   pub written : here ≡ journal_after_steps setting start steps
   pub items : List Item
   pub grown : here ≡ start ++ items
@@ -44,9 +44,9 @@ abbrev one : ℕ → Step → StepOfRow
 one row step = record { row = row; step = step }
 
 some_on : (setting : Setting) (next : List Item → Option Step) (row : ℕ) (start : List Item)
-    (steps : List StepOfRow) (step : Step) → AreFirstEventSteps setting next row start steps
+    (steps : List StepOfRow) (step : Step) → AreFirstMachineEventSteps setting next row start steps
     → next (journal_after_steps setting start steps) ≡ Some step
-    → AreFirstEventSteps setting next row start (steps ++ one row step ∷ [])
+    → AreFirstMachineEventSteps setting next row start (steps ++ one row step ∷ [])
 some_on setting next row start [] step some is = (refl, is, tt)
 some_on setting next row start (x ∷ steps) step some is = (
   some.0,
@@ -57,16 +57,16 @@ some_on setting next row start (x ∷ steps) step some is = (
 first_on : (setting : Setting) (row : ℕ) (event : Event) (is_begun : Bool) (start : List Item)
     (steps : List StepOfRow) (step : Step) → AreFirstStepsOf setting row event start steps
     → is_begun ≡ is_some_step steps
-    → next_step event is_begun (journal_after_steps setting start steps) ≡ Some step
+    → replay_next_step event is_begun (journal_after_steps setting start steps) ≡ Some step
     → AreFirstStepsOf setting row event start (steps ++ one row step ∷ [])
 first_on setting row (One own) false start [] step first begun is =
     let same : own ≡ step = cc is in inr (ap (λ s. one row s ∷ []) (sym same))
 first_on setting row (One own) true start steps step first begun is = absurd (cc is)
 first_on setting row (One own) false start (x ∷ steps) step first begun is = absurd (cc begun)
 first_on setting row Flush is_begun start steps step first begun is =
-    some_on setting next_delivery row start steps step first is
+    some_on setting journal_next_delivery row start steps step first is
 first_on setting row Drain is_begun start steps step first begun is =
-    some_on setting next_hop row start steps step first is
+    some_on setting journal_next_hop row start steps step first is
 
 begun_on : (steps : List StepOfRow) (step : StepOfRow) → true ≡ is_some_step (steps ++ step ∷ [])
 begun_on [] step = refl
@@ -75,11 +75,11 @@ begun_on (x ∷ steps) step = refl
 -- with the step that it asks for next, it took first steps too
 with_next : (setting : Setting) (row : ℕ) (event : Event) (is_begun : Bool) (start here : List Item)
     (step : Step) → (took : Took setting row event is_begun start here)
-    → next_step event is_begun here ≡ Some step
+    → replay_next_step event is_begun here ≡ Some step
     → AreFirstStepsOf setting row event start (took.steps ++ one row step ∷ [])
 with_next setting row event is_begun start here step took is =
     first_on setting row event is_begun start took.steps step took.first took.begun
-    (subst (λ journal. next_step event is_begun journal ≡ Some step) took.written is)
+    (subst (λ journal. replay_next_step event is_begun journal ≡ Some step) took.written is)
 
 -- behind which the journal is
 after_next : (setting : Setting) (row : ℕ) (event : Event) (is_begun : Bool)
@@ -92,7 +92,7 @@ after_next setting row event is_begun start here step took =
 
 pub took_next : (setting : Setting) (row : ℕ) (event : Event) (is_begun : Bool)
     (start here after : List Item) (step : Step) → Took setting row event is_begun start here
-    → next_step event is_begun here ≡ Some step → HasRoom here
+    → replay_next_step event is_begun here ≡ Some step → HasRoom here
     → after ≡ here ++ piece setting here row step → Took setting row event true start after
 took_next setting row event is_begun start here after step took is room written = record {
   steps = took.steps ++ one row step ∷ [];
@@ -109,7 +109,7 @@ took_next setting row event is_begun start here after step took is room written 
 -- whole steps begin the event too
 pub begins_whole : (setting : Setting) (row : ℕ) (event : Event) (is_begun : Bool)
     (start here : List Item) → Took setting row event is_begun start here
-    → BeginsEvent setting row event start here
+    → BeginsReplayEvent setting row event start here
 begins_whole setting row event is_begun start here took = record {
   steps = took.steps;
   first = took.first;
@@ -122,7 +122,7 @@ begins_whole setting row event is_begun start here took = record {
 -- in front of a step that would begin full
 pub stops_next : (setting : Setting) (row : ℕ) (event : Event) (is_begun : Bool)
     (start here : List Item) (step : Step) → Took setting row event is_begun start here
-    → next_step event is_begun here ≡ Some step → IsFull here
+    → replay_next_step event is_begun here ≡ Some step → IsJournalFull here
     → EventStopsWithin setting row event start here
 stops_next setting row event is_begun start here step took is full = record {
   steps = took.steps;
@@ -137,8 +137,8 @@ stops_next setting row event is_begun start here step took is full = record {
 -- within a step
 pub begins_next : (setting : Setting) (row : ℕ) (event : Event) (is_begun : Bool)
     (start here after : List Item) (step : Step) → Took setting row event is_begun start here
-    → next_step event is_begun here ≡ Some step
-    → IsLogPart here (piece setting here row step) after → BeginsEvent setting row event start after
+    → replay_next_step event is_begun here ≡ Some step
+    → IsLogPart here (piece setting here row step) after → BeginsReplayEvent setting row event start after
 begins_next setting row event is_begun start here after step took is part = record {
   steps = took.steps ++ one row step ∷ [];
   first = with_next setting row event is_begun start here step took is;
@@ -154,8 +154,8 @@ begins_next setting row event is_begun start here after step took is part = reco
 -- ---- behind its last step
 
 all_of : (setting : Setting) (next : List Item → Option Step) (row : ℕ) (start : List Item)
-    (steps : List StepOfRow) → AreFirstEventSteps setting next row start steps
-    → next (journal_after_steps setting start steps) ≡ None → AreAllEventSteps setting next row start steps
+    (steps : List StepOfRow) → AreFirstMachineEventSteps setting next row start steps
+    → next (journal_after_steps setting start steps) ≡ None → AreAllMachineEventSteps setting next row start steps
 all_of setting next row start [] some is = is
 all_of setting next row start (x ∷ steps) some is = (
   some.0,
@@ -171,23 +171,23 @@ one_of step steps begun (inr is) = is
 
 all_on : (setting : Setting) (row : ℕ) (event : Event) (is_begun : Bool) (start : List Item)
     (steps : List StepOfRow) → AreFirstStepsOf setting row event start steps
-    → is_begun ≡ is_some_step steps → next_step event is_begun (journal_after_steps setting start steps)
-    ≡ None → AreStepsOf setting row event start steps
+    → is_begun ≡ is_some_step steps → replay_next_step event is_begun (journal_after_steps setting start steps)
+    ≡ None → AreMachineStepsOf setting row event start steps
 all_on setting row (One own) false start steps first begun is = absurd (cc is)
 all_on setting row (One own) true start steps first begun is =
     one_of (one row own) steps begun first
 all_on setting row Flush is_begun start steps first begun is =
-    all_of setting next_delivery row start steps first is
+    all_of setting journal_next_delivery row start steps first is
 all_on setting row Drain is_begun start steps first begun is =
-    all_of setting next_hop row start steps first is
+    all_of setting journal_next_hop row start steps first is
 
 pub happens_whole : (setting : Setting) (row : ℕ) (event : Event) (is_begun : Bool)
     (start here : List Item) → Took setting row event is_begun start here
-    → next_step event is_begun here ≡ None → EventHappens setting row event start here
+    → replay_next_step event is_begun here ≡ None → ReplayEventHappens setting row event start here
 happens_whole setting row event is_begun start here took is = record {
   steps = took.steps;
   all = all_on setting row event is_begun start took.steps took.first took.begun
-      (subst (λ journal. next_step event is_begun journal ≡ None) took.written is);
+      (subst (λ journal. replay_next_step event is_begun journal ≡ None) took.written is);
   room = took.room;
   written = took.written;
 }

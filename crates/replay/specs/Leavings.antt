@@ -6,33 +6,33 @@ use Rattle.meters.specs.Exports.{BoardValue, PortLeavings, Seen, board_after, ke
 use Rattle.net_file.specs.Exports.{port_mask}
 
 -- the leaving that an item records, with its port; none for other items
-abbrev pub left_by : Item → PortLeavings
-left_by (item.Left packet port leaving) = (port, leaving) ∷ []
-left_by _ = []
+abbrev pub replay_left_by : Item → PortLeavings
+replay_left_by (item.Left packet port leaving) = (port, leaving) ∷ []
+replay_left_by _ = []
 
 -- the leavings of a journal, in order, each with its port
 abbrev pub left_in : List Item → PortLeavings
-left_in items = flat_map left_by items
+left_in items = flat_map replay_left_by items
 
 -- if the old board is the one after some leavings, the new one is the one after these and more
-abbrev pub MetersStayOn : PortLeavings → BoardValue Seen → BoardValue Seen → Type 0
-MetersStayOn more old new =
+abbrev pub ReplayMetersStayOn : PortLeavings → BoardValue Seen → BoardValue Seen → Type 0
+ReplayMetersStayOn more old new =
     (ports : ℕ) (left : PortLeavings) (meters : List Seen) → old ≡ board_after ports left meters
     → new ≡ board_after ports (left ++ more) meters
 
 -- the new board is the one after what left between the one journal and the other, whatever the
 -- meters of the old one recorded before
-pub record MetersKeepUp (before after : List Item) (old new : BoardValue Seen) : Type 0 where
+pub record ReplayMetersKeepUp (before after : List Item) (old new : BoardValue Seen) : Type 0 where
   pub more : PortLeavings
   pub left : left_in after ≡ left_in before ++ more
-  pub stay : MetersStayOn more old new
+  pub stay : ReplayMetersStayOn more old new
 
 -- the new board keeps up with the longer journal, except for a part at its end
-pub record KeepUpWithin (before after : List Item) (old new : BoardValue Seen) : Type 0 where
+pub record ReplayMetersKeepUpWithin (before after : List Item) (old new : BoardValue Seen) : Type 0 where
   pub whole : List Item
   pub written : List Item
   pub longer : after ≡ whole ++ written
-  pub kept : MetersKeepUp before whole old new
+  pub kept : ReplayMetersKeepUp before whole old new
 
 -- the meters that stay when the packets of this journal have left
 abbrev pub kept_by : Net → List Item → List Seen → List Seen

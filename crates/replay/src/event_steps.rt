@@ -3,8 +3,8 @@ ghost use Rattle.meters.specs.Gone.{seen_board};
 ghost use Rattle.steps.specs.Steps.{IsEvent};
 ghost use Rattle.steps.specs.Limits.{max_events};
 ghost use Rattle.world.specs.NoStep.{no_world_step};
-ghost use Rattle.replay.specs.Leavings.{MetersKeepUp, KeepUpWithin};
-ghost use Rattle.replay.specs.Playing.{BeginsEvent, EventHappens, EventStopsWithin, brought_in_by_event, next_step};
+ghost use Rattle.replay.specs.Leavings.{ReplayMetersKeepUp, ReplayMetersKeepUpWithin};
+ghost use Rattle.replay.specs.Playing.{BeginsReplayEvent, ReplayEventHappens, EventStopsWithin, replay_event_brings_in, replay_next_step};
 ghost use Rattle.world.specs.State.{world_setting_at};
 
 use crate::noting::note_left_packets;
@@ -35,19 +35,19 @@ pub fn take_event_steps<M: Meter>(
     ensures able { OnOk result (world.new.is_spent ≡ false) }
     ensures able_full { IsErrOf result no_world_step → world.new.is_spent ≡ false }
     ensures packets { OnOk result (world.new.packets
-        ≡ world.old.packets + brought_in_by_event event.now) }
+        ≡ world.old.packets + replay_event_brings_in event.now) }
     ensures packets_full { IsErrOf result no_world_step → world.new.packets ≡ world.old.packets }
-    ensures happens { OnOk result (EventHappens (world_setting_at world.old) row event.now world.old.journal
+    ensures happens { OnOk result (ReplayEventHappens (world_setting_at world.old) row event.now world.old.journal
         world.new.journal) }
     ensures stops { IsErrOf result no_world_step → EventStopsWithin (world_setting_at world.old) row event.now
         world.old.journal world.new.journal }
-    ensures part { OnErr result (BeginsEvent (world_setting_at world.old) row event.now world.old.journal
+    ensures part { OnErr result (BeginsReplayEvent (world_setting_at world.old) row event.now world.old.journal
         world.new.journal) }
-    ensures kept { OnOk result (MetersKeepUp world.old.journal world.new.journal
+    ensures kept { OnOk result (ReplayMetersKeepUp world.old.journal world.new.journal
         (seen_board M.seen board.old) (seen_board M.seen board.new)) }
-    ensures kept_full { IsErrOf result no_world_step → MetersKeepUp world.old.journal world.new.journal
+    ensures kept_full { IsErrOf result no_world_step → ReplayMetersKeepUp world.old.journal world.new.journal
         (seen_board M.seen board.old) (seen_board M.seen board.new) }
-    ensures kept_part { OnErr result (world.new.is_spent ≡ true → KeepUpWithin world.old.journal
+    ensures kept_part { OnErr result (world.new.is_spent ≡ true → ReplayMetersKeepUpWithin world.old.journal
         world.new.journal (seen_board M.seen board.old) (seen_board M.seen board.new)) }
 {
     let mut is_begun = false;
@@ -66,7 +66,7 @@ pub fn take_event_steps<M: Meter>(
 // The next step of the event; `None` if it has taken all its steps.
 fn next_of(world: &World, event: &Event, is_begun: bool) -> Option<Step>
     requires { world.now.is_spent ≡ false }
-    ensures { result ≡ next_step event.now is_begun world.now.journal }
+    ensures { result ≡ replay_next_step event.now is_begun world.now.journal }
 {
     match event {
         Event::One(_) if is_begun => None,

@@ -1,6 +1,6 @@
 //! The plan that is in force after a play.
 ghost use Rattle.std.specs.Prelude.{◌≡◌, false, IfOk};
-ghost use Rattle.replay.specs.InForce.{IsPlanInForce};
+ghost use Rattle.replay.specs.InForce.{IsReplayPlanInForce};
 ghost use Rattle.world.specs.State.{world_setting_at};
 
 use control_laws::{marks_are_bounded, versions_are_planned};
@@ -14,7 +14,7 @@ use world::World;
 /// Only out of memory.
 pub fn plan_in_force(world: &World) -> Result<Plan, AllocError>
     requires { world.now.is_spent ≡ false }
-    ensures { IfOk result (IsPlanInForce (world_setting_at world.now) world.now.journal) }
+    ensures { IfOk result (IsReplayPlanInForce (world_setting_at world.now) world.now.journal) }
 {
     world.refines();
     marks_are_bounded();

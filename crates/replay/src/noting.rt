@@ -1,7 +1,7 @@
 //! Packets that left are recorded by the meters of their ports.
 ghost use Rattle.std.specs.Prelude.{OnOk};
 ghost use Rattle.meters.specs.Gone.{seen_board};
-ghost use Rattle.replay.specs.Leavings.{MetersStayOn, left_in};
+ghost use Rattle.replay.specs.Leavings.{ReplayMetersStayOn, left_in};
 
 use journal::Item;
 use meters::{Board, Meter};
@@ -13,7 +13,7 @@ use std::alloc::AllocError;
 /// Only out of memory, in the board or in a meter.
 pub fn note_left_packets<M: Meter>(board: &mut Board<M>, items: &[Item]) -> Result<(), AllocError>
     ensures { OnOk result
-        (MetersStayOn (left_in items.now) (seen_board M.seen board.old) (seen_board M.seen board.new)) }
+        (ReplayMetersStayOn (left_in items.now) (seen_board M.seen board.old) (seen_board M.seen board.new)) }
 {
     for item in items {
         if let Item::Left { port, leaving, .. } = item {

@@ -3,16 +3,16 @@ ghost use Rattle.meters.specs.Gone.{gone_records};
 ghost use Rattle.meters.specs.Meters.{kept_meters};
 ghost use Rattle.net_file.specs.Exports.{IsNet, port_mask};
 ghost use Rattle.packet_laws.specs.Exports.{HeldOnTheWay};
-ghost use Rattle.partition.specs.Plan.{plan_of};
-ghost use Rattle.policy_rules.specs.Exports.{PolicyFileGivesOnly, IsPolicyFile};
+ghost use Rattle.partition.specs.Plan.{partition_plan_of};
+ghost use Rattle.policy_rules.specs.Exports.{PolicyRulesGiveOnly, IsPolicyOrAmendment};
 ghost use Rattle.steps.specs.Steps.{IsEvent};
 ghost use Rattle.steps.specs.Limits.{max_events};
-ghost use Rattle.update_machine.specs.Exports.{IsPlay, NamesOwnPort, setting_of};
+ghost use Rattle.update_machine.specs.Exports.{IsMachinePlay, NamesSettingPort, setting_of};
 ghost use Rattle.world.specs.Files.{first_policy};
 ghost use Rattle.world.specs.State.{IsWorldBegun, world_setting_at};
-ghost use Rattle.replay.specs.InForce.{IsPlanInForce};
+ghost use Rattle.replay.specs.InForce.{IsReplayPlanInForce};
 ghost use Rattle.replay.specs.Leavings.{left_in};
-ghost use Rattle.replay.specs.Playing.{IsPlanRefusal};
+ghost use Rattle.replay.specs.Playing.{IsReplayPlanRefusal};
 
 use crate::error::ReplayError;
 use crate::event_steps::take_event_steps;
@@ -61,13 +61,13 @@ pub fn replay<M: Meter>(
 ) -> Result<Played<M>, ReplayError>
     requires net { IsNet net.now }
     requires first { IsSome (first_policy files.items) }
-    requires sound { All IsPolicyFile files.items }
-    requires ports { All (PolicyFileGivesOnly (λ row. NamesOwnPort (setting_of net.now files.items)
+    requires sound { All IsPolicyOrAmendment files.items }
+    requires ports { All (PolicyRulesGiveOnly (λ row. NamesSettingPort (setting_of net.now files.items)
         row.action)) files.items }
     requires events { All (IsEvent net.now (length files.items)) events.now }
     requires few { length events.now ≤ max_events }
     ensures play { IfOk result (λ played.
-        IsPlay (setting_of net.now files.items) events.now played.journal played.full) }
+        IsMachinePlay (setting_of net.now files.items) events.now played.journal played.full) }
     ensures held { IfOk result (λ played.
         HeldOnTheWay (setting_of net.now files.items) played.journal) }
     ensures kept { IfOk result (λ played. map M.seen played.meters.items
@@ -77,11 +77,11 @@ pub fn replay<M: Meter>(
         ≡ gone_records (port_mask net.now.switches) (left_in played.journal)
         (map M.seen meters.items)) }
     ensures plan { IfOk result (λ played.
-        IsPlanInForce (setting_of net.now files.items) played.journal played.plan) }
+        IsReplayPlanInForce (setting_of net.now files.items) played.journal played.plan) }
     ensures planned { OnOk result
-        (IsOk (plan_of (unwrap_or (first_policy files.items) []) net.now)) }
+        (IsOk (partition_plan_of (unwrap_or (first_policy files.items) []) net.now)) }
     ensures refused { IfErr result
-        (IsPlanRefusal (plan_of (unwrap_or (first_policy files.items) []) net.now)) }
+        (IsReplayPlanRefusal (partition_plan_of (unwrap_or (first_policy files.items) []) net.now)) }
 {
     let world = World::begin(alloc, net, files)?;
     world.refines();
@@ -104,14 +104,14 @@ pub fn play<M: Meter>(
     requires events { All (IsEvent world.net (length world.files)) events.now }
     requires few { length events.now ≤ max_events }
     ensures play { IfOk result (λ played.
-        IsPlay (world_setting_at world) events.now played.journal played.full) }
+        IsMachinePlay (world_setting_at world) events.now played.journal played.full) }
     ensures held { IfOk result (λ played. HeldOnTheWay (world_setting_at world) played.journal) }
     ensures kept { IfOk result (λ played. map M.seen played.meters.items
         ≡ kept_meters ports (left_in played.journal) (map M.seen meters.items)) }
     ensures gone { IfOk result (λ played. played.gone
         ≡ gone_records ports (left_in played.journal) (map M.seen meters.items)) }
     ensures plan { IfOk result (λ played.
-        IsPlanInForce (world_setting_at world) played.journal played.plan) }
+        IsReplayPlanInForce (world_setting_at world) played.journal played.plan) }
 {
     world.refines();
     plays_held_on_the_way();

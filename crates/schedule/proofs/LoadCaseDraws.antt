@@ -5,7 +5,7 @@ use Rattle.five_tuple.specs.Exports.{IsHeader}
 use Rattle.policy_rules.specs.Exports.{IsFirstRepeat, has_priority}
 use Rattle.policy_rules.specs.declared.policy.Action.TheVariants.{Drop, Out}
 use Rattle.steps.specs.Exports.{IsEvent}
-use Rattle.schedule.specs.Case.{IsPlayableCase, CaseNamesPort, case_action_at, case_address_at, draw_state_after, draw_below, change_events, drop_draw, case_group_at, case_groups_from, header_drawn, packet_drawn, load_case, load_net, next_drawn, row_at, row_ends, rows_drawn}
+use Rattle.schedule.specs.Case.{IsPlayableCase, CaseNamesPort, case_action_at, case_address_at, draw_state_after, draw_below, change_events, drop_draw, case_group_at, case_groups_from, header_drawn, packet_drawn, load_case, load_case_net, next_drawn, row_at, row_ends, rows_drawn}
 use Rattle.schedule.proofs.LoadCaseNetworks.{load_net_sound, port_owned}
 use Rattle.policy_rules.specs.declared.policy.Row.{Row}
 use Rattle.steps.specs.declared.step.Event.TheVariants.{Drain, Flush, One}
@@ -84,38 +84,38 @@ header_sound x = record {
   address_fits : (x : ℕ) → case_address_at x < 2 ^ 32
   address_fits x = omega (arith, below_limit)
 
-group_may : (x : ℕ) → All (IsEvent load_net 2) (case_group_at x)
-group_may x = All-cons (IsEvent load_net 2) (One (packet_drawn x))
+group_may : (x : ℕ) → All (IsEvent load_case_net 2) (case_group_at x)
+group_may x = All-cons (IsEvent load_case_net 2) (One (packet_drawn x))
     (Drain ∷ Flush ∷ []) (below_limit 8 (next_drawn x) (omega arith), header_sound (next_drawn x))
-    (All-cons (IsEvent load_net 2) Drain (Flush ∷ []) tt
-    (All-cons (IsEvent load_net 2) Flush [] tt (All-nil (IsEvent load_net 2))))
+    (All-cons (IsEvent load_case_net 2) Drain (Flush ∷ []) tt
+    (All-cons (IsEvent load_case_net 2) Flush [] tt (All-nil (IsEvent load_case_net 2))))
 
-groups_may : (k x : ℕ) → All (IsEvent load_net 2) (case_groups_from k x).0
-groups_may zero x = All-nil (IsEvent load_net 2)
-groups_may (suc k) x = All-append (IsEvent load_net 2) (case_groups_from k x).0
+groups_may : (k x : ℕ) → All (IsEvent load_case_net 2) (case_groups_from k x).0
+groups_may zero x = All-nil (IsEvent load_case_net 2)
+groups_may (suc k) x = All-append (IsEvent load_case_net 2) (case_groups_from k x).0
     (case_group_at (case_groups_from k x).1) (groups_may k x) (group_may (case_groups_from k x).1)
 
-changes_may : All (IsEvent load_net 2) change_events
-changes_may = All-cons (IsEvent load_net 2) (One (step.Update 2))
+changes_may : All (IsEvent load_case_net 2) change_events
+changes_may = All-cons (IsEvent load_case_net 2) (One (step.Update 2))
     (Flush ∷ One (step.LinkDown 0 1) ∷ Flush ∷ []) (omega arith, omega arith)
-    (All-cons (IsEvent load_net 2) Flush (One (step.LinkDown 0 1) ∷ Flush ∷ []) tt
-    (All-cons (IsEvent load_net 2) (One (step.LinkDown 0 1)) (Flush ∷ []) refl
-    (All-cons (IsEvent load_net 2) Flush [] tt (All-nil (IsEvent load_net 2)))))
+    (All-cons (IsEvent load_case_net 2) Flush (One (step.LinkDown 0 1) ∷ Flush ∷ []) tt
+    (All-cons (IsEvent load_case_net 2) (One (step.LinkDown 0 1)) (Flush ∷ []) refl
+    (All-cons (IsEvent load_case_net 2) Flush [] tt (All-nil (IsEvent load_case_net 2)))))
 
-action_names : (x : ℕ) → CaseNamesPort load_net (case_action_at x)
+action_names : (x : ℕ) → CaseNamesPort load_case_net (case_action_at x)
 action_names x = go (drop_draw x == 0) where
-  go : (b : Bool) → CaseNamesPort load_net (cond b Drop (Out (draw_below 8 (draw_state_after 2 x))))
+  go : (b : Bool) → CaseNamesPort load_case_net (cond b Drop (Out (draw_below 8 (draw_state_after 2 x))))
   go true = tt
   go false = port_owned (draw_below 8 (draw_state_after 2 x))
       (below_limit 8 (draw_state_after 2 x) (omega arith))
 
-ports_named : (k x : ℕ) → All (λ (row : Row). CaseNamesPort load_net row.action) (rows_drawn k x).0
-ports_named zero x = All-nil (λ (row : Row). CaseNamesPort load_net row.action)
-ports_named (suc k) x = All-append (λ (row : Row). CaseNamesPort load_net row.action) (rows_drawn k x).0
+ports_named : (k x : ℕ) → All (λ (row : Row). CaseNamesPort load_case_net row.action) (rows_drawn k x).0
+ports_named zero x = All-nil (λ (row : Row). CaseNamesPort load_case_net row.action)
+ports_named (suc k) x = All-append (λ (row : Row). CaseNamesPort load_case_net row.action) (rows_drawn k x).0
     (row_at (k + 1) (rows_drawn k x).1 ∷ []) (ports_named k x)
-    (All-cons (λ (row : Row). CaseNamesPort load_net row.action) (row_at (k + 1) (rows_drawn k x).1) []
+    (All-cons (λ (row : Row). CaseNamesPort load_case_net row.action) (row_at (k + 1) (rows_drawn k x).1) []
     (action_names (draw_state_after 4 (rows_drawn k x).1))
-    (All-nil (λ (row : Row). CaseNamesPort load_net row.action)))
+    (All-nil (λ (row : Row). CaseNamesPort load_case_net row.action)))
 
 groups_count : (k x : ℕ) → length (case_groups_from k x).0 ≡ 3 * k
 groups_count zero x = refl
@@ -123,7 +123,7 @@ groups_count (suc k) x = length-append (case_groups_from k x).0 _ ∙ omega (ari
 
 pub case_playable : (n : ℕ) → n ≤ 1000 → IsPlayableCase (load_case n)
 case_playable n few =
-    let Named : List Row → Type 0 = All (λ row. CaseNamesPort load_net row.action) in
+    let Named : List Row → Type 0 = All (λ row. CaseNamesPort load_case_net row.action) in
     let start = (rows_drawn n (rows_drawn n n).1).1 in
     let early = case_groups_from (2 * n) start in
     let late = case_groups_from (2 * n) early.1 in record {
@@ -132,8 +132,8 @@ case_playable n few =
           (ports_named n n)
           (All-cons Named (rows_drawn n (rows_drawn n n).1).0 [] (ports_named n (rows_drawn n n).1)
           (All-nil Named));
-      may = All-append (IsEvent load_net 2) (early.0 ++ change_events) late.0
-          (All-append (IsEvent load_net 2) early.0 change_events (groups_may (2 * n) start) changes_may)
+      may = All-append (IsEvent load_case_net 2) (early.0 ++ change_events) late.0
+          (All-append (IsEvent load_case_net 2) early.0 change_events (groups_may (2 * n) start) changes_may)
           (groups_may (2 * n) early.1);
       few = omega (
         arith,

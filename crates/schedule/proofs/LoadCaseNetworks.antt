@@ -1,8 +1,8 @@
 -- The network of each load case is sound.
 use Rattle.std.proofs.Common.{[], ◌&&◌, ◌++◌, ◌+◌, ◌<◌, ◌==◌, ◌^◌, ◌∙◌, ◌∷◌, ◌≡◌, ◌≢◌, ◌≤◌, All, AllPairs, Bool, IsFalse, IsTrue, List, ap, arith, bytes_eq, eq-eqb, eqb-true, false, is_some, leb-true, length, ltb-true, map, nat_le, nat_lt, ne_eqb, not, refl, slice_index, suc, sym, true, true≢false, zero, ℕ}
 use Rattle.base.proofs.Exports.{All-cons, All-nil, AllPairs-cons, and_parts, bit_at, bit_at-pow_other, bytes_eq-Decides, list_all, map-range_with_len_more, not-true, range_with_len}
-use Rattle.net_file.specs.Exports.{AreApart, AreOther, IsNetLink, IsNet, IsSwitchRow, has_port, is_name, joins, owner_of}
-use Rattle.schedule.specs.Case.{load_links, load_net, room_of, case_switch_row}
+use Rattle.net_file.specs.Exports.{AreApart, AreOther, IsNetLink, IsNet, IsNetSwitchRow, has_port, is_name, joins, net_port_owner}
+use Rattle.schedule.specs.Case.{load_links, load_case_net, load_case_room_of, case_switch_row}
 
 -- ---- lists by a test that computes
 
@@ -29,9 +29,9 @@ module _ {A X : Type 0} (f : A → X) where
 
 -- ---- switches
 
-all_sound : All IsSwitchRow load_net.switches
-all_sound = all_by case_switch_row IsSwitchRow
-    (λ i. is_name (case_switch_row i).name && (nat_lt (2 ^ i) (2 ^ 64) && nat_le (room_of i) 8192))
+all_sound : All IsNetSwitchRow load_case_net.switches
+all_sound = all_by case_switch_row IsNetSwitchRow
+    (λ i. is_name (case_switch_row i).name && (nat_lt (2 ^ i) (2 ^ 64) && nat_le (load_case_room_of i) 8192))
     (λ i e. let sizes = (and_parts (is_name (case_switch_row i).name) _ e).1 in
     record {
       name = (and_parts (is_name (case_switch_row i).name) _ e).0;
@@ -58,7 +58,7 @@ other_names i j apart = go (bytes_eq (case_switch_row i).name (case_switch_row j
   go true e = let same = (bytes_eq-Decides (case_switch_row i).name (case_switch_row j).name).0 e in
       absurd (apart (omega (arith, ap (λ name. slice_index name 1) same)))
 
-all_apart : AllPairs AreApart load_net.switches
+all_apart : AllPairs AreApart load_case_net.switches
 all_apart = pairs_by case_switch_row AreApart (λ i j. not (i == j))
     (λ i j e. let apart : i ≢ j = λ same. true≢false (sym (eq-eqb i j same) ∙ not-true _ e) in
     record { names = other_names i j apart; ports = λ port. other_ports i j port apart })
@@ -81,9 +81,9 @@ other_links : AllPairs AreOther load_links
 other_links = pairs_by (λ link. link) AreOther (λ a b. not (joins b.one b.two a))
     (λ a b e. not-true _ e) load_links refl
 
-pub load_net_sound : IsNet load_net
+pub load_net_sound : IsNet load_case_net
 load_net_sound =
-    let size : length load_net.switches ≡ 8 = refl in
+    let size : length load_case_net.switches ≡ 8 = refl in
     let links : length load_links ≡ 10 = refl in record {
       some_switch = omega (arith, size);
       few_switches = omega (arith, size);
@@ -113,8 +113,8 @@ in_range test from (suc count) k e low high =
         let apart : from ≢ k = λ same. true≢false (sym (eq-eqb from k same) ∙ other) in
         later (omega (arith, low, apart)) (omega (arith, high))
 
-pub port_owned : (port : ℕ) → port < 8 → IsTrue (is_some (owner_of load_net.switches port))
-port_owned port below = in_range (λ k. is_some (owner_of load_net.switches k)) 0 8 port refl
+pub port_owned : (port : ℕ) → port < 8 → IsTrue (is_some (net_port_owner load_case_net.switches port))
+port_owned port below = in_range (λ k. is_some (net_port_owner load_case_net.switches k)) 0 8 port refl
     (omega arith) (omega (arith, below))
 
 -- one more switch

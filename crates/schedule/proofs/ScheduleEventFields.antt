@@ -5,7 +5,7 @@ use Rattle.csv.specs.Records.{field_at}
 use Rattle.csv_records.specs.Texts.{field_or_empty, is_heading}
 use Rattle.net_file.specs.declared.net.Net.{Net}
 use Rattle.schedule.specs.Kinds.{kind_of}
-use Rattle.schedule.specs.Rows.{event_of, row_event_with, schedule_heading}
+use Rattle.schedule.specs.Rows.{schedule_event_of, row_event_with, schedule_heading}
 use Rattle.schedule.specs.declared.error.ScheduleRefusal.TheVariants as why
 use Rattle.schedule.specs.declared.kind.Kind.{Kind}
 use Rattle.schedule.specs.declared.kind.Kind.TheVariants as kind
@@ -33,20 +33,20 @@ no_keyword : kind_of [] ≡ None
 unfolding kind_of
 no_keyword = refl
 
-pub event_of-no_kind : (net : Net) (files : ℕ) (fields : List (List ℕ))
-    → kind_of (field_or_empty fields 0) ≡ None → event_of net files fields ≡ Err why.Kind
+pub schedule_event_of-no_kind : (net : Net) (files : ℕ) (fields : List (List ℕ))
+    → kind_of (field_or_empty fields 0) ≡ None → schedule_event_of net files fields ≡ Err why.Kind
 unfolding field_at
-event_of-no_kind net files [] none = refl
-event_of-no_kind net files (keyword ∷ fields) none = rw none refl
+schedule_event_of-no_kind net files [] none = refl
+schedule_event_of-no_kind net files (keyword ∷ fields) none = rw none refl
 
 -- ---- the width
 
-pub event_of-known : (net : Net) (files : ℕ) (fields : List (List ℕ)) (k : Kind)
+pub schedule_event_of-known : (net : Net) (files : ℕ) (fields : List (List ℕ)) (k : Kind)
     → kind_of (field_or_empty fields 0) ≡ Some k
-    → event_of net files fields ≡ row_event_with net files k (drop 1 fields)
+    → schedule_event_of net files fields ≡ row_event_with net files k (drop 1 fields)
 unfolding field_at
-event_of-known net files [] k is = cc (no_keyword, is)
-event_of-known net files (keyword ∷ fields) k is = rw is refl
+schedule_event_of-known net files [] k is = cc (no_keyword, is)
+schedule_event_of-known net files (keyword ∷ fields) k is = rw is refl
 
 none_behind : (fields : List (List ℕ)) → length fields ≡ 1 → drop 1 fields ≡ []
 none_behind (keyword ∷ []) one = refl
@@ -71,22 +71,22 @@ unfolding field_at
 six_behind (keyword ∷ a ∷ b ∷ c ∷ d ∷ e ∷ f ∷ []) seven = refl
 six_behind _ seven = absurd (omega arith)
 
-pub event_of-one : (net : Net) (files : ℕ) (fields : List (List ℕ)) (k : Kind)
+pub schedule_event_of-one : (net : Net) (files : ℕ) (fields : List (List ℕ)) (k : Kind)
     → kind_of (field_or_empty fields 0) ≡ Some k → length fields ≡ 1
-    → event_of net files fields ≡ row_event_with net files k []
-event_of-one net files fields k is one = event_of-known net files fields k is
+    → schedule_event_of net files fields ≡ row_event_with net files k []
+schedule_event_of-one net files fields k is one = schedule_event_of-known net files fields k is
     ∙ ap (row_event_with net files k) (none_behind fields one)
 
-pub event_of-two : (net : Net) (files : ℕ) (fields : List (List ℕ)) (k : Kind)
+pub schedule_event_of-two : (net : Net) (files : ℕ) (fields : List (List ℕ)) (k : Kind)
     → kind_of (field_or_empty fields 0) ≡ Some k → length fields ≡ 2
-    → event_of net files fields ≡ row_event_with net files k (field_or_empty fields 1 ∷ [])
-event_of-two net files fields k is two = event_of-known net files fields k is
+    → schedule_event_of net files fields ≡ row_event_with net files k (field_or_empty fields 1 ∷ [])
+schedule_event_of-two net files fields k is two = schedule_event_of-known net files fields k is
     ∙ ap (row_event_with net files k) (one_behind fields two)
 
-pub event_of-three : (net : Net) (files : ℕ) (fields : List (List ℕ)) (k : Kind)
-    → kind_of (field_or_empty fields 0) ≡ Some k → length fields ≡ 3 → event_of net files fields
+pub schedule_event_of-three : (net : Net) (files : ℕ) (fields : List (List ℕ)) (k : Kind)
+    → kind_of (field_or_empty fields 0) ≡ Some k → length fields ≡ 3 → schedule_event_of net files fields
     ≡ row_event_with net files k (field_or_empty fields 1 ∷ field_or_empty fields 2 ∷ [])
-event_of-three net files fields k is three = event_of-known net files fields k is
+schedule_event_of-three net files fields k is three = schedule_event_of-known net files fields k is
     ∙ ap (row_event_with net files k) (two_behind fields three)
 
 -- no kind has another width
@@ -103,23 +103,23 @@ other_width net files kind.Packet (a ∷ b ∷ c ∷ d ∷ e ∷ []) none one tw
 other_width net files kind.Packet (a ∷ b ∷ c ∷ d ∷ e ∷ f ∷ g ∷ more) none one two six = refl
 other_width _ _ _ _ none one two six = refl
 
-pub event_of-other : (net : Net) (files : ℕ) (fields : List (List ℕ)) (k : Kind)
+pub schedule_event_of-other : (net : Net) (files : ℕ) (fields : List (List ℕ)) (k : Kind)
     → kind_of (field_or_empty fields 0) ≡ Some k → length fields ≢ 1 → length fields ≢ 2
-    → length fields ≢ 3 → length fields ≢ 7 → event_of net files fields ≡ Err why.Width
+    → length fields ≢ 3 → length fields ≢ 7 → schedule_event_of net files fields ≡ Err why.Width
 unfolding field_at
-event_of-other net files [] k is one two three seven = cc (no_keyword, is)
-event_of-other net files (keyword ∷ fields) k is one two three seven =
-    event_of-known net files (keyword ∷ fields) k is
+schedule_event_of-other net files [] k is one two three seven = cc (no_keyword, is)
+schedule_event_of-other net files (keyword ∷ fields) k is one two three seven =
+    schedule_event_of-known net files (keyword ∷ fields) k is
     ∙ other_width net files k fields (λ e. one (omega arith)) (λ e. two (omega arith))
     (λ e. three (omega arith)) (λ e. seven (omega arith))
 
 pub ruleset heading = (is_heading-two, is_heading-other)
 
 pub ruleset counted = (
-  event_of-no_kind,
-  event_of-known,
-  event_of-one,
-  event_of-two,
-  event_of-three,
-  event_of-other,
+  schedule_event_of-no_kind,
+  schedule_event_of-known,
+  schedule_event_of-one,
+  schedule_event_of-two,
+  schedule_event_of-three,
+  schedule_event_of-other,
 )

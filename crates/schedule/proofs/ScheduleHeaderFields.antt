@@ -1,7 +1,7 @@
 -- Each field of a header that is read has the bits that it has in a packet.
 use Rattle.std.proofs.Common.{[], ◌&&◌, ◌*◌, ◌+◌, ◌^◌, ◌∷◌, ◌≡◌, ◌≤◌, Bool, List, None, Option, Some, arith, bytes_eq, codes, cond, false, nat_le, refl, true, ℕ}
 use Rattle.base.proofs.Exports.{digits_value, nat_tests}
-use Rattle.five_tuple.specs.Exports.{IsHeader, address_from, address_of, address_of_parts, header_fields_from, header_of, is_number, number_up_to, packet_fields_of, text_parts_round_byte, proto_number_of}
+use Rattle.five_tuple.specs.Exports.{IsHeader, address_from, address_of, address_of_parts, tuple_fields_from, header_of, is_number, number_up_to, tuple_fields_of, text_parts_round_byte, proto_number_of}
 use Rattle.five_tuple.specs.declared.header.Fields.{Fields}
 
 checked : (number : Bool) (most value n : ℕ) → cond (number && nat_le value most) (Some value) None
@@ -55,10 +55,10 @@ proto_bound text =
 
 fields_bound : (src dst sport dport proto : Option ℕ) → IsBelow 4294967295 src
     → IsBelow 4294967295 dst → IsBelow 65535 sport → IsBelow 65535 dport → IsBelow 255 proto
-    → (fields : Fields) → header_fields_from src dst sport dport proto ≡ Some fields
+    → (fields : Fields) → tuple_fields_from src dst sport dport proto ≡ Some fields
     → IsHeader (header_of fields)
 fields_bound (Some s) (Some d) (Some p) (Some q) (Some r) hs hd hp hq hr fields is =
-    let same : header_fields_from (Some s) (Some d) (Some p) (Some q) (Some r) ≡ Some fields = is in
+    let same : tuple_fields_from (Some s) (Some d) (Some p) (Some q) (Some r) ≡ Some fields = is in
     let src : s ≡ fields.src = cc is in
     let dst : d ≡ fields.dst = cc is in
     let sport : p ≡ fields.sport = cc is in
@@ -73,7 +73,7 @@ fields_bound (Some s) (Some d) (Some p) (Some q) (Some r) hs hd hp hq hr fields 
 fields_bound _ _ _ _ _ hs hd hp hq hr fields is = cc is
 
 pub header_bound : (src dst sport dport proto : List ℕ) (fields : Fields)
-    → packet_fields_of src dst sport dport proto ≡ Some fields → IsHeader (header_of fields)
+    → tuple_fields_of src dst sport dport proto ≡ Some fields → IsHeader (header_of fields)
 header_bound src dst sport dport proto = fields_bound (address_of src) (address_of dst)
     (number_up_to 65535 sport) (number_up_to 65535 dport) (proto_number_of proto)
     (address_bound src) (address_bound dst) (number_bound 65535 sport) (number_bound 65535 dport)

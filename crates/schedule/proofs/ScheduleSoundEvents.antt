@@ -2,7 +2,7 @@
 use Rattle.std.proofs.Common.{[], ◌+◌, ◌∷◌, ◌≡◌, ◌≤◌, Bool, Err, List, None, Ok, Option, Result, Some, arith, bytes_eq, cond, false, length, nat_le, nat_lt, ok_or, option_map, refl, slice_get, subst, suc, true, ℕ}
 use Rattle.base.proofs.Exports.{All-from_recursion, AllByRecursion, cons_option, nat_tests, option_map_or, position-Some, result_err, result_ok, some_of_ok_or}
 use Rattle.csv_records.specs.Texts.{is_heading}
-use Rattle.five_tuple.specs.Exports.{IsHeader, header_of, number_up_to, packet_fields_of}
+use Rattle.five_tuple.specs.Exports.{IsHeader, header_of, number_up_to, tuple_fields_of}
 use Rattle.five_tuple.specs.declared.header.Fields.{Fields}
 use Rattle.five_tuple.specs.declared.header.Header.{Header}
 use Rattle.net_file.specs.Exports.{are_linked, require_net_value, switch_number, with_toml_value}
@@ -16,9 +16,9 @@ use Rattle.steps.specs.declared.step.Event.TheVariants.{One, Flush, Drain}
 use Rattle.steps.specs.declared.step.Step.{Step}
 use Rattle.steps.specs.declared.step.Step.TheVariants as step
 use Rattle.schedule.specs.Kinds.{kind_of}
-use Rattle.schedule.specs.Reading.{AreSoundEvents, schedule_events_in, events_of, events_under_heading, no_schedule_heading, refused_row, schedule_refusals_from}
+use Rattle.schedule.specs.Reading.{AreSoundScheduleEvents, schedule_events_in, schedule_events_of, events_under_heading, no_schedule_heading, refused_schedule_row, schedule_refusals_from}
 use Rattle.base.specs.declared.row.InRow.{InRow}
-use Rattle.schedule.specs.Rows.{event_of, row_event_with, row_file_in, header_read, row_link_in, row_number_read, schedule_heading, switch_in}
+use Rattle.schedule.specs.Rows.{schedule_event_of, row_event_with, schedule_row_file_in, schedule_header_read, row_link_in, schedule_row_number_read, schedule_heading, schedule_switch_in}
 use Rattle.schedule.specs.declared.error.ScheduleRefusal.{ScheduleRefusal}
 use Rattle.schedule.specs.declared.error.ScheduleRefusal.TheVariants as why
 use Rattle.schedule.specs.declared.kind.Kind.{Kind}
@@ -30,17 +30,17 @@ use Rattle.schedule.proofs.ScheduleHeaderFields.{header_bound, number_bound}
 no_switch : SwitchRow
 no_switch = record { name = []; ports = 0; room = 0 }
 
-switch_sound : (net : Net) (name : List ℕ) (switch : ℕ) → switch_in net name ≡ Ok switch
+switch_sound : (net : Net) (name : List ℕ) (switch : ℕ) → schedule_switch_in net name ≡ Ok switch
     → HasSwitch net switch
 switch_sound net name switch is =
     (position-Some (λ (row : SwitchRow). bytes_eq row.name name) net.switches switch no_switch
     (some_of_ok_or (switch_number net.switches name) why.Switch switch is)).0
 
-number_sound : (text : List ℕ) (n : ℕ) → row_number_read text ≡ Ok n → n ≤ 999999999
+number_sound : (text : List ℕ) (n : ℕ) → schedule_row_number_read text ≡ Ok n → n ≤ 999999999
 number_sound text n is = number_bound 999999999 text n
     (some_of_ok_or (number_up_to 999999999 text) why.Number n is)
 
-file_sound : (files : ℕ) (text : List ℕ) (file : ℕ) → row_file_in files text ≡ Ok file → (1 ≤ file)
+file_sound : (files : ℕ) (text : List ℕ) (file : ℕ) → schedule_row_file_in files text ≡ Ok file → (1 ≤ file)
     × (file ≤ files)
 file_sound files text file is =
     let (n, reads, rest) = with_value_ok (ok_or (number_up_to files text) why.File)
@@ -59,10 +59,10 @@ file_sound files text file is =
 link_sound : (net : Net) (one two : List ℕ) (link : LinkRow) → row_link_in net one two ≡ Ok link
     → HasLink net link.one link.two
 link_sound net one two link is =
-    let (s, _, rest) = with_value_ok (switch_in net one) (λ s. with_toml_value (switch_in net two)
+    let (s, _, rest) = with_value_ok (schedule_switch_in net one) (λ s. with_toml_value (schedule_switch_in net two)
     (λ x. require_net_value (are_linked net.links s x) why.NoLink (Ok (record { one = s; two = x })))) link
     is in
-    let (x, _, last) = with_value_ok (switch_in net two)
+    let (x, _, last) = with_value_ok (schedule_switch_in net two)
     (λ x. require_net_value (are_linked net.links s x) why.NoLink (Ok (record { one = s; two = x }))) link
     rest in
     let (linked, same) = require_ok (are_linked net.links s x) why.NoLink
@@ -71,9 +71,9 @@ link_sound net one two link is =
     subst (λ t. HasLink net link.one t) second (subst (λ t. HasLink net t x) (cc same) linked)
 
 header_sound : (src dst sport dport proto : List ℕ) (header : Header)
-    → header_read src dst sport dport proto ≡ Ok header → IsHeader header
+    → schedule_header_read src dst sport dport proto ≡ Ok header → IsHeader header
 header_sound src dst sport dport proto header is =
-    packed (packet_fields_of src dst sport dport proto) (header_bound src dst sport dport proto)
+    packed (tuple_fields_of src dst sport dport proto) (header_bound src dst sport dport proto)
     header is
   where
     packed : (read : Option Fields)
@@ -103,14 +103,14 @@ module _ (net : Net) (files : ℕ) where
 
   one_number : (text : List ℕ) (make : ℕ → Step)
       → ((n : ℕ) → n ≤ 999999999 → IsStep net files (make n))
-      → Sound (with_toml_value (row_number_read text) (λ n. Ok (One (make n))))
-  one_number text make sound = follows (row_number_read text) (λ n. Ok (One (make n)))
+      → Sound (with_toml_value (schedule_row_number_read text) (λ n. Ok (One (make n))))
+  one_number text make sound = follows (schedule_row_number_read text) (λ n. Ok (One (make n)))
       (λ n is. gives (One (make n)) (sound n (number_sound text n is)))
 
   one_switch : (name : List ℕ) (make : ℕ → Step)
       → ((s : ℕ) → HasSwitch net s → IsStep net files (make s))
-      → Sound (with_toml_value (switch_in net name) (λ s. Ok (One (make s))))
-  one_switch name make sound = follows (switch_in net name) (λ s. Ok (One (make s)))
+      → Sound (with_toml_value (schedule_switch_in net name) (λ s. Ok (One (make s))))
+  one_switch name make sound = follows (schedule_switch_in net name) (λ s. Ok (One (make s)))
       (λ s is. gives (One (make s)) (sound s (switch_sound net name s is)))
 
   one_link : (one two : List ℕ) (make : LinkRow → Step)
@@ -121,19 +121,19 @@ module _ (net : Net) (files : ℕ) where
 
   with_sound : (k : Kind) (fields : List (List ℕ)) → Sound (row_event_with net files k fields)
   with_sound kind.Packet (switch ∷ src ∷ dst ∷ sport ∷ dport ∷ proto ∷ []) =
-      follows (switch_in net switch) (λ s. with_toml_value (header_read src dst sport dport proto)
+      follows (schedule_switch_in net switch) (λ s. with_toml_value (schedule_header_read src dst sport dport proto)
       (λ header. Ok (One (step.Packet s header))))
-      (λ s is. follows (header_read src dst sport dport proto)
+      (λ s is. follows (schedule_header_read src dst sport dport proto)
       (λ header. Ok (One (step.Packet s header))) (λ header has. gives (One (step.Packet s header))
       (switch_sound net switch s is, header_sound src dst sport dport proto header has)))
   with_sound kind.Hop (packet ∷ []) = one_number packet (λ n. step.Hop n) (λ n h. h)
   with_sound kind.Lose (packet ∷ []) = one_number packet (λ n. step.Lose n) (λ n h. h)
   with_sound kind.Deliver (message ∷ []) = one_number message (λ n. step.Deliver n) (λ n h. h)
   with_sound kind.Forget (message ∷ []) = one_number message (λ n. step.Forget n) (λ n h. h)
-  with_sound kind.Expire (switch ∷ place ∷ []) = follows (switch_in net switch)
-      (λ s. with_toml_value (row_number_read place) (λ n. Ok (One (step.Expire s n))))
+  with_sound kind.Expire (switch ∷ place ∷ []) = follows (schedule_switch_in net switch)
+      (λ s. with_toml_value (schedule_row_number_read place) (λ n. Ok (One (step.Expire s n))))
       (λ s is. one_number place (λ n. step.Expire s n) (λ n h. (switch_sound net switch s is, h)))
-  with_sound kind.Update (file ∷ []) = follows (row_file_in files file) (λ n. Ok (One (step.Update n)))
+  with_sound kind.Update (file ∷ []) = follows (schedule_row_file_in files file) (λ n. Ok (One (step.Update n)))
       (λ n is. gives (One (step.Update n)) (file_sound files file n is))
   with_sound kind.LinkDown (one ∷ two ∷ []) =
       one_link one two (λ link. step.LinkDown link.one link.two) (λ link h. h)
@@ -147,7 +147,7 @@ module _ (net : Net) (files : ℕ) where
   with_sound kind.Drain [] = gives Drain tt
   with_sound _ _ = λ event is. cc is
 
-  row_sound : (fields : List (List ℕ)) → Sound (event_of net files fields)
+  row_sound : (fields : List (List ℕ)) → Sound (schedule_event_of net files fields)
   row_sound [] = λ event is. cc is
   row_sound (keyword ∷ fields) = follows (ok_or (kind_of keyword) why.Kind)
       (λ k. row_event_with net files k fields) (λ k is. with_sound k fields)
@@ -157,7 +157,7 @@ module _ (net : Net) (files : ℕ) where
   rows_sound : (records : List (List (List ℕ))) → AllByRecursion (IsEvent net files)
       (schedule_events_in net files records)
   rows_sound [] = tt
-  rows_sound (fields ∷ records) = kept (event_of net files fields) (row_sound fields)
+  rows_sound (fields ∷ records) = kept (schedule_event_of net files fields) (row_sound fields)
       (schedule_events_in net files records) (rows_sound records)
     where
       kept : (read : Result Event ScheduleRefusal) → Sound read → (events : List Event)
@@ -168,7 +168,7 @@ module _ (net : Net) (files : ℕ) where
 
   as_many : (records : List (List (List ℕ))) → length (schedule_events_in net files records) ≤ length records
   as_many [] = omega arith
-  as_many (fields ∷ records) = kept (event_of net files fields) (schedule_events_in net files records)
+  as_many (fields ∷ records) = kept (schedule_event_of net files fields) (schedule_events_in net files records)
       (as_many records)
     where
       kept : (read : Result Event ScheduleRefusal) (events : List Event)
@@ -181,9 +181,9 @@ module _ (net : Net) (files : ℕ) where
       ≡ [] → first ≤ 100001 → first + length records ≤ 100001
   few_rows first [] none small = omega arith
   few_rows first (fields ∷ records) none small =
-      let (fine, rest) = no_more (refused_row net files (first, fields))
+      let (fine, rest) = no_more (refused_schedule_row net files (first, fields))
       (schedule_refusals_from net files (first + 1) records) none in
-      let within = passed (nat_lt 100000 first) (result_err (event_of net files fields)) fine in
+      let within = passed (nat_lt 100000 first) (result_err (schedule_event_of net files fields)) fine in
       let below : first ≤ 100000 = grind (arith, nat_tests) in
       let more = few_rows (first + 1) records rest (omega arith) in omega (arith, more)
     where
@@ -204,14 +204,14 @@ module _ (net : Net) (files : ℕ) where
   first_of [] events read is = (refl, cc is)
   first_of (refusal ∷ refusals) events read is = cc is
 
-  all_sound : (records : List (List (List ℕ))) (events : List Event) → events_of net files records
-      ≡ Ok events → AreSoundEvents net files events
+  all_sound : (records : List (List (List ℕ))) (events : List Event) → schedule_events_of net files records
+      ≡ Ok events → AreSoundScheduleEvents net files events
   all_sound records events is =
       let (none, same) = first_of (schedule_refusals_from net files 1 records) (schedule_events_in net files records)
       events is in
       let few = few_rows 1 records none (omega arith) in
       let most : length (schedule_events_in net files records) ≤ 100000 = omega (arith, as_many) in
-      subst (AreSoundEvents net files) same
+      subst (AreSoundScheduleEvents net files) same
       (record {
         steps = All-from_recursion (IsEvent net files) (schedule_events_in net files records)
             (rows_sound records);
@@ -219,10 +219,10 @@ module _ (net : Net) (files : ℕ) where
       })
 
   pub text_sound : (records : List (List (List ℕ))) (events : List Event)
-      → events_under_heading net files records ≡ Ok events → AreSoundEvents net files events
+      → events_under_heading net files records ≡ Ok events → AreSoundScheduleEvents net files events
   text_sound [] events is = cc is
   text_sound (first ∷ records) events is = under (is_heading schedule_heading first) is where
-    under : (b : Bool) → cond b (events_of net files records) no_schedule_heading ≡ Ok events
-        → AreSoundEvents net files events
+    under : (b : Bool) → cond b (schedule_events_of net files records) no_schedule_heading ≡ Ok events
+        → AreSoundScheduleEvents net files events
     under true is = all_sound records events is
     under false is = cc is

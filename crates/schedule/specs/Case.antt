@@ -7,7 +7,7 @@ use Rattle.five_tuple.specs.Exports.{address_block_round, header_of}
 use Rattle.five_tuple.specs.declared.header.Header.{Header}
 use Rattle.five_tuple.specs.declared.matching.Proto.TheVariants.{Is}
 use Rattle.schedule.specs.declared.case.Case.{Case}
-use Rattle.net_file.specs.Exports.{IsNet, owner_of}
+use Rattle.net_file.specs.Exports.{IsNet, net_port_owner}
 use Rattle.net_file.specs.declared.net.LinkRow.{LinkRow}
 use Rattle.net_file.specs.declared.net.Net.{Net}
 use Rattle.net_file.specs.declared.net.SwitchRow.{SwitchRow}
@@ -38,12 +38,12 @@ draw_below m x = x / 65536 % m
 -- ---- the network
 
 -- n1 and n5 are the authorities
-abbrev pub room_of : ℕ → ℕ
-room_of i = if i == 1 || i == 5 then 8192 else 0
+abbrev pub load_case_room_of : ℕ → ℕ
+load_case_room_of i = if i == 1 || i == 5 then 8192 else 0
 
 -- the switch `ni` has the port i
 abbrev pub case_switch_row : ℕ → SwitchRow
-case_switch_row i = record { name = 110 ∷ (48 + i) ∷ []; ports = 2 ^ i; room = room_of i }
+case_switch_row i = record { name = 110 ∷ (48 + i) ∷ []; ports = 2 ^ i; room = load_case_room_of i }
 
 abbrev pub case_link_row : ℕ → ℕ → LinkRow
 case_link_row one two = record { one = one; two = two }
@@ -53,8 +53,8 @@ abbrev pub load_links : List LinkRow
 load_links = case_link_row 0 1 ∷ case_link_row 1 2 ∷ case_link_row 2 3 ∷ case_link_row 3 4 ∷ case_link_row 4 5 ∷ case_link_row 5 6
     ∷ case_link_row 6 7 ∷ case_link_row 0 7 ∷ case_link_row 0 4 ∷ case_link_row 2 6 ∷ []
 
-abbrev pub load_net : Net
-load_net = record {
+abbrev pub load_case_net : Net
+load_case_net = record {
   switches = map case_switch_row (range_with_len 0 8);
   links = load_links;
   leaf_rules = 32;
@@ -64,8 +64,8 @@ load_net = record {
 
 -- ---- the policies
 
-abbrev pub address_of_bytes : ℕ → ℕ → ℕ → ℕ → ℕ
-address_of_bytes a b c d = a * 2 ^ 24 + b * 2 ^ 16 + c * 2 ^ 8 + d
+abbrev pub case_address_of_bytes : ℕ → ℕ → ℕ → ℕ → ℕ
+case_address_of_bytes a b c d = a * 2 ^ 24 + b * 2 ^ 16 + c * 2 ^ 8 + d
 
 -- one draw decides whether a row drops; if it doesn't, a second one draws its port
 abbrev pub drop_draw : ℕ → ℕ
@@ -81,9 +81,9 @@ case_action_ends x = if drop_draw x == 0 then next_drawn x else draw_state_after
 abbrev pub row_at : ℕ → ℕ → Row
 row_at priority x = record {
   priority = priority;
-  src = address_block_round (address_of_bytes 10 (draw_below 4 (draw_state_after 1 x))
+  src = address_block_round (case_address_of_bytes 10 (draw_below 4 (draw_state_after 1 x))
       (draw_below 256 (draw_state_after 2 x)) 0) 24;
-  dst = address_block_round (address_of_bytes 10 (draw_below 4 (draw_state_after 3 x)) 0 0) 16;
+  dst = address_block_round (case_address_of_bytes 10 (draw_below 4 (draw_state_after 3 x)) 0 0) 16;
   sport = record { low = 0; high = 65535 };
   dport = record {
     low = draw_below 1024 (draw_state_after 4 x);
@@ -106,7 +106,7 @@ rows_drawn (suc k) x =
 -- ---- the schedule
 
 abbrev pub case_address_at : ℕ → ℕ
-case_address_at x = address_of_bytes 10 (draw_below 4 (draw_state_after 1 x))
+case_address_at x = case_address_of_bytes 10 (draw_below 4 (draw_state_after 1 x))
     (draw_below 256 (draw_state_after 2 x)) (draw_below 256 (draw_state_after 3 x))
 
 -- the header that is drawn from the state x
@@ -153,7 +153,7 @@ load_case n =
     let early = case_groups_from (2 * n) second.1 in
     let late = case_groups_from (2 * n) early.1 in
     record {
-      net = load_net;
+      net = load_case_net;
       policies = first.0 ∷ second.0 ∷ [];
       events = early.0 ++ change_events ++ late.0;
     }
@@ -166,7 +166,7 @@ case_seen made =
 -- the action names a port that a switch has, if it names one
 abbrev pub CaseNamesPort : Net → Action → Type 0
 CaseNamesPort net Drop = ⊤
-CaseNamesPort net (Out port) = IsTrue (is_some (owner_of net.switches port))
+CaseNamesPort net (Out port) = IsTrue (is_some (net_port_owner net.switches port))
 
 -- the network is sound, the policies name only its ports, and the events may happen on it
 pub record IsPlayableCase (load : LoadCase) : Type 0 where

@@ -1,5 +1,5 @@
 ghost use Rattle.std.specs.Prelude.{◌≡◌, ◌<◌, IfOk};
-ghost use Rattle.schedule.specs.Case.{load_links, load_net, case_switch_row};
+ghost use Rattle.schedule.specs.Case.{load_links, load_case_net, case_switch_row};
 ghost use Rattle.net_file.specs.Net.{IsNet};
 
 use net_file::{LinkRow, Links, Name, Net, SwitchRow, Switches};
@@ -10,7 +10,7 @@ use std::alloc::{AllocError, Global};
 /// # Errors
 /// Only out of memory.
 pub fn net(alloc: Global) -> Result<Net, AllocError>
-    ensures net { IfOk result (λ net. net ≡ load_net) }
+    ensures net { IfOk result (λ net. net ≡ load_case_net) }
     ensures sound { IfOk result IsNet }
 {
     let net = ring(alloc)?;
@@ -19,7 +19,7 @@ pub fn net(alloc: Global) -> Result<Net, AllocError>
 
 #[tactic(auto, using(crate::proofs::LoadCaseNetworks::switches_more))]
 fn ring(alloc: Global) -> Result<Net, AllocError>
-    ensures { IfOk result (λ net. net ≡ load_net) }
+    ensures { IfOk result (λ net. net ≡ load_case_net) }
 {
     let mut rows = Vec::new(alloc);
     for i in 0..8 {

@@ -1,5 +1,5 @@
 ghost use Rattle.std.specs.Prelude.{◌≡◌, ◌<◌, ◌+◌, ◌*◌, ◌^◌};
-ghost use Rattle.schedule.specs.Case.{address_of_bytes, draw_below, next_drawn};
+ghost use Rattle.schedule.specs.Case.{case_address_of_bytes, draw_below, next_drawn};
 
 /// A linear congruential generator, with its state.
 #[derive(Clone, Copy)]
@@ -24,7 +24,7 @@ impl CaseDraws {
 /// The address of four bytes, the first one highest.
 pub fn address(a: u32, b: u32, c: u32, d: u32) -> u32
     requires { (a < 256) × (b < 256) × (c < 256) × (d < 256) }
-    ensures address { result ≡ address_of_bytes a b c d }
+    ensures address { result ≡ case_address_of_bytes a b c d }
     ensures fits { result < 2 ^ 32 }
 {
     a * 16_777_216 + b * 65_536 + c * 256 + d

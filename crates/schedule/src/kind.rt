@@ -1,5 +1,5 @@
 ghost use Rattle.std.specs.Prelude.{◌≡◌, find, bytes_eq, IfSome, IsTrue};
-ghost use Rattle.schedule.specs.Kinds.{kind_of, keyword_of};
+ghost use Rattle.schedule.specs.Kinds.{kind_of, schedule_keyword_of};
 
 /// The kinds of a schedule's rows, each named as its step or event.
 #[derive(Clone, Copy, Debug, PartialEq, Eq)]
@@ -43,7 +43,7 @@ pub const KINDS: [Kind; 15] = [
 impl Kind {
     /// The keyword that names the kind: the first field of its rows.
     pub fn keyword(self) -> &'static str
-        ensures { result.now ≡ keyword_of self }
+        ensures { result.now ≡ schedule_keyword_of self }
     {
         match self {
             Kind::Packet => "packet",
@@ -67,7 +67,7 @@ impl Kind {
 
 // The first of these kinds whose keyword the text is.
 fn first_named_kind(kinds: &[Kind], text: &[u8]) -> Option<Kind>
-    ensures { result ≡ find (λ kind. bytes_eq (keyword_of kind) text.now) kinds.now }
+    ensures { result ≡ find (λ kind. bytes_eq (schedule_keyword_of kind) text.now) kinds.now }
 {
     kinds
         .iter()
@@ -88,7 +88,7 @@ pub fn read_kind(text: &[u8]) -> Option<Kind>
 
 // The kind that the keyword names, matched letter by letter, so that no other is tried.
 fn named(text: &[u8]) -> Option<Kind>
-    ensures { IfSome result (λ kind. IsTrue (bytes_eq (keyword_of kind) text.now)) }
+    ensures { IfSome result (λ kind. IsTrue (bytes_eq (schedule_keyword_of kind) text.now)) }
 {
     match text {
         [b'p', b'a', b'c', b'k', b'e', b't'] => Some(Kind::Packet),

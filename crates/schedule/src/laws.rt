@@ -1,4 +1,4 @@
-ghost use Rattle.schedule.specs.Kinds.{KindLaws};
+ghost use Rattle.schedule.specs.Kinds.{ScheduleKindLaws};
 ghost use Rattle.schedule.specs.Reading.{ScheduleLaws};
 
 /// The events that a text states are events that the network may take, and at most 100,000: a law
@@ -9,5 +9,5 @@ pub fn schedule_laws()
 
 /// Each kind has its own keyword, and each keyword that names a kind is the kind's.
 pub fn kind_laws()
-    ensures { KindLaws }
+    ensures { ScheduleKindLaws }
 {}

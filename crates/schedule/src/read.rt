@@ -3,7 +3,7 @@ ghost use Rattle.net_file.specs.Net.{IsNet};
 ghost use Rattle.steps.specs.Steps.{IsEvent};
 ghost use Rattle.steps.specs.Limits.{max_events};
 ghost use Rattle.schedule.specs.Reading.{schedule_of};
-ghost use Rattle.base.specs.Refusals.{IsRefusal};
+ghost use Rattle.base.specs.Refusals.{IsCallRefusal};
 
 use crate::error::{ScheduleError, ScheduleRefusal};
 use crate::laws::schedule_laws;
@@ -35,7 +35,7 @@ pub fn read_schedule(
         schedule_of net.now files bytes.now ≡ Ok events.items) }
     ensures steps { IfOk result (λ events. All (IsEvent net.now files) events.items) }
     ensures few { IfOk result (λ events. vec_len events ≤ max_events) }
-    ensures refused { IfErr result (IsRefusal (schedule_of net.now files bytes.now)) }
+    ensures refused { IfErr result (IsCallRefusal (schedule_of net.now files bytes.now)) }
 {
     schedule_laws();
     let mut records = Records::new(alloc, bytes);

@@ -3,7 +3,7 @@ ghost use Rattle.csv.specs.Records.{fields_of};
 ghost use Rattle.csv_records.specs.Texts.{is_heading};
 ghost use Rattle.net_file.specs.Net.{IsNet};
 ghost use Rattle.net_file.specs.Joins.{are_linked};
-ghost use Rattle.schedule.specs.Rows.{event_of, row_event_with, row_file_in, header_read, row_link_in, row_number_read, schedule_heading, switch_in};
+ghost use Rattle.schedule.specs.Rows.{schedule_event_of, row_event_with, schedule_row_file_in, schedule_header_read, row_link_in, schedule_row_number_read, schedule_heading, schedule_switch_in};
 
 use crate::error::ScheduleRefusal;
 use crate::kind::{Kind, read_kind};
@@ -26,14 +26,14 @@ pub fn is_heading(fields: &ByteRecord) -> bool
 // The switch that the text names.
 fn read_switch(net: &Net, text: &[u8]) -> Result<u32, ScheduleRefusal>
     requires { IsNet net.now }
-    ensures { result ≡ switch_in net.now text.now }
+    ensures { result ≡ schedule_switch_in net.now text.now }
 {
     net.number(text).ok_or(ScheduleRefusal::Switch)
 }
 
 // The packet, message or place that the text names.
 fn read_number(text: &[u8]) -> Result<u32, ScheduleRefusal>
-    ensures { result ≡ row_number_read text.now }
+    ensures { result ≡ schedule_row_number_read text.now }
 {
     match five_tuple::read_number(text, u64::from(MAX_NUMBER)) {
         Some(number) => Ok(number as u32),
@@ -43,7 +43,7 @@ fn read_number(text: &[u8]) -> Result<u32, ScheduleRefusal>
 
 // The policy file that the text names.
 fn read_file(files: u32, text: &[u8]) -> Result<u32, ScheduleRefusal>
-    ensures { result ≡ row_file_in files text.now }
+    ensures { result ≡ schedule_row_file_in files text.now }
 {
     let file = five_tuple::read_number(text, u64::from(files)).ok_or(ScheduleRefusal::File)?;
     if file == 0 {
@@ -80,7 +80,7 @@ fn read_header(
     dport: &[u8],
     proto: &[u8],
 ) -> Result<Header, ScheduleRefusal>
-    ensures { result ≡ header_read src.now dst.now sport.now dport.now proto.now }
+    ensures { result ≡ schedule_header_read src.now dst.now sport.now dport.now proto.now }
 {
     match read_fields(src, dst, sport, dport, proto) {
         Some(fields) => Ok(Header::pack(&fields)),
@@ -205,7 +205,7 @@ fn read_six_field_step(
 #[tactic(auto, using(crate::proofs::ScheduleEventFields::counted))]
 pub fn read_event(fields: &ByteRecord, net: &Net, files: u32) -> Result<Event, ScheduleRefusal>
     requires { IsNet net.now }
-    ensures { result ≡ event_of net.now files (fields_of fields.now) }
+    ensures { result ≡ schedule_event_of net.now files (fields_of fields.now) }
 {
     let kind = read_kind(field(fields, 0)).ok_or(ScheduleRefusal::Kind)?;
     match fields.len() {

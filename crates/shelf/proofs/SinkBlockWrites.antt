@@ -2,11 +2,11 @@
 use Rattle.std.proofs.Common.{◌++◌, ◌+◌, ◌∙◌, ◌≡◌, Err, List, Ok, OnErr, Option, Result, ap, arith, drop, length, length-append, length-drop, sym, take, take-add, take-append-drop, ℕ}
 use Rattle.std.proofs.Math.Seq.{drop-append_seam, take-append_seam}
 use Rattle.std.proofs.lemmas.List.{take-append-le}
-use Rattle.shelf.specs.Exports.{SinkGainedPart, IsBlockGathered, gained-gained, sink_with_gained}
+use Rattle.shelf.specs.Exports.{SinkGainedPart, IsSinkBlockGathered, gained-gained, sink_with_gained}
 
 -- what waited was written, so that all is
 pub all_written : (text : List ℕ) (before now later : Option (List ℕ)) (waiting : List ℕ)
-    → IsBlockGathered text before now waiting → later ≡ sink_with_gained now waiting → later
+    → IsSinkBlockGathered text before now waiting → later ≡ sink_with_gained now waiting → later
     ≡ sink_with_gained before text
 all_written text before now later waiting is more =
     more ∙ ap (sink_with_gained now) is.waits ∙ ap (λ b. sink_with_gained b (drop is.written text)) is.gained
@@ -15,7 +15,7 @@ all_written text before now later waiting is more =
 
 -- a piece waits alone
 pub waits_alone : (text piece : List ℕ) (before now : Option (List ℕ))
-    → now ≡ sink_with_gained before text → IsBlockGathered (text ++ piece) before now piece
+    → now ≡ sink_with_gained before text → IsSinkBlockGathered (text ++ piece) before now piece
 waits_alone text piece before now written = record {
   written = length text;
   within = omega (arith, length-append text piece);
@@ -25,7 +25,7 @@ waits_alone text piece before now written = record {
 
 -- a part of what waited was written, which is a part of the text
 pub part_written : (text : List ℕ) (before now later : Option (List ℕ)) (waiting : List ℕ)
-    → IsBlockGathered text before now waiting → SinkGainedPart now waiting later
+    → IsSinkBlockGathered text before now waiting → SinkGainedPart now waiting later
     → SinkGainedPart before text later
 part_written text before now later waiting is part =
     let n = is.written in
@@ -40,7 +40,7 @@ part_written text before now later waiting is part =
     )
 
 pub part_if_failed : {T E : Type 0} (r : Result T E) (text : List ℕ)
-    (before now later : Option (List ℕ)) (waiting : List ℕ) → IsBlockGathered text before now waiting
+    (before now later : Option (List ℕ)) (waiting : List ℕ) → IsSinkBlockGathered text before now waiting
     → OnErr r (SinkGainedPart now waiting later) → OnErr r (SinkGainedPart before text later)
 part_if_failed (Ok x) text before now later waiting is part = tt
 part_if_failed (Err e) text before now later waiting is part =

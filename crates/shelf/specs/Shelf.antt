@@ -3,7 +3,7 @@ use Rattle.std.specs.Prelude.{◌<◌, ◌≡◌, ◌≤◌, Bool, Err, IsSomeAn
 use Rattle.std.specs.Global.{Global}
 use Rattle.shelf.specs.declared.source.ShelfError.{ShelfError}
 use Rattle.shelf.specs.declared.source.ShelfError.TheVariants.{Failed, NoMemory}
-use Rattle.shelf.specs.Scripts.{CallScript, faults_counted_up}
+use Rattle.shelf.specs.Scripts.{ShelfCallScript, shelf_faults_counted_up}
 
 -- files by name: the bytes of each name, and those of the file
 abbrev pub Files : Type 0
@@ -18,7 +18,7 @@ pub record ShelfState : Type 0 where
 
 -- there were at most this many reads
 abbrev pub ReadsAtMost : ℕ → ℕ → ℕ → Type 0
-ReadsAtMost most before now = (n : ℕ) × (n ≤ most) × (now ≡ faults_counted_up n before)
+ReadsAtMost most before now = (n : ℕ) × (n ≤ most) × (now ≡ shelf_faults_counted_up n before)
 
 -- a shelf after at most this many reads: the same files, and no lower count of faults
 pub record IsAfterReads (most : ℕ) (old new : ShelfState) : Type 0 where
@@ -27,8 +27,8 @@ pub record IsAfterReads (most : ℕ) (old new : ShelfState) : Type 0 where
   pub reads : ReadsAtMost most old.reads new.reads
 
 -- the files in memory
-abbrev pub files_of : List (String Global × Vec ℕ Global) → Files
-files_of files = map (λ file. (string_bytes file.0, file.1.items)) files
+abbrev pub shelf_files_of : List (String Global × Vec ℕ Global) → Files
+shelf_files_of files = map (λ file. (string_bytes file.0, file.1.items)) files
 
 -- the content of the first file of this name
 abbrev pub file_named : Files → List ℕ → Option (List ℕ)
@@ -48,10 +48,10 @@ HasLongerFile files name limit =
     IsSomeAnd (file_named files name) (λ content. limit < length content)
 
 -- the result is neither a fault nor out of memory
-abbrev pub IsNoFault : {T : Type 0} → Result T ShelfError → Type 0
-IsNoFault (Err Failed) = ⊥
-IsNoFault (Err NoMemory) = ⊥
-IsNoFault _ = ⊤
+abbrev pub IsNoShelfFault : {T : Type 0} → Result T ShelfError → Type 0
+IsNoShelfFault (Err Failed) = ⊥
+IsNoShelfFault (Err NoMemory) = ⊥
+IsNoShelfFault _ = ⊤
 
 -- the result is a fault
 abbrev pub is_read_fault : {T : Type 0} → Result T ShelfError → Bool
@@ -67,14 +67,14 @@ is_shelf_refusal _ = true
 -- files, with the calls that are to fail
 pub record ScriptedFiles : Type 0 where
   pub files : Files
-  pub script : CallScript
+  pub script : ShelfCallScript
 
 -- files, and how often they were read
-pub record CalmFiles : Type 0 where
+pub record CalmShelfFiles : Type 0 where
   pub files : Files
   pub reads : ℕ
 
 -- the counts of a shelf whose files are not known
-pub record ReadCounts : Type 0 where
+pub record ShelfReadCounts : Type 0 where
   pub faults : ℕ
   pub reads : ℕ

@@ -3,7 +3,7 @@ use Rattle.std.specs.Prelude.{◌&&◌, ◌++◌, ◌==◌, ◌≡◌, ◌≢◌
 use Rattle.std.proofs.Common.{ap, append_assoc}
 use Rattle.shelf.specs.declared.output.SinkError.{SinkError}
 use Rattle.shelf.specs.declared.output.SinkError.TheVariants.{Failed, NoMemory}
-use Rattle.shelf.specs.Scripts.{CallScript}
+use Rattle.shelf.specs.Scripts.{ShelfCallScript}
 use Rattle.shelf.specs.Sink.{SinkState, sink_with_gained, SinkGainedPart, FaultsRose}
 
 -- gaining two pieces is gaining both as one
@@ -13,7 +13,7 @@ gained-gained None first next = refl
 gained-gained (Some bytes) first next = ap Some (append_assoc bytes first next)
 
 -- the first bytes of a text are written, and the others wait in a block
-pub record IsBlockGathered (text : List ℕ) (before now : Option (List ℕ)) (waiting : List ℕ)
+pub record IsSinkBlockGathered (text : List ℕ) (before now : Option (List ℕ)) (waiting : List ℕ)
     : Type 0 where
   pub written : ℕ
   pub within : written ≤ length text
@@ -42,4 +42,4 @@ is_write_fault piece (Err NoMemory) = false
 pub record ScriptedBytes : Type 0 where
   pub bytes : List ℕ
   pub most : ℕ
-  pub script : CallScript
+  pub script : ShelfCallScript

@@ -1,7 +1,7 @@
 //! Pieces of a text that are gathered before they are written.
 ghost use Rattle.std.specs.Prelude.{◌≡◌, ◌≢◌, ◌≤◌, ◌+◌, ◌++◌, [], List, Option, ℕ, IsOk, IsErrOf, OnErr, OnOk, length, IsTrue};
 ghost use Rattle.shelf.specs.Sink.{SinkGainedPart, sink_with_gained, FaultsRose};
-ghost use Rattle.shelf.specs.SinkWrites.{IsAfterWrite, IsBlockGathered};
+ghost use Rattle.shelf.specs.SinkWrites.{IsAfterWrite, IsSinkBlockGathered};
 
 use crate::output::{Sink, SinkError, write_whole};
 use std::marker::Model;
@@ -60,10 +60,10 @@ impl Block {
     pub fn push<K: Sink>(&mut self, piece: &[u8], sink: &mut K) -> Result<(), SinkError>
         requires { length piece.now ≤ 65536 }
         ensures gathered { (text : List ℕ) (before : Option (List ℕ))
-            → IsBlockGathered text before (K.state sink.old).bytes self.old
-            → OnOk result (IsBlockGathered (text ++ piece.now) before (K.state sink.new).bytes self.new) }
+            → IsSinkBlockGathered text before (K.state sink.old).bytes self.old
+            → OnOk result (IsSinkBlockGathered (text ++ piece.now) before (K.state sink.new).bytes self.new) }
         ensures part { (text : List ℕ) (before : Option (List ℕ))
-            → IsBlockGathered text before (K.state sink.old).bytes self.old
+            → IsSinkBlockGathered text before (K.state sink.old).bytes self.old
             → OnErr result (SinkGainedPart before (text ++ piece.now) (K.state sink.new).bytes) }
         ensures unchanged { OnErr result (self.new ≡ self.old) }
         ensures faults { (K.state sink.old).faults ≤ (K.state sink.new).faults }
@@ -86,10 +86,10 @@ impl Block {
     /// Writes the rest of a text. On an error the sink has gained only a part of the text.
     pub fn finish<K: Sink>(self, sink: &mut K) -> Result<(), SinkError>
         ensures whole { (text : List ℕ) (before : Option (List ℕ))
-            → IsBlockGathered text before (K.state sink.old).bytes self
+            → IsSinkBlockGathered text before (K.state sink.old).bytes self
             → OnOk result ((K.state sink.new).bytes ≡ sink_with_gained before text) }
         ensures part { (text : List ℕ) (before : Option (List ℕ))
-            → IsBlockGathered text before (K.state sink.old).bytes self
+            → IsSinkBlockGathered text before (K.state sink.old).bytes self
             → OnErr result (SinkGainedPart before text (K.state sink.new).bytes) }
         ensures no_bytes { self ≡ [] → IsOk result × (sink.new ≡ sink.old) }
         ensures after { IsAfterWrite self K.takes_memory

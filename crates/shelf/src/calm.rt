@@ -15,19 +15,19 @@ pub struct CalmShelf {
 }
 
 impl Model for CalmShelf {
-    ghost use Rattle.shelf.specs.Shelf.{CalmFiles};
+    ghost use Rattle.shelf.specs.Shelf.{CalmShelfFiles};
 
-    ghost Value = { CalmFiles };
+    ghost Value = { CalmShelfFiles };
 
     ghost view = { λ s. record { files = s.files; reads = s.reads } };
 }
 
 impl CalmShelf {
-    ghost use Rattle.shelf.specs.Shelf.{files_of};
+    ghost use Rattle.shelf.specs.Shelf.{shelf_files_of};
 
     /// A shelf of these files. Of two files of one name the first counts.
     pub fn new(alloc: Global, files: Vec<(String, Vec<u8>)>) -> Self
-        ensures { result ≡ record { files = files_of files.items; reads = 0 } }
+        ensures { result ≡ record { files = shelf_files_of files.items; reads = 0 } }
     {
         CalmShelf {
             files: HeldFiles::new(alloc, files),

@@ -1,7 +1,7 @@
 //! Files and bytes in memory, with calls that are made to fail.
 ghost use Rattle.std.specs.Prelude.{◌≡◌, ◌≤◌, ◌↔◌, ◌++◌, IsTrue, IfOk, OnErr, IsErrOf, Some, [], true, length, min, take};
 ghost use Rattle.shelf.specs.Sink.{next_count};
-ghost use Rattle.shelf.specs.Scripts.{script_of, ScriptFailsNext, script_after_call};
+ghost use Rattle.shelf.specs.Scripts.{shelf_script_of, ShelfScriptFailsNext, shelf_script_after_call};
 
 use crate::output::{Sink, SinkError};
 use crate::source::{HeldFiles, Shelf, ShelfError};
@@ -17,16 +17,16 @@ struct FaultScript {
 }
 
 impl Model for FaultScript {
-    ghost use Rattle.shelf.specs.Scripts.{CallScript};
+    ghost use Rattle.shelf.specs.Scripts.{ShelfCallScript};
 
-    ghost Value = { CallScript };
+    ghost Value = { ShelfCallScript };
 
     ghost view = { λ s. record { failing = s.failing.items; calls = s.calls; faults = s.faults } };
 }
 
 impl FaultScript {
     fn new(failing: Vec<u64>) -> Self
-        ensures { result ≡ script_of failing.items }
+        ensures { result ≡ shelf_script_of failing.items }
     {
         FaultScript {
             failing,
@@ -37,8 +37,8 @@ impl FaultScript {
 
     /// Counts a call, and returns whether it fails; if it does, the count of faults rises.
     fn begin_call(&mut self) -> bool
-        ensures fails { IsTrue result ↔ ScriptFailsNext self.old }
-        ensures after { self.new ≡ script_after_call self.old result }
+        ensures fails { IsTrue result ↔ ShelfScriptFailsNext self.old }
+        ensures after { self.new ≡ shelf_script_after_call self.old result }
         ensures counts { self.old.faults ≤ self.new.faults }
     {
         self.calls = self.calls.saturating_add(1);
@@ -76,14 +76,14 @@ impl Model for MemShelf {
 }
 
 impl MemShelf {
-    ghost use Rattle.shelf.specs.Shelf.{files_of};
+    ghost use Rattle.shelf.specs.Shelf.{shelf_files_of};
 
     /// A shelf of these files; the calls with these numbers fail.
     ///
     /// Of two files of one name the first counts.
     pub fn new(alloc: Global, files: Vec<(String, Vec<u8>)>, failing: Vec<u64>) -> Self
         ensures { result
-            ≡ record { files = files_of files.items; script = script_of failing.items } }
+            ≡ record { files = shelf_files_of files.items; script = shelf_script_of failing.items } }
     {
         MemShelf {
             files: HeldFiles::new(alloc, files),
@@ -93,7 +93,7 @@ impl MemShelf {
 }
 
 impl Shelf for MemShelf {
-    ghost use Rattle.shelf.specs.Shelf.{is_read_fault, ShelfHasFile, ShelfLacksFile, HasLongerFile, IsNoFault};
+    ghost use Rattle.shelf.specs.Shelf.{is_read_fault, ShelfHasFile, ShelfLacksFile, HasLongerFile, IsNoShelfFault};
 
     ghost state = { λ s. record {
       files = Some s.files;
@@ -102,16 +102,16 @@ impl Shelf for MemShelf {
     } };
 
     fn read(&mut self, name: &str, limit: u64) -> Result<Vec<u8>, ShelfError>
-        ensures fails { IsErrOf result ShelfError.Failed ↔ ScriptFailsNext self.old.script }
+        ensures fails { IsErrOf result ShelfError.Failed ↔ ShelfScriptFailsNext self.old.script }
         ensures after { self.new
-            ≡ record self.old { script = script_after_call self.old.script (is_read_fault result) } }
+            ≡ record self.old { script = shelf_script_after_call self.old.script (is_read_fault result) } }
         ensures faults { self.old.script.faults ≤ self.new.script.faults }
 
         ensures content { IfOk result (λ content.
             ShelfHasFile self.old.files name.now limit content.items) }
-        ensures missing { IsNoFault result
+        ensures missing { IsNoShelfFault result
             → (IsErrOf result ShelfError.Missing ↔ ShelfLacksFile self.old.files name.now) }
-        ensures too_long { IsNoFault result
+        ensures too_long { IsNoShelfFault result
             → (IsErrOf result ShelfError.TooLong ↔ HasLongerFile self.old.files name.now limit) }
     {
         if self.script.begin_call() {
@@ -143,7 +143,7 @@ impl Model for MemSink {
 impl MemSink {
     /// An empty sink that accepts at most `most` bytes a call; the calls with these numbers fail.
     pub fn new(alloc: Global, most: u64, failing: Vec<u64>) -> Self
-        ensures { result ≡ record { bytes = []; most = most; script = script_of failing.items } }
+        ensures { result ≡ record { bytes = []; most = most; script = shelf_script_of failing.items } }
     {
         MemSink {
             bytes: Vec::new(alloc),
@@ -168,14 +168,14 @@ impl Sink for MemSink {
     ghost takes_memory = { true };
 
     fn write(&mut self, piece: &[u8]) -> Result<u64, SinkError>
-        ensures fails { IsErrOf result SinkError.Failed ↔ ScriptFailsNext self.old.script }
+        ensures fails { IsErrOf result SinkError.Failed ↔ ShelfScriptFailsNext self.old.script }
         ensures most { IfOk result (λ taken. taken ≡ min self.old.most (length piece.now)) }
         ensures ok { IfOk result (λ taken.
             self.new.bytes ≡ self.old.bytes ++ take taken piece.now) }
         ensures err { OnErr result (self.new.bytes ≡ self.old.bytes) }
         ensures same_most { self.new.most ≡ self.old.most }
         ensures after { self.new.script
-            ≡ script_after_call self.old.script (is_write_fault piece.now result) }
+            ≡ shelf_script_after_call self.old.script (is_write_fault piece.now result) }
 
         ensures faults { self.old.script.faults ≤ self.new.script.faults }
     {

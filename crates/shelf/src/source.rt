@@ -3,8 +3,8 @@ ghost use Rattle.std.specs.Prelude.{◌≡◌, ◌≤◌, ◌↔◌, IfOk, IsErr
 ghost use Rattle.std.specs.Option.{ForSome, ForNone, option_copied};
 ghost use Rattle.std.specs.Str.{bytes_eq};
 ghost use Rattle.shelf.specs.Sink.{FaultsRose, next_count};
-ghost use Rattle.shelf.specs.Shelf.{ShelfState, ShelfHasFile, ShelfLacksFile, HasLongerFile, IsNoFault, file_named, files_of, is_read_fault, is_shelf_refusal};
-ghost use Rattle.shelf.specs.Streams.{cause_by_kind};
+ghost use Rattle.shelf.specs.Shelf.{ShelfState, ShelfHasFile, ShelfLacksFile, HasLongerFile, IsNoShelfFault, file_named, shelf_files_of, is_read_fault, is_shelf_refusal};
+ghost use Rattle.shelf.specs.Streams.{shelf_cause_by_kind};
 ghost use Rattle.shelf.specs.declared.source.ShelfError.TheVariants.{Missing, NoMemory};
 ghost use Rattle.std.specs.IoError.{error_kind};
 
@@ -43,7 +43,7 @@ impl From<AllocError> for ShelfError {
 impl ShelfError {
     /// Why a call of the system failed, by its error's kind: out of memory, otherwise `other`.
     pub fn by_kind(error: &io::Error, other: ShelfError) -> ShelfError
-        ensures { result ≡ cause_by_kind (error_kind error.now) other }
+        ensures { result ≡ shelf_cause_by_kind (error_kind error.now) other }
     {
         match error.kind() {
             ErrorKind::OutOfMemory => ShelfError::NoMemory,
@@ -53,7 +53,7 @@ impl ShelfError {
 
     /// Why a file can't be opened: out of memory, otherwise `Missing`.
     pub fn of_open(error: &io::Error) -> ShelfError
-        ensures { result ≡ cause_by_kind (error_kind error.now) Missing }
+        ensures { result ≡ shelf_cause_by_kind (error_kind error.now) Missing }
     {
         ShelfError::by_kind(error, ShelfError::Missing)
     }
@@ -88,9 +88,9 @@ pub trait Shelf {
             ForSome (state self.old).files (λ files.
             ShelfHasFile files name.now limit content.items)) }
         ensures missing { ForSome (state self.old).files (λ files.
-            IsNoFault result → (IsErrOf result ShelfError.Missing ↔ ShelfLacksFile files name.now)) }
+            IsNoShelfFault result → (IsErrOf result ShelfError.Missing ↔ ShelfLacksFile files name.now)) }
         ensures too_long { ForSome (state self.old).files (λ files.
-            IsNoFault result
+            IsNoShelfFault result
             → (IsErrOf result ShelfError.TooLong ↔ HasLongerFile files name.now limit)) }
 
         // If they aren't known, `Missing` and `TooLong` count as faults.
@@ -110,11 +110,11 @@ pub(crate) struct HeldFiles {
 }
 
 impl Model for HeldFiles {
-    ghost use Rattle.shelf.specs.Shelf.{Files, files_of};
+    ghost use Rattle.shelf.specs.Shelf.{Files, shelf_files_of};
 
     ghost Value = { Files };
 
-    ghost view = { λ held. files_of held.files.items };
+    ghost view = { λ held. shelf_files_of held.files.items };
 }
 
 /// The first of these files with this name.
@@ -128,7 +128,7 @@ fn find_shelf_file<'a>(files: &'a [(String, Vec<u8>)], name: &str) -> Option<&'a
 /// The content of the first of these files with this name.
 #[tactic(auto, using(crate::proofs::ShelfFileLookups::file_named_kept))]
 fn content_of<'a>(files: &'a [(String, Vec<u8>)], name: &str) -> Option<&'a [u8]>
-    ensures { option_copied result ≡ file_named (files_of files.now) name.now }
+    ensures { option_copied result ≡ file_named (shelf_files_of files.now) name.now }
 {
     match find_shelf_file(files, name) {
         Some(file) => Some(&file.1),
@@ -139,7 +139,7 @@ fn content_of<'a>(files: &'a [(String, Vec<u8>)], name: &str) -> Option<&'a [u8]
 impl HeldFiles {
     /// These files, and the allocator of the copies.
     pub(crate) fn new(alloc: Global, files: Vec<(String, Vec<u8>)>) -> Self
-        ensures { result ≡ files_of files.items }
+        ensures { result ≡ shelf_files_of files.items }
     {
         HeldFiles { alloc, files }
     }

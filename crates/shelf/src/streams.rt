@@ -8,7 +8,7 @@ ghost use Rattle.std.specs.Io.KnownBytes.{Keeps, WriteAppends};
 ghost use Rattle.std.specs.IoError.{error_kind};
 ghost use Rattle.shelf.specs.Sink.{next_count};
 ghost use Rattle.shelf.specs.Shelf.{is_read_fault};
-ghost use Rattle.shelf.specs.Streams.{WriterGainsFront, ReaderHasFront, IsReadOf, ReaderState, counted_fault};
+ghost use Rattle.shelf.specs.Streams.{WriterGainsFront, ShelfReaderHasFront, IsShelfReadOf, ShelfReaderState, shelf_counted_fault};
 
 use crate::source::ShelfError;
 use std::alloc::Global;
@@ -19,7 +19,7 @@ use std::marker::Model;
 /// A source of bytes that are read once: an open file, or bytes in memory.
 pub trait Reader {
     /// What contracts see: the bytes that are left, if they are known, and the count of faults.
-    ghost state: { Self → ReaderState };
+    ghost state: { Self → ShelfReaderState };
 
     /// Adds all that is left to the content, or the first `most` bytes of it.
     ///
@@ -27,9 +27,9 @@ pub trait Reader {
     /// Out of memory, or another error, which counts as a fault. Then the content may have
     /// some of the bytes.
     fn read_front(&mut self, most: u64, content: &mut Vec<u8>) -> io::Result<()>
-        ensures front { ReaderHasFront (state self.old).left most content.old.items content.new.items result }
+        ensures front { ShelfReaderHasFront (state self.old).left most content.old.items content.new.items result }
         ensures faults { (state self.new).faults
-            ≡ counted_fault (state self.old).faults result };
+            ≡ shelf_counted_fault (state self.old).faults result };
 }
 
 /// Bytes in memory; a read fails only out of memory.
@@ -53,9 +53,9 @@ pub struct CountedReader<R: Read + Drop> {
 }
 
 impl<R: Read + Drop> Model for CountedReader<R> {
-    ghost use Rattle.shelf.specs.Streams.{ReaderState};
+    ghost use Rattle.shelf.specs.Streams.{ShelfReaderState};
 
-    ghost Value = { ReaderState };
+    ghost Value = { ShelfReaderState };
 
     ghost view = { λ r. record { left = R.remaining r.reader; faults = r.faults } };
 }
@@ -105,7 +105,7 @@ pub fn read_stream_up_to<R: Reader>(
     reader: &mut R,
     limit: u64,
 ) -> Result<Vec<u8>, ShelfError>
-    ensures read { IsReadOf (R.state reader.old).left limit result }
+    ensures read { IsShelfReadOf (R.state reader.old).left limit result }
     ensures within { IfOk result (λ content. length content.items ≤ limit) }
     ensures faults { (R.state reader.new).faults
         ≡ (if is_read_fault result then next_count (R.state reader.old).faults

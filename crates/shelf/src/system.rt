@@ -26,9 +26,9 @@ pub struct DiskShelf<R: Files + AllocGlobal + Drop> {
 }
 
 impl<R: Files + AllocGlobal + Drop> Model for DiskShelf<R> {
-    ghost use Rattle.shelf.specs.Shelf.{ReadCounts};
+    ghost use Rattle.shelf.specs.Shelf.{ShelfReadCounts};
 
-    ghost Value = { ReadCounts };
+    ghost Value = { ShelfReadCounts };
 
     ghost view = { λ s. record { faults = s.faults; reads = s.reads } };
 }

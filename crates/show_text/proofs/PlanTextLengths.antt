@@ -2,16 +2,16 @@
 use Rattle.std.proofs.Common.{[], ◌++◌, ◌<◌, ◌^◌, ◌∷◌, ◌≤◌, List, arith, codes, decimal, length, ℕ}
 use Rattle.base.proofs.Exports.{length-decimal-le}
 use Rattle.lines.proofs.LinePrintedLengths.{IsWithin, action_within, all_of, name_within, names_within, number, joined_within, rule_within, widened, with_text, word_within}
-use Rattle.lines.specs.Sizes.{IsPrintedAction, IsNumber, IsPrintedRule}
+use Rattle.lines.specs.Sizes.{IsPrintedLineAction, IsNumber, IsPrintedLineRule}
 use Rattle.net_file.specs.Exports.{IsNet, NameLaws, switch_name_of}
 use Rattle.net_file.specs.declared.net.Net.{Net}
 use Rattle.policy_rules.specs.declared.rules.Partition.{Partition}
 use Rattle.policy_rules.specs.declared.rules.Rule.{Rule}
-use Rattle.show_text.specs.Text.{with_line_feed, plan_part_text, plan_region_text, table_row_line, rule_text_of, plan_targets_text}
+use Rattle.show_text.specs.Text.{shown_with_line_feed, plan_part_text, plan_region_text, table_row_line, shown_rule_text, plan_targets_text}
 use Rattle.switch_table.specs.declared.tables.PartRow.{PartRow}
 use Rattle.ternary.specs.Exports.{WordValue}
 
-fits : {m : ℕ} {text : List ℕ} → IsWithin m text → m < 2048 → length (with_line_feed text) ≤ 2048
+fits : {m : ℕ} {text : List ℕ} → IsWithin m text → m < 2048 → length (shown_with_line_feed text) ≤ 2048
 fits is small =
     let ended = widened (with_text is (10 ∷ [])) 2048 (omega (arith, small)) in ended.size
 
@@ -20,15 +20,15 @@ count n small = record {
   size = length-decimal-le 20 n (omega arith) (omega (arith, small)) (omega (arith, small));
 }
 
-pub rule_fits : (rule : Rule) → IsNumber rule.rank → IsPrintedRule rule.rule → IsPrintedAction rule.action
-    → length (with_line_feed (rule_text_of rule)) ≤ 2048
+pub rule_fits : (rule : Rule) → IsNumber rule.rank → IsPrintedLineRule rule.rule → IsPrintedLineAction rule.action
+    → length (shown_with_line_feed (shown_rule_text rule)) ≤ 2048
 rule_fits rule rank name action = fits
     (joined_within (with_text (joined_within (with_text (joined_within (with_text (joined_within (all_of (codes "  rank "))
     (number rule.rank rank)) (codes " rule ")) (rule_within rule.rule name)) (codes " word "))
     (word_within rule.word)) (codes " ")) (action_within rule.action action)) (omega arith)
 
 pub count_fits : (title : List ℕ) (n : ℕ) → length title ≤ 100 → n < 2 ^ 64
-    → length (with_line_feed (title ++ decimal n)) ≤ 2048
+    → length (shown_with_line_feed (title ++ decimal n)) ≤ 2048
 count_fits title n short small = let before : IsWithin 100 title = record { size = short } in
     fits (joined_within before (count n small)) (omega arith)
 
@@ -44,7 +44,7 @@ part_within part n rules =
     (count (length part.rules) rules)
 
 pub part_fits : (part : Partition) → part.number < 2 ^ 64 → length part.rules < 2 ^ 64
-    → length (with_line_feed (plan_part_text part)) ≤ 2048
+    → length (shown_with_line_feed (plan_part_text part)) ≤ 2048
 part_fits part n rules = fits (part_within part n rules) (omega arith)
 
 module _ (laws : NameLaws) (net : Net) (sound : IsNet net) where
@@ -54,7 +54,7 @@ module _ (laws : NameLaws) (net : Net) (sound : IsNet net) where
       (omega (arith, few))
 
   pub switch_fits : (s version : ℕ) → version < 2 ^ 32
-      → length (with_line_feed (codes "switch " ++ switch_name_of net s ++ codes " version " ++ decimal version))
+      → length (shown_with_line_feed (codes "switch " ++ switch_name_of net s ++ codes " version " ++ decimal version))
       ≤ 2048
   switch_fits s version small = fits
       (joined_within (with_text (joined_within (all_of (codes "switch ")) (name_within laws net sound s))
@@ -62,7 +62,7 @@ module _ (laws : NameLaws) (net : Net) (sound : IsNet net) where
 
   pub hosted_fits : (part : Partition) (targets : List ℕ) → part.number < 2 ^ 64
       → length part.rules < 2 ^ 64 → length targets ≤ 4
-      → length (with_line_feed (plan_part_text part ++ plan_targets_text net targets)) ≤ 2048
+      → length (shown_with_line_feed (plan_part_text part ++ plan_targets_text net targets)) ≤ 2048
   hosted_fits part targets n rules few = fits
       (joined_within (part_within part n rules) (targets_within targets few)) (omega arith)
 

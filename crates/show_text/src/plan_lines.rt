@@ -1,5 +1,5 @@
 ghost use Rattle.std.specs.Prelude.{◌≡◌, ◌≤◌, ◌<◌, ◌^◌, ◌++◌, OnOk, length};
-ghost use Rattle.show_text.specs.Text.{with_line_feed, plan_part_text, plan_region_text, rule_lines, rule_text_of, plan_targets_text};
+ghost use Rattle.show_text.specs.Text.{shown_with_line_feed, plan_part_text, plan_region_text, rule_lines, shown_rule_text, plan_targets_text};
 ghost use Rattle.lines.specs.Pushes.{line_with};
 
 use lines::{Line, push_action, push_names, push_rule, push_word};
@@ -9,7 +9,7 @@ use std::alloc::AllocError;
 use ternary::Word;
 
 /// Adds the start of a partition's line: its number and its region.
-#[tactic(auto, using(lines::proofs::CallerLemmas::pushed_append))]
+#[tactic(auto, using(lines::proofs::LinesCallerLemmas::pushed_append))]
 pub fn show_region(entry: &mut Line, number: u64, region: &Word)
     ensures { entry.new ≡ line_with entry.old (plan_region_text number region.now) }
 {
@@ -20,7 +20,7 @@ pub fn show_region(entry: &mut Line, number: u64, region: &Word)
 }
 
 /// Adds a partition with the number of its rules.
-#[tactic(auto, using(lines::proofs::CallerLemmas::pushed_append))]
+#[tactic(auto, using(lines::proofs::LinesCallerLemmas::pushed_append))]
 pub fn show_part(entry: &mut Line, part: &Partition)
     ensures text { entry.new ≡ line_with entry.old (plan_part_text part.now) }
     ensures of_type { (part.now.number < 2 ^ 64) × (length part.now.rules < 2 ^ 64) }
@@ -31,7 +31,7 @@ pub fn show_part(entry: &mut Line, part: &Partition)
 }
 
 /// Adds the names of targets, each after a blank.
-#[tactic(auto, using(lines::proofs::CallerLemmas::pushed_append))]
+#[tactic(auto, using(lines::proofs::LinesCallerLemmas::pushed_append))]
 pub fn show_targets(entry: &mut Line, net: &Net, targets: &Targets)
     ensures text { entry.new ≡ line_with entry.old (plan_targets_text net.now targets.now) }
     ensures few { length targets.now ≤ 4 }
@@ -42,7 +42,7 @@ pub fn show_targets(entry: &mut Line, net: &Net, targets: &Targets)
 
 // Sets the line to that of a rule.
 fn show_rule_line(entry: &mut Line, rule: &Rule)
-    ensures { entry.new ≡ with_line_feed (rule_text_of rule.now) }
+    ensures { entry.new ≡ shown_with_line_feed (shown_rule_text rule.now) }
 {
     entry.clear();
     entry.push("  rank ");

@@ -2,7 +2,7 @@ ghost use Rattle.std.specs.Prelude.{◌≡◌, ◌≤◌, ◌++◌, IfOk, OnOk, 
 ghost use Rattle.std.specs.List.{flat_map, enumerate_from};
 ghost use Rattle.net_file.specs.Net.{IsNet, switch_name_of};
 ghost use Rattle.switch_table.specs.Tables.{tables_of};
-ghost use Rattle.show_text.specs.Text.{compile_text, with_line_feed, own_part_lines, plan_part_text, hosted_lines, table_row_line, table_text, plan_targets_text};
+ghost use Rattle.show_text.specs.Text.{compile_text, shown_with_line_feed, own_part_lines, plan_part_text, hosted_lines, table_row_line, table_text, plan_targets_text};
 
 use crate::plan_lines::{show_part, show_region, show_rules, show_targets};
 use controller::{Plan, tables_of};
@@ -68,11 +68,11 @@ fn text_of_tables(alloc: Global, net: &Net, s: u32, tables: &Tables) -> Result<V
 }
 
 // Sets the line to that of a switch and a version.
-#[tactic(auto, using(lines::proofs::CallerLemmas::pushed_append, lines::proofs::CallerLemmas::pushed_whole, crate::proofs::PlanTextLengths::switch_fits))]
+#[tactic(auto, using(lines::proofs::LinesCallerLemmas::pushed_append, lines::proofs::LinesCallerLemmas::pushed_whole, crate::proofs::PlanTextLengths::switch_fits))]
 fn show_switch_line(entry: &mut Line, net: &Net, s: u32, version: u32)
     requires { IsNet net.now }
     ensures { entry.new
-        ≡ with_line_feed (codes "switch " ++ switch_name_of net.now s ++ codes " version " ++ decimal version) }
+        ≡ shown_with_line_feed (codes "switch " ++ switch_name_of net.now s ++ codes " version " ++ decimal version) }
 {
     switch_name_laws();
     entry.clear();
@@ -84,10 +84,10 @@ fn show_switch_line(entry: &mut Line, net: &Net, s: u32, version: u32)
 }
 
 // Sets the line to that of a number after its title.
-#[tactic(auto, using(lines::proofs::CallerLemmas::pushed_append, lines::proofs::CallerLemmas::pushed_whole, crate::proofs::PlanTextLengths::count_fits))]
+#[tactic(auto, using(lines::proofs::LinesCallerLemmas::pushed_append, lines::proofs::LinesCallerLemmas::pushed_whole, crate::proofs::PlanTextLengths::count_fits))]
 fn show_count_line(entry: &mut Line, title: &str, count: u64)
     requires { length title.now ≤ 100 }
-    ensures { entry.new ≡ with_line_feed (title.now ++ decimal count) }
+    ensures { entry.new ≡ shown_with_line_feed (title.now ++ decimal count) }
 {
     entry.clear();
     entry.push(title);
@@ -102,17 +102,17 @@ fn add_count(
     count: u64,
 ) -> Result<(), AllocError>
     requires { length title.now ≤ 100 }
-    ensures { OnOk result (text.new.items ≡ text.old.items ++ with_line_feed (title.now ++ decimal count)) }
+    ensures { OnOk result (text.new.items ≡ text.old.items ++ shown_with_line_feed (title.now ++ decimal count)) }
 {
     show_count_line(entry, title, count);
     text.extend_from_slice(entry.bytes())
 }
 
 // Sets the line to that of a partition with its targets.
-#[tactic(auto, using(lines::proofs::CallerLemmas::pushed_append, lines::proofs::CallerLemmas::pushed_whole, crate::proofs::PlanTextLengths::hosted_fits))]
+#[tactic(auto, using(lines::proofs::LinesCallerLemmas::pushed_append, lines::proofs::LinesCallerLemmas::pushed_whole, crate::proofs::PlanTextLengths::hosted_fits))]
 fn show_hosted_line(entry: &mut Line, net: &Net, part: &Partition, targets: &Targets)
     requires { IsNet net.now }
-    ensures { entry.new ≡ with_line_feed (plan_part_text part.now ++ plan_targets_text net.now targets.now) }
+    ensures { entry.new ≡ shown_with_line_feed (plan_part_text part.now ++ plan_targets_text net.now targets.now) }
 {
     switch_name_laws();
     entry.clear();
@@ -140,9 +140,9 @@ fn show_hosted(
 }
 
 // Sets the line to that of a partition.
-#[tactic(auto, using(lines::proofs::CallerLemmas::pushed_append, lines::proofs::CallerLemmas::pushed_whole, crate::proofs::PlanTextLengths::part_fits))]
+#[tactic(auto, using(lines::proofs::LinesCallerLemmas::pushed_append, lines::proofs::LinesCallerLemmas::pushed_whole, crate::proofs::PlanTextLengths::part_fits))]
 fn show_part_line(entry: &mut Line, part: &Partition)
-    ensures { entry.new ≡ with_line_feed (plan_part_text part.now) }
+    ensures { entry.new ≡ shown_with_line_feed (plan_part_text part.now) }
 {
     entry.clear();
     show_part(entry, part);
@@ -165,7 +165,7 @@ fn show_own_parts(
 }
 
 // Sets the line to that of the partition rule of a region.
-#[tactic(auto, using(lines::proofs::CallerLemmas::pushed_append, lines::proofs::CallerLemmas::pushed_whole, crate::proofs::PlanTextLengths::row_fits))]
+#[tactic(auto, using(lines::proofs::LinesCallerLemmas::pushed_append, lines::proofs::LinesCallerLemmas::pushed_whole, crate::proofs::PlanTextLengths::row_fits))]
 fn show_table_row_line(entry: &mut Line, net: &Net, number: u64, row: &PartRow)
     requires { IsNet net.now }
     ensures { entry.new ≡ table_row_line net.now (number, row.now) }

@@ -10,8 +10,8 @@ use Rattle.steps.specs.declared.step.Step.{Step}
 use Rattle.steps.specs.declared.step.Step.TheVariants as step
 
 -- the greatest number by which a step names a packet, a message or a place of a cache
-abbrev pub max_number : ℕ
-max_number = 999_999_999
+abbrev pub max_step_number : ℕ
+max_step_number = 999_999_999
 
 -- the network has a switch of this number
 abbrev pub HasSwitch : Net → ℕ → Type 0
@@ -24,11 +24,11 @@ HasLink net one two = IsTrue (are_linked net.links one two)
 -- a step of this network, if this many policy files are named
 abbrev pub IsStep : Net → ℕ → Step → Type 0
 IsStep net files (step.Packet switch header) = HasSwitch net switch × IsHeader header
-IsStep net files (step.Hop packet) = packet ≤ max_number
-IsStep net files (step.Lose packet) = packet ≤ max_number
-IsStep net files (step.Deliver message) = message ≤ max_number
-IsStep net files (step.Forget message) = message ≤ max_number
-IsStep net files (step.Expire switch place) = HasSwitch net switch × (place ≤ max_number)
+IsStep net files (step.Hop packet) = packet ≤ max_step_number
+IsStep net files (step.Lose packet) = packet ≤ max_step_number
+IsStep net files (step.Deliver message) = message ≤ max_step_number
+IsStep net files (step.Forget message) = message ≤ max_step_number
+IsStep net files (step.Expire switch place) = HasSwitch net switch × (place ≤ max_step_number)
 IsStep net files (step.Update file) = (1 ≤ file) × (file ≤ files)
 IsStep net files (step.LinkDown one two) = HasLink net one two
 IsStep net files (step.LinkUp one two) = HasLink net one two

@@ -2,7 +2,7 @@
 use Rattle.std.proofs.Common.{◌≡◌, List, None, Option, Some, false, option_map, refl, true, ℕ, rules}
 use Rattle.failover.specs.Exports.{no_links}
 use Rattle.five_tuple.specs.declared.header.Header.{Header}
-use Rattle.switch_core.specs.Exports.{Answer, Answered, IsByLookup, SwitchSite, SwitchValue, admitted, answer_of, are_isolated, call_counted, cause_of, enter_answer, entered_with, incoming_packet, leave_by_switch, looked_up, next_of, packet_to_look_up, serves, set_out}
+use Rattle.switch_core.specs.Exports.{Answer, Answered, IsBySwitchLookup, SwitchSite, SwitchValue, admitted, answer_of, are_isolated, switch_call_counted, switch_stuck_cause, enter_answer, switch_entered_with, incoming_packet, leave_by_switch, looked_up, next_of, packet_to_look_up, serves, set_out}
 use Rattle.switch_core.specs.declared.tunnel_calls.Entered.{Entered}
 use Rattle.switch_core.specs.declared.tunnel_calls.Packet.{Packet}
 use Rattle.switch_core.specs.declared.forwarding.Forwarding.{Forwarding}
@@ -11,11 +11,11 @@ use Rattle.switch_core.proofs.SwitchArrivals.{entry_by}
 
 -- one more call changes no answer
 pub answer_counted : (s after : SwitchValue) (site : SwitchSite) (packet : Packet) (forwarding : Forwarding) →
-    after ≡ call_counted s → answer_of after site packet forwarding ≡ answer_of s site packet forwarding
-unfolding next_of leave_by_switch set_out cause_of are_isolated
+    after ≡ switch_call_counted s → answer_of after site packet forwarding ≡ answer_of s site packet forwarding
+unfolding next_of leave_by_switch set_out switch_stuck_cause are_isolated
 answer_counted s after site packet forwarding is = cc (is, by_forwarding forwarding) where
   by_forwarding : (forwarding : Forwarding) →
-      answer_of (call_counted s) site packet forwarding ≡ answer_of s site packet forwarding
+      answer_of (switch_call_counted s) site packet forwarding ≡ answer_of s site packet forwarding
   by_forwarding (Out port) = refl
   by_forwarding (Decided decision word) = refl
   by_forwarding (Seek leg targets) = refl
@@ -23,7 +23,7 @@ answer_counted s after site packet forwarding is = cc (is, by_forwarding forward
 module _ (s after : SwitchValue) (site : SwitchSite) (number : ℕ) (header : Header)
     (forwarding : Forwarding) where
   -- what is returned for a packet that enters at a switch that serves
-  pub was_admitted : (ingress : ℕ) → after ≡ call_counted s → serves s ≡ true → ingress ≡ s.number →
+  pub was_admitted : (ingress : ℕ) → after ≡ switch_call_counted s → serves s ≡ true → ingress ≡ s.number →
       answer_of s site (packet_to_look_up number header ingress no_links) forwarding
       ≡ Answered (looked_up s site (packet_to_look_up number header ingress no_links)) →
       Some (answer_of after site (incoming_packet s number header) forwarding)
@@ -35,7 +35,7 @@ module _ (s after : SwitchValue) (site : SwitchSite) (number : ℕ) (header : He
   pub answered : (result : Entered) (ingress : ℕ) (down : List ℕ)
       → ingress ≡ s.number → down ≡ no_links
       → ((answer : Answer) → answer_of after site (packet_to_look_up number header ingress down)
-      forwarding ≡ Answered answer → result ≡ entered_with answer)
+      forwarding ≡ Answered answer → result ≡ switch_entered_with answer)
       → Some (answer_of after site (incoming_packet s number header) forwarding)
       ≡ option_map Answered (admitted s site (incoming_packet s number header))
       → result ≡ enter_answer s site (incoming_packet s number header)
@@ -44,7 +44,7 @@ module _ (s after : SwitchValue) (site : SwitchSite) (number : ℕ) (header : He
 -- of a packet that enters there is a lookup
 pub by_lookup : (s : SwitchValue) (site : SwitchSite) (packet : Packet) (forwarding : Forwarding)
     (answer : Option Answer) →
-    Some (answer_of s site packet forwarding) ≡ option_map Answered answer → IsByLookup forwarding
+    Some (answer_of s site packet forwarding) ≡ option_map Answered answer → IsBySwitchLookup forwarding
 by_lookup s site packet forwarding answer is = search rules
 
 -- at a switch that doesn't serve

@@ -1,13 +1,13 @@
 -- What a switch answers as a packet enters and as it arrives.
 use Rattle.std.proofs.Common.{◌↔◌, ◌≡◌, Bool, IfSome, IsFalse, IsSomeAnd, IsTrue, None, Option, Some, ap, cond, false, is_some, refl, subst, true, unwrap_or, ℕ, rules}
 use Rattle.base.proofs.Exports.{option_map_or}
-use Rattle.policy_rules.specs.Exports.{is_in}
+use Rattle.policy_rules.specs.Exports.{is_in_policy_partition}
 use Rattle.policy_rules.specs.declared.packet.Leg.{Leg}
 use Rattle.policy_rules.specs.declared.packet.Leg.TheVariants.{Seek, Exit}
 use Rattle.policy_rules.specs.declared.rules.Partition.{Partition}
 use Rattle.tunnel.specs.Exports.{TunnelValue}
 use Rattle.switch_table.specs.declared.tables.Tables.{Tables}
-use Rattle.switch_core.specs.Exports.{Answer, Answered, IsArrivingAtSwitch, IsAtAuthority, IsDecidedIn, IsEntry, IsFirstHit, IsRightAnswer, SwitchSite, SwitchValue, admitted, switch_arrival_of, arrive_answer, arrived_on_leg, arrived_with, decided_in_own_part, enter_answer, entered_with, entry_of, held_tables, holds_version, looked_up, no_part, own_part, packet_of, part_numbered, place_of_first, received, serves}
+use Rattle.switch_core.specs.Exports.{Answer, Answered, IsArrivingAtSwitch, IsAtAuthoritySwitch, IsDecidedBySwitchIn, IsSwitchEntry, IsSwitchFirstHit, IsRightAnswer, SwitchSite, SwitchValue, admitted, switch_arrival_of, arrive_answer, switch_arrival_on_leg, switch_arrived_with, switch_answer_in_partition, enter_answer, switch_entered_with, switch_entry_of, held_tables, holds_version, looked_up, no_switch_part, own_part, switch_packet_of, switch_part_numbered, switch_own_rule_place, received, serves}
 use Rattle.switch_core.specs.declared.tunnel_calls.Arrived.TheVariants as arrival
 use Rattle.switch_core.specs.declared.tunnel_calls.Entered.TheVariants as entry
 use Rattle.switch_core.specs.declared.tunnel_calls.Packet.{Packet}
@@ -22,22 +22,22 @@ unfolding admitted
 entry_by s site packet test is = ap (λ (b : Bool). cond b (Some (looked_up s site packet)) None) is
 
 -- a switch that answers isn't closed
-not_closed : (answer : Answer) → entered_with answer ≡ entry.Closed → ⊥
+not_closed : (answer : Answer) → switch_entered_with answer ≡ entry.Closed → ⊥
 not_closed answer is = search rules
 
 pub entry_is : (s : SwitchValue) (site : SwitchSite) (packet : Packet) →
-    IsEntry s site packet (enter_answer s site packet)
+    IsSwitchEntry s site packet (enter_answer s site packet)
 unfolding admitted
 entry_is s site packet = record {
   closed = by_test (serves s);
   answered = λ ready. (
     looked_up s site packet,
-    ap entry_of (entry_by s site packet true ready.serving),
+    ap switch_entry_of (entry_by s site packet true ready.serving),
     lookup_is s site packet ready,
   );
 } where
   by_test : (test : Bool)
-      → (entry_of (cond test (Some (looked_up s site packet)) None) ≡ entry.Closed) ↔ IsFalse test
+      → (switch_entry_of (cond test (Some (looked_up s site packet)) None) ≡ entry.Closed) ↔ IsFalse test
   by_test true = (λ is. absurd (not_closed (looked_up s site packet) is), λ is. cc)
   by_test false = (λ is. refl, λ is. refl)
 
@@ -46,30 +46,30 @@ entry_is s site packet = record {
 pub arrive_out : (s : SwitchValue) (site : SwitchSite) (t : TunnelValue) (port : ℕ) →
     t.leg ≡ Exit port → arrive_answer s site t ≡ arrival.Out port
 unfolding received
-arrive_out s site t port leg = ap (λ leg. switch_arrival_of (arrived_on_leg s site (packet_of t) leg)) leg
+arrive_out s site t port leg = ap (λ leg. switch_arrival_of (switch_arrival_on_leg s site (switch_packet_of t) leg)) leg
 
 -- by the tables of the leg's version, if they are held
 arrived_by : (s : SwitchValue) (site : SwitchSite) (t : TunnelValue) (version partition : ℕ)
     (held : Option Tables) → t.leg ≡ Seek version partition → held_tables s version ≡ held
-    → received s site t ≡ Answered (option_map_or (decided_in_own_part s site (packet_of t) partition) held
-    (looked_up s site (packet_of t)))
+    → received s site t ≡ Answered (option_map_or (switch_answer_in_partition s site (switch_packet_of t) partition) held
+    (looked_up s site (switch_packet_of t)))
 unfolding received
 arrived_by s site t version partition held leg is = cc (leg, is)
 
 -- the first hit of the leg's partition
 hit_on : (s : SwitchValue) (t : TunnelValue) (version partition : ℕ) (tables : Tables) →
     IsArrivingAtSwitch s t → t.leg ≡ Seek version partition → held_tables s version ≡ Some tables →
-    IsSomeAnd (own_part tables partition) (λ part. IsFirstHit t.header part
-    (place_of_first t.header (part_numbered tables partition)))
+    IsSomeAnd (own_part tables partition) (λ part. IsSwitchFirstHit t.header part
+    (switch_own_rule_place t.header (switch_part_numbered tables partition)))
 hit_on s t version partition tables arriving leg held = by_part (own_part tables partition) refl
     (subst (λ (o : Option Tables). IfSome o
-    (λ tables. IsSomeAnd (own_part tables partition) (λ part. IsTrue (is_in t.header part)))) held
-    (subst (λ (leg : Leg). IsAtAuthority s t.header leg) leg arriving.authority))
+    (λ tables. IsSomeAnd (own_part tables partition) (λ part. IsTrue (is_in_policy_partition t.header part)))) held
+    (subst (λ (leg : Leg). IsAtAuthoritySwitch s t.header leg) leg arriving.authority))
   where
     by_part : (part : Option Partition) → own_part tables partition ≡ part →
-        IsSomeAnd part (λ part. IsTrue (is_in t.header part)) →
-        IsSomeAnd part (λ own. IsFirstHit t.header own
-        (place_of_first t.header (unwrap_or part no_part)))
+        IsSomeAnd part (λ part. IsTrue (is_in_policy_partition t.header part)) →
+        IsSomeAnd part (λ own. IsSwitchFirstHit t.header own
+        (switch_own_rule_place t.header (unwrap_or part no_switch_part)))
     by_part (Some part) is inside = own_hit tables partition part t.header
         (sound_held s version tables arriving.ready.switch held) arriving.ready.is_header is inside
     by_part None is inside = absurd inside
@@ -77,15 +77,15 @@ hit_on s t version partition tables arriving leg held = by_part (own_part tables
 pub arrive_held : (s : SwitchValue) (site : SwitchSite) (t : TunnelValue) (version partition : ℕ)
     (tables : Tables) →
     IsArrivingAtSwitch s t → t.leg ≡ Seek version partition → held_tables s version ≡ Some tables →
-    (answer : Answer) × (arrive_answer s site t ≡ arrived_with answer)
-    × IsDecidedIn s site (packet_of t) version tables partition answer
-unfolding decided_in_own_part
+    (answer : Answer) × (arrive_answer s site t ≡ switch_arrived_with answer)
+    × IsDecidedBySwitchIn s site (switch_packet_of t) version tables partition answer
+unfolding switch_answer_in_partition
 arrive_held s site t version partition tables arriving leg held = (
-  decided_in_own_part s site (packet_of t) partition tables,
+  switch_answer_in_partition s site (switch_packet_of t) partition tables,
   ap switch_arrival_of (arrived_by s site t version partition (Some tables) leg held),
-  subst (λ (v : ℕ). IsDecidedIn s site (packet_of t) v tables partition
-      (decided_in_own_part s site (packet_of t) partition tables)) (version_held s version tables held)
-      (hit_in s site (packet_of t) tables.version tables partition _
+  subst (λ (v : ℕ). IsDecidedBySwitchIn s site (switch_packet_of t) v tables partition
+      (switch_answer_in_partition s site (switch_packet_of t) partition tables)) (version_held s version tables held)
+      (hit_in s site (switch_packet_of t) tables.version tables partition _
       (hit_on s t version partition tables arriving leg held)).0,
 )
 
@@ -94,11 +94,11 @@ none_held o is = search rules
 
 pub arrive_anew : (s : SwitchValue) (site : SwitchSite) (t : TunnelValue) (version partition : ℕ) →
     IsArrivingAtSwitch s t → t.leg ≡ Seek version partition → IsFalse (holds_version s version) →
-    (answer : Answer) × (arrive_answer s site t ≡ arrived_with answer)
-    × IsRightAnswer s site (packet_of t) answer
+    (answer : Answer) × (arrive_answer s site t ≡ switch_arrived_with answer)
+    × IsRightAnswer s site (switch_packet_of t) answer
 arrive_anew s site t version partition arriving leg gone = (
-  looked_up s site (packet_of t),
+  looked_up s site (switch_packet_of t),
   ap switch_arrival_of (arrived_by s site t version partition None leg
       (none_held (held_tables s version) gone)),
-  lookup_is s site (packet_of t) arriving.ready,
+  lookup_is s site (switch_packet_of t) arriving.ready,
 )

@@ -3,19 +3,19 @@ use Rattle.std.proofs.Common.{[], ◌==◌, ◌↔◌, ◌∙◌, ◌∷◌, ◌
 use Rattle.base.proofs.Exports.{All-cons, All-contains, All-head, All-tail, find-there, option_map_or, ⊤}
 use Rattle.five_tuple.specs.Exports.{IsHeader, number_of}
 use Rattle.five_tuple.specs.declared.header.Header.{Header}
-use Rattle.policy_rules.specs.Exports.{AreSoundPartitions, Hosted, first_rule, hit_of_rule, is_in, scan}
+use Rattle.policy_rules.specs.Exports.{AreSoundPolicyPartitions, Hosted, first_rule, policy_hit_of_rule, is_in_policy_partition, scan}
 use Rattle.policy_rules.specs.declared.packet.Leg.{Leg}
 use Rattle.policy_rules.specs.declared.packet.Leg.TheVariants.{Seek as SeekLeg, Exit as ExitLeg}
 use Rattle.policy_rules.specs.declared.policy.Row.{Row}
 use Rattle.policy_rules.specs.declared.rules.Partition.{Partition}
 use Rattle.tunnel.specs.Exports.{TunnelValue}
-use Rattle.switch_table.specs.Exports.{authority_of, first_entry, has_target, part_of, redirect_of, table_lookup, tables_of}
+use Rattle.switch_table.specs.Exports.{table_authority_of, first_entry, has_target, part_of, table_redirect_of, table_lookup, tables_of}
 use Rattle.switch_table.specs.declared.cache.CacheEntry.{CacheEntry}
 use Rattle.switch_table.specs.declared.search.Found.{Found}
 use Rattle.switch_table.specs.declared.search.Found.TheVariants.{Cached, Authority, Redirect}
 use Rattle.switch_table.specs.declared.tables.Tables.{Tables}
 use Rattle.ctrl_msg.specs.declared.message.Body.{Body}
-use Rattle.switch_core.specs.Exports.{Answer, Decided, IsArrivingAtSwitch, IsByOwnRule, IsDecidedIn, IsDecision, IsReady, IsRightAnswer, Seek, SwitchSite, Stuck, SwitchValue, admitted, arrive_answer, arrived_with, by_entry, by_rule, cause_of, enter_answer, entered_with, entry_of, held_tables, looked_up, lookup_by_stamp, next_of, own_part, packet_of, route_known, switch_rule_to_cache, setting_out, stamp_tables}
+use Rattle.switch_core.specs.Exports.{Answer, Decided, IsArrivingAtSwitch, IsBySwitchOwnRule, IsDecidedBySwitchIn, IsSwitchDecision, IsSwitchReady, IsRightAnswer, Seek, SwitchSite, Stuck, SwitchValue, admitted, arrive_answer, switch_arrived_with, by_entry, by_rule, switch_stuck_cause, enter_answer, switch_entered_with, switch_entry_of, held_tables, looked_up, switch_lookup_by_stamp, next_of, own_part, switch_packet_of, switch_route_known, switch_rule_to_cache, switch_setting_out, stamp_tables}
 use Rattle.switch_core.specs.declared.tunnel_calls.Arrived.TheVariants as arrival
 use Rattle.switch_core.specs.declared.deciding.Decision.{Decision}
 use Rattle.switch_core.specs.declared.tunnel_calls.Entered.TheVariants as entry
@@ -27,8 +27,8 @@ use Rattle.switch_core.proofs.SwitchArrivals.{arrive_anew, arrive_held, arrive_o
 -- ---- where decisions come from
 
 -- what a lookup finds in the cache is the first entry of the stamp's version
-cache_hit : (s : SwitchValue) (header : Header) (entry : CacheEntry) → IsReady s header →
-    lookup_by_stamp s header ≡ Cached entry →
+cache_hit : (s : SwitchValue) (header : Header) (entry : CacheEntry) → IsSwitchReady s header →
+    switch_lookup_by_stamp s header ≡ Cached entry →
     first_entry s.stamp (number_of header) s.cache.entries ≡ Some entry
 cache_hit s header entry ready is = let tables = stamp_tables s in
     ap (λ (v : ℕ). first_entry v (number_of header) s.cache.entries)
@@ -36,7 +36,7 @@ cache_hit s header entry ready is = let tables = stamp_tables s in
     ∙ by_entry_of (first_entry tables.version (number_of header) s.cache.entries) is
   where
     by_part : (part : Option Partition) →
-        option_map_or (authority_of header) part (redirect_of header (stamp_tables s).parts)
+        option_map_or (table_authority_of header) part (table_redirect_of header (stamp_tables s).parts)
         ≡ Cached entry → ⊥
     by_part None is = cc
     by_part (Some part) is = cc
@@ -45,21 +45,21 @@ cache_hit s header entry ready is = let tables = stamp_tables s in
         option_map_or Cached found (table_lookup (stamp_tables s) header) ≡ Cached entry →
         found ≡ Some entry
     by_entry_of (Some other) is = (let same : other ≡ entry = cc in ap Some same)
-    by_entry_of None is = absurd (by_part (find (is_in header) (stamp_tables s).auth) is)
+    by_entry_of None is = absurd (by_part (find (is_in_policy_partition header) (stamp_tables s).auth) is)
 
 -- where an answer decides, its decision comes from where it should
 abbrev IsSourced : SwitchValue → SwitchSite → Packet → Answer → Type 0
-IsSourced s site packet (Decided decision cache way) = IsDecision s site packet decision cache way
+IsSourced s site packet (Decided decision cache way) = IsSwitchDecision s site packet decision cache way
 IsSourced s site packet _ = ⊤
 
 by_cache : (s : SwitchValue) (site : SwitchSite) (packet : Packet) (cached : CacheEntry) →
     first_entry s.stamp (number_of packet.header) s.cache.entries ≡ Some cached →
-    IsDecision s site packet (by_entry cached) None (next_of s site packet cached.action)
+    IsSwitchDecision s site packet (by_entry cached) None (next_of s site packet cached.action)
 by_cache s site packet cached first = search rules
 
 by_own : (s : SwitchValue) (site : SwitchSite) (packet : Packet) (version partition : ℕ)
     (tables : Tables) (answer : Answer) → held_tables s version ≡ Some tables →
-    IsDecidedIn s site packet version tables partition answer → IsSourced s site packet answer
+    IsDecidedBySwitchIn s site packet version tables partition answer → IsSourced s site packet answer
 by_own s site packet version partition tables answer held by =
     subst (IsSourced s site packet) (sym by.answered) (record {
       source = inr own;
@@ -71,7 +71,7 @@ by_own s site packet version partition tables answer held by =
     decision : Decision
     decision = by_rule s.number version by.own.part.number by.own.rule
 
-    own : IsByOwnRule s packet.header decision
+    own : IsBySwitchOwnRule s packet.header decision
     own = record { tables = tables; held = held; own = by.own; decided = refl }
 
     rule : Body
@@ -93,41 +93,41 @@ by_own s site packet version partition tables answer held by =
     is_carried body false is = cc
 
 by_lookup : (s : SwitchValue) (site : SwitchSite) (packet : Packet) (answer : Answer) →
-    IsReady s packet.header → IsRightAnswer s site packet answer → IsSourced s site packet answer
-by_lookup s site packet answer ready law = by_found (lookup_by_stamp s packet.header) refl where
+    IsSwitchReady s packet.header → IsRightAnswer s site packet answer → IsSourced s site packet answer
+by_lookup s site packet answer ready law = by_found (switch_lookup_by_stamp s packet.header) refl where
   by_way : (leg : Leg) (targets : List ℕ) (route : Option (List ℕ)) →
-      MatchOption route (answer ≡ Stuck (cause_of s site.near packet.down leg targets) leg)
-      (λ route. answer ≡ Seek (setting_out packet leg targets route)) →
+      MatchOption route (answer ≡ Stuck (switch_stuck_cause s site.near packet.down leg targets) leg)
+      (λ route. answer ≡ Seek (switch_setting_out packet leg targets route)) →
       IsSourced s site packet answer
   by_way leg targets None is = subst (IsSourced s site packet) (sym is) tt
   by_way leg targets (Some route) is = subst (IsSourced s site packet) (sym is) tt
 
-  by_found : (found : Found) → lookup_by_stamp s packet.header ≡ found →
+  by_found : (found : Found) → switch_lookup_by_stamp s packet.header ≡ found →
       IsSourced s site packet answer
   by_found (Cached cached) is = subst (IsSourced s site packet) (sym (law.cached cached is))
       (by_cache s site packet cached (cache_hit s packet.header cached ready is))
   by_found (Authority partition place) is = by_own s site packet s.stamp partition
       (stamp_tables s) answer (stamp_held s ready.stamped) (law.authority partition place is).0
   by_found (Redirect partition targets) is = by_way (SeekLeg s.stamp partition) targets
-      (route_known s site.near packet targets) (law.redirect partition targets is)
+      (switch_route_known s site.near packet targets) (law.redirect partition targets is)
 
 -- the answer of which a call tells a decision
 told_entry : (answer : Answer) (decision : Decision) (way : Next) →
-    entered_with answer ≡ entry.Decided decision way →
+    switch_entered_with answer ≡ entry.Decided decision way →
     (cache : Option Body) × (answer ≡ Decided decision cache way)
 told_entry answer decision way is = search rules
 
 told_arrival : (answer : Answer) (decision : Decision) (cache : Option Body) (way : Next)
-    → arrived_with answer ≡ arrival.Decided decision cache way → answer ≡ Decided decision cache way
+    → switch_arrived_with answer ≡ arrival.Decided decision cache way → answer ≡ Decided decision cache way
 told_arrival answer decision cache way is = search rules
 
 pub decided_on_entry : (s : SwitchValue) (site : SwitchSite) (packet : Packet) (decision : Decision)
-    (way : Next) → IsReady s packet.header → enter_answer s site packet ≡ entry.Decided decision way
+    (way : Next) → IsSwitchReady s packet.header → enter_answer s site packet ≡ entry.Decided decision way
     → (cache : Option Body) × (admitted s site packet ≡ Some (Decided decision cache way))
-    × IsDecision s site packet decision cache way
+    × IsSwitchDecision s site packet decision cache way
 decided_on_entry s site packet decision way ready is =
     let looked = entry_by s site packet true ready.serving in
-    let told = told_entry (looked_up s site packet) decision way (sym (ap entry_of looked) ∙ is) in (
+    let told = told_entry (looked_up s site packet) decision way (sym (ap switch_entry_of looked) ∙ is) in (
       told.0,
       looked ∙ ap Some told.1,
       rw told.1 at (by_lookup s site packet _ ready (lookup_is s site packet ready)),
@@ -136,18 +136,18 @@ decided_on_entry s site packet decision way ready is =
 pub decided_on_arrival : (s : SwitchValue) (site : SwitchSite) (t : TunnelValue) (decision : Decision)
     (cache : Option Body) (way : Next) → IsArrivingAtSwitch s t →
     arrive_answer s site t ≡ arrival.Decided decision cache way →
-    IsDecision s site (packet_of t) decision cache way
+    IsSwitchDecision s site (switch_packet_of t) decision cache way
 decided_on_arrival s site t decision cache way arriving is = by_leg t.leg refl where
   packet : Packet
-  packet = packet_of t
+  packet = switch_packet_of t
 
-  by_answer : (answer : Answer) → arrive_answer s site t ≡ arrived_with answer →
-      IsSourced s site packet answer → IsDecision s site packet decision cache way
+  by_answer : (answer : Answer) → arrive_answer s site t ≡ switch_arrived_with answer →
+      IsSourced s site packet answer → IsSwitchDecision s site packet decision cache way
   by_answer answer came sourced = subst (IsSourced s site packet)
       (told_arrival answer decision cache way (sym came ∙ is)) sourced
 
   by_tables : (version partition : ℕ) (held : Option Tables) → t.leg ≡ SeekLeg version partition
-      → held_tables s version ≡ held → IsDecision s site packet decision cache way
+      → held_tables s version ≡ held → IsSwitchDecision s site packet decision cache way
   by_tables version partition (Some tables) leg held =
       let by = arrive_held s site t version partition tables arriving leg held in
       by_answer by.0 by.1 (by_own s site packet version partition tables by.0 held by.2)
@@ -156,7 +156,7 @@ decided_on_arrival s site t decision cache way arriving is = by_leg t.leg refl w
       (ap (λ (o : Option Tables). is_some o) held) in
       by_answer by.0 by.1 (by_lookup s site packet by.0 arriving.ready by.2)
 
-  by_leg : (leg : Leg) → t.leg ≡ leg → IsDecision s site packet decision cache way
+  by_leg : (leg : Leg) → t.leg ≡ leg → IsSwitchDecision s site packet decision cache way
   by_leg (ExitLeg port) leg = let out = sym (arrive_out s site t port leg) ∙ is in absurd (cc)
   by_leg (SeekLeg version partition) leg =
       by_tables version partition (held_tables s version) leg refl
@@ -176,9 +176,9 @@ of_plan P kept (hosted ∷ plan) all =
     by_test false rest = rest
 
 pub decides_as_policy : (s : SwitchValue) (header : Header) (decision : Decision) (rows : List Row)
-    (plan : List Hosted) → AreSoundPartitions rows (map part_of plan) → IsHeader header
+    (plan : List Hosted) → AreSoundPolicyPartitions rows (map part_of plan) → IsHeader header
     → held_tables s decision.version ≡ Some (tables_of plan decision.version s.number)
-    → IsByOwnRule s header decision
+    → IsBySwitchOwnRule s header decision
     → scan rows header ≡ record { rule = decision.rule; action = decision.action }
 decides_as_policy s header decision rows plan sound is planned by =
     let part = by.own.part in
@@ -188,12 +188,12 @@ decides_as_policy s header decision rows plan sound is planned by =
     let both : Some by.tables ≡ Some (tables_of plan decision.version s.number) =
     sym by.held ∙ planned in
     cc in
-    let Decides : Partition → Type 0 = λ part. IsTrue (is_in header part) →
-    option_map hit_of_rule (first_rule part.rules header) ≡ Some (scan rows header) in
+    let Decides : Partition → Type 0 = λ part. IsTrue (is_in_policy_partition header part) →
+    option_map policy_hit_of_rule (first_rule part.rules header) ≡ Some (scan rows header) in
     let own = ap (λ (t : Tables). own_part t part.number) (sym tables) ∙ by.own.own in
     let there = (find-there (λ (p : Partition). p.number == part.number) auth part own).0 in
     let decides : Decides part =
     All-contains Decides auth part (of_plan Decides kept plan (sound.decides header is)) there in
-    let first = ap (option_map hit_of_rule) (sym by.own.first) ∙ decides by.own.hit.region in
-    let hit : scan rows header ≡ hit_of_rule by.own.rule = cc in
+    let first = ap (option_map policy_hit_of_rule) (sym by.own.first) ∙ decides by.own.hit.region in
+    let hit : scan rows header ≡ policy_hit_of_rule by.own.rule = cc in
     hit ∙ ap (λ (d : Decision). record { rule = d.rule; action = d.action }) (sym by.decided)

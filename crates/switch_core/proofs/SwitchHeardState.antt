@@ -5,7 +5,7 @@ use Rattle.failover.specs.declared.advert.Advert.{Advert}
 use Rattle.failover.specs.Exports.{adverts_after_hearing}
 use Rattle.failover.proofs.FailoverHeldAdverts.{after_no_news}
 use Rattle.switch_table.specs.declared.tables.Tables.{Tables}
-use Rattle.switch_core.specs.Exports.{SwitchValue, collected_to, held_tables, is_news_here, stamp_raised_to, stamped_with, switch_with_heard, with_installed}
+use Rattle.switch_core.specs.Exports.{SwitchValue, switch_collected_to, held_tables, is_news_here, switch_stamp_raised_to, switch_stamped_with, switch_with_heard, with_installed}
 use Rattle.ternary.specs.Exports.{WordValue}
 
 -- ---- tables
@@ -26,9 +26,9 @@ found_above : (mark version : ℕ) (list : List Tables) →
 found_above mark version [] = search rules
 found_above mark version (first ∷ list) = search (rules, eqb-true, found_above mark version list)
 
-pub held_once_collected : (s : SwitchValue) (mark version : ℕ) → held_tables (collected_to s mark)
+pub held_once_collected : (s : SwitchValue) (mark version : ℕ) → held_tables (switch_collected_to s mark)
     version ≡ cond (nat_lt (max s.collected mark) version) (held_tables s version) None
-unfolding collected_to
+unfolding switch_collected_to
 held_once_collected s mark version = found_above (max s.collected mark) version s.tables
 
 or_none : (o : Option Tables) → option_or o None ≡ o
@@ -46,13 +46,13 @@ held_once_installed s tables version = search (rules, nat_tests, eqb-true, find-
 -- ---- a stamp, and adverts
 
 pub stamp_once_raised : (s : SwitchValue) (version : ℕ) →
-    (stamp_raised_to s version).stamp ≡ max s.stamp version
-unfolding stamp_raised_to
+    (switch_stamp_raised_to s version).stamp ≡ max s.stamp version
+unfolding switch_stamp_raised_to
 stamp_once_raised s version = grind (arith, nat_tests)
 
 pub stamp_once_told : (s : SwitchValue) (version : ℕ) (touched : List WordValue) →
-    (stamped_with s version touched).stamp ≡ max s.stamp version
-unfolding stamped_with
+    (switch_stamped_with s version touched).stamp ≡ max s.stamp version
+unfolding switch_stamped_with
 stamp_once_told s version touched = grind (arith, nat_tests)
 
 pub database_once_informed : (s : SwitchValue) (advert : Advert) → (switch_with_heard s advert).database

@@ -8,7 +8,7 @@ use Rattle.policy_rules.specs.declared.policy.Action.{Action}
 use Rattle.policy_rules.specs.declared.policy.Action.TheVariants.{Drop, Out as OutBy}
 use Rattle.net_file.specs.Exports.{port_owner}
 use Rattle.tunnel.specs.Exports.{TunnelValue}
-use Rattle.switch_core.specs.Exports.{SwitchSite, SwitchValue, cause_of, exit_by_switch, leave_by_switch, next_of, route_known, set_out, setting_out}
+use Rattle.switch_core.specs.Exports.{SwitchSite, SwitchValue, switch_stuck_cause, exit_by_switch, leave_by_switch, next_of, switch_route_known, set_out, switch_setting_out}
 use Rattle.switch_core.specs.declared.tunnel_calls.Next.{Next}
 use Rattle.switch_core.specs.declared.tunnel_calls.Next.TheVariants.{Dropped, Exit, Out, Stuck}
 use Rattle.switch_core.specs.declared.tunnel_calls.Packet.{Packet}
@@ -66,14 +66,14 @@ next_out s site packet action port = search (rules, out_by_owner, leaves_here)
 
 pub next_exit : (s : SwitchValue) (site : SwitchSite) (packet : Packet) (action : Action) (port owner : ℕ)
     → action ≡ OutBy port → port_owner site.ports port ≡ Some owner
-    → owner ≢ s.number → MatchOption (route_known s site.near packet (owner ∷ []))
+    → owner ≢ s.number → MatchOption (switch_route_known s site.near packet (owner ∷ []))
     (next_of s site packet action ≡ Stuck NoRoute) (λ route. next_of s site packet action
-    ≡ Exit (setting_out packet (ExitLeg port) (owner ∷ []) route))
-unfolding next_of cause_of
+    ≡ Exit (switch_setting_out packet (ExitLeg port) (owner ∷ []) route))
+unfolding next_of switch_stuck_cause
 next_exit s site packet action port owner by has other =
     let is = ap (next_of s site packet) by ∙ ap (leave_by_switch s site.near packet port) has
     ∙ leaves_for s site.near packet port owner other in
-    MatchOption-weaker (route_known s site.near packet (owner ∷ []))
+    MatchOption-weaker (switch_route_known s site.near packet (owner ∷ []))
     (λ none. is ∙ ap exit_by_switch none) (λ way some. is ∙ ap exit_by_switch some)
     (sets_out s site.near packet (ExitLeg port) (owner ∷ []))
 

@@ -7,12 +7,12 @@ use Rattle.policy_rules.specs.Exports.{is_held}
 use Rattle.policy_rules.specs.declared.packet.Leg.{Leg}
 use Rattle.policy_rules.specs.declared.packet.Leg.TheVariants.{Seek as SeekLeg}
 use Rattle.policy_rules.specs.declared.rules.Partition.{Partition}
-use Rattle.switch_table.specs.Exports.{AreSoundTables}
+use Rattle.switch_table.specs.Exports.{AreSoundSwitchTables}
 use Rattle.switch_table.specs.declared.cache.CacheEntry.{CacheEntry}
 use Rattle.switch_table.specs.declared.search.Found.{Found}
 use Rattle.switch_table.specs.declared.search.Found.TheVariants.{Cached, Authority, Redirect}
 use Rattle.switch_table.specs.declared.tables.Tables.{Tables}
-use Rattle.switch_core.specs.Exports.{Answer, Decided, IsDecidedIn, IsFirstHit, IsFound, IsReady, IsRightAnswer, IsSwitch, IsSwitchUncached, Seek, SwitchSite, Stuck, SwitchValue, admitted, answer_by, by_entry, cause_of, decided_at_switch, held_tables, holds_version, incoming_packet, looked_up, lookup_by_stamp, next_of, no_part, no_rule, own_part, part_numbered, route_known, rule_for_cache, own_rule_in, seek_by, set_out, setting_out, stamp_tables}
+use Rattle.switch_core.specs.Exports.{Answer, Decided, IsDecidedBySwitchIn, IsSwitchFirstHit, IsFoundBySwitch, IsSwitchReady, IsRightAnswer, IsSoundSwitch, IsSwitchAnswerUncached, Seek, SwitchSite, Stuck, SwitchValue, admitted, switch_answer_by_found, by_entry, switch_stuck_cause, switch_answer_by_rule, held_tables, holds_version, incoming_packet, looked_up, switch_lookup_by_stamp, next_of, no_switch_part, no_rule, own_part, switch_part_numbered, switch_route_known, switch_cache_rule_sent, switch_own_rule_in, switch_seek_by, set_out, switch_setting_out, stamp_tables}
 use Rattle.switch_core.specs.declared.tunnel_calls.Packet.{Packet}
 use Rattle.switch_core.proofs.SwitchOwnLookups.{lookup_is_found}
 
@@ -22,17 +22,17 @@ pub version_held : (s : SwitchValue) (version : ℕ) (tables : Tables) →
     held_tables s version ≡ Some tables → tables.version ≡ version
 version_held s version tables is = search (rules, eqb-true, find-there)
 
-pub sound_held : (s : SwitchValue) (version : ℕ) (tables : Tables) → IsSwitch s →
-    held_tables s version ≡ Some tables → AreSoundTables tables
-sound_held s version tables switch is = All-contains AreSoundTables s.tables tables switch.sound
+pub sound_held : (s : SwitchValue) (version : ℕ) (tables : Tables) → IsSoundSwitch s →
+    held_tables s version ≡ Some tables → AreSoundSwitchTables tables
+sound_held s version tables switch is = All-contains AreSoundSwitchTables s.tables tables switch.sound
     (find-there (λ (t : Tables). t.version == version) s.tables tables is).0
 
 pub stamp_held : (s : SwitchValue) → IsTrue (holds_version s s.stamp) →
     held_tables s s.stamp ≡ Some (stamp_tables s)
 stamp_held s holds = search rules
 
-pub stamp_sound : (s : SwitchValue) → IsSwitch s → IsTrue (holds_version s s.stamp) →
-    AreSoundTables (stamp_tables s)
+pub stamp_sound : (s : SwitchValue) → IsSoundSwitch s → IsTrue (holds_version s s.stamp) →
+    AreSoundSwitchTables (stamp_tables s)
 stamp_sound s switch holds = sound_held s s.stamp (stamp_tables s) switch (stamp_held s holds)
 
 pub stamp_version : (s : SwitchValue) → IsTrue (holds_version s s.stamp) →
@@ -48,23 +48,23 @@ own_number tables number part is = search (rules, eqb-true, find-there)
 -- the partition of a number decides, by its first hit
 abbrev pub IsHitIn : SwitchValue → SwitchSite → Packet → ℕ → Tables → ℕ → ℕ → Answer → Type 0
 IsHitIn s site packet version tables number place answer =
-    (by : IsDecidedIn s site packet version tables number answer) × (by.own.place ≡ place)
+    (by : IsDecidedBySwitchIn s site packet version tables number answer) × (by.own.place ≡ place)
 
 hit_of : (s : SwitchValue) (site : SwitchSite) (packet : Packet) (version : ℕ) (tables : Tables)
     (number place : ℕ) (part : Partition) → own_part tables number ≡ Some part
-    → IsFirstHit packet.header part place → IsHitIn s site packet version tables number place
-    (decided_at_switch s site packet version part place)
-unfolding decided_at_switch rule_for_cache
+    → IsSwitchFirstHit packet.header part place → IsHitIn s site packet version tables number place
+    (switch_answer_by_rule s site packet version part place)
+unfolding switch_answer_by_rule switch_cache_rule_sent
 hit_of s site packet version tables number place part is hit =
     let test = is_held (number_of packet.header) in
     let within = (position-Some test part.rules place no_rule hit.first).0 in
-    let there : slice_get part.rules place ≡ Some (own_rule_in part place) =
+    let there : slice_get part.rules place ≡ Some (switch_own_rule_in part place) =
     slice_get-get_or part.rules place no_rule within in (
       record {
         own = record {
           part = part;
           place = place;
-          rule = own_rule_in part place;
+          rule = switch_own_rule_in part place;
           own = ap (own_part tables) (own_number tables number part is) ∙ is;
           hit = hit;
           at_place = there;
@@ -78,73 +78,73 @@ hit_of s site packet version tables number place part is hit =
 
 pub hit_in : (s : SwitchValue) (site : SwitchSite) (packet : Packet) (version : ℕ) (tables : Tables)
     (number place : ℕ) → IsSomeAnd (own_part tables number)
-    (λ part. IsFirstHit packet.header part place) → IsHitIn s site packet version tables number
-    place (decided_at_switch s site packet version (part_numbered tables number) place)
+    (λ part. IsSwitchFirstHit packet.header part place) → IsHitIn s site packet version tables number
+    place (switch_answer_by_rule s site packet version (switch_part_numbered tables number) place)
 hit_in s site packet version tables number place = by_part (own_part tables number) refl where
   by_part : (part : Option Partition) → own_part tables number ≡ part →
-      IsSomeAnd part (λ part. IsFirstHit packet.header part place) →
+      IsSomeAnd part (λ part. IsSwitchFirstHit packet.header part place) →
       IsHitIn s site packet version tables number place
-      (decided_at_switch s site packet version (unwrap_or part no_part) place)
+      (switch_answer_by_rule s site packet version (unwrap_or part no_switch_part) place)
   by_part (Some part) is hit = hit_of s site packet version tables number place part is hit
   by_part None is hit = absurd hit
 
 -- ---- a packet sets out
 
 pub sets_out : (s : SwitchValue) (near : ℕ) (packet : Packet) (leg : Leg) (targets : List ℕ) →
-    MatchOption (route_known s near packet targets)
-    (set_out s near packet leg targets ≡ Err (cause_of s near packet.down leg targets))
-    (λ route. set_out s near packet leg targets ≡ Ok (setting_out packet leg targets route))
+    MatchOption (switch_route_known s near packet targets)
+    (set_out s near packet leg targets ≡ Err (switch_stuck_cause s near packet.down leg targets))
+    (λ route. set_out s near packet leg targets ≡ Ok (switch_setting_out packet leg targets route))
 unfolding set_out
 sets_out s near packet leg targets = search rules
 
 -- ---- a lookup
 
-looked_up_by : (s : SwitchValue) (site : SwitchSite) (packet : Packet) (found : Found) → lookup_by_stamp s
-    packet.header ≡ found → looked_up s site packet ≡ answer_by s site packet (stamp_tables s) found
+looked_up_by : (s : SwitchValue) (site : SwitchSite) (packet : Packet) (found : Found) → switch_lookup_by_stamp s
+    packet.header ≡ found → looked_up s site packet ≡ switch_answer_by_found s site packet (stamp_tables s) found
 unfolding looked_up
-looked_up_by s site packet found is = ap (answer_by s site packet (stamp_tables s)) is
+looked_up_by s site packet found is = ap (switch_answer_by_found s site packet (stamp_tables s)) is
 
 lookup_cached : (s : SwitchValue) (site : SwitchSite) (packet : Packet) (cached : CacheEntry) →
-    lookup_by_stamp s packet.header ≡ Cached cached →
+    switch_lookup_by_stamp s packet.header ≡ Cached cached →
     looked_up s site packet ≡ Decided (by_entry cached) None (next_of s site packet cached.action)
-unfolding answer_by
+unfolding switch_answer_by_found
 lookup_cached s site packet cached is = looked_up_by s site packet (Cached cached) is
 
 lookup_authority : (s : SwitchValue) (site : SwitchSite) (packet : Packet) (partition place : ℕ) →
-    IsReady s packet.header → lookup_by_stamp s packet.header ≡ Authority partition place →
+    IsSwitchReady s packet.header → switch_lookup_by_stamp s packet.header ≡ Authority partition place →
     IsHitIn s site packet s.stamp (stamp_tables s) partition place (looked_up s site packet)
-unfolding answer_by
+unfolding switch_answer_by_found
 lookup_authority s site packet partition place ready found =
     let tables = stamp_tables s in
     let sound = stamp_sound s ready.switch ready.stamped in
-    let is_found : IsFound tables packet.header (lookup_by_stamp s packet.header) =
+    let is_found : IsFoundBySwitch tables packet.header (switch_lookup_by_stamp s packet.header) =
     lookup_is_found s.cache.entries tables packet.header sound ready.is_header in
     let hit = hit_in s site packet tables.version tables partition place (rw found at is_found) in
     subst (IsHitIn s site packet s.stamp tables partition place)
     (sym (looked_up_by s site packet (Authority partition place) found))
-    (subst (λ (v : ℕ). IsHitIn s site packet v tables partition place (answer_by s site packet
+    (subst (λ (v : ℕ). IsHitIn s site packet v tables partition place (switch_answer_by_found s site packet
     tables (Authority partition place))) (stamp_version s ready.stamped) hit)
 
 lookup_redirect : (s : SwitchValue) (site : SwitchSite) (packet : Packet) (partition : ℕ)
-    (targets : List ℕ) → IsReady s packet.header →
-    lookup_by_stamp s packet.header ≡ Redirect partition targets →
+    (targets : List ℕ) → IsSwitchReady s packet.header →
+    switch_lookup_by_stamp s packet.header ≡ Redirect partition targets →
     (let leg = SeekLeg s.stamp partition in
-    MatchOption (route_known s site.near packet targets)
-    (looked_up s site packet ≡ Stuck (cause_of s site.near packet.down leg targets) leg)
-    (λ route. looked_up s site packet ≡ Seek (setting_out packet leg targets route)))
-unfolding answer_by
+    MatchOption (switch_route_known s site.near packet targets)
+    (looked_up s site packet ≡ Stuck (switch_stuck_cause s site.near packet.down leg targets) leg)
+    (λ route. looked_up s site packet ≡ Seek (switch_setting_out packet leg targets route)))
+unfolding switch_answer_by_found
 lookup_redirect s site packet partition targets ready found =
     let leg = SeekLeg s.stamp partition in
-    let by_leg = λ (v : ℕ). seek_by (SeekLeg v partition)
+    let by_leg = λ (v : ℕ). switch_seek_by (SeekLeg v partition)
     (set_out s site.near packet (SeekLeg v partition) targets) in
     let is = looked_up_by s site packet (Redirect partition targets) found
     ∙ ap by_leg (stamp_version s ready.stamped) in
-    MatchOption-weaker (route_known s site.near packet targets)
-    (λ none. is ∙ ap (seek_by leg) none)
-    (λ way some. is ∙ ap (seek_by leg) some)
+    MatchOption-weaker (switch_route_known s site.near packet targets)
+    (λ none. is ∙ ap (switch_seek_by leg) none)
+    (λ way some. is ∙ ap (switch_seek_by leg) some)
     (sets_out s site.near packet leg targets)
 
-pub lookup_is : (s : SwitchValue) (site : SwitchSite) (packet : Packet) → IsReady s packet.header →
+pub lookup_is : (s : SwitchValue) (site : SwitchSite) (packet : Packet) → IsSwitchReady s packet.header →
     IsRightAnswer s site packet (looked_up s site packet)
 lookup_is s site packet ready = record {
   cached = lookup_cached s site packet;
@@ -155,11 +155,11 @@ lookup_is s site packet ready = record {
 -- ---- nothing goes to a cache as a packet enters
 
 pub lookup_uncached : (s : SwitchValue) (site : SwitchSite) (packet : Packet) →
-    packet.ingress ≡ s.number → IsSwitchUncached (Some (looked_up s site packet))
-unfolding looked_up answer_by decided_at_switch rule_for_cache
+    packet.ingress ≡ s.number → IsSwitchAnswerUncached (Some (looked_up s site packet))
+unfolding looked_up switch_answer_by_found switch_answer_by_rule switch_cache_rule_sent
 lookup_uncached s site packet here = search (rules, eq-eqb)
 
 pub entry_uncached : (s : SwitchValue) (site : SwitchSite) (number : ℕ) (header : Header) →
-    IsSwitchUncached (admitted s site (incoming_packet s number header))
+    IsSwitchAnswerUncached (admitted s site (incoming_packet s number header))
 unfolding admitted
 entry_uncached s site number header = search (rules, lookup_uncached)

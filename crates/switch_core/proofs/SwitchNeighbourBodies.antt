@@ -5,7 +5,7 @@ use Rattle.base.specs.Exports.{has, least_in, switches}
 use Rattle.ctrl_msg.specs.declared.message.Body.{Body}
 use Rattle.ctrl_msg.specs.declared.message.Message.{Message}
 use Rattle.ctrl_msg.specs.declared.message.Place.TheVariants.{Switch}
-use Rattle.switch_core.specs.Exports.{flood}
+use Rattle.switch_core.specs.Exports.{switch_flood}
 
 abbrev for_switch : Body → ℕ → Message
 for_switch body other = record { to = Switch other; body = body }
@@ -55,8 +55,8 @@ told_none near body fits = let least : ℕ = trailing_zeros w64 near in
     ∙ told_same near body 0 least (λ j from below. none_below near j fits (omega (arith, below)))
 
 pub told_all : (near : ℕ) (body : Body) (n : ℕ) → near < 2 ^ 64 → 64 - leading_zeros w64 near ≤ n
-    → told near body n ≡ flood near body
-unfolding told flood has switches
+    → told near body n ≡ switch_flood near body
+unfolding told switch_flood has switches
 told_all near body n fits past =
     let long = leading_length 64 near fits in
     let same : (i : ℕ) → long.0 ≤ i → told near body i ≡ told near body long.0 = λ i from.

@@ -13,7 +13,7 @@ use Rattle.tunnel.specs.Exports.{TunnelValue, next}
 use Rattle.switch_table.specs.declared.search.Found.{Found}
 use Rattle.switch_table.specs.declared.search.Found.TheVariants.{Cached, Authority, Redirect}
 use Rattle.switch_table.specs.declared.tables.Tables.{Tables}
-use Rattle.switch_core.specs.Exports.{Answer, IsSwitchArrival, IsArrivingAtSwitch, IsDecidedIn, IsEntry, IsHop, IsNextOf, IsReady, IsRightAnswer, Moved, OwnRule, Seek, SwitchSite, Stuck, SwitchValue, arrive_answer, arrived_with, cause_of, found_down_with, enter_answer, held_tables, hop_answer, link_found_down, looked_up, lookup_by_stamp, next_of, packet_of, route_around, route_known, serves, setting_out, stamp_tables}
+use Rattle.switch_core.specs.Exports.{Answer, IsSwitchArrival, IsArrivingAtSwitch, IsDecidedBySwitchIn, IsSwitchEntry, IsSwitchHop, IsSwitchNextStep, IsSwitchReady, IsRightAnswer, Moved, SwitchOwnRule, Seek, SwitchSite, Stuck, SwitchValue, arrive_answer, switch_arrived_with, switch_stuck_cause, switch_found_down_with, enter_answer, held_tables, switch_hop_answer, switch_found_link_down, looked_up, switch_lookup_by_stamp, next_of, switch_packet_of, switch_route_around, switch_route_known, serves, switch_setting_out, stamp_tables}
 use Rattle.switch_core.specs.declared.tunnel_calls.Arrived.{Arrived}
 use Rattle.switch_core.specs.declared.tunnel_calls.Entered.{Entered}
 use Rattle.switch_core.specs.declared.tunnel_calls.HopEnd.TheVariants as hop
@@ -28,7 +28,7 @@ use Rattle.switch_core.proofs.SwitchHops.{down_is, hop_arrives, hop_moves, hop_s
 -- ---- alternatives
 
 -- one first hit in one partition of a number
-same_part : (tables : Tables) (header : Header) (own other : OwnRule tables header) →
+same_part : (tables : Tables) (header : Header) (own other : SwitchOwnRule tables header) →
     own.part.number ≡ other.part.number → own.part ≡ other.part
 same_part tables header own other number = search rules
 
@@ -36,33 +36,33 @@ same_part tables header own other number = search rules
 
 same_decided : (s : SwitchValue) (site : SwitchSite) (packet : Packet) (version partition : ℕ)
     (tables : Tables) (answer other : Answer) →
-    IsDecidedIn s site packet version tables partition answer →
-    IsDecidedIn s site packet version tables partition other → answer ≡ other
+    IsDecidedBySwitchIn s site packet version tables partition answer →
+    IsDecidedBySwitchIn s site packet version tables partition other → answer ≡ other
 same_decided s site packet version partition tables answer other one two = search (rules, same_part)
 
 same_answer : (s : SwitchValue) (site : SwitchSite) (packet : Packet) (answer other : Answer) →
     IsRightAnswer s site packet answer → IsRightAnswer s site packet other → answer ≡ other
-same_answer s site packet answer other one two = by_found (lookup_by_stamp s packet.header) refl
+same_answer s site packet answer other one two = by_found (switch_lookup_by_stamp s packet.header) refl
   where
-    by_found : (found : Found) → lookup_by_stamp s packet.header ≡ found → answer ≡ other
+    by_found : (found : Found) → switch_lookup_by_stamp s packet.header ≡ found → answer ≡ other
     by_found (Cached cached) is = one.cached cached is ∙ sym (two.cached cached is)
     by_found (Authority partition place) is =
         same_decided s site packet s.stamp partition (stamp_tables s) answer other
         (one.authority partition place is).0 (two.authority partition place is).0
     by_found (Redirect partition targets) is = let leg = SeekLeg s.stamp partition in
-        MatchOption-same (route_known s site.near packet targets) answer other
-        (Stuck (cause_of s site.near packet.down leg targets) leg)
-        (λ (route : List ℕ). Seek (setting_out packet leg targets route))
+        MatchOption-same (switch_route_known s site.near packet targets) answer other
+        (Stuck (switch_stuck_cause s site.near packet.down leg targets) leg)
+        (λ (route : List ℕ). Seek (switch_setting_out packet leg targets route))
         (one.redirect partition targets is) (two.redirect partition targets is)
 
 pub one_answer : (s : SwitchValue) (site : SwitchSite) (packet : Packet) (answer : Answer) →
-    IsReady s packet.header → IsRightAnswer s site packet answer → answer ≡ looked_up s site packet
+    IsSwitchReady s packet.header → IsRightAnswer s site packet answer → answer ≡ looked_up s site packet
 one_answer s site packet answer ready law = search (rules, same_answer, lookup_is)
 
 -- ---- of a packet that enters
 
 pub one_entry : (s : SwitchValue) (site : SwitchSite) (packet : Packet) (answer : Entered) →
-    (IsTrue (serves s) → IsReady s packet.header) → IsEntry s site packet answer →
+    (IsTrue (serves s) → IsSwitchReady s packet.header) → IsSwitchEntry s site packet answer →
     answer ≡ enter_answer s site packet
 one_entry s site packet answer ready law = search (rules, entry_is, same_answer)
 
@@ -76,13 +76,13 @@ one_arrival s site t answer arriving law = by_leg t.leg refl where
   by_tables version partition leg (Some tables) held =
       let one = law.decided version partition tables arriving leg held in
       let two = arrive_held s site t version partition tables arriving leg held in
-      one.1 ∙ ap arrived_with (same_decided s site (packet_of t) version partition tables
+      one.1 ∙ ap switch_arrived_with (same_decided s site (switch_packet_of t) version partition tables
       one.0 two.0 one.2 two.2) ∙ sym two.1
   by_tables version partition leg None held =
       let gone = ap (λ (o : Option Tables). is_some o) held in
       let one = law.anew version partition arriving leg gone in
       let two = arrive_anew s site t version partition arriving leg gone in
-      one.1 ∙ ap arrived_with (same_answer s site (packet_of t) one.0 two.0 one.2 two.2)
+      one.1 ∙ ap switch_arrived_with (same_answer s site (switch_packet_of t) one.0 two.0 one.2 two.2)
       ∙ sym two.1
 
   by_leg : (leg : Leg) → t.leg ≡ leg → answer ≡ arrive_answer s site t
@@ -93,7 +93,7 @@ one_arrival s site t answer arriving law = by_leg t.leg refl where
 -- ---- of a packet that was decided
 
 pub one_way_on : (s : SwitchValue) (site : SwitchSite) (packet : Packet) (action : Action)
-    (way : Next) → IsNextOf s site packet action way → way ≡ next_of s site packet action
+    (way : Next) → IsSwitchNextStep s site packet action way → way ≡ next_of s site packet action
 one_way_on s site packet action way law = by_action action refl where
   by_owner : (port : ℕ) → action ≡ OutBy port → (owner : Option ℕ) →
       port_owner site.ports port ≡ owner → way ≡ next_of s site packet action
@@ -107,9 +107,9 @@ one_way_on s site packet action way law = by_action action refl where
     by_test false is =
         let other : owner ≢ s.number = λ same. (let test = eq-eqb owner s.number same in
         cc) in
-        MatchOption-same (route_known s site.near packet (owner ∷ [])) way
+        MatchOption-same (switch_route_known s site.near packet (owner ∷ [])) way
         (next_of s site packet action) (goes.Stuck NoRoute)
-        (λ (route : List ℕ). goes.Exit (setting_out packet (ExitLeg port) (owner ∷ []) route))
+        (λ (route : List ℕ). goes.Exit (switch_setting_out packet (ExitLeg port) (owner ∷ []) route))
         (law.exit port owner by has other)
         (next_exit s site packet action port owner by has other)
 
@@ -120,29 +120,29 @@ one_way_on s site packet action way law = by_action action refl where
 -- ---- of a packet on its way
 
 pub one_hop : (s : SwitchValue) (near : ℕ) (t : TunnelValue) (after : Moved) →
-    IsHop s near t after → after ≡ hop_answer s near t
+    IsSwitchHop s near t after → after ≡ switch_hop_answer s near t
 one_hop s near t after law = by_next (next t) refl where
-  by_way : (other : ℕ) → link_found_down near (next t) ≡ Some other → (way : Option (List ℕ)) →
-      route_around s near t other ≡ way → after ≡ hop_answer s near t
+  by_way : (other : ℕ) → switch_found_link_down near (next t) ≡ Some other → (way : Option (List ℕ)) →
+      switch_route_around s near t other ≡ way → after ≡ switch_hop_answer s near t
   by_way other found None is = law.stuck other found is ∙ sym (hop_stuck s near t other found is)
   by_way other found (Some way) is = MatchOption-same (slice_get way 1) after
-      (hop_answer s near t) (record {
+      (switch_hop_answer s near t) (record {
         end = hop.Arrive;
-        tunnel = record t { route = way; place = 0; down = found_down_with t other };
+        tunnel = record t { route = way; place = 0; down = switch_found_down_with t other };
       })
       (λ (second : ℕ). record {
         end = hop.Move second;
-        tunnel = record t { route = way; place = 1; down = found_down_with t other };
+        tunnel = record t { route = way; place = 1; down = switch_found_down_with t other };
       })
       (law.turns other way found is) (hop_turns s near t other way found is)
 
   by_test : (other : ℕ) → next t ≡ Some other → (test : Bool) → has near other ≡ test →
-      after ≡ hop_answer s near t
+      after ≡ switch_hop_answer s near t
   by_test other onward true usable =
       law.moves other onward usable ∙ sym (hop_moves s near t other onward usable)
   by_test other onward false down =
-      by_way other ((down_is near t other).1 (onward, down)) (route_around s near t other) refl
+      by_way other ((down_is near t other).1 (onward, down)) (switch_route_around s near t other) refl
 
-  by_next : (after_it : Option ℕ) → next t ≡ after_it → after ≡ hop_answer s near t
+  by_next : (after_it : Option ℕ) → next t ≡ after_it → after ≡ switch_hop_answer s near t
   by_next None none = law.arrives none ∙ sym (hop_arrives s near t none)
   by_next (Some other) onward = by_test other onward (has near other) refl

@@ -5,7 +5,7 @@ use Rattle.failover.specs.declared.advert.Advert.{Advert}
 use Rattle.failover.specs.Exports.{adverts_after_hearing, held_advert, is_news, no_adverts}
 use Rattle.failover.proofs.FailoverHeldAdverts.{held_others}
 use Rattle.failover.proofs.FailoverNewestAdvert.{not_newer}
-use Rattle.switch_core.specs.Exports.{HasOwnUpTo, SwitchValue, is_news_here, own_advert}
+use Rattle.switch_core.specs.Exports.{HasSwitchAdvertUpTo, SwitchValue, is_news_here, own_advert}
 
 -- ---- by the numbers alone
 
@@ -21,7 +21,7 @@ below_then number more below is = grind (arith, nat_tests)
 -- ---- what is held
 
 -- none of its own is held where none is held at all
-pub own_none : (number boot seq : ℕ) → HasOwnUpTo no_adverts number boot seq
+pub own_none : (number boot seq : ℕ) → HasSwitchAdvertUpTo no_adverts number boot seq
 own_none number boot seq advert is = elim (cases_lt number 64) [
   | inl below ↦ (let none : held_advert no_adverts number ≡ None =
       get_or-replicate 64 number None None below in cc)
@@ -31,21 +31,21 @@ own_none number boot seq advert is = elim (cases_lt number 64) [
 
 -- the next advert of its own is news
 pub next_is_news : (adverts : List (Option Advert)) (number boot seq up : ℕ) → number < 64 →
-    HasOwnUpTo adverts number boot seq →
+    HasSwitchAdvertUpTo adverts number boot seq →
     is_news adverts (own_advert number boot (seq + 1) up) ≡ true
 unfolding is_news
 next_is_news adverts number boot seq up below own = search (rules, below_then, newer_next)
 
 -- once it is held, none is newer
 pub own_next : (adverts : List (Option Advert)) (number boot seq up : ℕ) →
-    HasOwnUpTo (set adverts number (Some (own_advert number boot seq up))) number boot seq
+    HasSwitchAdvertUpTo (set adverts number (Some (own_advert number boot seq up))) number boot seq
 own_next adverts number boot seq up advert is =
     search (rules, get_or-set_same, not_newer, length-set, get_or_past)
 
 -- an advert of another switch leaves it as it is
 pub own_others : (adverts : List (Option Advert)) (advert : Advert) (number boot seq : ℕ) →
-    number ≢ advert.origin → HasOwnUpTo adverts number boot seq →
-    HasOwnUpTo (adverts_after_hearing adverts advert) number boot seq
+    number ≢ advert.origin → HasSwitchAdvertUpTo adverts number boot seq →
+    HasSwitchAdvertUpTo (adverts_after_hearing adverts advert) number boot seq
 own_others adverts advert number boot seq other own held_one is = search (rules, held_others)
 
 -- news is of another switch

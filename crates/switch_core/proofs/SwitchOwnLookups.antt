@@ -3,14 +3,14 @@ use Rattle.std.proofs.Common.{[], ◌-◌, ◌==◌, ◌∙◌, ◌∷◌, ◌�
 use Rattle.base.proofs.Exports.{All-contains, cases_lt, find-position, find-there, nat_tests, option_map_or, same_Some}
 use Rattle.five_tuple.specs.Exports.{IsHeader, number_of}
 use Rattle.five_tuple.specs.declared.header.Header.{Header}
-use Rattle.policy_rules.specs.Exports.{LastRuleCovers, first_rule, is_held, is_in}
+use Rattle.policy_rules.specs.Exports.{LastRuleCovers, first_rule, is_held, is_in_policy_partition}
 use Rattle.policy_rules.specs.declared.rules.Partition.{Partition}
 use Rattle.switch_table.proofs.SwitchTableLemmas.{decides_all}
-use Rattle.switch_table.specs.Exports.{AreSoundTables, authority_of, first_entry, lookup_of, redirect_of, table_lookup}
+use Rattle.switch_table.specs.Exports.{AreSoundSwitchTables, table_authority_of, first_entry, lookup_of, table_redirect_of, table_lookup}
 use Rattle.switch_table.specs.declared.cache.CacheEntry.{CacheEntry}
 use Rattle.switch_table.specs.declared.tables.Tables.{Tables}
 use Rattle.switch_table.specs.declared.search.Found.TheVariants.{Cached}
-use Rattle.switch_core.specs.Exports.{IsFirstHit, IsFound, own_part, part_numbered, place_of_first}
+use Rattle.switch_core.specs.Exports.{IsSwitchFirstHit, IsFoundBySwitch, own_part, switch_part_numbered, switch_own_rule_place}
 
 -- ---- a switch's own partitions
 
@@ -52,14 +52,14 @@ find_numbered (first ∷ parts) part distinct there =
         (later (λ number. grind (arith, nat_tests)))
 
 -- where some rule holds the header, the first place is that of the first such rule
-first_hit : (header : Header) (part : Partition) → IsTrue (is_in header part) →
-    IsSome (first_rule part.rules header) → IsFirstHit header part (place_of_first header part)
+first_hit : (header : Header) (part : Partition) → IsTrue (is_in_policy_partition header part) →
+    IsSome (first_rule part.rules header) → IsSwitchFirstHit header part (switch_own_rule_place header part)
 first_hit header part held some = search (rules, find-position)
 
 -- a partition of one's own has a first hit for each header of its region
 pub own_hit : (tables : Tables) (number : ℕ) (part : Partition) (header : Header) →
-    AreSoundTables tables → IsHeader header → own_part tables number ≡ Some part →
-    IsTrue (is_in header part) → IsFirstHit header part (place_of_first header part)
+    AreSoundSwitchTables tables → IsHeader header → own_part tables number ≡ Some part →
+    IsTrue (is_in_policy_partition header part) → IsSwitchFirstHit header part (switch_own_rule_place header part)
 own_hit tables number part header sound is found held =
     let there = (find-there (λ (p : Partition). p.number == number) tables.auth part found).0 in
     first_hit header part held
@@ -67,36 +67,36 @@ own_hit tables number part header sound is found held =
 
 -- what a lookup in sound tables finds
 pub lookup_is_found : (entries : List CacheEntry) (tables : Tables) (header : Header) →
-    AreSoundTables tables → IsHeader header →
-    IsFound tables header (lookup_of entries tables header)
+    AreSoundSwitchTables tables → IsHeader header →
+    IsFoundBySwitch tables header (lookup_of entries tables header)
 lookup_is_found entries tables header sound is =
     by_entry (first_entry tables.version (number_of header) entries)
   where
-    by_part : (part : Option Partition) → find (is_in header) tables.auth ≡ part → IsFound tables
-        header (option_map_or (authority_of header) part (redirect_of header tables.parts))
+    by_part : (part : Option Partition) → find (is_in_policy_partition header) tables.auth ≡ part → IsFoundBySwitch tables
+        header (option_map_or (table_authority_of header) part (table_redirect_of header tables.parts))
     by_part None none = tt
     by_part (Some part) found =
-        let there = find-there (is_in header) tables.auth part found in
+        let there = find-there (is_in_policy_partition header) tables.auth part found in
         let own = find_numbered tables.auth part sound.distinct there.0 in
         subst (λ (o : Option Partition). IsSomeAnd o
-        (λ p. IsFirstHit header p (place_of_first header part))) (sym own)
+        (λ p. IsSwitchFirstHit header p (switch_own_rule_place header part))) (sym own)
         (own_hit tables part.number part header sound is own there.1)
 
     by_entry : (entry : Option CacheEntry) →
-        IsFound tables header (option_map_or Cached entry (table_lookup tables header))
+        IsFoundBySwitch tables header (option_map_or Cached entry (table_lookup tables header))
     by_entry (Some entry) = tt
-    by_entry None = by_part (find (is_in header) tables.auth) refl
+    by_entry None = by_part (find (is_in_policy_partition header) tables.auth) refl
 
 -- what a search in the own partition of a number finds for a header of its region
 pub record IsOwnFirst (tables : Tables) (number : ℕ) (header : Header) (found : Option ℕ)
     : Type 0 where
-  pub place : found ≡ Some (place_of_first header (part_numbered tables number))
-  pub first : IsFirstHit header (part_numbered tables number)
-      (place_of_first header (part_numbered tables number))
+  pub place : found ≡ Some (switch_own_rule_place header (switch_part_numbered tables number))
+  pub first : IsSwitchFirstHit header (switch_part_numbered tables number)
+      (switch_own_rule_place header (switch_part_numbered tables number))
 
 pub own_first : (tables : Tables) (number : ℕ) (header : Header) (found : Option ℕ) →
-    AreSoundTables tables → IsHeader header →
-    IsSomeAnd (own_part tables number) (λ part. IsTrue (is_in header part)) →
+    AreSoundSwitchTables tables → IsHeader header →
+    IsSomeAnd (own_part tables number) (λ part. IsTrue (is_in_policy_partition header part)) →
     found ≡ option_and_then (λ part. position (is_held (number_of header)) part.rules)
     (own_part tables number) → IsOwnFirst tables number header found
 own_first tables number header found sound is own searched = search (rules, own_hit)

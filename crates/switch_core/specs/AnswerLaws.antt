@@ -3,7 +3,7 @@
 use Rattle.std.specs.Prelude.{[], if◌then◌else◌, ◌+◌, ◌==◌, ◌↔◌, ◌∷◌, ◌≡◌, ◌≢◌, ◌⊎◌, Bool, IsFalse, IsSome, IsTrue, List, MatchOption, None, Option, Some, false, map, slice_get, true, ℕ}
 use Rattle.five_tuple.specs.Exports.{IsHeader, number_of}
 use Rattle.five_tuple.specs.declared.header.Header.{Header}
-use Rattle.policy_rules.specs.Exports.{AreSoundPartitions, Hosted, first_rule, scan}
+use Rattle.policy_rules.specs.Exports.{AreSoundPolicyPartitions, Hosted, first_rule, scan}
 use Rattle.policy_rules.specs.declared.packet.Cause.TheVariants.{NoRoute}
 use Rattle.policy_rules.specs.declared.packet.How.{How}
 use Rattle.policy_rules.specs.declared.packet.How.TheVariants.{Authority as ByAuthority}
@@ -26,12 +26,12 @@ use Rattle.switch_table.specs.declared.search.Found.TheVariants.{Cached, Authori
 use Rattle.switch_table.specs.declared.tables.Tables.{Tables}
 use Rattle.ctrl_msg.specs.declared.message.Body.{Body}
 use Rattle.ctrl_msg.specs.declared.message.Body.TheVariants.{CacheRule}
-use Rattle.switch_core.specs.Answering.{IsAtAuthority, admitted, arrive_answer, enter_answer, looked_up, packet_of}
-use Rattle.switch_core.specs.Deciding.{IsFirstHit, by_entry, by_rule, own_part}
-use Rattle.switch_core.specs.Ends.{SwitchSite, cause_of, next_of}
-use Rattle.switch_core.specs.Moving.{Moved, PacketStandsAt, link_found_down, hop_answer}
-use Rattle.switch_core.specs.State.{IsSwitch, SwitchValue, held_tables, holds_version, serves, stamp_tables}
-use Rattle.switch_core.specs.Answers.{Answer, Decided, Seek, Stuck, arrived_with, entered_with}
+use Rattle.switch_core.specs.Answering.{IsAtAuthoritySwitch, admitted, arrive_answer, enter_answer, looked_up, switch_packet_of}
+use Rattle.switch_core.specs.Deciding.{IsSwitchFirstHit, by_entry, by_rule, own_part}
+use Rattle.switch_core.specs.Ends.{SwitchSite, switch_stuck_cause, next_of}
+use Rattle.switch_core.specs.Moving.{Moved, PacketStandsAtSwitch, switch_found_link_down, switch_hop_answer}
+use Rattle.switch_core.specs.State.{IsSoundSwitch, SwitchValue, held_tables, holds_version, serves, stamp_tables}
+use Rattle.switch_core.specs.Answers.{Answer, Decided, Seek, Stuck, switch_arrived_with, switch_entered_with}
 use Rattle.switch_core.specs.declared.tunnel_calls.Arrived.{Arrived}
 use Rattle.switch_core.specs.declared.tunnel_calls.Arrived.TheVariants as arrival
 use Rattle.switch_core.specs.declared.deciding.Decision.{Decision}
@@ -45,8 +45,8 @@ use Rattle.switch_core.specs.declared.tunnel_calls.Packet.{Packet}
 -- ---- terms
 
 -- a switch that serves, with the tables of its stamp, and a header
-pub record IsReady (s : SwitchValue) (header : Header) : Type 0 where
-  pub switch : IsSwitch s
+pub record IsSwitchReady (s : SwitchValue) (header : Header) : Type 0 where
+  pub switch : IsSoundSwitch s
   pub serving : IsTrue (serves s)
   pub stamped : IsTrue (holds_version s s.stamp)
   pub is_header : IsHeader header
@@ -54,51 +54,51 @@ pub record IsReady (s : SwitchValue) (header : Header) : Type 0 where
 -- the switch is ready, and is an authority for the packet's leg: it has the leg's version, the
 -- leg's partition is one of its own, and that partition has the header
 pub record IsArrivingAtSwitch (s : SwitchValue) (t : TunnelValue) : Type 0 where
-  pub ready : IsReady s t.header
-  pub authority : IsAtAuthority s t.header t.leg
+  pub ready : IsSwitchReady s t.header
+  pub authority : IsAtAuthoritySwitch s t.header t.leg
 
 -- what the cache and the tables of the stamp say about a header
-abbrev pub lookup_by_stamp : SwitchValue → Header → Found
-lookup_by_stamp s header = lookup_of s.cache.entries (stamp_tables s) header
+abbrev pub switch_lookup_by_stamp : SwitchValue → Header → Found
+switch_lookup_by_stamp s header = lookup_of s.cache.entries (stamp_tables s) header
 
 -- a rule of one of the tables' own partitions: the first there to hold a header of its region
-pub record OwnRule (tables : Tables) (header : Header) : Type 0 where
+pub record SwitchOwnRule (tables : Tables) (header : Header) : Type 0 where
   pub part : Partition
   pub place : ℕ
   pub rule : Rule
   pub own : own_part tables part.number ≡ Some part
-  pub hit : IsFirstHit header part place
+  pub hit : IsSwitchFirstHit header part place
   pub at_place : slice_get part.rules place ≡ Some rule
   pub first : first_rule part.rules header ≡ Some rule
 
 -- the route to the first of these targets that the switch reaches, by the links that it knows,
 -- except those that the packet found down
-abbrev pub route_known : SwitchValue → ℕ → Packet → List ℕ → Option (List ℕ)
-route_known s near packet targets = route_of s.database s.number targets near packet.down
+abbrev pub switch_route_known : SwitchValue → ℕ → Packet → List ℕ → Option (List ℕ)
+switch_route_known s near packet targets = route_of s.database s.number targets near packet.down
 
 -- the packet as its route begins, on its leg to these targets, with the links that it found down
-abbrev pub setting_out : Packet → Leg → List ℕ → List ℕ → TunnelValue
-setting_out packet leg targets route =
+abbrev pub switch_setting_out : Packet → Leg → List ℕ → List ℕ → TunnelValue
+switch_setting_out packet leg targets route =
     tunnel_begun packet.number packet.header packet.ingress leg targets route packet.down
 
 -- the first entry of the cache to hold the header, among those of the stamp's version, decides
-pub record IsByCache (s : SwitchValue) (header : Header) (decision : Decision) : Type 0 where
+pub record IsBySwitchCache (s : SwitchValue) (header : Header) (decision : Decision) : Type 0 where
   pub entry : CacheEntry
   pub first : first_entry s.stamp (number_of header) s.cache.entries ≡ Some entry
   pub decided : decision ≡ by_entry entry
 
 -- one of the switch's own rules decides, by the tables of the decision's version
-pub record IsByOwnRule (s : SwitchValue) (header : Header) (decision : Decision) : Type 0 where
+pub record IsBySwitchOwnRule (s : SwitchValue) (header : Header) (decision : Decision) : Type 0 where
   pub tables : Tables
   pub held : held_tables s decision.version ≡ Some tables
-  pub own : OwnRule tables header
+  pub own : SwitchOwnRule tables header
   pub decided : decision ≡ by_rule s.number decision.version own.part.number own.rule
 
 -- ---- the result of a lookup
 
 -- the rule that is sent to a cache if one of these rules decides, by tables of a version: its word
 -- is the widened one
-abbrev pub switch_rule_to_cache : {tables : Tables} {header : Header} → ℕ → OwnRule tables header → Body
+abbrev pub switch_rule_to_cache : {tables : Tables} {header : Header} → ℕ → SwitchOwnRule tables header → Body
 switch_rule_to_cache {tables} {header} version own =
     CacheRule version (widen (number_of header) own.part.region own.part.rules own.place)
     own.rule.rule own.rule.action
@@ -106,16 +106,16 @@ switch_rule_to_cache {tables} {header} version own =
 -- one of these rules decides, by tables of a version, and is sent to the cache of the switch where
 -- the packet entered, unless that is this one
 abbrev pub decided_by_switch : (s : SwitchValue) → SwitchSite → (packet : Packet) → ℕ →
-    {tables : Tables} → OwnRule tables packet.header → Answer
+    {tables : Tables} → SwitchOwnRule tables packet.header → Answer
 decided_by_switch s site packet version own =
     Decided (by_rule s.number version own.part.number own.rule)
     (if packet.ingress == s.number then None else Some (switch_rule_to_cache version own))
     (next_of s site packet own.rule.action)
 
 -- the partition of this number decides by its first rule to hold the header
-pub record IsDecidedIn (s : SwitchValue) (site : SwitchSite) (packet : Packet)
+pub record IsDecidedBySwitchIn (s : SwitchValue) (site : SwitchSite) (packet : Packet)
     (version : ℕ) (tables : Tables) (partition : ℕ) (answer : Answer) : Type 0 where
-  pub own : OwnRule tables packet.header
+  pub own : SwitchOwnRule tables packet.header
   pub numbered : own.part.number ≡ partition
   pub answered : answer ≡ decided_by_switch s site packet version own
 
@@ -123,53 +123,53 @@ pub record IsDecidedIn (s : SwitchValue) (site : SwitchSite) (packet : Packet)
 pub record IsRightAnswer (s : SwitchValue) (site : SwitchSite) (packet : Packet)
     (answer : Answer) : Type 0 where
   -- a cached rule decides with its version, its rule and its action
-  pub cached : (entry : CacheEntry) → lookup_by_stamp s packet.header ≡ Cached entry →
+  pub cached : (entry : CacheEntry) → switch_lookup_by_stamp s packet.header ≡ Cached entry →
       answer ≡ Decided (by_entry entry) None (next_of s site packet entry.action)
   -- an authority rule decides with the stamp's version: its partition's first to hold the header
   pub authority : (partition place : ℕ) →
-      lookup_by_stamp s packet.header ≡ Authority partition place →
-      (by : IsDecidedIn s site packet s.stamp (stamp_tables s) partition answer)
+      switch_lookup_by_stamp s packet.header ≡ Authority partition place →
+      (by : IsDecidedBySwitchIn s site packet s.stamp (stamp_tables s) partition answer)
       × (by.own.place ≡ place)
   -- a partition rule sends it to exactly its targets, and it is stuck on that leg exactly if no
   -- route leads to them
   pub redirect : (partition : ℕ) (targets : List ℕ) →
-      lookup_by_stamp s packet.header ≡ Redirect partition targets →
+      switch_lookup_by_stamp s packet.header ≡ Redirect partition targets →
       (let leg = SeekLeg s.stamp partition in
-      MatchOption (route_known s site.near packet targets)
-      (answer ≡ Stuck (cause_of s site.near packet.down leg targets) leg)
-      (λ route. answer ≡ Seek (setting_out packet leg targets route)))
+      MatchOption (switch_route_known s site.near packet targets)
+      (answer ≡ Stuck (switch_stuck_cause s site.near packet.down leg targets) leg)
+      (λ route. answer ≡ Seek (switch_setting_out packet leg targets route)))
 
 -- the result of a lookup is in the relation, and nothing else is
-pub record LookupLaws : Type 0 where
+pub record SwitchLookupLaws : Type 0 where
   pub is : (s : SwitchValue) (site : SwitchSite) (packet : Packet) →
-      IsReady s packet.header →
+      IsSwitchReady s packet.header →
       IsRightAnswer s site packet (looked_up s site packet)
   pub only : (s : SwitchValue) (site : SwitchSite) (packet : Packet)
-      (answer : Answer) → IsReady s packet.header → IsRightAnswer s site packet answer →
+      (answer : Answer) → IsSwitchReady s packet.header → IsRightAnswer s site packet answer →
       answer ≡ looked_up s site packet
 
 -- ---- a packet enters
 
-pub record IsEntry (s : SwitchValue) (site : SwitchSite) (packet : Packet)
+pub record IsSwitchEntry (s : SwitchValue) (site : SwitchSite) (packet : Packet)
     (enter_answer : Entered) : Type 0 where
   -- closed exactly if the switch doesn't serve
   pub closed : (enter_answer ≡ entry.Closed) ↔ IsFalse (serves s)
   -- otherwise it is looked up
-  pub answered : IsReady s packet.header →
-      (answer : Answer) × (enter_answer ≡ entered_with answer)
+  pub answered : IsSwitchReady s packet.header →
+      (answer : Answer) × (enter_answer ≡ switch_entered_with answer)
       × IsRightAnswer s site packet answer
 
 -- the result of `enter` is in the relation, and nothing else is
-pub record EnterLaws : Type 0 where
+pub record SwitchEnterLaws : Type 0 where
   pub is : (s : SwitchValue) (site : SwitchSite) (packet : Packet) →
-      IsEntry s site packet (enter_answer s site packet)
+      IsSwitchEntry s site packet (enter_answer s site packet)
   pub only : (s : SwitchValue) (site : SwitchSite) (packet : Packet)
-      (answer : Entered) → (IsTrue (serves s) → IsReady s packet.header) →
-      IsEntry s site packet answer → answer ≡ enter_answer s site packet
+      (answer : Entered) → (IsTrue (serves s) → IsSwitchReady s packet.header) →
+      IsSwitchEntry s site packet answer → answer ≡ enter_answer s site packet
 
 -- ---- a packet was decided
 
-pub record IsNextOf (s : SwitchValue) (site : SwitchSite) (packet : Packet) (action : Action)
+pub record IsSwitchNextStep (s : SwitchValue) (site : SwitchSite) (packet : Packet) (action : Action)
     (way : Next) : Type 0 where
   -- dropped exactly if the action is to drop it
   pub dropped : (way ≡ goes.Dropped) ↔ (action ≡ Drop)
@@ -179,18 +179,18 @@ pub record IsNextOf (s : SwitchValue) (site : SwitchSite) (packet : Packet) (act
   -- to another switch's port only by the route to that switch; stuck exactly if there is none
   pub exit : (port owner : ℕ) → action ≡ OutBy port →
       port_owner site.ports port ≡ Some owner → owner ≢ s.number →
-      MatchOption (route_known s site.near packet (owner ∷ [])) (way ≡ goes.Stuck NoRoute)
-      (λ route. way ≡ goes.Exit (setting_out packet (ExitLeg port) (owner ∷ []) route))
+      MatchOption (switch_route_known s site.near packet (owner ∷ [])) (way ≡ goes.Stuck NoRoute)
+      (λ route. way ≡ goes.Exit (switch_setting_out packet (ExitLeg port) (owner ∷ []) route))
   -- no route leads to a port that no switch has
   pub no_owner : (port : ℕ) → action ≡ OutBy port → port_owner site.ports port ≡ None →
       way ≡ goes.Stuck NoRoute
 
 -- where a decided packet moves is in the relation, and nothing else is
-pub record ExitLaws : Type 0 where
+pub record SwitchExitLaws : Type 0 where
   pub is : (s : SwitchValue) (site : SwitchSite) (packet : Packet) (action : Action) →
-      IsNextOf s site packet action (next_of s site packet action)
+      IsSwitchNextStep s site packet action (next_of s site packet action)
   pub only : (s : SwitchValue) (site : SwitchSite) (packet : Packet) (action : Action)
-      (way : Next) → IsNextOf s site packet action way → way ≡ next_of s site packet action
+      (way : Next) → IsSwitchNextStep s site packet action way → way ≡ next_of s site packet action
 
 -- ---- a packet arrives
 
@@ -202,17 +202,17 @@ pub record IsSwitchArrival (s : SwitchValue) (site : SwitchSite) (t : TunnelValu
   -- the leg's partition to hold the header
   pub decided : (version partition : ℕ) (tables : Tables) →
       IsArrivingAtSwitch s t → t.leg ≡ SeekLeg version partition → held_tables s version ≡ Some tables →
-      (answer : Answer) × (arrive_answer ≡ arrived_with answer)
-      × IsDecidedIn s site (packet_of t) version tables partition answer
+      (answer : Answer) × (arrive_answer ≡ switch_arrived_with answer)
+      × IsDecidedBySwitchIn s site (switch_packet_of t) version tables partition answer
   -- if the switch doesn't have the leg's version, it is looked up again under the stamp, as if it
   -- entered here with the links that it found down
   pub anew : (version partition : ℕ) →
       IsArrivingAtSwitch s t → t.leg ≡ SeekLeg version partition → IsFalse (holds_version s version) →
-      (answer : Answer) × (arrive_answer ≡ arrived_with answer)
-      × IsRightAnswer s site (packet_of t) answer
+      (answer : Answer) × (arrive_answer ≡ switch_arrived_with answer)
+      × IsRightAnswer s site (switch_packet_of t) answer
 
 -- the result of `arrive` is in the relation, and nothing else is
-pub record ArriveLaws : Type 0 where
+pub record SwitchArriveLaws : Type 0 where
   pub is : (s : SwitchValue) (site : SwitchSite) (t : TunnelValue) →
       IsSwitchArrival s site t (arrive_answer s site t)
   pub only : (s : SwitchValue) (site : SwitchSite) (t : TunnelValue)
@@ -221,60 +221,60 @@ pub record ArriveLaws : Type 0 where
 
 -- ---- where decisions come from
 
-abbrev pub is_by_authority : How → Bool
-is_by_authority (ByAuthority switch partition) = true
-is_by_authority _ = false
+abbrev pub is_by_authority_switch : How → Bool
+is_by_authority_switch (ByAuthority switch partition) = true
+is_by_authority_switch _ = false
 
 -- by a cached rule of the stamp's version, or by one of the switch's own rules by the tables of
 -- the decision's version; and the packet moves on as the decision's action says
-pub record IsDecision (s : SwitchValue) (site : SwitchSite) (packet : Packet)
+pub record IsSwitchDecision (s : SwitchValue) (site : SwitchSite) (packet : Packet)
     (decision : Decision) (cache : Option Body) (way : Next) : Type 0 where
-  pub source : IsByCache s packet.header decision ⊎ IsByOwnRule s packet.header decision
+  pub source : IsBySwitchCache s packet.header decision ⊎ IsBySwitchOwnRule s packet.header decision
   pub onward : way ≡ next_of s site packet decision.action
   -- a rule is sent to a cache exactly if an authority rule decided, and the packet entered
   -- elsewhere ..
-  pub sent : IsSome cache ↔ (IsTrue (is_by_authority decision.how) × (packet.ingress ≢ s.number))
+  pub sent : IsSome cache ↔ (IsTrue (is_by_authority_switch decision.how) × (packet.ingress ≢ s.number))
   -- .. and it is the rule that decided
   pub carried : (body : Body) → cache ≡ Some body →
-      (by : IsByOwnRule s packet.header decision)
+      (by : IsBySwitchOwnRule s packet.header decision)
       × (body ≡ switch_rule_to_cache decision.version by.own)
 
-pub record DecisionLaws : Type 0 where
+pub record SwitchDecisionLaws : Type 0 where
   -- this is true of every decision of a packet that enters or arrives
   pub on_entry : (s : SwitchValue) (site : SwitchSite) (packet : Packet)
-      (decision : Decision) (way : Next) → IsReady s packet.header →
+      (decision : Decision) (way : Next) → IsSwitchReady s packet.header →
       enter_answer s site packet ≡ entry.Decided decision way →
       (cache : Option Body) × (admitted s site packet ≡ Some (Decided decision cache way))
-      × IsDecision s site packet decision cache way
+      × IsSwitchDecision s site packet decision cache way
   pub on_arrival : (s : SwitchValue) (site : SwitchSite) (t : TunnelValue)
       (decision : Decision) (cache : Option Body) (way : Next) → IsArrivingAtSwitch s t →
       arrive_answer s site t ≡ arrival.Decided decision cache way →
-      IsDecision s site (packet_of t) decision cache way
+      IsSwitchDecision s site (switch_packet_of t) decision cache way
   -- by the tables of a plan, the switch's own rules decide as the plan's policy does
   pub as_policy : (s : SwitchValue) (header : Header) (decision : Decision) (rows : List Row)
-      (plan : List Hosted) → AreSoundPartitions rows (map part_of plan) → IsHeader header →
+      (plan : List Hosted) → AreSoundPolicyPartitions rows (map part_of plan) → IsHeader header →
       held_tables s decision.version ≡ Some (tables_of plan decision.version s.number) →
-      IsByOwnRule s header decision →
+      IsBySwitchOwnRule s header decision →
       scan rows header ≡ record { rule = decision.rule; action = decision.action }
 
 -- ---- a packet on its way
 
 -- on its leg a packet may take another route, be elsewhere on it, and find links down
-abbrev pub IsSamePacket : TunnelValue → TunnelValue → Type 0
-IsSamePacket before after =
+abbrev pub IsSamePacketAtSwitch : TunnelValue → TunnelValue → Type 0
+IsSamePacketAtSwitch before after =
     after ≡ record before { route = after.route; place = after.place; down = after.down }
 
 -- the links that a packet found down, with the one to this other switch
-abbrev pub found_down_with : TunnelValue → ℕ → List ℕ
-found_down_with t other = with_link t.down (here t) other
+abbrev pub switch_found_down_with : TunnelValue → ℕ → List ℕ
+switch_found_down_with t other = with_link t.down (here t) other
 
 -- its new route around these links
-abbrev pub route_around : SwitchValue → ℕ → TunnelValue → ℕ → Option (List ℕ)
-route_around s near t other = route_of s.database (here t) t.targets near (found_down_with t other)
+abbrev pub switch_route_around : SwitchValue → ℕ → TunnelValue → ℕ → Option (List ℕ)
+switch_route_around s near t other = route_of s.database (here t) t.targets near (switch_found_down_with t other)
 
-pub record IsHop (s : SwitchValue) (near : ℕ) (t : TunnelValue) (after : Moved) : Type 0 where
+pub record IsSwitchHop (s : SwitchValue) (near : ℕ) (t : TunnelValue) (after : Moved) : Type 0 where
   -- a link is found down exactly if it leads to the next switch of the route and isn't usable
-  pub found : (other : ℕ) → (link_found_down near (next t) ≡ Some other)
+  pub found : (other : ℕ) → (switch_found_link_down near (next t) ≡ Some other)
       ↔ ((next t ≡ Some other) × IsFalse (has near other))
   -- at the end of its route the packet arrives
   pub arrives : next t ≡ None → after ≡ record { end = hop.Arrive; tunnel = t }
@@ -282,36 +282,36 @@ pub record IsHop (s : SwitchValue) (near : ℕ) (t : TunnelValue) (after : Moved
   pub moves : (other : ℕ) → next t ≡ Some other → IsTrue (has near other) →
       after ≡ record { end = hop.Move other; tunnel = record t { place = t.place + 1 } }
   -- a link that is found down joins the others; the packet is stuck if no route leads around them
-  pub stuck : (other : ℕ) → link_found_down near (next t) ≡ Some other →
-      route_around s near t other ≡ None →
+  pub stuck : (other : ℕ) → switch_found_link_down near (next t) ≡ Some other →
+      switch_route_around s near t other ≡ None →
       after ≡ record {
-        end = hop.Stuck (cause_of s near (found_down_with t other) t.leg t.targets);
-        tunnel = record t { down = found_down_with t other };
+        end = hop.Stuck (switch_stuck_cause s near (switch_found_down_with t other) t.leg t.targets);
+        tunnel = record t { down = switch_found_down_with t other };
       }
   -- otherwise it takes that route: it has arrived if the route ends here, and otherwise moves to
   -- its second switch
-  pub turns : (other : ℕ) (way : List ℕ) → link_found_down near (next t) ≡ Some other →
-      route_around s near t other ≡ Some way →
+  pub turns : (other : ℕ) (way : List ℕ) → switch_found_link_down near (next t) ≡ Some other →
+      switch_route_around s near t other ≡ Some way →
       MatchOption (slice_get way 1)
       (after ≡ record {
         end = hop.Arrive;
-        tunnel = record t { route = way; place = 0; down = found_down_with t other };
+        tunnel = record t { route = way; place = 0; down = switch_found_down_with t other };
       })
       (λ second. after ≡ record {
         end = hop.Move second;
-        tunnel = record t { route = way; place = 1; down = found_down_with t other };
+        tunnel = record t { route = way; place = 1; down = switch_found_down_with t other };
       })
   -- so a packet that moved is at that switch, to which a usable link leads, and one that arrived
   -- is still at this switch, at the end of its route
   pub stands : (other : ℕ) → after.end ≡ hop.Move other → here after.tunnel ≡ other
   pub usable : (other : ℕ) → after.end ≡ hop.Move other → IsTrue (has near other)
-  pub stays : PacketStandsAt s t.route t.place → after.end ≡ hop.Arrive →
-      PacketStandsAt s after.tunnel.route after.tunnel.place
+  pub stays : PacketStandsAtSwitch s t.route t.place → after.end ≡ hop.Arrive →
+      PacketStandsAtSwitch s after.tunnel.route after.tunnel.place
   pub ends : after.end ≡ hop.Arrive → next after.tunnel ≡ None
-  pub same_packet : IsSamePacket t after.tunnel
+  pub same_packet : IsSamePacketAtSwitch t after.tunnel
 
 -- the result of `hop` is in the relation, and nothing else is
-pub record HopLaws : Type 0 where
-  pub is : (s : SwitchValue) (near : ℕ) (t : TunnelValue) → IsHop s near t (hop_answer s near t)
+pub record SwitchHopLaws : Type 0 where
+  pub is : (s : SwitchValue) (near : ℕ) (t : TunnelValue) → IsSwitchHop s near t (switch_hop_answer s near t)
   pub only : (s : SwitchValue) (near : ℕ) (t : TunnelValue) (after : Moved) →
-      IsHop s near t after → after ≡ hop_answer s near t
+      IsSwitchHop s near t after → after ≡ switch_hop_answer s near t

@@ -5,7 +5,7 @@
 use Rattle.std.specs.Prelude.{if◌then◌else◌, ◌≡◌, Err, IfSome, IsSomeAnd, IsTrue, None, Ok, Option, Result, Some, ℕ, ⊤}
 use Rattle.base.specs.Exports.{option_map_or}
 use Rattle.five_tuple.specs.declared.header.Header.{Header}
-use Rattle.policy_rules.specs.Exports.{is_in}
+use Rattle.policy_rules.specs.Exports.{is_in_policy_partition}
 use Rattle.policy_rules.specs.declared.packet.Leg.{Leg}
 use Rattle.policy_rules.specs.declared.packet.Leg.TheVariants.{Seek as SeekLeg, Exit as ExitLeg}
 use Rattle.policy_rules.specs.declared.packet.Cause.{Cause}
@@ -16,57 +16,57 @@ use Rattle.switch_table.specs.Exports.{lookup_of}
 use Rattle.switch_table.specs.declared.tables.Tables.{Tables}
 use Rattle.switch_table.specs.declared.search.Found.{Found}
 use Rattle.switch_table.specs.declared.search.Found.TheVariants.{Cached, Authority, Redirect}
-use Rattle.switch_core.specs.Answers.{Answer, SwitchArrival, Decided, Seek, Stuck, switch_arrival_of, entry_of}
+use Rattle.switch_core.specs.Answers.{Answer, SwitchArrival, Decided, Seek, Stuck, switch_arrival_of, switch_entry_of}
 use Rattle.switch_core.specs.Answers as arrival
 use Rattle.switch_core.specs.declared.tunnel_calls.Arrived.{Arrived}
 use Rattle.switch_core.specs.declared.tunnel_calls.Entered.{Entered}
 use Rattle.switch_core.specs.declared.tunnel_calls.Packet.{Packet}
-use Rattle.switch_core.specs.Deciding.{by_entry, by_rule, packet_to_look_up, rule_for_cache, place_of_first, own_part, part_numbered, own_rule_in}
+use Rattle.switch_core.specs.Deciding.{by_entry, by_rule, packet_to_look_up, switch_cache_rule_sent, switch_own_rule_place, own_part, switch_part_numbered, switch_own_rule_in}
 use Rattle.switch_core.specs.Ends.{SwitchSite, next_of, set_out}
 use Rattle.switch_core.specs.State.{SwitchValue, held_tables, holds_version, serves, stamp_tables}
 
 -- ---- the result of a lookup
 
 -- the rule at a place of one of the switch's own partitions decides
-unfoldable pub decided_at_switch : SwitchValue → SwitchSite → Packet → ℕ → Partition → ℕ → Answer
-decided_at_switch s site packet version part place =
-    let rule = own_rule_in part place in
+unfoldable pub switch_answer_by_rule : SwitchValue → SwitchSite → Packet → ℕ → Partition → ℕ → Answer
+switch_answer_by_rule s site packet version part place =
+    let rule = switch_own_rule_in part place in
     Decided (by_rule s.number version part.number rule)
-    (rule_for_cache s.number packet version part place)
+    (switch_cache_rule_sent s.number packet version part place)
     (next_of s site packet rule.action)
 
 -- on a leg, if there is a route to its targets
-abbrev pub seek_by : Leg → Result TunnelValue Cause → Answer
-seek_by leg (Ok tunnel) = Seek tunnel
-seek_by leg (Err cause) = Stuck cause leg
+abbrev pub switch_seek_by : Leg → Result TunnelValue Cause → Answer
+switch_seek_by leg (Ok tunnel) = Seek tunnel
+switch_seek_by leg (Err cause) = Stuck cause leg
 
 -- by what was found in these tables
-unfoldable pub answer_by : SwitchValue → SwitchSite → Packet → Tables → Found → Answer
-answer_by s site packet tables (Cached entry) =
+unfoldable pub switch_answer_by_found : SwitchValue → SwitchSite → Packet → Tables → Found → Answer
+switch_answer_by_found s site packet tables (Cached entry) =
     Decided (by_entry entry) None (next_of s site packet entry.action)
-answer_by s site packet tables (Authority partition place) =
-    decided_at_switch s site packet tables.version (part_numbered tables partition) place
-answer_by s site packet tables (Redirect partition targets) =
+switch_answer_by_found s site packet tables (Authority partition place) =
+    switch_answer_by_rule s site packet tables.version (switch_part_numbered tables partition) place
+switch_answer_by_found s site packet tables (Redirect partition targets) =
     let leg = SeekLeg tables.version partition in
-    seek_by leg (set_out s site.near packet leg targets)
+    switch_seek_by leg (set_out s site.near packet leg targets)
 
 -- by a lookup under the switch's stamp
 unfoldable pub looked_up : SwitchValue → SwitchSite → Packet → Answer
 looked_up s site packet =
     let tables = stamp_tables s in
-    answer_by s site packet tables (lookup_of s.cache.entries tables packet.header)
+    switch_answer_by_found s site packet tables (lookup_of s.cache.entries tables packet.header)
 
 -- by the first rule that holds the header, in these tables' partition of this number
-unfoldable pub decided_in_own_part : SwitchValue → SwitchSite → Packet → ℕ → Tables → Answer
-decided_in_own_part s site packet partition tables =
-    let part = part_numbered tables partition in
-    decided_at_switch s site packet tables.version part (place_of_first packet.header part)
+unfoldable pub switch_answer_in_partition : SwitchValue → SwitchSite → Packet → ℕ → Tables → Answer
+switch_answer_in_partition s site packet partition tables =
+    let part = switch_part_numbered tables partition in
+    switch_answer_by_rule s site packet tables.version part (switch_own_rule_place packet.header part)
 
 -- ---- a packet enters
 
 -- a switch that serves has the tables of its stamp
-abbrev pub CanLookUp : SwitchValue → Type 0
-CanLookUp s = IsTrue (serves s) → IsTrue (holds_version s s.stamp)
+abbrev pub CanSwitchLookUp : SwitchValue → Type 0
+CanSwitchLookUp s = IsTrue (serves s) → IsTrue (holds_version s s.stamp)
 
 -- a packet that enters at this switch, and found no link down
 abbrev pub incoming_packet : SwitchValue → ℕ → Header → Packet
@@ -77,37 +77,37 @@ unfoldable pub admitted : SwitchValue → SwitchSite → Packet → Option Answe
 admitted s site packet = if serves s then Some (looked_up s site packet) else None
 
 -- nothing is sent to a cache
-abbrev pub IsSwitchUncached : Option Answer → Type 0
-IsSwitchUncached (Some (Decided decision cache way)) = cache ≡ None
-IsSwitchUncached _ = ⊤
+abbrev pub IsSwitchAnswerUncached : Option Answer → Type 0
+IsSwitchAnswerUncached (Some (Decided decision cache way)) = cache ≡ None
+IsSwitchAnswerUncached _ = ⊤
 
 -- as `enter` returns it
 abbrev pub enter_answer : SwitchValue → SwitchSite → Packet → Entered
-enter_answer s site packet = entry_of (admitted s site packet)
+enter_answer s site packet = switch_entry_of (admitted s site packet)
 
 -- ---- a packet is at the end of its route
 
 -- the packet that a tunnel carries
-abbrev pub packet_of : TunnelValue → Packet
-packet_of t = packet_to_look_up t.packet t.header t.ingress t.down
+abbrev pub switch_packet_of : TunnelValue → Packet
+switch_packet_of t = packet_to_look_up t.packet t.header t.ingress t.down
 
 -- with the tables of the leg's version, the leg's partition is the switch's own and has the header
-abbrev pub IsAtAuthority : SwitchValue → Header → Leg → Type 0
-IsAtAuthority s header (SeekLeg version partition) =
+abbrev pub IsAtAuthoritySwitch : SwitchValue → Header → Leg → Type 0
+IsAtAuthoritySwitch s header (SeekLeg version partition) =
     IfSome (held_tables s version)
-    (λ tables. IsSomeAnd (own_part tables partition) (λ part. IsTrue (is_in header part)))
-IsAtAuthority s header (ExitLeg port) = ⊤
+    (λ tables. IsSomeAnd (own_part tables partition) (λ part. IsTrue (is_in_policy_partition header part)))
+IsAtAuthoritySwitch s header (ExitLeg port) = ⊤
 
 -- out by the leg's port; or by the tables of the leg's version, or, if the switch doesn't have
 -- them, by a new lookup
-abbrev pub arrived_on_leg : SwitchValue → SwitchSite → Packet → Leg → SwitchArrival
-arrived_on_leg s site packet (ExitLeg port) = arrival.Out port
-arrived_on_leg s site packet (SeekLeg version partition) =
-    arrival.Answered (option_map_or (decided_in_own_part s site packet partition)
+abbrev pub switch_arrival_on_leg : SwitchValue → SwitchSite → Packet → Leg → SwitchArrival
+switch_arrival_on_leg s site packet (ExitLeg port) = arrival.Out port
+switch_arrival_on_leg s site packet (SeekLeg version partition) =
+    arrival.Answered (option_map_or (switch_answer_in_partition s site packet partition)
     (held_tables s version) (looked_up s site packet))
 
 unfoldable pub received : SwitchValue → SwitchSite → TunnelValue → SwitchArrival
-received s site t = arrived_on_leg s site (packet_of t) t.leg
+received s site t = switch_arrival_on_leg s site (switch_packet_of t) t.leg
 
 -- as `arrive` returns it
 abbrev pub arrive_answer : SwitchValue → SwitchSite → TunnelValue → Arrived

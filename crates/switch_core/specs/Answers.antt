@@ -25,21 +25,21 @@ pub data SwitchArrival : Type 0 where
   Answered : Answer → SwitchArrival
 
 -- as `enter` returns it, if the switch serves
-abbrev pub entered_with : Answer → Entered
-entered_with (Decided decision cache way) = entered.Decided decision way
-entered_with (Seek tunnel) = entered.Seek tunnel
-entered_with (Stuck cause leg) = entered.Stuck cause leg
+abbrev pub switch_entered_with : Answer → Entered
+switch_entered_with (Decided decision cache way) = entered.Decided decision way
+switch_entered_with (Seek tunnel) = entered.Seek tunnel
+switch_entered_with (Stuck cause leg) = entered.Stuck cause leg
 
-abbrev pub entry_of : Option Answer → Entered
-entry_of None = entered.Closed
-entry_of (Some answer) = entered_with answer
+abbrev pub switch_entry_of : Option Answer → Entered
+switch_entry_of None = entered.Closed
+switch_entry_of (Some answer) = switch_entered_with answer
 
 -- as `arrive` returns it
-abbrev pub arrived_with : Answer → Arrived
-arrived_with (Decided decision cache way) = arrived.Decided decision cache way
-arrived_with (Seek tunnel) = arrived.Seek tunnel
-arrived_with (Stuck cause leg) = arrived.Stuck cause leg
+abbrev pub switch_arrived_with : Answer → Arrived
+switch_arrived_with (Decided decision cache way) = arrived.Decided decision cache way
+switch_arrived_with (Seek tunnel) = arrived.Seek tunnel
+switch_arrived_with (Stuck cause leg) = arrived.Stuck cause leg
 
 abbrev pub switch_arrival_of : SwitchArrival → Arrived
 switch_arrival_of (Out port) = arrived.Out port
-switch_arrival_of (Answered answer) = arrived_with answer
+switch_arrival_of (Answered answer) = switch_arrived_with answer

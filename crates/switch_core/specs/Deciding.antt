@@ -25,22 +25,22 @@ use Rattle.switch_core.specs.declared.tunnel_calls.Packet.{Packet}
 abbrev pub no_rule : Rule
 no_rule = record { word = any_word; rank = 0; rule = None; action = Drop }
 
-abbrev pub no_part : Partition
-no_part = record { number = 0; region = any_word; rules = [] }
+abbrev pub no_switch_part : Partition
+no_switch_part = record { number = 0; region = any_word; rules = [] }
 
 -- a switch's own partition of this number
 abbrev pub own_part : Tables → ℕ → Option Partition
 own_part tables number = find (λ part. part.number == number) tables.auth
 
-abbrev pub part_numbered : Tables → ℕ → Partition
-part_numbered tables number = unwrap_or (own_part tables number) no_part
+abbrev pub switch_part_numbered : Tables → ℕ → Partition
+switch_part_numbered tables number = unwrap_or (own_part tables number) no_switch_part
 
-abbrev pub own_rule_in : Partition → ℕ → Rule
-own_rule_in part place = slice_index_or part.rules place no_rule
+abbrev pub switch_own_rule_in : Partition → ℕ → Rule
+switch_own_rule_in part place = slice_index_or part.rules place no_rule
 
 -- the place of its first rule that holds the header
-abbrev pub place_of_first : Header → Partition → ℕ
-place_of_first header part = unwrap_or (position (is_held (number_of header)) part.rules) 0
+abbrev pub switch_own_rule_place : Header → Partition → ℕ
+switch_own_rule_place header part = unwrap_or (position (is_held (number_of header)) part.rules) 0
 
 -- ---- decisions
 
@@ -63,15 +63,15 @@ by_rule switch version partition rule = record {
 }
 
 -- the rule at the place is the first of the partition to hold the header, which is in its region
-pub record IsFirstHit (header : Header) (part : Partition) (place : ℕ) : Type 0 where
+pub record IsSwitchFirstHit (header : Header) (part : Partition) (place : ℕ) : Type 0 where
   pub region : IsTrue (holds part.region (number_of header))
   pub first : position (is_held (number_of header)) part.rules ≡ Some place
 
 -- an authority rule that a lookup found is the first hit of one of the switch's own partitions
-abbrev pub IsFound : Tables → Header → Found → Type 0
-IsFound tables header (ByAuthority partition place) =
-    IsSomeAnd (own_part tables partition) (λ part. IsFirstHit header part place)
-IsFound tables header _ = ⊤
+abbrev pub IsFoundBySwitch : Tables → Header → Found → Type 0
+IsFoundBySwitch tables header (ByAuthority partition place) =
+    IsSomeAnd (own_part tables partition) (λ part. IsSwitchFirstHit header part place)
+IsFoundBySwitch tables header _ = ⊤
 
 -- a packet as it is looked up
 abbrev pub packet_to_look_up : ℕ → Header → ℕ → List ℕ → Packet
@@ -83,8 +83,8 @@ packet_to_look_up number header ingress down = record {
 }
 
 -- the cache rule of a decision by the rule at a place: none for a packet that entered here
-unfoldable pub rule_for_cache : ℕ → Packet → ℕ → Partition → ℕ → Option Body
-rule_for_cache switch packet version part place =
-    let rule = own_rule_in part place in
+unfoldable pub switch_cache_rule_sent : ℕ → Packet → ℕ → Partition → ℕ → Option Body
+switch_cache_rule_sent switch packet version part place =
+    let rule = switch_own_rule_in part place in
     let word = widen (number_of packet.header) part.region part.rules place in
     if packet.ingress == switch then None else Some (CacheRule version word rule.rule rule.action)

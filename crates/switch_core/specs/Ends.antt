@@ -1,5 +1,5 @@
 -- Where a packet moves once it is decided, and why it is stuck: both rules in one place. The
--- relation `IsNextOf` says what the first one returns, and allows nothing else.
+-- relation `IsSwitchNextStep` says what the first one returns, and allows nothing else.
 use Rattle.std.specs.Prelude.{[], if◌then◌else◌, ◌&&◌, ◌==◌, ◌∷◌, Bool, Err, List, None, Ok, Option, Result, Some, false, ok_or, option_map, true, ℕ}
 use Rattle.base.specs.Exports.{list_all}
 use Rattle.policy_rules.specs.declared.policy.Action.{Action}
@@ -43,8 +43,8 @@ are_isolated s near down targets =
     list_all (λ target. is_isolated s.database s.number target near down) targets
 
 -- why a packet without a route on its leg is stuck
-unfoldable pub cause_of : SwitchValue → ℕ → List ℕ → Leg → List ℕ → Cause
-cause_of s near down leg targets =
+unfoldable pub switch_stuck_cause : SwitchValue → ℕ → List ℕ → Leg → List ℕ → Cause
+switch_stuck_cause s near down leg targets =
     if is_seek leg && are_isolated s near down targets then NoAuthority else NoRoute
 
 -- the packet at the beginning of its route to the leg's targets; stuck exactly if there is none
@@ -52,7 +52,7 @@ unfoldable pub set_out : SwitchValue → ℕ → Packet → Leg → List ℕ →
 set_out s near packet leg targets =
     ok_or (option_map (λ route. tunnel_begun packet.number packet.header packet.ingress leg targets
     route packet.down) (route_of s.database s.number targets near packet.down))
-    (cause_of s near packet.down leg targets)
+    (switch_stuck_cause s near packet.down leg targets)
 
 -- ---- the exit rule
 

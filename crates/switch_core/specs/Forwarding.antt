@@ -3,7 +3,7 @@ use Rattle.std.specs.Prelude.{Option, option_map, ⊤}
 use Rattle.ctrl_msg.specs.declared.message.Body.{Body}
 use Rattle.ctrl_msg.specs.declared.message.Body.TheVariants.{CacheRule}
 use Rattle.ternary.specs.Exports.{WordValue}
-use Rattle.switch_core.specs.Answering.{seek_by}
+use Rattle.switch_core.specs.Answering.{switch_seek_by}
 use Rattle.switch_core.specs.Ends.{SwitchSite, next_of, set_out}
 use Rattle.switch_core.specs.State.{SwitchValue}
 use Rattle.switch_core.specs.Answers.{SwitchArrival}
@@ -14,24 +14,24 @@ use Rattle.switch_core.specs.declared.forwarding.Forwarding.{Forwarding}
 use Rattle.switch_core.specs.declared.forwarding.Forwarding.TheVariants.{Out, Decided, Seek}
 
 -- the decision's rule with this word, for a cache
-abbrev pub rule_cached_by : Decision → Option WordValue → Option Body
-rule_cached_by decision word =
+abbrev pub switch_rule_cached_by : Decision → Option WordValue → Option Body
+switch_rule_cached_by decision word =
     option_map (λ word. CacheRule decision.version word decision.rule decision.action) word
 
 -- the result, with the route that is to be taken
 abbrev pub answer_of : SwitchValue → SwitchSite → Packet → Forwarding → SwitchArrival
 answer_of s site packet (Out port) = answer.Out port
 answer_of s site packet (Decided decision word) =
-    answer.Answered (answer.Decided decision (rule_cached_by decision word)
+    answer.Answered (answer.Decided decision (switch_rule_cached_by decision word)
     (next_of s site packet decision.action))
 answer_of s site packet (Seek leg targets) =
-    answer.Answered (seek_by leg (set_out s site.near packet leg targets))
+    answer.Answered (switch_seek_by leg (set_out s site.near packet leg targets))
 
 -- the result for a packet that enters
-abbrev pub admitted_as : SwitchValue → SwitchSite → Packet → Option Forwarding → Option SwitchArrival
-admitted_as s site packet forwarding = option_map (answer_of s site packet) forwarding
+abbrev pub switch_admitted_as : SwitchValue → SwitchSite → Packet → Option Forwarding → Option SwitchArrival
+switch_admitted_as s site packet forwarding = option_map (answer_of s site packet) forwarding
 
 -- the forwarding is one that a lookup returns: it is not out by a port
-abbrev pub IsByLookup : Forwarding → Type 0
-IsByLookup (Out port) = ⊥
-IsByLookup _ = ⊤
+abbrev pub IsBySwitchLookup : Forwarding → Type 0
+IsBySwitchLookup (Out port) = ⊥
+IsBySwitchLookup _ = ⊤

@@ -5,7 +5,7 @@ use Rattle.std.specs.Prelude.{[], if◌then◌else◌, ◌&&◌, ◌++◌, ◌==
 use Rattle.base.specs.Exports.{has, option_map_or, switches}
 use Rattle.failover.specs.Exports.{adverts_after_hearing, is_news}
 use Rattle.failover.specs.declared.advert.Advert.{Advert}
-use Rattle.switch_table.specs.Exports.{AreSoundTables, after_accept, after_carry, cache_after_raise}
+use Rattle.switch_table.specs.Exports.{AreSoundSwitchTables, cache_after_accept, cache_after_carry, cache_after_raise}
 use Rattle.switch_table.specs.declared.cache.CacheEntry.{CacheEntry}
 use Rattle.switch_table.specs.declared.tables.Tables.{Tables}
 use Rattle.ternary.specs.Exports.{WordValue}
@@ -17,9 +17,9 @@ use Rattle.ctrl_msg.specs.declared.message.Place.TheVariants.{Switch}
 use Rattle.switch_core.specs.State.{SwitchValue, holds_version}
 
 -- the tables that the body carries are sound
-abbrev pub IsSoundBody : Body → Type 0
-IsSoundBody (Install boot tables) = AreSoundTables tables
-IsSoundBody _ = ⊤
+abbrev pub IsBodySoundForSwitch : Body → Type 0
+IsBodySoundForSwitch (Install boot tables) = AreSoundSwitchTables tables
+IsBodySoundForSwitch _ = ⊤
 
 -- the switch is up, and the body is for a switch, of this boot if it carries one
 unfoldable pub obeys : SwitchValue → Body → Bool
@@ -37,29 +37,29 @@ with_installed s tables =
     else record s { tables = s.tables ++ tables ∷ [] }
 
 -- its stamp is at least this version; if it rises, the cache is raised to it
-unfoldable pub stamp_raised_to : SwitchValue → ℕ → SwitchValue
-stamp_raised_to s version = if nat_lt s.stamp version
+unfoldable pub switch_stamp_raised_to : SwitchValue → ℕ → SwitchValue
+switch_stamp_raised_to s version = if nat_lt s.stamp version
     then record s { stamp = version; cache = cache_after_raise version s.cache } else s
 
 -- its stamp is at least this version; if it rises, the cached rules are carried to it, except
 -- those that the change touches
-unfoldable pub stamped_with : SwitchValue → ℕ → List WordValue → SwitchValue
-stamped_with s version touched = if nat_lt s.stamp version
-    then record s { stamp = version; cache = after_carry version touched s.cache } else s
+unfoldable pub switch_stamped_with : SwitchValue → ℕ → List WordValue → SwitchValue
+switch_stamped_with s version touched = if nat_lt s.stamp version
+    then record s { stamp = version; cache = cache_after_carry version touched s.cache } else s
 
 abbrev pub opened_with : SwitchValue → ℕ → SwitchValue
-opened_with s version = record (stamp_raised_to s version) { is_open = true }
+opened_with s version = record (switch_stamp_raised_to s version) { is_open = true }
 
 -- its collect mark is at least this version, and the tables up to the mark are dropped
-unfoldable pub collected_to : SwitchValue → ℕ → SwitchValue
-collected_to s version = let mark = max s.collected version in record s {
+unfoldable pub switch_collected_to : SwitchValue → ℕ → SwitchValue
+switch_collected_to s version = let mark = max s.collected version in record s {
   collected = mark;
   tables = filter (λ tables. nat_lt mark tables.version) s.tables;
 }
 
 -- the entry is added to the cache
 abbrev pub switch_with_learnt : SwitchValue → CacheEntry → SwitchValue
-switch_with_learnt s entry = record s { cache = after_accept s.stamp entry s.cache }
+switch_with_learnt s entry = record s { cache = cache_after_accept s.stamp entry s.cache }
 
 -- the advert is of another switch, and the database has none of that switch or this one is newer
 unfoldable pub is_news_here : SwitchValue → Advert → Bool
@@ -73,8 +73,8 @@ switch_with_heard s advert = if is_news_here s advert
 abbrev pub switch_after_body : SwitchValue → ℕ → Body → SwitchValue
 switch_after_body s number (Install boot tables) = with_installed s tables
 switch_after_body s number (OpenAt boot version) = opened_with s version
-switch_after_body s number (Stamp boot version touched) = stamped_with s version touched
-switch_after_body s number (Collect boot version) = collected_to s version
+switch_after_body s number (Stamp boot version touched) = switch_stamped_with s version touched
+switch_after_body s number (Collect boot version) = switch_collected_to s version
 switch_after_body s number (CacheRule version word rule action) = switch_with_learnt s (record {
   version = version;
   word = word;
@@ -91,8 +91,8 @@ switch_with_message s number body = if obeys s body then switch_after_body s num
 -- ---- what it sends
 
 -- to each neighbour, ascending
-unfoldable pub flood : ℕ → Body → List Message
-flood near body = map (λ other. record { to = Switch other; body = body })
+unfoldable pub switch_flood : ℕ → Body → List Message
+switch_flood near body = map (λ other. record { to = Switch other; body = body })
     (filter (has near) switches)
 
 abbrev pub replies_to : SwitchValue → ℕ → Body → List Message
@@ -100,7 +100,7 @@ replies_to s near (Install boot tables) =
     to_controller (Installed s.number s.boot tables.version) ∷ []
 replies_to s near (Stamp boot version touched) = to_controller (Stamped s.number s.boot version) ∷ []
 replies_to s near (Advertise advert) =
-    if is_news_here s advert then flood near (Advertise advert) else []
+    if is_news_here s advert then switch_flood near (Advertise advert) else []
 replies_to s near _ = []
 
 unfoldable pub replies : SwitchValue → ℕ → Body → List Message
@@ -113,5 +113,5 @@ opened_by s (OpenAt boot version) = if s.is_open then None else Some (max s.stam
 opened_by s _ = None
 
 -- the stamp of a switch that was closed, and opens
-unfoldable pub opening_stamp : SwitchValue → Body → Option ℕ
-opening_stamp s body = if obeys s body then opened_by s body else None
+unfoldable pub switch_opening_stamp : SwitchValue → Body → Option ℕ
+switch_opening_stamp s body = if obeys s body then opened_by s body else None

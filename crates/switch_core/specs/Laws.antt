@@ -8,13 +8,13 @@ use Rattle.policy_rules.specs.declared.packet.Cause.TheVariants.{NoAuthority}
 use Rattle.ctrl_msg.specs.declared.message.Body.{Body}
 use Rattle.switch_table.specs.declared.tables.Tables.{Tables}
 use Rattle.switch_core.specs.declared.tunnel_calls.Packet.{Packet}
-use Rattle.switch_core.specs.Ends.{cause_of, is_seek, set_out}
-use Rattle.switch_core.specs.Hearing.{collected_to, switch_with_message, switch_with_heard, with_installed, obeys, stamp_raised_to, stamped_with}
-use Rattle.switch_core.specs.State.{HasOwnUpTo, SwitchValue, held_tables}
+use Rattle.switch_core.specs.Ends.{switch_stuck_cause, is_seek, set_out}
+use Rattle.switch_core.specs.Hearing.{switch_collected_to, switch_with_message, switch_with_heard, with_installed, obeys, switch_stamp_raised_to, switch_stamped_with}
+use Rattle.switch_core.specs.State.{HasSwitchAdvertUpTo, SwitchValue, held_tables}
 use Rattle.ternary.specs.Exports.{WordValue}
 
 -- a message changes only these fields, and lowers neither the stamp nor the collect mark
-pub record IsHeard (before after : SwitchValue) : Type 0 where
+pub record IsHeardBySwitch (before after : SwitchValue) : Type 0 where
   pub rest : after ≡ record before {
     is_open = after.is_open;
     stamp = after.stamp;
@@ -29,18 +29,18 @@ pub record IsHeard (before after : SwitchValue) : Type 0 where
 pub record SwitchLaws : Type 0 where
   -- each switch may begin with the adverts with which a network begins
   pub first : (near : List ℕ) (count number : ℕ) → number < 64 →
-      HasOwnUpTo (first_adverts near count) number 1 1
+      HasSwitchAdvertUpTo (first_adverts near count) number 1 1
   -- a packet is stuck exactly if no route leads to the targets of its leg ..
   pub stuck : (s : SwitchValue) (near : ℕ) (packet : Packet) (leg : Leg) (targets : List ℕ) →
       IsErr (set_out s near packet leg targets) ↔
       (route_of s.database s.number targets near packet.down ≡ None)
   -- .. and `NoAuthority` is the cause exactly if it seeks one, and each target is isolated
   pub no_authority : (s : SwitchValue) (near : ℕ) (down : List ℕ) (leg : Leg) (targets : List ℕ) →
-      (cause_of s near down leg targets ≡ NoAuthority) ↔
+      (switch_stuck_cause s near down leg targets ≡ NoAuthority) ↔
       (IsTrue (is_seek leg)
       × All (λ target. IsTrue (is_isolated s.database s.number target near down)) targets)
   pub after_message : (s : SwitchValue) (number : ℕ) (body : Body) →
-      IsHeard s (switch_with_message s number body)
+      IsHeardBySwitch s (switch_with_message s number body)
   pub not_obeyed : (s : SwitchValue) (number : ℕ) (body : Body) → obeys s body ≡ false →
       switch_with_message s number body ≡ s
   -- tables that arrive are kept, unless the switch has those of their version or its collect mark
@@ -51,12 +51,12 @@ pub record SwitchLaws : Type 0 where
       (if (tables.version == version) && nat_lt s.collected version then Some tables else None)
   -- of the versions that the switch had, it keeps exactly those above the collect mark
   pub after_collect : (s : SwitchValue) (mark version : ℕ) →
-      held_tables (collected_to s mark) version
+      held_tables (switch_collected_to s mark) version
       ≡ (if nat_lt (max s.collected mark) version then held_tables s version else None)
   pub after_rise : (s : SwitchValue) (version : ℕ) →
-      (stamp_raised_to s version).stamp ≡ max s.stamp version
+      (switch_stamp_raised_to s version).stamp ≡ max s.stamp version
   pub after_stamp : (s : SwitchValue) (version : ℕ) (touched : List WordValue) →
-      (stamped_with s version touched).stamp ≡ max s.stamp version
+      (switch_stamped_with s version touched).stamp ≡ max s.stamp version
   -- adverts of others are heard, and its own are ignored
   pub after_advert : (s : SwitchValue) (advert : Advert) →
       (switch_with_heard s advert).database

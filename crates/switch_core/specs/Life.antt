@@ -2,39 +2,39 @@
 use Rattle.std.specs.Prelude.{[], ◌+◌, Some, false, slice_set, true, ℕ}
 use Rattle.failover.specs.Exports.{no_adverts}
 use Rattle.failover.specs.declared.advert.Advert.{Advert}
-use Rattle.switch_table.specs.Exports.{after_clear, after_expire}
+use Rattle.switch_table.specs.Exports.{cache_after_clear, after_expire}
 use Rattle.switch_core.specs.State.{SwitchValue, own_advert}
 
 -- its next own advert, of these neighbours
-abbrev pub next_advert : SwitchValue → ℕ → Advert
-next_advert s near = own_advert s.number s.boot (s.seq + 1) near
+abbrev pub switch_next_advert : SwitchValue → ℕ → Advert
+switch_next_advert s near = own_advert s.number s.boot (s.seq + 1) near
 
 -- it keeps its next advert
 abbrev pub near_changed : SwitchValue → ℕ → SwitchValue
 near_changed s near = record s {
   seq = s.seq + 1;
-  database = slice_set s.database s.number (Some (next_advert s near));
+  database = slice_set s.database s.number (Some (switch_next_advert s near));
 }
 
 -- the cache entry at a place is removed
-abbrev pub entry_expired : SwitchValue → ℕ → SwitchValue
-entry_expired s place = record s { cache = after_expire place s.cache }
+abbrev pub switch_entry_expired : SwitchValue → ℕ → SwitchValue
+switch_entry_expired s place = record s { cache = after_expire place s.cache }
 
 -- closed, and without what it learnt: only its number, boot, cache capacity and count remain
-abbrev pub without_memory : SwitchValue → SwitchValue
-without_memory s = record s {
+abbrev pub switch_without_memory : SwitchValue → SwitchValue
+switch_without_memory s = record s {
   is_open = false;
   stamp = 0;
   collected = 0;
   tables = [];
-  cache = after_clear s.cache;
+  cache = cache_after_clear s.cache;
   database = no_adverts;
   seq = 0;
 }
 
 abbrev pub crashed_switch : SwitchValue → SwitchValue
-crashed_switch s = record (without_memory s) { is_up = false }
+crashed_switch s = record (switch_without_memory s) { is_up = false }
 
 -- up and closed, in its next boot
 abbrev pub restarted_switch : SwitchValue → SwitchValue
-restarted_switch s = record (without_memory s) { is_up = true; boot = s.boot + 1 }
+restarted_switch s = record (switch_without_memory s) { is_up = true; boot = s.boot + 1 }

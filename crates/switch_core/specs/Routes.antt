@@ -5,5 +5,5 @@ use Rattle.failover.specs.Exports.{no_links, route_of}
 use Rattle.switch_core.specs.declared.routes.KeptRoute.{KeptRoute}
 
 -- the kept route is the route by these adverts, with no link found down
-abbrev pub IsRouteBy : List (Option Advert) → KeptRoute → Type 0
-IsRouteBy adverts way = route_of adverts way.from (way.target ∷ []) way.near no_links ≡ Some way.route
+abbrev pub IsSwitchRouteBy : List (Option Advert) → KeptRoute → Type 0
+IsSwitchRouteBy adverts way = route_of adverts way.from (way.target ∷ []) way.near no_links ≡ Some way.route

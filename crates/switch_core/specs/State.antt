@@ -5,7 +5,7 @@
 use Rattle.std.specs.Prelude.{[], ◌&&◌, ◌+◌, ◌-◌, ◌<◌, ◌==◌, ◌^◌, ◌∷◌, ◌≡◌, All, Bool, IsFalse, List, Option, Some, find, is_some, min, true, unwrap_or, ℕ}
 use Rattle.failover.specs.Exports.{held_advert, is_newer}
 use Rattle.failover.specs.declared.advert.Advert.{Advert}
-use Rattle.switch_table.specs.Exports.{AreSoundTables, CacheValue}
+use Rattle.switch_table.specs.Exports.{AreSoundSwitchTables, CacheValue}
 use Rattle.switch_table.specs.declared.tables.Tables.{Tables}
 use Rattle.switch_core.specs.declared.switch.Switch.TheInside.{Inside}
 
@@ -55,31 +55,31 @@ held_tables s version = find (λ tables. tables.version == version) s.tables
 abbrev pub holds_version : SwitchValue → ℕ → Bool
 holds_version s version = is_some (held_tables s version)
 
-abbrev pub no_tables : Tables
-no_tables = record { version = 0; parts = []; auth = [] }
+abbrev pub no_switch_tables : Tables
+no_switch_tables = record { version = 0; parts = []; auth = [] }
 
 -- the tables of its stamp, which a switch that serves has
 abbrev pub stamp_tables : SwitchValue → Tables
-stamp_tables s = unwrap_or (held_tables s s.stamp) no_tables
+stamp_tables s = unwrap_or (held_tables s s.stamp) no_switch_tables
 
 -- one more packet call; the count stops at its greatest value
-abbrev pub call_counted : SwitchValue → SwitchValue
-call_counted s = record s { handled = min (s.handled + 1) (2 ^ 64 - 1) }
+abbrev pub switch_call_counted : SwitchValue → SwitchValue
+switch_call_counted s = record s { handled = min (s.handled + 1) (2 ^ 64 - 1) }
 
 abbrev pub own_advert : ℕ → ℕ → ℕ → ℕ → Advert
 own_advert number boot seq up = record { origin = number; boot = boot; seq = seq; up = up }
 
 -- no advert of the switch is newer than this boot and seq
-abbrev pub HasOwnUpTo : List (Option Advert) → ℕ → ℕ → ℕ → Type 0
-HasOwnUpTo adverts number boot seq =
+abbrev pub HasSwitchAdvertUpTo : List (Option Advert) → ℕ → ℕ → ℕ → Type 0
+HasSwitchAdvertUpTo adverts number boot seq =
     (advert : Advert) → held_advert adverts number ≡ Some advert
     → IsFalse (is_newer advert (own_advert number boot seq 0))
 
 -- what is true of each switch
-pub record IsSwitch (s : SwitchValue) : Type 0 where
+pub record IsSoundSwitch (s : SwitchValue) : Type 0 where
   pub number : s.number < 64
-  pub sound : All AreSoundTables s.tables
-  pub own : HasOwnUpTo s.database s.number s.boot s.seq
+  pub sound : All AreSoundSwitchTables s.tables
+  pub own : HasSwitchAdvertUpTo s.database s.number s.boot s.seq
 
 -- a switch that has just begun its first boot with tables of version 1
 abbrev pub new_switch : ℕ → ℕ → Tables → List (Option Advert) → SwitchValue

@@ -1,10 +1,10 @@
 ghost use Rattle.std.specs.Prelude.{◌≡◌, ◌+◌, ℕ, List, None, IsSomeAnd, IsTrue, option_map, slice_get};
-ghost use Rattle.policy_rules.specs.Hosted.{is_in};
+ghost use Rattle.policy_rules.specs.Hosted.{is_in_policy_partition};
 ghost use Rattle.policy_rules.specs.declared.packet.Leg.TheVariants.{Seek as SeekLeg};
 ghost use Rattle.switch_core.specs.Answers.{Answered};
-ghost use Rattle.switch_core.specs.Exports.{CanLookUp, IsAtAuthority, IsFirstHit, IsFound, IsSwitchUncached, SwitchSite as SiteValue, PacketStandsAt, admitted, admitted_as, answer_by, answer_of, arrived_on_leg, call_counted, decided_at_switch, decided_in_own_part, holds_version, incoming_packet, looked_up, own_part, packet_to_look_up, serves};
+ghost use Rattle.switch_core.specs.Exports.{CanSwitchLookUp, IsAtAuthoritySwitch, IsSwitchFirstHit, IsFoundBySwitch, IsSwitchAnswerUncached, SwitchSite as SiteValue, PacketStandsAtSwitch, admitted, switch_admitted_as, switch_answer_by_found, answer_of, switch_arrival_on_leg, switch_call_counted, switch_answer_by_rule, switch_answer_in_partition, holds_version, incoming_packet, looked_up, own_part, packet_to_look_up, serves};
 
-use crate::deciding::{Decision, cache_word, own_part, own_rule_in};
+use crate::deciding::{Decision, cache_word, own_part, switch_own_rule_in};
 use crate::forwarding::Forwarding;
 use crate::kept::KeptTables;
 use crate::packet::Arriving;
@@ -18,13 +18,13 @@ impl Switch {
     /// doesn't serve. Otherwise the switch looks it up under its stamp, and sends no rule to a
     /// cache. `lookup_laws` says how. This copies no route and no set of links.
     pub fn admit(&mut self, h: &Header) -> Option<Forwarding>
-        requires { CanLookUp self.old }
+        requires { CanSwitchLookUp self.old }
         ensures answer { (site : SiteValue) (number : ℕ) →
-            admitted_as self.new site (incoming_packet self.old number h.now) result
+            switch_admitted_as self.new site (incoming_packet self.old number h.now) result
             ≡ option_map Answered (admitted self.old site (incoming_packet self.old number h.now)) }
         ensures uncached { (site : SiteValue) (number : ℕ) →
-            IsSwitchUncached (admitted self.old site (incoming_packet self.old number h.now)) }
-        ensures after { self.new ≡ call_counted self.old }
+            IsSwitchAnswerUncached (admitted self.old site (incoming_packet self.old number h.now)) }
+        ensures after { self.new ≡ switch_call_counted self.old }
     {
         if !self.serves() {
             self.count();
@@ -41,16 +41,16 @@ impl Switch {
     /// looks the packet up under its stamp. This copies no route and no set of links.
     pub fn receive(&mut self, t: Arriving) -> Forwarding
         requires serving { IsTrue (serves self.old) }
-        requires stamped { CanLookUp self.old }
-        requires here { PacketStandsAt self.old t.route.now t.place }
+        requires stamped { CanSwitchLookUp self.old }
+        requires here { PacketStandsAtSwitch self.old t.route.now t.place }
         requires last { slice_get t.route.now (t.place + 1) ≡ None }
-        requires authority { IsAtAuthority self.old t.header.now t.leg }
+        requires authority { IsAtAuthoritySwitch self.old t.header.now t.leg }
         ensures answer { (site : SiteValue) (number : ℕ) (down : List ℕ) →
             answer_of self.new site
             (packet_to_look_up number t.entry.header.now t.entry.ingress down) result
-            ≡ arrived_on_leg self.old site
+            ≡ switch_arrival_on_leg self.old site
             (packet_to_look_up number t.entry.header.now t.entry.ingress down) t.entry.leg }
-        ensures after { self.new ≡ call_counted self.old }
+        ensures after { self.new ≡ switch_call_counted self.old }
     {
         match t.leg {
             Leg::Exit { port } => {
@@ -68,10 +68,10 @@ impl Switch {
     // Decides by the tables of this version if the switch has them, otherwise by a lookup.
     fn judge(&self, h: &Header, ingress: u32, version: u32, partition: u32) -> Forwarding
         requires stamped { IsTrue (holds_version self.now self.now.stamp) }
-        requires authority { IsAtAuthority self.now h.now (SeekLeg version partition) }
+        requires authority { IsAtAuthoritySwitch self.now h.now (SeekLeg version partition) }
         ensures { (site : SiteValue) (number : ℕ) (down : List ℕ) →
             answer_of self.now site (packet_to_look_up number h.now ingress down) result
-            ≡ arrived_on_leg self.now site
+            ≡ switch_arrival_on_leg self.now site
             (packet_to_look_up number h.now ingress down) (SeekLeg version partition) }
     {
         match self.held_tables(version) {
@@ -96,12 +96,12 @@ impl Switch {
     }
 
     // The result for what a lookup found in these tables.
-    #[tactic(auto, unfolding(crate::specs::Answering::answer_by))]
+    #[tactic(auto, unfolding(crate::specs::Answering::switch_answer_by_found))]
     fn by_found(&self, h: &Header, ingress: u32, tables: &Tables, found: &Found) -> Forwarding
-        requires { IsFound tables.now h.now found.now }
+        requires { IsFoundBySwitch tables.now h.now found.now }
         ensures { (site : SiteValue) (number : ℕ) (down : List ℕ) →
             answer_of self.now site (packet_to_look_up number h.now ingress down) result
-            ≡ Answered (answer_by self.now site
+            ≡ Answered (switch_answer_by_found self.now site
             (packet_to_look_up number h.now ingress down) tables.now found.now) }
     {
         match found {
@@ -124,13 +124,13 @@ impl Switch {
     }
 
     // Decides by the partition of this number in these tables.
-    #[tactic(auto, unfolding(crate::specs::Answering::decided_in_own_part))]
+    #[tactic(auto, unfolding(crate::specs::Answering::switch_answer_in_partition))]
     fn decide_in(&self, h: &Header, ingress: u32, partition: u32, tables: &KeptTables) -> Forwarding
         requires { IsSomeAnd (own_part tables.now partition)
-            (λ part. IsTrue (is_in h.now part)) }
+            (λ part. IsTrue (is_in_policy_partition h.now part)) }
         ensures { (site : SiteValue) (number : ℕ) (down : List ℕ) →
             answer_of self.now site (packet_to_look_up number h.now ingress down) result
-            ≡ Answered (decided_in_own_part self.now site
+            ≡ Answered (switch_answer_in_partition self.now site
             (packet_to_look_up number h.now ingress down) partition tables.now) }
     {
         let place = tables.first_place(partition, h);
@@ -141,7 +141,7 @@ impl Switch {
 
     // Decides by the rule at this place of the partition.
     #[inline(always)]
-    #[tactic(auto, unfolding(crate::specs::Answering::decided_at_switch))]
+    #[tactic(auto, unfolding(crate::specs::Answering::switch_answer_by_rule))]
     fn decide_at(
         &self,
         h: &Header,
@@ -150,13 +150,13 @@ impl Switch {
         part: &Partition,
         place: u32,
     ) -> Forwarding
-        requires { IsFirstHit h.now part.now place }
+        requires { IsSwitchFirstHit h.now part.now place }
         ensures { (site : SiteValue) (number : ℕ) (down : List ℕ) →
             answer_of self.now site (packet_to_look_up number h.now ingress down) result
-            ≡ Answered (decided_at_switch self.now site
+            ≡ Answered (switch_answer_by_rule self.now site
             (packet_to_look_up number h.now ingress down) version part.now place) }
     {
-        let rule = own_rule_in(part, place);
+        let rule = switch_own_rule_in(part, place);
         Forwarding::Decided {
             decision: Decision::by_rule(self.number, version, part.number, rule),
             word: cache_word(self.number, h, ingress, part, place),

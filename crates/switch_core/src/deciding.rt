@@ -1,7 +1,7 @@
 ghost use Rattle.std.specs.Prelude.{◌≡◌, ◌<◌, ℕ, List, length};
 ghost use Rattle.std.specs.Option.{option_copied};
-ghost use Rattle.switch_core.specs.Deciding.{IsFirstHit, by_entry, by_rule, rule_for_cache, own_part, packet_to_look_up, own_rule_in};
-ghost use Rattle.switch_core.specs.Forwarding.{rule_cached_by};
+ghost use Rattle.switch_core.specs.Deciding.{IsSwitchFirstHit, by_entry, by_rule, switch_cache_rule_sent, own_part, packet_to_look_up, switch_own_rule_in};
+ghost use Rattle.switch_core.specs.Forwarding.{switch_rule_cached_by};
 
 use cache_maker::widen;
 use five_tuple::Header;
@@ -57,16 +57,16 @@ pub fn own_part(tables: &Tables, number: u32) -> Option<&Partition>
 }
 
 /// The rule at a place.
-pub fn own_rule_in(part: &Partition, place: u32) -> &Rule
+pub fn switch_own_rule_in(part: &Partition, place: u32) -> &Rule
     requires { place < length part.now.rules }
-    ensures { result.now ≡ own_rule_in part.now place }
+    ensures { result.now ≡ switch_own_rule_in part.now place }
 {
     &part.rules.items()[place as usize]
 }
 
 /// The word of the rule for the cache of the switch where the packet entered; `None` if that is
 /// this switch.
-#[tactic(auto, unfolding(crate::specs::Deciding::rule_for_cache))]
+#[tactic(auto, unfolding(crate::specs::Deciding::switch_cache_rule_sent))]
 pub fn cache_word(
     switch: u32,
     header: &Header,
@@ -74,10 +74,10 @@ pub fn cache_word(
     part: &Partition,
     place: u32,
 ) -> Option<Word>
-    requires { IsFirstHit header.now part.now place }
+    requires { IsSwitchFirstHit header.now part.now place }
     ensures { (number version : ℕ) (down : List ℕ) →
-        rule_cached_by (by_rule switch version part.now.number (own_rule_in part.now place)) result
-        ≡ rule_for_cache switch (packet_to_look_up number header.now ingress down) version part.now place }
+        switch_rule_cached_by (by_rule switch version part.now.number (switch_own_rule_in part.now place)) result
+        ≡ switch_cache_rule_sent switch (packet_to_look_up number header.now ingress down) version part.now place }
 {
     if ingress == switch {
         return None;

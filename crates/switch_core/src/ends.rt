@@ -2,7 +2,7 @@ ghost use Rattle.std.specs.Prelude.{◌≡◌, IfErr, IfOk, None, Some, unwrap_o
 ghost use Rattle.std.specs.Option.{option_copied};
 ghost use Rattle.base.specs.Refusals.{IfRefused};
 ghost use Rattle.failover.specs.Exports.{no_links, route_of};
-ghost use Rattle.switch_core.specs.Exports.{are_isolated, cause_of};
+ghost use Rattle.switch_core.specs.Exports.{are_isolated, switch_stuck_cause};
 
 use crate::switch::Switch;
 use base::{Failure, Shared};
@@ -32,7 +32,7 @@ impl Switch {
         ensures refused { IfErr result (IfRefused (λ cause.
             (route_of self.old.database self.old.number targets.now near
             (unwrap_or (option_copied down.entry) no_links) ≡ None)
-            × (cause ≡ cause_of self.old near (unwrap_or (option_copied down.entry) no_links)
+            × (cause ≡ switch_stuck_cause self.old near (unwrap_or (option_copied down.entry) no_links)
             leg targets.now))) }
         ensures same { self.new ≡ self.old }
     {
@@ -47,7 +47,7 @@ impl Switch {
     #[cold]
     #[inline(never)]
     fn why_stuck(&self, near: u64, down: Option<&DownSet>, leg: &Leg, targets: &Targets) -> Cause
-        ensures { result ≡ cause_of self.now near
+        ensures { result ≡ switch_stuck_cause self.now near
             (unwrap_or (option_copied down.entry) no_links) leg.now targets.now }
     {
         match down {
@@ -57,9 +57,9 @@ impl Switch {
     }
 
     /// Why a packet without a route on this leg is stuck.
-    #[tactic(auto, unfolding(crate::specs::Ends::cause_of))]
+    #[tactic(auto, unfolding(crate::specs::Ends::switch_stuck_cause))]
     pub(crate) fn cause(&self, near: u64, down: &DownSet, leg: &Leg, targets: &Targets) -> Cause
-        ensures { result ≡ cause_of self.now near down.now leg.now targets.now }
+        ensures { result ≡ switch_stuck_cause self.now near down.now leg.now targets.now }
     {
         match leg {
             Leg::Seek { .. } if self.are_isolated(near, down, targets.items()) =>

@@ -1,8 +1,8 @@
 ghost use Rattle.std.specs.Prelude.{◌≡◌, ◌<◌, [], ◌∷◌, OnErr, OnOk, IfOk};
-ghost use Rattle.switch_table.specs.Tables.{AreSoundTables};
+ghost use Rattle.switch_table.specs.Tables.{AreSoundSwitchTables};
 ghost use Rattle.ctrl_msg.specs.declared.message.Body.TheVariants.{Advertise};
 ghost use Rattle.ctrl_msg.specs.Kinds.{to_controller};
-ghost use Rattle.switch_core.specs.Hearing.{IsSoundBody, collected_to, flood, switch_with_message, switch_with_heard, with_installed, is_news_here, switch_with_learnt, obeys, opening_stamp, opened_with, opened_by, stamp_raised_to, replies, replies_to, stamped_with};
+ghost use Rattle.switch_core.specs.Hearing.{IsBodySoundForSwitch, switch_collected_to, switch_flood, switch_with_message, switch_with_heard, with_installed, is_news_here, switch_with_learnt, obeys, switch_opening_stamp, opened_with, opened_by, switch_stamp_raised_to, replies, replies_to, switch_stamped_with};
 
 use crate::kept::KeptTables;
 use crate::switch::Switch;
@@ -32,12 +32,12 @@ impl Switch {
     ///
     /// # Errors
     /// Only out of memory; then nothing changes, as if the message hadn't been delivered.
-    #[tactic(auto, unfolding(crate::specs::Hearing::switch_with_message, crate::specs::Hearing::replies, crate::specs::Hearing::opening_stamp))]
+    #[tactic(auto, unfolding(crate::specs::Hearing::switch_with_message, crate::specs::Hearing::replies, crate::specs::Hearing::switch_opening_stamp))]
     pub fn hear(&mut self, number: u32, body: &Body, near: u64) -> Result<Heard, AllocError>
-        requires { IsSoundBody body.now }
+        requires { IsBodySoundForSwitch body.now }
         ensures after { OnOk result (self.new ≡ switch_with_message self.old number body.now) }
         ensures replies { IfOk result (λ h. h.replies ≡ replies self.old near body.now) }
-        ensures opened { IfOk result (λ h. h.opened ≡ opening_stamp self.old body.now) }
+        ensures opened { IfOk result (λ h. h.opened ≡ switch_opening_stamp self.old body.now) }
         ensures err { OnErr result (self.new ≡ self.old) }
     {
         let alloc = *self.tables.allocator();
@@ -110,7 +110,7 @@ impl Switch {
                     version: *version,
                 }),
             ),
-            Body::Advertise { advert } if self.is_news(advert) => flood(alloc, near, advert),
+            Body::Advertise { advert } if self.is_news(advert) => switch_flood(alloc, near, advert),
             _ => Ok(Replies::new(alloc)),
         }
     }
@@ -128,7 +128,7 @@ impl Switch {
     // Keeps the tables, with trees for them, unless it has that version or has dropped it.
     #[tactic(auto, unfolding(crate::specs::Hearing::with_installed))]
     fn install(&mut self, alloc: Global, tables: &SharedTables) -> Result<(), AllocError>
-        requires { AreSoundTables tables.now }
+        requires { AreSoundSwitchTables tables.now }
         ensures after { OnOk result (self.new ≡ with_installed self.old tables.now) }
         ensures err { OnErr result (self.new ≡ self.old) }
     {
@@ -150,9 +150,9 @@ impl Switch {
 
     // Stamps with at least this version from now on; if the stamp rises, the cached rules are
     // carried to it, except those that the change touches.
-    #[tactic(auto, unfolding(crate::specs::Hearing::stamped_with))]
+    #[tactic(auto, unfolding(crate::specs::Hearing::switch_stamped_with))]
     fn stamp_with(&mut self, version: u32, touched: &Touched) -> Result<(), AllocError>
-        ensures after { OnOk result (self.new ≡ stamped_with self.old version touched.now) }
+        ensures after { OnOk result (self.new ≡ switch_stamped_with self.old version touched.now) }
         ensures err { OnErr result (self.new ≡ self.old) }
     {
         if self.stamp < version {
@@ -163,9 +163,9 @@ impl Switch {
     }
 
     // Stamps with at least this version from now on, and raises the cache to it if the stamp rises.
-    #[tactic(auto, unfolding(crate::specs::Hearing::stamp_raised_to))]
+    #[tactic(auto, unfolding(crate::specs::Hearing::switch_stamp_raised_to))]
     fn raise(&mut self, version: u32)
-        ensures { self.new ≡ stamp_raised_to self.old version }
+        ensures { self.new ≡ switch_stamp_raised_to self.old version }
     {
         if self.stamp < version {
             self.stamp = version;
@@ -174,9 +174,9 @@ impl Switch {
     }
 
     // Drops the tables up to this version.
-    #[tactic(auto, unfolding(crate::specs::Hearing::collected_to))]
+    #[tactic(auto, unfolding(crate::specs::Hearing::switch_collected_to))]
     fn collect(&mut self, version: u32)
-        ensures { self.new ≡ collected_to self.old version }
+        ensures { self.new ≡ switch_collected_to self.old version }
     {
         self.collected = self.collected.max(version);
         let mark = self.collected;
@@ -231,8 +231,8 @@ fn one_switch_reply(alloc: Global, message: Message) -> Result<Replies, AllocErr
 
 // The advert for each neighbour, ascending.
 #[tactic(auto, using(crate::proofs::SwitchNeighbourBodies::told_none, crate::proofs::SwitchNeighbourBodies::adverts_near, crate::proofs::SwitchNeighbourBodies::told_far))]
-fn flood(alloc: Global, near: u64, advert: &Advert) -> Result<Replies, AllocError>
-    ensures { IfOk result (λ list. list ≡ flood near (Advertise advert.now)) }
+fn switch_flood(alloc: Global, near: u64, advert: &Advert) -> Result<Replies, AllocError>
+    ensures { IfOk result (λ list. list ≡ switch_flood near (Advertise advert.now)) }
 {
     let mut messages = Vec::with_capacity(alloc, near.count_ones() as usize)?;
     for other in near.trailing_zeros()..64 - near.leading_zeros() {

@@ -1,7 +1,7 @@
 ghost use Rattle.std.specs.Prelude.{◌≡◌, IfOk, IsSomeAnd, IsTrue};
-ghost use Rattle.policy_rules.specs.Hosted.{is_in};
-ghost use Rattle.switch_table.specs.Tables.{AreSoundTables};
-ghost use Rattle.switch_core.specs.Deciding.{IsFirstHit, place_of_first, own_part, part_numbered};
+ghost use Rattle.policy_rules.specs.Hosted.{is_in_policy_partition};
+ghost use Rattle.switch_table.specs.Tables.{AreSoundSwitchTables};
+ghost use Rattle.switch_core.specs.Deciding.{IsSwitchFirstHit, switch_own_rule_place, own_part, switch_part_numbered};
 
 use ctrl_msg::SharedTables;
 use five_tuple::Header;
@@ -30,7 +30,7 @@ impl KeptTables {
     /// # Errors
     /// Only out of memory.
     pub fn new(alloc: Global, tables: &SharedTables) -> Result<KeptTables, AllocError>
-        requires { AreSoundTables tables.now }
+        requires { AreSoundSwitchTables tables.now }
         ensures { IfOk result (λ kept. kept ≡ tables.now) }
     {
         let finder = tables.finder(alloc)?;
@@ -53,9 +53,9 @@ impl KeptTables {
 
     /// The place of the first rule that holds the header, in the own partition of this number.
     pub fn first_place(&self, partition: u32, header: &Header) -> u32
-        requires { IsSomeAnd (own_part self.now partition) (λ part. IsTrue (is_in header.now part)) }
-        ensures place { result ≡ place_of_first header.now (part_numbered self.now partition) }
-        ensures first { IsFirstHit header.now (part_numbered self.now partition) result }
+        requires { IsSomeAnd (own_part self.now partition) (λ part. IsTrue (is_in_policy_partition header.now part)) }
+        ensures place { result ≡ switch_own_rule_place header.now (switch_part_numbered self.now partition) }
+        ensures first { IsSwitchFirstHit header.now (switch_part_numbered self.now partition) result }
     {
         let place = self.finder.first(partition, header).unwrap();
         place as u32

@@ -1,4 +1,4 @@
-ghost use Rattle.switch_core.specs.Exports.{ArriveLaws, DecisionLaws, EnterLaws, ExitLaws, HopLaws, LookupLaws, SwitchLaws};
+ghost use Rattle.switch_core.specs.Exports.{SwitchArriveLaws, SwitchDecisionLaws, SwitchEnterLaws, SwitchExitLaws, SwitchHopLaws, SwitchLookupLaws, SwitchLaws};
 
 /// What messages change, what they never lower, and when a packet is stuck: a law about the
 /// definitions only.
@@ -9,36 +9,36 @@ pub fn switch_laws()
 /// What a switch returns for a packet by a lookup, by what the cache and the tables of the stamp
 /// say about the header: a relation that allows one result. A law about the definition only.
 pub fn lookup_laws()
-    ensures { LookupLaws }
+    ensures { SwitchLookupLaws }
 {}
 
 /// What `Switch::enter` returns, by a lookup: a relation that allows one result. A law about the
 /// definition only.
 pub fn enter_laws()
-    ensures { EnterLaws }
+    ensures { SwitchEnterLaws }
 {}
 
 /// Where a decided packet moves, by the owner of its action's port: a relation that allows one
 /// result. A law about the definition only.
 pub fn exit_laws()
-    ensures { ExitLaws }
+    ensures { SwitchExitLaws }
 {}
 
 /// What `Switch::arrive` returns, by the tables of the leg's version or by a lookup: a relation
 /// that allows one result. A law about the definition only.
 pub fn arrive_laws()
-    ensures { ArriveLaws }
+    ensures { SwitchArriveLaws }
 {}
 
 /// By which rules a switch decides packets that enter or arrive, when and which rule it sends to a
 /// cache, and that by the tables of a plan its own rules decide as the plan's policy does. A law
 /// about the definitions only.
 pub fn decision_laws()
-    ensures { DecisionLaws }
+    ensures { SwitchDecisionLaws }
 {}
 
 /// What `Switch::hop` does to a packet, by the next link of its route: a relation that allows one
 /// outcome. A law about the definition only.
 pub fn hop_laws()
-    ensures { HopLaws }
+    ensures { SwitchHopLaws }
 {}

@@ -1,5 +1,5 @@
 ghost use Rattle.std.specs.Prelude.{◌≡◌, ◌+◌, ◌-◌, ◌^◌, ◌<◌, IsFalse, slice_get, option_map};
-ghost use Rattle.switch_core.specs.Life.{crashed_switch, entry_expired, without_memory, near_changed, next_advert, restarted_switch};
+ghost use Rattle.switch_core.specs.Life.{crashed_switch, switch_entry_expired, switch_without_memory, near_changed, switch_next_advert, restarted_switch};
 
 use crate::switch::Switch;
 use failover::Advert;
@@ -9,7 +9,7 @@ impl Switch {
     /// caller sends.
     pub fn near_changed(&mut self, near: u64) -> Advert
         requires { self.old.seq < 2 ^ 32 - 1 }
-        ensures advert { result ≡ next_advert self.old near }
+        ensures advert { result ≡ switch_next_advert self.old near }
         ensures after { self.new ≡ near_changed self.old near }
     {
         self.seq += 1;
@@ -28,7 +28,7 @@ impl Switch {
     pub fn expire(&mut self, k: u32) -> Option<u32>
         ensures message { result
             ≡ option_map (λ entry. entry.message) (slice_get self.old.cache.entries k) }
-        ensures after { self.new ≡ entry_expired self.old k }
+        ensures after { self.new ≡ switch_entry_expired self.old k }
     {
         self.cache.expire(k)
     }
@@ -56,7 +56,7 @@ impl Switch {
 
     // Forgets all that it learnt.
     fn forget(&mut self)
-        ensures { self.new ≡ without_memory self.old }
+        ensures { self.new ≡ switch_without_memory self.old }
     {
         self.is_open = false;
         self.stamp = 0;

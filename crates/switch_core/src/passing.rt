@@ -1,7 +1,7 @@
 ghost use Rattle.std.specs.Prelude.{◌≡◌, ◌≢◌, ◌+◌, ◌<◌, ℕ, IsTrue, slice_get};
 ghost use Rattle.failover.specs.RouteList.{IsRouteList};
 ghost use Rattle.switch_core.specs.declared.packet.Onward.TheVariants.{LinkDown};
-ghost use Rattle.switch_core.specs.Exports.{PacketStandsAt, call_counted, onward_by_switch, serves};
+ghost use Rattle.switch_core.specs.Exports.{PacketStandsAtSwitch, switch_call_counted, onward_by_switch, serves};
 
 use crate::packet::Onward;
 use crate::switch::Switch;
@@ -15,11 +15,11 @@ impl Switch {
     /// `near` has a bit for each switch to which there is a usable link.
     pub fn pass(&mut self, route: &Route, place: u32, near: u64) -> Onward
         requires serving { IsTrue (serves self.old) }
-        requires here { PacketStandsAt self.old route.now place }
+        requires here { PacketStandsAtSwitch self.old route.now place }
         ensures onward { result ≡ onward_by_switch near (slice_get route.now (place + 1)) }
         ensures other { (other : ℕ) → result ≡ LinkDown other
             → (other ≢ self.old.number) × (other < 64) }
-        ensures after { self.new ≡ call_counted self.old }
+        ensures after { self.new ≡ switch_call_counted self.old }
     {
         self.count();
         match next_switch(route, place) {

@@ -1,7 +1,7 @@
 ghost use Rattle.std.specs.Prelude.{◌≡◌, ◌∷◌, [], All, IfOk, IfSome, Some, unwrap_or};
 ghost use Rattle.std.specs.Option.{option_copied};
 ghost use Rattle.failover.specs.Exports.{adverts_after_hearing, is_news, no_adverts, no_links, route_of};
-ghost use Rattle.switch_core.specs.Routes.{IsRouteBy};
+ghost use Rattle.switch_core.specs.Routes.{IsSwitchRouteBy};
 
 use base::Shared;
 use failover::{Advert, Database, DownSet, Route};
@@ -33,13 +33,13 @@ pub struct Routes {
 impl Model for Routes {
     ghost use Rattle.std.specs.Prelude.{List, Option, All};
     ghost use Rattle.failover.specs.declared.advert.Advert.{Advert};
-    ghost use Rattle.switch_core.specs.Routes.{IsRouteBy};
+    ghost use Rattle.switch_core.specs.Routes.{IsSwitchRouteBy};
 
     ghost Value = { List (Option Advert) };
 
     ghost view = { λ w. w.database };
 
-    ghost invariant = { λ w. All (IsRouteBy w.database) w.kept.items };
+    ghost invariant = { λ w. All (IsSwitchRouteBy w.database) w.kept.items };
 }
 
 impl Routes {

@@ -1,8 +1,8 @@
 ghost use Rattle.std.specs.Prelude.{◌≡◌, ◌<◌, IfOk, IfSome, IsTrue};
 ghost use Rattle.std.specs.Option.{option_copied};
 ghost use Rattle.failover.specs.Adverts.{held_advert};
-ghost use Rattle.switch_table.specs.Tables.{AreSoundTables};
-ghost use Rattle.switch_core.specs.State.{HasOwnUpTo, IsSwitch, new_switch, call_counted, held_tables, holds_version, serves, stamp_tables};
+ghost use Rattle.switch_table.specs.Tables.{AreSoundSwitchTables};
+ghost use Rattle.switch_core.specs.State.{HasSwitchAdvertUpTo, IsSoundSwitch, new_switch, switch_call_counted, held_tables, holds_version, serves, stamp_tables};
 
 use crate::kept::KeptTables;
 use crate::routes::Routes;
@@ -32,13 +32,13 @@ pub struct Switch {
 const _: () = prove!(size_of::<Switch>() < 8192);
 
 impl Model for Switch {
-    ghost use Rattle.switch_core.specs.State.{SwitchValue, IsSwitch, switch_value};
+    ghost use Rattle.switch_core.specs.State.{SwitchValue, IsSoundSwitch, switch_value};
 
     ghost Value = { SwitchValue };
 
     ghost view = { switch_value };
 
-    ghost invariant = { λ s. IsSwitch (switch_value s) };
+    ghost invariant = { λ s. IsSoundSwitch (switch_value s) };
 }
 
 impl Switch {
@@ -55,9 +55,9 @@ impl Switch {
         base: Database,
     ) -> Result<Switch, AllocError>
         requires switch { number < 64 }
-        requires sound { AreSoundTables tables }
+        requires sound { AreSoundSwitchTables tables }
         requires version { tables.version ≡ 1 }
-        requires own { HasOwnUpTo base number 1 1 }
+        requires own { HasSwitchAdvertUpTo base number 1 1 }
         ensures { IfOk result (λ switch. switch ≡ new_switch number cache tables base) }
     {
         let mut list = Vec::new(alloc);
@@ -80,7 +80,7 @@ impl Switch {
     /// Its number, from 0 in the order of the network.
     pub fn number(&self) -> u32
         ensures number { result ≡ self.now.number }
-        ensures switch { IsSwitch self.now }
+        ensures switch { IsSoundSwitch self.now }
     {
         self.number
     }
@@ -155,7 +155,7 @@ impl Switch {
 
     /// Counts one more packet call.
     pub(crate) fn count(&mut self)
-        ensures { self.new ≡ call_counted self.old }
+        ensures { self.new ≡ switch_call_counted self.old }
     {
         self.handled = self.handled.saturating_add(1);
     }

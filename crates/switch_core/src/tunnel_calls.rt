@@ -5,7 +5,7 @@ ghost use Rattle.std.specs.Prelude.{◌≡◌, ◌∷◌, [], IsTrue, None};
 ghost use Rattle.policy_rules.specs.declared.packet.Leg.TheVariants.{Exit as ExitLeg};
 ghost use Rattle.tunnel.specs.Moves.{next};
 ghost use Rattle.switch_core.specs.Answers.{Answered};
-ghost use Rattle.switch_core.specs.Exports.{Answer, CanLookUp, IsAtAuthority, IsByLookup, IsSwitchUncached, PacketStandsAt, admitted, answer_of, around, switch_arrival_of, arrive_answer, rule_cached_by, call_counted, enter_answer, entered_with, exit_by_switch, hop_answer, incoming_packet, link_found_down, next_of, packet_of, rerouted_here, serves, set_out, switch_site_of};
+ghost use Rattle.switch_core.specs.Exports.{Answer, CanSwitchLookUp, IsAtAuthoritySwitch, IsBySwitchLookup, IsSwitchAnswerUncached, PacketStandsAtSwitch, admitted, answer_of, around, switch_arrival_of, arrive_answer, switch_rule_cached_by, switch_call_counted, enter_answer, switch_entered_with, exit_by_switch, switch_hop_answer, incoming_packet, switch_found_link_down, next_of, switch_packet_of, rerouted_here, serves, set_out, switch_site_of};
 
 use crate::deciding::Decision;
 use crate::forwarding::Forwarding;
@@ -100,13 +100,13 @@ impl Switch {
     ///
     /// `near` has a bit for each switch to which there is a usable link.
     pub fn enter(&mut self, packet: u32, h: &Header, near: u64, ports: &Ports) -> Entered
-        requires { CanLookUp self.old }
+        requires { CanSwitchLookUp self.old }
         ensures answer { result
             ≡ enter_answer self.old (around near ports.now)
             (incoming_packet self.old packet h.now) }
-        ensures uncached { IsSwitchUncached
+        ensures uncached { IsSwitchAnswerUncached
             (admitted self.old (around near ports.now) (incoming_packet self.old packet h.now)) }
-        ensures after { self.new ≡ call_counted self.old }
+        ensures after { self.new ≡ switch_call_counted self.old }
     {
         let packet = Packet {
             number: packet,
@@ -128,12 +128,12 @@ impl Switch {
     #[tactic(auto, unfolding(crate::specs::Answering::received))]
     pub fn arrive(&mut self, t: &Tunnel, near: u64, ports: &Ports) -> Arrived
         requires serving { IsTrue (serves self.old) }
-        requires stamped { CanLookUp self.old }
-        requires here { PacketStandsAt self.old t.now.route t.now.place }
+        requires stamped { CanSwitchLookUp self.old }
+        requires here { PacketStandsAtSwitch self.old t.now.route t.now.place }
         requires last { next t.now ≡ None }
-        requires authority { IsAtAuthority self.old t.now.header t.now.leg }
+        requires authority { IsAtAuthoritySwitch self.old t.now.header t.now.leg }
         ensures answer { result ≡ arrive_answer self.old (around near ports.now) t.now }
-        ensures after { self.new ≡ call_counted self.old }
+        ensures after { self.new ≡ switch_call_counted self.old }
     {
         let forwarding = self.receive(Arriving {
             header: &t.header,
@@ -150,14 +150,14 @@ impl Switch {
     /// takes a new route, on which it moves or arrives, or is stuck. `hop_laws` says how.
     ///
     /// `near` has a bit for each switch to which there is a usable link.
-    #[tactic(auto, unfolding(crate::specs::Moving::hop_answer))]
+    #[tactic(auto, unfolding(crate::specs::Moving::switch_hop_answer))]
     pub fn hop(&mut self, t: &mut Tunnel, near: u64) -> Hop
         requires serving { IsTrue (serves self.old) }
-        requires here { PacketStandsAt self.old t.old.route t.old.place }
-        ensures found { result.found ≡ link_found_down near (next t.old) }
-        ensures end { result.end ≡ (hop_answer self.old near t.old).end }
-        ensures tunnel { t.new ≡ (hop_answer self.old near t.old).tunnel }
-        ensures after { self.new ≡ call_counted self.old }
+        requires here { PacketStandsAtSwitch self.old t.old.route t.old.place }
+        ensures found { result.found ≡ switch_found_link_down near (next t.old) }
+        ensures end { result.end ≡ (switch_hop_answer self.old near t.old).end }
+        ensures tunnel { t.new ≡ (switch_hop_answer self.old near t.old).tunnel }
+        ensures after { self.new ≡ switch_call_counted self.old }
     {
         match self.pass(&t.route, t.place, near) {
             Onward::AtEnd => Hop {
@@ -201,10 +201,10 @@ impl Switch {
 
     /// The result for a packet that enters, with this forwarding.
     fn answer_entry(&self, site: SwitchSite, packet: &Packet, forwarding: Forwarding) -> Entered
-        requires { IsByLookup forwarding }
+        requires { IsBySwitchLookup forwarding }
         ensures { (answer : Answer)
             → answer_of self.now (switch_site_of site.entry) packet.now forwarding ≡ Answered answer
-            → result ≡ entered_with answer }
+            → result ≡ switch_entered_with answer }
     {
         match forwarding {
             Forwarding::Out(_) => unreachable!(),
@@ -230,7 +230,7 @@ impl Switch {
             Forwarding::Out(port) => Arrived::Out(port),
             Forwarding::Decided { decision, word } => Arrived::Decided {
                 decision,
-                cache: rule_cached_by(&decision, word),
+                cache: switch_rule_cached_by(&decision, word),
                 next: self.next(site, packet, decision.action),
             },
             Forwarding::Seek { leg, targets } => match self.set_out(
@@ -300,7 +300,7 @@ impl Switch {
 
 // The packet of a tunnel.
 fn carried(t: &Tunnel) -> Packet
-    ensures { result ≡ packet_of t.now }
+    ensures { result ≡ switch_packet_of t.now }
 {
     Packet {
         number: t.packet,
@@ -311,8 +311,8 @@ fn carried(t: &Tunnel) -> Packet
 }
 
 // The rule for a cache, if there is a word.
-fn rule_cached_by(decision: &Decision, word: Option<Word>) -> Option<Body>
-    ensures { result ≡ rule_cached_by decision.now word }
+fn switch_rule_cached_by(decision: &Decision, word: Option<Word>) -> Option<Body>
+    ensures { result ≡ switch_rule_cached_by decision.now word }
 {
     match word {
         None => None,

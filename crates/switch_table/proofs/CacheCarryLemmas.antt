@@ -2,20 +2,20 @@
 use Rattle.std.proofs.Common.{[], ◌&&◌, ◌++◌, ◌+◌, ◌||◌, ◌∙◌, ◌∷◌, ◌≡◌, ◌≤◌, ◌⊎◌, All, AllPairs, Any, Bool, Contains, IfSome, List, None, Option, Some, ap, arith, cond, drop, eq-eqb, eqb, eqb-true, false, filter, filter_map, get_or, inl, inr, le-leb, le-ltb, leb, leb-true, length, length-append, not, refl, subst, sym, true, ℕ, rules}
 use Rattle.base.proofs.Exports.{All-contains_itself, All-filter_map, All-weaker, AllPairs-filter_map, Any-from_list_any, Contains-filter_map, cons_option, false_from_ne_true, filter_map-append, get_or_default, length-filter_map, list_any, list_any-from_Any}
 use Rattle.ternary.specs.Exports.{WordValue, any_word}
-use Rattle.ternary.proofs.CallerLemmas.{any_covers, meets_cover}
-use Rattle.switch_table.specs.Exports.{CacheValue, HaveDistinctKeys, IsCache, WasCarried, after_accept, after_carry, cache_after_raise, all_touched, carried_entry, is_carried, meets_any_touched, same_key, under}
+use Rattle.ternary.proofs.TernaryCallerLemmas.{any_covers, meets_cover}
+use Rattle.switch_table.specs.Exports.{CacheValue, HaveDistinctCacheKeys, IsCache, WasCacheEntryCarried, cache_after_accept, cache_after_carry, cache_after_raise, cache_all_touched, carried_entry, is_carried, cache_word_meets_touched, same_key, under}
 use Rattle.switch_table.specs.declared.cache.CacheEntry.{CacheEntry}
 use Rattle.switch_table.proofs.CachePairs.{apart-sym, none_before, same_key_from, same_key_parts}
 
 -- ---- an entry that goes over
 
-pub meets_all : (word : WordValue) → meets_any_touched all_touched word ≡ true
+pub meets_all : (word : WordValue) → cache_word_meets_touched cache_all_touched word ≡ true
 meets_all word = ap (λ b. b || false) (meets_cover any_word word (any_covers word))
 
 record GoesOver (version : ℕ) (touched : List WordValue) (entries : List CacheEntry)
     (entry : CacheEntry) : Type 0 where
   before : entry.version + 1 ≡ version
-  apart : meets_any_touched touched entry.word ≡ false
+  apart : cache_word_meets_touched touched entry.word ≡ false
   alone : list_any (same_key (under version entry)) entries ≡ false
 
 over_parts : (before met there : Bool) → (before && not met && not there) ≡ true
@@ -45,7 +45,7 @@ none_in test entries entry there none = search (rules, false_from_ne_true, in_li
 abbrev IsPair : List CacheEntry → CacheEntry → CacheEntry → Type 0
 IsPair entries a b = Contains entries a × (Contains entries b × (same_key a b ≡ false))
 
-pairs_within : (entries : List CacheEntry) → HaveDistinctKeys entries
+pairs_within : (entries : List CacheEntry) → HaveDistinctCacheKeys entries
     → AllPairs (IsPair entries) entries
 pairs_within entries distinct = λ i j d less within. (
   (
@@ -91,8 +91,8 @@ pair_carried version touched entries a b (in_a, (in_b, apart)) =
     by_case false false _ _ _ _ = tt
 
 pub carried_distinct : (version : ℕ) (touched : List WordValue) (entries : List CacheEntry)
-    → HaveDistinctKeys entries
-    → HaveDistinctKeys (filter_map (carried_entry version touched entries) entries)
+    → HaveDistinctCacheKeys entries
+    → HaveDistinctCacheKeys (filter_map (carried_entry version touched entries) entries)
 carried_distinct version touched entries distinct = AllPairs-filter_map (IsPair entries)
     (λ a b. same_key a b ≡ false) (carried_entry version touched entries)
     (pair_carried version touched entries) entries (pairs_within entries distinct)
@@ -104,16 +104,16 @@ pub left_few : (version capacity : ℕ) (touched : List WordValue) (entries : Li
 left_few version capacity touched entries few = omega (arith, length-filter_map)
 
 pub cache_carried : (version : ℕ) (touched : List WordValue) (cache : CacheValue) → IsCache cache
-    → IsCache (after_carry version touched cache)
+    → IsCache (cache_after_carry version touched cache)
 cache_carried version touched cache is = search (rules, carried_distinct, left_few)
 
 -- ---- what isn't touched stays
 
 pub untouched_stays : (version : ℕ) (touched : List WordValue) (cache : CacheValue)
     (entry : CacheEntry) → Contains cache.entries entry → entry.version + 1 ≡ version
-    → meets_any_touched touched entry.word ≡ false
+    → cache_word_meets_touched touched entry.word ≡ false
     → Any (λ (kept : CacheEntry). (kept.version ≡ version) × (kept.word ≡ entry.word))
-    (after_carry version touched cache).entries
+    (cache_after_carry version touched cache).entries
 untouched_stays version touched cache entry there before apart =
     by_case (list_any (same_key (under version entry)) entries) refl
   where
@@ -136,7 +136,7 @@ untouched_stays version touched cache entry there before apart =
     by_case : (twin : Bool) → list_any (same_key (under version entry)) entries ≡ twin
         → Any IsIt carried
     by_case false alone =
-        let goes = over_from (eqb (entry.version + 1) version) (meets_any_touched touched entry.word)
+        let goes = over_from (eqb (entry.version + 1) version) (cache_word_meets_touched touched entry.word)
         (list_any (same_key (under version entry)) entries) (eq-eqb _ _ before) apart alone in
         let left = ap (λ b. cond b (Some entry)
         (cond (is_carried version touched entries entry) (Some (under version entry)) None)) below
@@ -160,7 +160,7 @@ untouched_stays version touched cache entry there before apart =
 
 pub only_carried : (version : ℕ) (touched : List WordValue) (cache : CacheValue)
     → All (λ (entry : CacheEntry). ((version ≤ entry.version) × Contains cache.entries entry)
-    ⊎ WasCarried version touched cache entry) (after_carry version touched cache).entries
+    ⊎ WasCacheEntryCarried version touched cache entry) (cache_after_carry version touched cache).entries
 only_carried version touched cache =
     All-filter_map Is (carried_entry version touched entries) entries
     (All-weaker (Contains entries) (λ entry. IfSome (carried_entry version touched entries entry) Is)
@@ -171,7 +171,7 @@ only_carried version touched cache =
 
     Is : CacheEntry → Type 0
     Is entry = ((version ≤ entry.version) × Contains entries entry)
-        ⊎ WasCarried version touched cache entry
+        ⊎ WasCacheEntryCarried version touched cache entry
 
     by_case : (entry : CacheEntry) (stays goes : Bool) → Contains entries entry
         → leb version entry.version ≡ stays → is_carried version touched entries entry ≡ goes
@@ -195,17 +195,17 @@ only_carried version touched cache =
 -- ---- where all is touched
 
 none_over : (version : ℕ) (entries : List CacheEntry) (entry : CacheEntry)
-    → is_carried version all_touched entries entry ≡ false
+    → is_carried version cache_all_touched entries entry ≡ false
 none_over version entries entry = search (rules, false_from_ne_true, gone_over, meets_all)
 
 all_left : (version : ℕ) (entries rest : List CacheEntry)
-    → filter_map (carried_entry version all_touched entries) rest
+    → filter_map (carried_entry version cache_all_touched entries) rest
     ≡ filter (λ (entry : CacheEntry). leb version entry.version) rest
 all_left version entries [] = refl
 all_left version entries (entry ∷ rest) = search (rules, none_over, all_left version entries rest)
 
 pub all_carried : (version : ℕ) (cache : CacheValue)
-    → after_carry version all_touched cache ≡ cache_after_raise version cache
+    → cache_after_carry version cache_all_touched cache ≡ cache_after_raise version cache
 all_carried version cache = cc (all_left version cache.entries cache.entries)
 
 -- ---- what is left, entry by entry
@@ -219,7 +219,7 @@ left_out f before entry none = search (rules, filter_map-append)
 pub left_in : (f : CacheEntry → Option CacheEntry) (before : List CacheEntry)
     (entry left : CacheEntry) (rest : List CacheEntry) (capacity : ℕ) → f entry ≡ Some left
     → IsCache (record { entries = filter_map f (before ++ entry ∷ rest); capacity = capacity })
-    → after_accept 0 left (record { entries = filter_map f before; capacity = capacity })
+    → cache_after_accept 0 left (record { entries = filter_map f before; capacity = capacity })
     ≡ record { entries = filter_map f (before ++ entry ∷ []); capacity = capacity }
 left_in f before entry left rest capacity some is =
     let old = filter_map f before in
@@ -230,7 +230,7 @@ left_in f before entry left rest capacity some is =
     ∙ ap (λ o. old ++ cons_option o (filter_map f later)) some in
     let late = le-ltb left.version 0 (omega arith) in
     let absent = none_before old left (filter_map f rest)
-    (subst HaveDistinctKeys (all rest) is.distinct) in
+    (subst HaveDistinctCacheKeys (all rest) is.distinct) in
     let fits = le-ltb capacity (length with_it) (omega (
       arith,
       is.few,

@@ -2,7 +2,7 @@
 use Rattle.std.proofs.Common.{[], ◌&&◌, ◌+◌, ◌-◌, ◌<◌, ◌^◌, ◌||◌, ◌∙◌, ◌∷◌, ◌≡◌, ◌≤◌, All, Bool, IfSome, List, None, Option, Some, ap, arith, cond, eq-eqb, eqb, eqb-true, false, filter, filter_map, le-leb, leb, leb-true, not, refl, true, ℕ, rules}
 use Rattle.base.proofs.Exports.{All-filter_map, All-head, All-tail, All-weaker, cons_option, false_from_ne_true, filter_passes, list_any}
 use Rattle.ternary.specs.Exports.{WordValue}
-use Rattle.switch_table.specs.Exports.{EntriesAreMasked, AreUpTo, HasMaskOf, KeysHaveVersions, Pair, carried_entry, is_carried, is_carried_key, kept_entries, kept_entry, meets_any_touched, same_key, under}
+use Rattle.switch_table.specs.Exports.{CacheEntriesAreMasked, AreCacheEntriesUpTo, HasCacheMaskOf, CacheKeysHaveVersions, Pair, carried_entry, is_carried, is_carried_cache_key, kept_entries, kept_entry, cache_word_meets_touched, same_key, under}
 use Rattle.switch_table.specs.declared.cache.CacheEntry.{CacheEntry}
 use Rattle.switch_table.proofs.CachePairs.{HasVersion, same_key_parts}
 
@@ -12,7 +12,7 @@ abbrev pub IsBelow : ℕ → CacheEntry → Type 0
 IsBelow version entry = leb version entry.version ≡ false
 
 pub below_newest : (version newest : ℕ) (entries : List CacheEntry) → newest < version
-    → AreUpTo newest entries → All (IsBelow version) entries
+    → AreCacheEntriesUpTo newest entries → All (IsBelow version) entries
 below_newest version newest entries later up_to = search (rules, false_from_ne_true, leb-true)
 
 -- no entry has the version
@@ -33,7 +33,7 @@ alone_below version entry (x ∷ xs) below =
 -- the pairs of the version under the lower shift
 abbrev pub pairs_over : ℕ → ℕ → List WordValue → List Pair → List Pair
 pairs_over shift version touched pairs =
-    filter (λ (pair : Pair). is_carried_key (version + (shift - 1)) touched pair.0) pairs
+    filter (λ (pair : Pair). is_carried_cache_key (version + (shift - 1)) touched pair.0) pairs
 
 -- the entry is of the version before, as its number says
 before_is : (shift version number : ℕ) → 0 < shift → shift ≤ number
@@ -42,7 +42,7 @@ before_is shift version number some fits = search (rules, eq-eqb, eqb-true, fals
 
 -- an entry that goes over keeps its pair
 entry_stays : (shift version : ℕ) (touched : List WordValue) (pair : Pair) → 0 < shift
-    → is_carried_key (version + (shift - 1)) touched pair.0 ≡ true
+    → is_carried_cache_key (version + (shift - 1)) touched pair.0 ≡ true
     → kept_entry (shift - 1) pair ≡ under version (kept_entry shift pair)
 entry_stays shift version touched pair some is = search (rules, eqb-true)
 
@@ -54,7 +54,7 @@ left_of version entry goes before apart stays there is h8 h9 = search rules
 
 -- the pairs that stay are those of what is left of the entries
 pub carried_pairs : (shift version : ℕ) (touched : List WordValue) (entries : List CacheEntry)
-    (pairs : List Pair) → 0 < shift → KeysHaveVersions shift pairs → All (IsBelow version) entries
+    (pairs : List Pair) → 0 < shift → CacheKeysHaveVersions shift pairs → All (IsBelow version) entries
     → All (IsBelow version) (kept_entries shift pairs)
     → kept_entries (shift - 1) (pairs_over shift version touched pairs)
     ≡ filter_map (carried_entry version touched entries) (kept_entries shift pairs)
@@ -62,15 +62,15 @@ carried_pairs shift version touched entries [] some are all below = refl
 carried_pairs shift version touched entries (pair ∷ pairs) some are all below =
     let entry = kept_entry shift pair in
     let old = kept_entries shift pairs in
-    let goes : is_carried_key (version + (shift - 1)) touched pair.0
-    ≡ (eqb (entry.version + 1) version && not (meets_any_touched touched entry.word)) =
-    ap (λ b. b && not (meets_any_touched touched entry.word))
+    let goes : is_carried_cache_key (version + (shift - 1)) touched pair.0
+    ≡ (eqb (entry.version + 1) version && not (cache_word_meets_touched touched entry.word)) =
+    ap (λ b. b && not (cache_word_meets_touched touched entry.word))
     (before_is shift version pair.0.number some (All-head (HasVersion shift) pair pairs are).0) in
-    let left = left_of version entry (is_carried_key (version + (shift - 1)) touched pair.0)
-    (eqb (entry.version + 1) version) (not (meets_any_touched touched entry.word))
+    let left = left_of version entry (is_carried_cache_key (version + (shift - 1)) touched pair.0)
+    (eqb (entry.version + 1) version) (not (cache_word_meets_touched touched entry.word))
     (leb version entry.version) (list_any (same_key (under version entry)) entries) goes
     (All-head (IsBelow version) entry old below) (alone_below version entry entries all) in
-    by_case (is_carried_key (version + (shift - 1)) touched pair.0) refl
+    by_case (is_carried_cache_key (version + (shift - 1)) touched pair.0) refl
     (filter_map (carried_entry version touched entries) old)
     (carried_pairs shift version touched entries pairs some
     (All-tail (HasVersion shift) pair pairs are) all (All-tail (IsBelow version) entry old below))
@@ -79,7 +79,7 @@ carried_pairs shift version touched entries (pair ∷ pairs) some are all below 
     kept : List Pair
     kept = pairs_over shift version touched pairs
 
-    by_case : (stays : Bool) → is_carried_key (version + (shift - 1)) touched pair.0 ≡ stays
+    by_case : (stays : Bool) → is_carried_cache_key (version + (shift - 1)) touched pair.0 ≡ stays
         → (rest : List CacheEntry) → kept_entries (shift - 1) kept ≡ rest
         → kept_entries (shift - 1) (cond stays (pair ∷ kept) kept)
         ≡ cons_option (cond stays (Some (under version (kept_entry shift pair))) None) rest
@@ -88,24 +88,24 @@ carried_pairs shift version touched entries (pair ∷ pairs) some are all below 
     by_case false is rest same = same
 
 pub versions_over : (shift version : ℕ) (touched : List WordValue) (pairs : List Pair) → 0 < shift
-    → version < 2 ^ 32 → KeysHaveVersions (shift - 1) (pairs_over shift version touched pairs)
+    → version < 2 ^ 32 → CacheKeysHaveVersions (shift - 1) (pairs_over shift version touched pairs)
 versions_over shift version touched pairs some small = search (rules, filter_passes, eqb-true)
 
 -- ---- what is left
 
 -- those that are left keep their words
 pub masked_carried : (masks : Option (List WordValue)) (version : ℕ) (touched : List WordValue)
-    (entries : List CacheEntry) → EntriesAreMasked masks entries
-    → EntriesAreMasked masks (filter_map (carried_entry version touched entries) entries)
+    (entries : List CacheEntry) → CacheEntriesAreMasked masks entries
+    → CacheEntriesAreMasked masks (filter_map (carried_entry version touched entries) entries)
 masked_carried masks version touched entries masked = All-filter_map IsMasked
     (carried_entry version touched entries) entries (All-weaker IsMasked
     (λ entry. IfSome (carried_entry version touched entries entry) IsMasked) (λ entry is. by_case
     entry (leb version entry.version) (is_carried version touched entries entry) is) entries masked)
   where
     IsMasked : CacheEntry → Type 0
-    IsMasked entry = HasMaskOf masks entry.word
+    IsMasked entry = HasCacheMaskOf masks entry.word
 
-    by_case : (entry : CacheEntry) (stays goes : Bool) → HasMaskOf masks entry.word
+    by_case : (entry : CacheEntry) (stays goes : Bool) → HasCacheMaskOf masks entry.word
         → IfSome (cond stays (Some entry) (cond goes (Some (under version entry)) None)) IsMasked
     by_case entry true _ is = is
     by_case entry false true is = is
@@ -113,8 +113,8 @@ masked_carried masks version touched entries masked = All-filter_map IsMasked
 
 -- no entry is of a later version then
 pub up_to_carried : (version newest next : ℕ) (touched : List WordValue)
-    (entries : List CacheEntry) → AreUpTo newest entries → newest ≤ next → version ≤ next
-    → AreUpTo next (filter_map (carried_entry version touched entries) entries)
+    (entries : List CacheEntry) → AreCacheEntriesUpTo newest entries → newest ≤ next → version ≤ next
+    → AreCacheEntriesUpTo next (filter_map (carried_entry version touched entries) entries)
 up_to_carried version newest next touched entries up_to old new = All-filter_map IsUpTo
     (carried_entry version touched entries) entries
     (All-weaker (λ (entry : CacheEntry). entry.version ≤ newest) (λ entry. IfSome

@@ -3,7 +3,7 @@
 use Rattle.std.proofs.Common.{[], ◌++◌, ◌+◌, ◌-◌, ◌<◌, ◌^◌, ◌||◌, ◌∙◌, ◌∷◌, ◌≡◌, ◌≤◌, All, Bool, List, Option, ap, arith, cond, drop, eq-eqb, eqb, eqb-true, false, filter, get_or, le-leb, leb, leb-true, length, length-append, refl, remove, subst, suc, sym, true, zero, ℕ, rules}
 use Rattle.base.proofs.Exports.{All-cons, All-filter, All-head, All-push, All-remove, All-tail, All-weaker, AllByRecursion, AllPairs-cons, IsDistinct, all_pairs_push, and_from, count_by-le-length, false_from_ne_true, get_or-append_seam, keys_of, length-filter, list_any, list_any-from_Any, map-append, map-remove}
 use Rattle.ternary.specs.Exports.{WordValue}
-use Rattle.switch_table.specs.Exports.{EntriesAreMasked, AreUpTo, HasMaskOf, HaveDistinctKeys, HaveOwnKeys, KeysHaveVersions, HoldsEntries, Pair, equal_keys, cache_has_key, kept_entries, kept_entry, cache_key_of, pair_of, same_key}
+use Rattle.switch_table.specs.Exports.{CacheEntriesAreMasked, AreCacheEntriesUpTo, HasCacheMaskOf, HaveDistinctCacheKeys, HaveOwnKeys, CacheKeysHaveVersions, HoldsEntries, Pair, equal_keys, cache_has_key, kept_entries, kept_entry, cache_key_of, pair_of, same_key}
 use Rattle.switch_table.specs.declared.cache.CacheEntry.{CacheEntry}
 
 -- ---- keys of entries
@@ -29,17 +29,17 @@ pub none_at : (test : CacheEntry → Bool) (entries : List CacheEntry) (k : ℕ)
     → list_any test entries ≡ false → k < length entries → test (get_or entries k d) ≡ false
 none_at test entries k d none within = search (rules, false_from_ne_true, list_any-from_Any)
 
-pub none_distinct : HaveDistinctKeys []
+pub none_distinct : HaveDistinctCacheKeys []
 none_distinct = λ i j d less within. absurd (omega arith)
 
-pub rest_distinct : (entries : List CacheEntry) → HaveDistinctKeys entries →
-    HaveDistinctKeys (drop 1 entries)
+pub rest_distinct : (entries : List CacheEntry) → HaveDistinctCacheKeys entries →
+    HaveDistinctCacheKeys (drop 1 entries)
 rest_distinct [] pairs = none_distinct
 rest_distinct (x ∷ xs) pairs = λ i j d less within. pairs (suc i) (suc j) d (omega arith)
     (omega arith)
 
-pub push_distinct : (entries : List CacheEntry) (entry : CacheEntry) → HaveDistinctKeys entries →
-    list_any (same_key entry) entries ≡ false → HaveDistinctKeys (entries ++ entry ∷ [])
+pub push_distinct : (entries : List CacheEntry) (entry : CacheEntry) → HaveDistinctCacheKeys entries →
+    list_any (same_key entry) entries ≡ false → HaveDistinctCacheKeys (entries ++ entry ∷ [])
 push_distinct entries entry distinct absent = all_pairs_push (λ a b. same_key a b ≡ false) entries
     entry distinct (λ k d within. apart-sym entry (get_or entries k d)
     (none_at (same_key entry) entries k d absent within))
@@ -69,7 +69,7 @@ same_key_of shift entry pair is = sym (same_key-is shift entry (kept_entry shift
     ∙ ap (equal_keys (cache_key_of shift entry)) (key_of_entry shift pair is))
 
 pub has_key_of_entry : (shift : ℕ) (entry : CacheEntry) (pairs : List Pair)
-    → KeysHaveVersions shift pairs
+    → CacheKeysHaveVersions shift pairs
     → cache_has_key (cache_key_of shift entry) pairs ≡ list_any (same_key entry) (kept_entries shift pairs)
 has_key_of_entry shift entry [] are = refl
 has_key_of_entry shift entry (pair ∷ pairs) are =
@@ -77,7 +77,7 @@ has_key_of_entry shift entry (pair ∷ pairs) are =
     λ i. (same_key_of shift entry pair (All-head (HasVersion shift) pair pairs are)) i || rest i
 
 apart_from_all : (shift : ℕ) (pair : Pair) (pairs : List Pair) → HasVersion shift pair
-    → KeysHaveVersions shift pairs
+    → CacheKeysHaveVersions shift pairs
     → AllByRecursion (λ key. equal_keys pair.0 key ≡ false) (keys_of pairs)
     → All (λ entry. same_key (kept_entry shift pair) entry ≡ false) (kept_entries shift pairs)
 apart_from_all shift pair [] is are apart = search rules
@@ -90,8 +90,8 @@ apart_from_all shift pair (next ∷ pairs) is are apart =
     (apart_from_all shift pair pairs is (All-tail (HasVersion shift) next pairs are) apart.1)
 
 -- no two entries have one key where no two pairs do
-pub entries_distinct : (shift : ℕ) (pairs : List Pair) → KeysHaveVersions shift pairs
-    → HaveOwnKeys pairs → HaveDistinctKeys (kept_entries shift pairs)
+pub entries_distinct : (shift : ℕ) (pairs : List Pair) → CacheKeysHaveVersions shift pairs
+    → HaveOwnKeys pairs → HaveDistinctCacheKeys (kept_entries shift pairs)
 unfolding IsDistinct
 entries_distinct shift [] are own = none_distinct
 entries_distinct shift (pair ∷ pairs) are own =
@@ -114,7 +114,7 @@ entries_removed shift pairs place = map-remove (kept_entry shift) pairs place
 -- a test of pairs that is one of their entries
 pub entries_filtered : (shift : ℕ) (test : Pair → Bool) (kept : CacheEntry → Bool)
     → ((pair : Pair) → HasVersion shift pair → test pair ≡ kept (kept_entry shift pair))
-    → (pairs : List Pair) → KeysHaveVersions shift pairs
+    → (pairs : List Pair) → CacheKeysHaveVersions shift pairs
     → kept_entries shift (filter test pairs) ≡ filter kept (kept_entries shift pairs)
 entries_filtered shift test kept same [] are = refl
 entries_filtered shift test kept same (pair ∷ pairs) are =
@@ -134,14 +134,14 @@ leb-shift : (shift version number : ℕ) → shift ≤ number
     → leb (version + shift) number ≡ leb version (number - shift)
 leb-shift shift version number fits = search (rules, le-leb, leb-true, false_from_ne_true)
 
-pub entries_from : (shift version : ℕ) (pairs : List Pair) → KeysHaveVersions shift pairs
+pub entries_from : (shift version : ℕ) (pairs : List Pair) → CacheKeysHaveVersions shift pairs
     → kept_entries shift (filter (λ (pair : Pair). leb (version + shift) pair.0.number) pairs)
     ≡ filter (λ (entry : CacheEntry). leb version entry.version) (kept_entries shift pairs)
 entries_from shift version pairs are = search (rules, entries_filtered, leb-shift)
 
 -- no entry before another one has its key
 pub none_before : (before : List CacheEntry) (entry : CacheEntry) (rest : List CacheEntry) →
-    HaveDistinctKeys (before ++ entry ∷ rest) → list_any (same_key entry) before ≡ false
+    HaveDistinctCacheKeys (before ++ entry ∷ rest) → list_any (same_key entry) before ≡ false
 none_before [] entry rest distinct = refl
 none_before (x ∷ before) entry rest distinct =
     let len = length-append (x ∷ before) (entry ∷ rest) in
@@ -155,8 +155,8 @@ none_before (x ∷ before) entry rest distinct =
 
 pub holds_of : (masks : Option (List WordValue)) (shift newest capacity : ℕ) (pairs : List Pair)
     (entries : List CacheEntry) → shift ≤ 2 ^ 32 → 2 ^ 32 ≤ shift + newest
-    → KeysHaveVersions shift pairs → kept_entries shift pairs ≡ entries → AreUpTo newest entries
-    → EntriesAreMasked masks entries → length entries ≤ capacity
+    → CacheKeysHaveVersions shift pairs → kept_entries shift pairs ≡ entries → AreCacheEntriesUpTo newest entries
+    → CacheEntriesAreMasked masks entries → length entries ≤ capacity
     → HoldsEntries masks shift newest capacity pairs
 holds_of masks shift newest capacity pairs entries fits falls versions are up_to masked few =
     search rules
@@ -165,20 +165,20 @@ holds_of masks shift newest capacity pairs entries fits falls versions are up_to
 pub holds_pushed : (masks after : Option (List WordValue)) (shift newest later capacity : ℕ)
     (pairs new : List Pair) (entry : CacheEntry) → HoldsEntries masks shift newest capacity pairs
     → new ≡ pairs ++ pair_of shift entry ∷ [] → newest ≤ later → entry.version ≤ later
-    → later < 2 ^ 32 → ((one : WordValue) → HasMaskOf masks one → HasMaskOf after one)
-    → HasMaskOf after entry.word → HoldsEntries after shift later (capacity + 1) new
+    → later < 2 ^ 32 → ((one : WordValue) → HasCacheMaskOf masks one → HasCacheMaskOf after one)
+    → HasCacheMaskOf after entry.word → HoldsEntries after shift later (capacity + 1) new
 holds_pushed masks after shift newest later capacity pairs new entry is made newer up_to small kept added =
     let entries = kept_entries shift pairs in
     let IsUpTo = λ (e : CacheEntry). e.version ≤ later in
-    let IsMasked = λ (e : CacheEntry). HasMaskOf after e.word in
+    let IsMasked = λ (e : CacheEntry). HasCacheMaskOf after e.word in
     holds_of after shift later (capacity + 1) new (entries ++ entry ∷ []) is.fits
     (omega (arith, is.falls, newer))
-    (subst (KeysHaveVersions shift) (sym made) (All-push (HasVersion shift) pairs (pair_of shift entry)
+    (subst (CacheKeysHaveVersions shift) (sym made) (All-push (HasVersion shift) pairs (pair_of shift entry)
     is.versions (omega arith, omega (arith, up_to, small))))
     (entries_pushed shift entry pairs new made)
     (All-push IsUpTo entries entry (All-weaker (λ (e : CacheEntry). e.version ≤ newest) IsUpTo
     (λ e le. omega (arith, le, newer)) entries is.up_to) up_to)
-    (All-push IsMasked entries entry (All-weaker (λ (e : CacheEntry). HasMaskOf masks e.word)
+    (All-push IsMasked entries entry (All-weaker (λ (e : CacheEntry). HasCacheMaskOf masks e.word)
     IsMasked (λ e. kept e.word) entries is.masked) added)
     (omega (arith, length-append entries (entry ∷ []), is.few))
 
@@ -199,10 +199,10 @@ pub holds_removed : (masks : Option (List WordValue)) (shift newest capacity mos
 holds_removed masks shift newest capacity most place pairs new is made few =
     let entries = kept_entries shift pairs in
     holds_of masks shift newest capacity new (remove entries place) is.fits is.falls
-    (subst (KeysHaveVersions shift) (sym made) (All-remove (HasVersion shift) pairs place is.versions))
+    (subst (CacheKeysHaveVersions shift) (sym made) (All-remove (HasVersion shift) pairs place is.versions))
     (ap (kept_entries shift) made ∙ entries_removed shift pairs place)
     (All-remove (λ (entry : CacheEntry). entry.version ≤ newest) entries place is.up_to)
-    (All-remove (λ (entry : CacheEntry). HasMaskOf masks entry.word) entries place is.masked) few
+    (All-remove (λ (entry : CacheEntry). HasCacheMaskOf masks entry.word) entries place is.masked) few
 
 pub holds_from : (masks : Option (List WordValue)) (shift newest capacity version : ℕ)
     (pairs new : List Pair) → HoldsEntries masks shift newest capacity pairs
@@ -213,8 +213,8 @@ holds_from masks shift newest capacity version pairs new is made =
     let kept = λ (entry : CacheEntry). leb version entry.version in
     let test = λ (pair : Pair). leb (version + shift) pair.0.number in
     holds_of masks shift newest capacity new (filter kept entries) is.fits is.falls
-    (subst (KeysHaveVersions shift) (sym made) (All-filter test (HasVersion shift) pairs is.versions))
+    (subst (CacheKeysHaveVersions shift) (sym made) (All-filter test (HasVersion shift) pairs is.versions))
     (ap (kept_entries shift) made ∙ entries_from shift version pairs is.versions)
     (All-filter kept (λ (entry : CacheEntry). entry.version ≤ newest) entries is.up_to)
-    (All-filter kept (λ (entry : CacheEntry). HasMaskOf masks entry.word) entries is.masked)
+    (All-filter kept (λ (entry : CacheEntry). HasCacheMaskOf masks entry.word) entries is.masked)
     (omega (arith, length-filter kept entries, count_by-le-length kept entries, is.few))

@@ -2,7 +2,7 @@
 use Rattle.std.proofs.Common.{[], ◌&&◌, ◌+◌, ◌<◌, ◌^◌, ◌||◌, ◌∙◌, ◌∷◌, ◌≡◌, Bool, List, Some, ap, arith, bit_and, cond, false, find, get_or, length, min, not, option_map, refl, slice_get, subst, suc, sym, take, true, ℕ, rules}
 use Rattle.base.proofs.Exports.{AllByRecursion, IsDistinct, and_assoc, and_self, find_at, keys_of, list_any_more, none_both, place_both, place_either, position_or_len, same_Some}
 use Rattle.ternary.specs.Exports.{IsWord, WordValue}
-use Rattle.switch_table.specs.Exports.{Pair, SlotPair, equal_keys, is_cache_hit, is_live, cache_key_under, live_pairs}
+use Rattle.switch_table.specs.Exports.{Pair, SlotPair, equal_keys, is_cache_hit, is_live, cache_key_under, live_cache_pairs}
 use Rattle.switch_table.specs.declared.key.CacheKey.{CacheKey}
 use Rattle.switch_table.proofs.CacheSlotPushes.{equal_keys_same}
 
@@ -125,13 +125,13 @@ pair_at slot = (slot.0, slot.1.learnt)
 
 first_live : (test : CacheKey → Bool) (slots : List SlotPair) →
     option_map pair_at (find (λ slot. test slot.0 && is_live slot) slots)
-    ≡ find (λ pair. test pair.0) (live_pairs slots)
+    ≡ find (λ pair. test pair.0) (live_cache_pairs slots)
 first_live test [] = refl
 first_live test (x ∷ xs) = search (rules, first_live test xs)
 
 -- what is at the first place is the first one
 pub hit_at : (test : CacheKey → Bool) (slots : List SlotPair) (place : ℕ) →
     place ≡ position_or_len (λ slot. test slot.0 && is_live slot) slots →
-    option_map pair_at (slice_get slots place) ≡ find (λ pair. test pair.0) (live_pairs slots)
+    option_map pair_at (slice_get slots place) ≡ find (λ pair. test pair.0) (live_cache_pairs slots)
 hit_at test slots place is =
     cc (is, find_at (λ slot. test slot.0 && is_live slot) slots, first_live test slots)

@@ -2,7 +2,7 @@
 use Rattle.std.proofs.Common.{[], ◌&&◌, ◌+◌, ◌∙◌, ◌∷◌, ◌≡◌, Bool, List, Option, Some, ap, cond, eqb, eqb-true, false, find, option_map, refl, sym, true, ℕ, rules}
 use Rattle.base.proofs.Exports.{All-head, All-tail, list_any, list_any-both, nat_tests}
 use Rattle.ternary.specs.Exports.{WordValue, holds}
-use Rattle.switch_table.specs.Exports.{EntriesAreMasked, HasMaskIn, KeysHaveVersions, Pair, equal_keys, first_entry, is_cache_hit, kept_entries, kept_entry, cache_key_of, cache_key_under}
+use Rattle.switch_table.specs.Exports.{CacheEntriesAreMasked, HasMaskIn, CacheKeysHaveVersions, Pair, equal_keys, first_entry, is_cache_hit, kept_entries, kept_entry, cache_key_of, cache_key_under}
 use Rattle.switch_table.specs.declared.cache.CacheEntry.{CacheEntry}
 use Rattle.switch_table.proofs.CachePairs.{HasVersion, key_of_entry}
 
@@ -39,7 +39,7 @@ pair_hit shift version header masks pair is has =
     ∙ ap (is_cache_hit (version + shift) header masks) (key_of_entry shift pair is))
 
 pub first_by_hits : (shift version header : ℕ) (masks : List WordValue) (pairs : List Pair)
-    → KeysHaveVersions shift pairs → EntriesAreMasked (Some masks) (kept_entries shift pairs)
+    → CacheKeysHaveVersions shift pairs → CacheEntriesAreMasked (Some masks) (kept_entries shift pairs)
     → option_map (kept_entry shift)
     (find (λ (pair : Pair). is_cache_hit (version + shift) header masks pair.0) pairs)
     ≡ first_entry version header (kept_entries shift pairs)

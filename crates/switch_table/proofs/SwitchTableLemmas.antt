@@ -3,11 +3,11 @@ use Rattle.std.proofs.Common.{[], ◌<◌, ◌^◌, ◌∙◌, ◌≡◌, ◌≢
 use Rattle.base.proofs.Exports.{All-contains, All-contains_itself, All-filter, All-map, All-weaker, AllPairs-filter, AllPairs-map, Contains-map, count_by-map, find-filter, find-map, find-position, find-there, find_ends, get_or-map, get_or_default, length-map, list_any, list_any-from_Any, option_map_or, position-Some, position-map, slice_get-get_or, slice_get-map, some_from_count}
 use Rattle.five_tuple.specs.Exports.{IsHeader, number_of}
 use Rattle.five_tuple.specs.declared.header.Header.{Header}
-use Rattle.ternary.proofs.CallerLemmas.{covers_held}
-use Rattle.policy_rules.specs.Exports.{ArePartsNumbered, AreSoundPartitions, LastRuleCovers, first_rule, hit_of_rule, is_held, is_in, scan}
+use Rattle.ternary.proofs.TernaryCallerLemmas.{covers_held}
+use Rattle.policy_rules.specs.Exports.{ArePartsNumbered, AreSoundPolicyPartitions, LastRuleCovers, first_rule, policy_hit_of_rule, is_held, is_in_policy_partition, scan}
 use Rattle.policy_rules.specs.declared.policy.Row.{Row}
 use Rattle.policy_rules.specs.declared.rules.Partition.{Partition}
-use Rattle.switch_table.specs.Exports.{AllTablesDecide, AreSoundTables, PartitionDecidesAll, FindsFirstMatch, Hosted, LeadsToFirstMatch, authority_of, has_target, lookup_in, part_of, plan_lookup, redirect_of, part_row_has, row_of, table_lookup, tables_of}
+use Rattle.switch_table.specs.Exports.{AllTableLookupsDecide, AreSoundSwitchTables, TablePartitionDecidesAll, TableFindsFirstMatch, Hosted, TablesLeadToFirstMatch, table_authority_of, has_target, lookup_in, part_of, table_lookup_in_plan, table_redirect_of, table_part_row_has, row_of, table_lookup, tables_of}
 use Rattle.switch_table.specs.declared.tables.PartRow.{PartRow}
 use Rattle.switch_table.specs.declared.tables.Tables.{Tables}
 use Rattle.switch_table.specs.declared.search.Found.{Found}
@@ -18,23 +18,23 @@ use Rattle.switch_table.specs.declared.search.Found.TheVariants.{Redirect}
 -- the partition of the plan that holds a header
 record IsAt (rows : List Row) (plan : List Hosted) (header : Header) (hosted : Hosted) : Type 0
   where
-    found : find (λ p. is_in header (part_of p)) plan ≡ Some hosted
+    found : find (λ p. is_in_policy_partition header (part_of p)) plan ≡ Some hosted
     there : Contains plan hosted
-    decides : option_map hit_of_rule (first_rule hosted.0.rules header) ≡ Some (scan rows header)
+    decides : option_map policy_hit_of_rule (first_rule hosted.0.rules header) ≡ Some (scan rows header)
 
 at_header : (rows : List Row) (plan : List Hosted) (header : Header)
-    → AreSoundPartitions rows (map part_of plan) → IsHeader header → (hosted : Hosted)
+    → AreSoundPolicyPartitions rows (map part_of plan) → IsHeader header → (hosted : Hosted)
     × IsAt rows plan header hosted
 at_header rows plan header sound is =
-    let some = some_from_count (λ p. is_in header (part_of p)) plan
-    (sym (count_by-map (is_in header) part_of plan) ∙ sound.one header is) in
-    let there = find-there (λ p. is_in header (part_of p)) plan some.0 some.1 in (
+    let some = some_from_count (λ p. is_in_policy_partition header (part_of p)) plan
+    (sym (count_by-map (is_in_policy_partition header) part_of plan) ∙ sound.one header is) in
+    let there = find-there (λ p. is_in_policy_partition header (part_of p)) plan some.0 some.1 in (
       some.0,
       record {
         found = some.1;
         there = there.0;
-        decides = All-contains (λ part. is_in header part ≡ true
-            → option_map hit_of_rule (first_rule part.rules header) ≡ Some (scan rows header))
+        decides = All-contains (λ part. is_in_policy_partition header part ≡ true
+            → option_map policy_hit_of_rule (first_rule part.rules header) ≡ Some (scan rows header))
             (map part_of plan) (part_of some.0) (sound.decides header is)
             (Contains-map part_of plan some.0 there.0) there.1;
       },
@@ -53,10 +53,10 @@ numbered_at plan hosted numbers (k, within, is) =
 -- the place of the first rule leads to that rule
 place_leads : (rows : List Row) (plan : List Hosted) (header : Header) (hosted : Hosted)
     → ArePartsNumbered (map part_of plan) → IsAt rows plan header hosted
-    → FindsFirstMatch rows (map part_of plan) header (authority_of header (part_of hosted))
+    → TableFindsFirstMatch rows (map part_of plan) header (table_authority_of header (part_of hosted))
 place_leads rows plan header hosted numbers at =
     let leads = find-position (is_held (number_of header)) hosted.0.rules in
-    ap (option_map hit_of_rule)
+    ap (option_map policy_hit_of_rule)
     (ap (option_and_then (λ part. slice_get part.rules
     (unwrap_or (position (is_held (number_of header)) hosted.0.rules) 0))) (slice_get-map part_of
     plan hosted.0.number ∙ ap (option_map part_of) (numbered_at plan hosted numbers at.there))
@@ -66,51 +66,51 @@ place_leads rows plan header hosted numbers at =
         hosted.0.rules header → slice_get hosted.0.rules (unwrap_or place 0) ≡ first_rule
         hosted.0.rules header
     by_case (Some place) leads = leads
-    by_case None leads = let none = ap (option_map hit_of_rule) leads ∙ at.decides in absurd (cc)
+    by_case None leads = let none = ap (option_map policy_hit_of_rule) leads ∙ at.decides in absurd (cc)
 
 -- what the tables of a switch say of the header
 lookup_at : (rows : List Row) (plan : List Hosted) (version switch : ℕ) (header : Header)
-    (hosted : Hosted) → AreSoundPartitions rows (map part_of plan) → IsHeader header
+    (hosted : Hosted) → AreSoundPolicyPartitions rows (map part_of plan) → IsHeader header
     → IsAt rows plan header hosted → table_lookup (tables_of plan version switch) header ≡ cond
-    (has_target switch hosted) (authority_of header (part_of hosted))
-    (redirect_of header (map row_of plan))
+    (has_target switch hosted) (table_authority_of header (part_of hosted))
+    (table_redirect_of header (map row_of plan))
 lookup_at rows plan version switch header hosted sound is at =
-    let own : find (is_in header) (map part_of (filter (has_target switch) plan))
+    let own : find (is_in_policy_partition header) (map part_of (filter (has_target switch) plan))
     ≡ option_map part_of (cond (has_target switch hosted) (Some hosted) None) =
-    find-map (is_in header) part_of (filter (has_target switch) plan)
-    ∙ ap (option_map part_of) (find-filter (λ p. is_in header (part_of p)) (has_target switch) plan
-    hosted (sym (count_by-map (is_in header) part_of plan) ∙ sound.one header is) at.found) in
-    ap (λ part. option_map_or (authority_of header) part (redirect_of header (map row_of plan))) own
+    find-map (is_in_policy_partition header) part_of (filter (has_target switch) plan)
+    ∙ ap (option_map part_of) (find-filter (λ p. is_in_policy_partition header (part_of p)) (has_target switch) plan
+    hosted (sym (count_by-map (is_in_policy_partition header) part_of plan) ∙ sound.one header is) at.found) in
+    ap (λ part. option_map_or (table_authority_of header) part (table_redirect_of header (map row_of plan))) own
     ∙ by_case (has_target switch hosted)
   where
-    by_case : (b : Bool) → option_map_or (authority_of header)
-        (option_map part_of (cond b (Some hosted) None)) (redirect_of header (map row_of plan))
-        ≡ cond b (authority_of header (part_of hosted)) (redirect_of header (map row_of plan))
+    by_case : (b : Bool) → option_map_or (table_authority_of header)
+        (option_map part_of (cond b (Some hosted) None)) (table_redirect_of header (map row_of plan))
+        ≡ cond b (table_authority_of header (part_of hosted)) (table_redirect_of header (map row_of plan))
     by_case true = refl
     by_case false = refl
 
 row_targets : (rows : List Row) (plan : List Hosted) (header : Header) (hosted : Hosted)
     → IsAt rows plan header hosted → option_map_or (λ (row : PartRow). row.targets)
-    (find (part_row_has header) (map row_of plan)) [] ≡ hosted.1
+    (find (table_part_row_has header) (map row_of plan)) [] ≡ hosted.1
 row_targets rows plan header hosted at = search (rules, find-map)
 
 pub tables_lead : (rows : List Row) (plan : List Hosted) (version switch : ℕ) (header : Header)
-    → AreSoundPartitions rows (map part_of plan) → All (λ hosted. 0 < length hosted.1) plan
+    → AreSoundPolicyPartitions rows (map part_of plan) → All (λ hosted. 0 < length hosted.1) plan
     → IsHeader header
-    → LeadsToFirstMatch rows plan version header (table_lookup (tables_of plan version switch) header)
+    → TablesLeadToFirstMatch rows plan version header (table_lookup (tables_of plan version switch) header)
 tables_lead rows plan version switch header sound some is =
     let here = at_header rows plan header sound is in
     let hosted = here.0 in
     let at = here.1 in
     let decides = place_leads rows plan header hosted sound.numbers at in
-    let there : (s : ℕ) → list_any (eqb s) hosted.1 ≡ true → FindsFirstMatch rows (map part_of plan)
+    let there : (s : ℕ) → list_any (eqb s) hosted.1 ≡ true → TableFindsFirstMatch rows (map part_of plan)
     header (table_lookup (tables_of plan version s) header) =
-    λ s target. subst (FindsFirstMatch rows (map part_of plan) header)
-    (sym (lookup_at rows plan version s header hosted sound is at ∙ ap (λ b. cond b (authority_of
-    header (part_of hosted)) (redirect_of header (map row_of plan))) target)) decides in
-    subst (LeadsToFirstMatch rows plan version header)
+    λ s target. subst (TableFindsFirstMatch rows (map part_of plan) header)
+    (sym (lookup_at rows plan version s header hosted sound is at ∙ ap (λ b. cond b (table_authority_of
+    header (part_of hosted)) (table_redirect_of header (map row_of plan))) target)) decides in
+    subst (TablesLeadToFirstMatch rows plan version header)
     (sym (lookup_at rows plan version switch header hosted sound is at))
-    (by_case hosted (has_target switch hosted) decides (subst (AllTablesDecide rows plan version header)
+    (by_case hosted (has_target switch hosted) decides (subst (AllTableLookupsDecide rows plan version header)
     (sym (row_targets rows plan header hosted at)) (record {
       some = has_some at.there;
       each = λ k d within. there (get_or hosted.1 k d) (among hosted.1 k d within);
@@ -129,32 +129,32 @@ tables_lead rows plan version switch header sound some is =
       eq-eqb (get_or targets k d) (get_or targets k d) refl,
     )
 
-    by_case : (hosted : Hosted) (b : Bool) → FindsFirstMatch rows (map part_of plan) header
-        (authority_of header (part_of hosted))
-        → LeadsToFirstMatch rows plan version header (redirect_of header (map row_of plan))
-        → LeadsToFirstMatch rows plan version header
-        (cond b (authority_of header (part_of hosted)) (redirect_of header (map row_of plan)))
+    by_case : (hosted : Hosted) (b : Bool) → TableFindsFirstMatch rows (map part_of plan) header
+        (table_authority_of header (part_of hosted))
+        → TablesLeadToFirstMatch rows plan version header (table_redirect_of header (map row_of plan))
+        → TablesLeadToFirstMatch rows plan version header
+        (cond b (table_authority_of header (part_of hosted)) (table_redirect_of header (map row_of plan)))
     by_case hosted true own others = own
     by_case hosted false own others = others
 
 -- the row that holds a header is at the number of the partition that does, and has its targets
 redirect_there : (rows : List Row) (plan : List Hosted) (header : Header) (hosted : Hosted) →
     ArePartsNumbered (map part_of plan) → IsAt rows plan header hosted →
-    redirect_of header (map row_of plan) ≡ Redirect hosted.0.number hosted.1
+    table_redirect_of header (map row_of plan) ≡ Redirect hosted.0.number hosted.1
 redirect_there rows plan header hosted numbers at =
-    let place = ap (λ k. unwrap_or k 0) (position-map (part_row_has header) row_of plan)
-    ∙ by_case (position (λ p. is_in header (part_of p)) plan) refl
-    (find-position (λ p. is_in header (part_of p)) plan ∙ at.found) in
+    let place = ap (λ k. unwrap_or k 0) (position-map (table_part_row_has header) row_of plan)
+    ∙ by_case (position (λ p. is_in_policy_partition header (part_of p)) plan) refl
+    (find-position (λ p. is_in_policy_partition header (part_of p)) plan ∙ at.found) in
     ap (λ (number : ℕ). Redirect number (option_map_or (λ (row : PartRow). row.targets)
-    (find (part_row_has header) (map row_of plan)) [])) place
+    (find (table_part_row_has header) (map row_of plan)) [])) place
     ∙ ap (Redirect hosted.0.number) (row_targets rows plan header hosted at)
   where
-    by_case : (place : Option ℕ) → position (λ p. is_in header (part_of p)) plan ≡ place →
+    by_case : (place : Option ℕ) → position (λ p. is_in_policy_partition header (part_of p)) plan ≡ place →
         option_and_then (slice_get plan) place ≡ Some hosted → unwrap_or place 0 ≡ hosted.0.number
     by_case None is leads = let clash : None ≡ Some hosted = leads in absurd (cc)
     by_case (Some k) is leads =
         let within : k < length plan =
-        (position-Some (λ p. is_in header (part_of p)) plan k hosted is).0 in
+        (position-Some (λ p. is_in_policy_partition header (part_of p)) plan k hosted is).0 in
         let there : Some (get_or plan k hosted) ≡ Some hosted =
         sym (slice_get-get_or plan k hosted within) ∙ leads in
         let it : get_or plan k hosted ≡ hosted = cc in
@@ -164,14 +164,14 @@ redirect_there rows plan header hosted numbers at =
         (get_or-map part_of plan k hosted (part_of hosted) within ∙ ap part_of it)
 
 pub tables_planned : (rows : List Row) (plan : List Hosted) (version switch : ℕ) (header : Header) →
-    AreSoundPartitions rows (map part_of plan) → IsHeader header →
-    plan_lookup plan switch header ≡ Some (table_lookup (tables_of plan version switch) header)
+    AreSoundPolicyPartitions rows (map part_of plan) → IsHeader header →
+    table_lookup_in_plan plan switch header ≡ Some (table_lookup (tables_of plan version switch) header)
 tables_planned rows plan version switch header sound is =
     let here = at_header rows plan header sound is in
     let hosted = here.0 in
     let at = here.1 in
     let says = ap (λ (other : Found). cond (has_target switch hosted)
-    (authority_of header (part_of hosted)) other)
+    (table_authority_of header (part_of hosted)) other)
     (redirect_there rows plan header hosted sound.numbers at) in
     ap (option_map (lookup_in switch header)) at.found
     ∙ ap Some (sym (lookup_at rows plan version switch header hosted sound is at ∙ says))
@@ -193,19 +193,19 @@ numbers_differ plan numbers = λ i j d less within same.
     omega (arith, number i (omega arith), number j within, same)
 
 -- where the last rule covers the region, some rule decides each header of it
-pub decides_all : (part : Partition) → LastRuleCovers part → PartitionDecidesAll part
+pub decides_all : (part : Partition) → LastRuleCovers part → TablePartitionDecidesAll part
 decides_all part ends header is inside = search (rules, find_ends, covers_held)
 
-pub auth_decides : (tables : Tables) → AreSoundTables tables → All PartitionDecidesAll tables.auth
-auth_decides tables sound = All-weaker LastRuleCovers PartitionDecidesAll decides_all tables.auth sound.covers
+pub auth_decides : (tables : Tables) → AreSoundSwitchTables tables → All TablePartitionDecidesAll tables.auth
+auth_decides tables sound = All-weaker LastRuleCovers TablePartitionDecidesAll decides_all tables.auth sound.covers
 
 pub tables_are_sound : (rows : List Row) (plan : List Hosted) (version switch : ℕ)
-    → AreSoundPartitions rows (map part_of plan) → All LastRuleCovers (map part_of plan)
+    → AreSoundPolicyPartitions rows (map part_of plan) → All LastRuleCovers (map part_of plan)
     → length plan < 2 ^ 32 → All (λ hosted. length hosted.0.rules < 2 ^ 32) plan
-    → AreSoundTables (tables_of plan version switch)
+    → AreSoundSwitchTables (tables_of plan version switch)
 tables_are_sound rows plan version switch sound covers few small = record {
-  one = λ header is. count_by-map (part_row_has header) row_of plan
-      ∙ sym (count_by-map (is_in header) part_of plan) ∙ sound.one header is;
+  one = λ header is. count_by-map (table_part_row_has header) row_of plan
+      ∙ sym (count_by-map (is_in_policy_partition header) part_of plan) ∙ sound.one header is;
   numbers = own_all (λ part. slice_get (map (λ (row : PartRow). row.region) (map row_of plan))
       part.number ≡ Some part.region) plan (has_target switch) (λ hosted there.
       slice_get-map (λ (row : PartRow). row.region) (map row_of plan) hosted.0.number
@@ -228,14 +228,14 @@ tables_are_sound rows plan version switch sound covers few small = record {
 pub record IsRow (header : Header) (rows : List PartRow) (place : ℕ) : Type 0 where
   pub within : place < length rows
   pub targets : (d : PartRow) → option_map_or (λ (row : PartRow). row.targets)
-      (find (part_row_has header) rows) [] ≡ (get_or rows place d).targets
+      (find (table_part_row_has header) rows) [] ≡ (get_or rows place d).targets
 
-pub row_there : (header : Header) (rows : List PartRow) → count_by (part_row_has header) rows ≡ 1
-    → IsSome (position (part_row_has header) rows)
+pub row_there : (header : Header) (rows : List PartRow) → count_by (table_part_row_has header) rows ≡ 1
+    → IsSome (position (table_part_row_has header) rows)
 row_there header rows one = search (rules, find-position, some_from_count)
 
 pub row_at : (header : Header) (rows : List PartRow) (place : ℕ) (d : PartRow)
-    → position (part_row_has header) rows ≡ Some place → IsRow header rows place
+    → position (table_part_row_has header) rows ≡ Some place → IsRow header rows place
 row_at header rows place d is = search (rules, position-Some, find-position, slice_get-get_or)
 
 pub place_fits : (place : Option ℕ) (n : ℕ) → IfSome place (λ p. p < n) → n < 2 ^ 32
@@ -243,6 +243,6 @@ pub place_fits : (place : Option ℕ) (n : ℕ) → IfSome place (λ p. p < n) �
 place_fits place n within few = search rules
 
 pub own_found : (header : Header) (parts : List Partition) (part : Partition)
-    → Some part ≡ find (is_in header) parts → All (λ part. length part.rules < 2 ^ 32) parts
+    → Some part ≡ find (is_in_policy_partition header) parts → All (λ part. length part.rules < 2 ^ 32) parts
     → length part.rules < 2 ^ 32
 own_found header parts part is few = search (rules, find-there)

@@ -14,8 +14,8 @@ pub record CacheValue : Type 0 where
 unfoldable pub same_key : CacheEntry → CacheEntry → Bool
 same_key a b = (a.version == b.version) && word_eq a.word b.word
 
-abbrev pub HaveDistinctKeys : List CacheEntry → Type 0
-HaveDistinctKeys entries = AllPairs (λ a b. IsFalse (same_key a b)) entries
+abbrev pub HaveDistinctCacheKeys : List CacheEntry → Type 0
+HaveDistinctCacheKeys entries = AllPairs (λ a b. IsFalse (same_key a b)) entries
 
 -- if there are more than this many, the first one is evicted
 abbrev pub newest_cache_entries : ℕ → List CacheEntry → List CacheEntry
@@ -23,8 +23,8 @@ newest_cache_entries capacity entries = if nat_lt capacity (length entries) then
     else entries
 
 -- an entry is added last; one of a version below the stamp, or of an existing key, changes nothing
-abbrev pub after_accept : ℕ → CacheEntry → CacheValue → CacheValue
-after_accept stamp entry cache =
+abbrev pub cache_after_accept : ℕ → CacheEntry → CacheValue → CacheValue
+cache_after_accept stamp entry cache =
     if nat_lt entry.version stamp || list_any (same_key entry) cache.entries
     then cache
     else record cache { entries = newest_cache_entries cache.capacity (cache.entries ++ entry ∷ []) }
@@ -38,12 +38,12 @@ abbrev pub cache_after_raise : ℕ → CacheValue → CacheValue
 cache_after_raise stamp cache =
     record cache { entries = filter (λ entry. nat_le stamp entry.version) cache.entries }
 
-abbrev pub after_clear : CacheValue → CacheValue
-after_clear cache = record cache { entries = [] }
+abbrev pub cache_after_clear : CacheValue → CacheValue
+cache_after_clear cache = record cache { entries = [] }
 
 -- what is true of each cache
 pub record IsCache (cache : CacheValue) : Type 0 where
-  pub distinct : HaveDistinctKeys cache.entries
+  pub distinct : HaveDistinctCacheKeys cache.entries
   pub few : length cache.entries ≤ cache.capacity
 
 -- the first entry of the version whose word holds the header number

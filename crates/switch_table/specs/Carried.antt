@@ -7,16 +7,16 @@ use Rattle.switch_table.specs.Cache.{CacheValue, same_key}
 use Rattle.switch_table.specs.declared.cache.CacheEntry.{CacheEntry}
 
 -- the one word that every word meets
-abbrev pub all_touched : List WordValue
-all_touched = any_word ∷ []
+abbrev pub cache_all_touched : List WordValue
+cache_all_touched = any_word ∷ []
 
 -- these words, if there are at most 16, otherwise only the word that every word meets
-abbrev pub few_touched_words : List WordValue → List WordValue
-few_touched_words words = if nat_lt 16 (length words) then all_touched else words
+abbrev pub cache_few_touched : List WordValue → List WordValue
+cache_few_touched words = if nat_lt 16 (length words) then cache_all_touched else words
 
 -- the word meets one of these
-abbrev pub meets_any_touched : List WordValue → WordValue → Bool
-meets_any_touched touched word = list_any (meets word) touched
+abbrev pub cache_word_meets_touched : List WordValue → WordValue → Bool
+cache_word_meets_touched touched word = list_any (meets word) touched
 
 -- the entry under another version
 abbrev pub under : ℕ → CacheEntry → CacheEntry
@@ -26,7 +26,7 @@ under version entry = record entry { version = version }
 -- version has its word
 abbrev pub is_carried : ℕ → List WordValue → List CacheEntry → CacheEntry → Bool
 is_carried version touched entries entry =
-    (entry.version + 1 == version) && not (meets_any_touched touched entry.word)
+    (entry.version + 1 == version) && not (cache_word_meets_touched touched entry.word)
     && not (list_any (same_key (under version entry)) entries)
 
 -- what becomes of an entry of a cache that is carried to a version: one of that version or a later
@@ -38,6 +38,6 @@ carried_entry version touched entries entry =
     else None
 
 -- the cache is carried to the version, with these words touched: what is left keeps its order
-abbrev pub after_carry : ℕ → List WordValue → CacheValue → CacheValue
-after_carry version touched cache =
+abbrev pub cache_after_carry : ℕ → List WordValue → CacheValue → CacheValue
+cache_after_carry version touched cache =
     record cache { entries = filter_map (carried_entry version touched cache.entries) cache.entries }

@@ -1,14 +1,14 @@
 -- The definitions of this crate that others use, passed on from the files that define them.
-pub use Rattle.switch_table.specs.Cache.{CacheValue, HaveDistinctKeys, IsCache, after_accept, after_clear, after_expire, cache_after_raise, first_entry, newest_cache_entries}
+pub use Rattle.switch_table.specs.Cache.{CacheValue, HaveDistinctCacheKeys, IsCache, cache_after_accept, cache_after_clear, after_expire, cache_after_raise, first_entry, newest_cache_entries}
 unfoldable pub use Rattle.switch_table.specs.Cache.{same_key}
-pub use Rattle.switch_table.specs.CacheLaws.{WasCarried}
-pub use Rattle.switch_table.specs.Carried.{after_carry, all_touched, carried_entry, few_touched_words, is_carried, meets_any_touched, under}
-pub use Rattle.switch_table.specs.Keys.{HaveOwnKeys, Pair, cache_has_key, is_carried_key, is_cache_hit, kept_entries, kept_entry, cache_key_of, cache_key_under, pair_of}
+pub use Rattle.switch_table.specs.CacheLaws.{WasCacheEntryCarried}
+pub use Rattle.switch_table.specs.Carried.{cache_after_carry, cache_all_touched, carried_entry, cache_few_touched, is_carried, cache_word_meets_touched, under}
+pub use Rattle.switch_table.specs.Keys.{HaveOwnKeys, Pair, cache_has_key, is_carried_cache_key, is_cache_hit, kept_entries, kept_entry, cache_key_of, cache_key_under, pair_of}
 unfoldable pub use Rattle.switch_table.specs.Keys.{equal_keys}
-pub use Rattle.switch_table.specs.Live.{AreLiveBlocks, AreLiveCounts, CountLivePlaces, IsNthSet, live_count_set}
-pub use Rattle.switch_table.specs.Lookup.{AllTablesDecide, FindsFirstMatch, LeadsToFirstMatch, authority_of, lookup_in, lookup_of, plan_lookup, redirect_of, table_lookup}
-pub use Rattle.switch_table.specs.Masks.{HasMaskIn, HasMaskOf}
-pub use Rattle.switch_table.specs.Pairs.{EntriesAreMasked, AreUpTo, KeysHaveVersions, HoldsEntries}
-pub use Rattle.switch_table.specs.Slots.{AreSlots, IsNamed, SlotPair, live_flags_of, is_live, killed_slot, live_pair, live_pairs}
-unfoldable pub use Rattle.switch_table.specs.Slots.{AreNamed}
-pub use Rattle.switch_table.specs.Tables.{AreSoundTables, PartitionDecidesAll, Hosted, has_target, part_of, part_row_has, row_of, tables_of}
+pub use Rattle.switch_table.specs.Live.{AreCacheLiveBlocks, AreCacheLiveCounts, CountLiveCachePlaces, IsNthLiveCacheFlag, cache_live_count_set}
+pub use Rattle.switch_table.specs.Lookup.{AllTableLookupsDecide, TableFindsFirstMatch, TablesLeadToFirstMatch, table_authority_of, lookup_in, lookup_of, table_lookup_in_plan, table_redirect_of, table_lookup}
+pub use Rattle.switch_table.specs.Masks.{HasMaskIn, HasCacheMaskOf}
+pub use Rattle.switch_table.specs.Pairs.{CacheEntriesAreMasked, AreCacheEntriesUpTo, CacheKeysHaveVersions, HoldsEntries}
+pub use Rattle.switch_table.specs.Slots.{AreCacheSlots, IsCacheSlotNamed, SlotPair, cache_live_flags_of, is_live, killed_cache_slot, live_cache_pair, live_cache_pairs}
+unfoldable pub use Rattle.switch_table.specs.Slots.{AreCacheSlotsNamed}
+pub use Rattle.switch_table.specs.Tables.{AreSoundSwitchTables, TablePartitionDecidesAll, Hosted, has_target, part_of, table_part_row_has, row_of, tables_of}

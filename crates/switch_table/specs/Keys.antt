@@ -2,7 +2,7 @@
 use Rattle.std.specs.Prelude.{◌&&◌, ◌+◌, ◌-◌, ◌==◌, Bool, List, bit_and, map, not, ℕ}
 use Rattle.base.specs.Exports.{IsDistinct, keys_of, list_any}
 use Rattle.ternary.specs.Exports.{WordValue, word_eq}
-use Rattle.switch_table.specs.Carried.{meets_any_touched}
+use Rattle.switch_table.specs.Carried.{cache_word_meets_touched}
 use Rattle.switch_table.specs.declared.cache.CacheEntry.{CacheEntry}
 use Rattle.switch_table.specs.declared.key.CacheKey.{CacheKey}
 use Rattle.switch_table.specs.declared.key.LearntEntry.{LearntEntry}
@@ -56,5 +56,5 @@ is_cache_hit number header masks key =
     list_any (λ mask. equal_keys (cache_key_under number header mask) key) masks
 
 -- the key has this number, and its word meets no touched word
-abbrev pub is_carried_key : ℕ → List WordValue → CacheKey → Bool
-is_carried_key number touched key = (key.number == number) && not (meets_any_touched touched key.word)
+abbrev pub is_carried_cache_key : ℕ → List WordValue → CacheKey → Bool
+is_carried_cache_key number touched key = (key.number == number) && not (cache_word_meets_touched touched key.word)

@@ -5,12 +5,12 @@ use Rattle.std.specs.Prelude.{[], if◌then◌else◌, ◌<◌, ◌^◌, ◌≡�
 use Rattle.base.specs.Exports.{option_map_or}
 use Rattle.five_tuple.specs.Exports.{IsHeader, number_of}
 use Rattle.five_tuple.specs.declared.header.Header.{Header}
-use Rattle.policy_rules.specs.Exports.{AreSoundPartitions, LastRuleCovers, hit_of_rule, is_held, is_in, scan}
+use Rattle.policy_rules.specs.Exports.{AreSoundPolicyPartitions, LastRuleCovers, policy_hit_of_rule, is_held, is_in_policy_partition, scan}
 use Rattle.policy_rules.specs.declared.policy.Row.{Row}
 use Rattle.policy_rules.specs.declared.rules.Partition.{Partition}
 use Rattle.policy_rules.specs.declared.rules.Rule.{Rule}
 use Rattle.switch_table.specs.Cache.{first_entry}
-use Rattle.switch_table.specs.Tables.{AreSoundTables, PartitionDecidesAll, Hosted, has_target, part_of, part_row_has, tables_of}
+use Rattle.switch_table.specs.Tables.{AreSoundSwitchTables, TablePartitionDecidesAll, Hosted, has_target, part_of, table_part_row_has, tables_of}
 use Rattle.switch_table.specs.declared.cache.CacheEntry.{CacheEntry}
 use Rattle.switch_table.specs.declared.tables.PartRow.{PartRow}
 use Rattle.switch_table.specs.declared.tables.Tables.{Tables}
@@ -18,21 +18,21 @@ use Rattle.switch_table.specs.declared.search.Found.{Found}
 use Rattle.switch_table.specs.declared.search.Found.TheVariants.{Cached, Authority, Redirect}
 
 -- the first rule of the partition that holds the header, by its place
-abbrev pub authority_of : Header → Partition → Found
-authority_of header part =
+abbrev pub table_authority_of : Header → Partition → Found
+table_authority_of header part =
     Authority part.number (unwrap_or (position (is_held (number_of header)) part.rules) 0)
 
 -- the row that holds the header: its place, and its targets
-abbrev pub redirect_of : Header → List PartRow → Found
-redirect_of header rows =
-    Redirect (unwrap_or (position (part_row_has header) rows) 0)
-    (option_map_or (λ row. row.targets) (find (part_row_has header) rows) [])
+abbrev pub table_redirect_of : Header → List PartRow → Found
+table_redirect_of header rows =
+    Redirect (unwrap_or (position (table_part_row_has header) rows) 0)
+    (option_map_or (λ row. row.targets) (find (table_part_row_has header) rows) [])
 
 -- what the tables say about the header
 abbrev pub table_lookup : Tables → Header → Found
 table_lookup tables header =
-    option_map_or (authority_of header) (find (is_in header) tables.auth)
-    (redirect_of header tables.parts)
+    option_map_or (table_authority_of header) (find (is_in_policy_partition header) tables.auth)
+    (table_redirect_of header tables.parts)
 
 -- what a cache of these entries and the tables say about the header: an entry of another version
 -- says nothing
@@ -46,12 +46,12 @@ lookup_of entries tables header =
 -- the partition decides the header at its targets; every other switch sends it to them
 abbrev pub lookup_in : ℕ → Header → Hosted → Found
 lookup_in switch header hosted = if has_target switch hosted
-    then authority_of header (part_of hosted) else Redirect hosted.0.number hosted.1
+    then table_authority_of header (part_of hosted) else Redirect hosted.0.number hosted.1
 
 -- what a plan says about the header at a switch, by the partition that holds it
-abbrev pub plan_lookup : List Hosted → ℕ → Header → Option Found
-plan_lookup plan switch header =
-    option_map (lookup_in switch header) (find (λ hosted. is_in header (part_of hosted)) plan)
+abbrev pub table_lookup_in_plan : List Hosted → ℕ → Header → Option Found
+table_lookup_in_plan plan switch header =
+    option_map (lookup_in switch header) (find (λ hosted. is_in_policy_partition header (part_of hosted)) plan)
 
 -- the rule at a place of the partition of a number
 abbrev pub table_rule_at : List Partition → ℕ → ℕ → Option Rule
@@ -59,39 +59,39 @@ table_rule_at parts partition place =
     option_and_then (λ part. slice_get part.rules place) (slice_get parts partition)
 
 -- an authority rule decides the header as the policy's first match does
-abbrev pub FindsFirstMatch : List Row → List Partition → Header → Found → Type 0
-FindsFirstMatch rows parts header (Authority partition place) =
-    option_map hit_of_rule (table_rule_at parts partition place) ≡ Some (scan rows header)
-FindsFirstMatch rows parts header _ = ⊥
+abbrev pub TableFindsFirstMatch : List Row → List Partition → Header → Found → Type 0
+TableFindsFirstMatch rows parts header (Authority partition place) =
+    option_map policy_hit_of_rule (table_rule_at parts partition place) ≡ Some (scan rows header)
+TableFindsFirstMatch rows parts header _ = ⊥
 
 -- there are targets, and the tables of each of them decide the header
-pub record AllTablesDecide (rows : List Row) (plan : List Hosted) (version : ℕ) (header : Header)
+pub record AllTableLookupsDecide (rows : List Row) (plan : List Hosted) (version : ℕ) (header : Header)
     (targets : List ℕ) : Type 0 where
   pub some : 0 < length targets
-  pub each : All (λ switch. FindsFirstMatch rows (map part_of plan) header
+  pub each : All (λ switch. TableFindsFirstMatch rows (map part_of plan) header
       (table_lookup (tables_of plan version switch) header)) targets
 
 -- the tables decide the header, or send it to targets that all do
-abbrev pub LeadsToFirstMatch : List Row → List Hosted → ℕ → Header → Found → Type 0
-LeadsToFirstMatch rows plan version header (Redirect partition targets) =
-    AllTablesDecide rows plan version header targets
-LeadsToFirstMatch rows plan version header found = FindsFirstMatch rows (map part_of plan) header found
+abbrev pub TablesLeadToFirstMatch : List Row → List Hosted → ℕ → Header → Found → Type 0
+TablesLeadToFirstMatch rows plan version header (Redirect partition targets) =
+    AllTableLookupsDecide rows plan version header targets
+TablesLeadToFirstMatch rows plan version header found = TableFindsFirstMatch rows (map part_of plan) header found
 
-pub record TablesLaws : Type 0 where
+pub record SwitchTablesLaws : Type 0 where
   -- the authority rules of sound tables decide each header of their regions
-  pub decided : (tables : Tables) → AreSoundTables tables → All PartitionDecidesAll tables.auth
+  pub decided : (tables : Tables) → AreSoundSwitchTables tables → All TablePartitionDecidesAll tables.auth
   -- tables of a plan of sound partitions, whose last rules cover their regions, are sound ..
   pub sound : (rows : List Row) (plan : List Hosted) (version switch : ℕ)
-      → AreSoundPartitions rows (map part_of plan) → All LastRuleCovers (map part_of plan)
+      → AreSoundPolicyPartitions rows (map part_of plan) → All LastRuleCovers (map part_of plan)
       → length plan < 2 ^ 32 → All (λ hosted. length hosted.0.rules < 2 ^ 32) plan
-      → AreSoundTables (tables_of plan version switch)
+      → AreSoundSwitchTables (tables_of plan version switch)
   -- .. and lead each header to the policy's first match, at each switch and at each target
   pub leads : (rows : List Row) (plan : List Hosted) (version switch : ℕ) (header : Header)
-      → AreSoundPartitions rows (map part_of plan) → All (λ hosted. 0 < length hosted.1) plan
+      → AreSoundPolicyPartitions rows (map part_of plan) → All (λ hosted. 0 < length hosted.1) plan
       → IsHeader header
-      → LeadsToFirstMatch rows plan version header (table_lookup (tables_of plan version switch) header)
+      → TablesLeadToFirstMatch rows plan version header (table_lookup (tables_of plan version switch) header)
   -- .. and say what the plan says: the number of the partition that holds the header, and its rule
   -- or its targets
   pub planned : (rows : List Row) (plan : List Hosted) (version switch : ℕ) (header : Header) →
-      AreSoundPartitions rows (map part_of plan) → IsHeader header →
-      plan_lookup plan switch header ≡ Some (table_lookup (tables_of plan version switch) header)
+      AreSoundPolicyPartitions rows (map part_of plan) → IsHeader header →
+      table_lookup_in_plan plan switch header ≡ Some (table_lookup (tables_of plan version switch) header)

@@ -9,5 +9,5 @@ pub record HasMaskIn (words : List WordValue) (word : WordValue) : Type 0 where
   pub there : IsTrue (list_any (λ other. other.mask == word.mask) words)
 
 -- if the masks are known, one of these words has the word's mask
-abbrev pub HasMaskOf : Option (List WordValue) → WordValue → Type 0
-HasMaskOf masks word = IfSome masks (λ words. HasMaskIn words word)
+abbrev pub HasCacheMaskOf : Option (List WordValue) → WordValue → Type 0
+HasCacheMaskOf masks word = IfSome masks (λ words. HasMaskIn words word)

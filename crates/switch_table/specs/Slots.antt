@@ -1,7 +1,7 @@
 -- Pairs of a cache among dead ones: the slots of a map.
 use Rattle.std.specs.Prelude.{[], if◌then◌else◌, ◌+◌, ◌-◌, ◌<◌, ◌^◌, ◌∷◌, ◌≡◌, ◌≤◌, ◌⊎◌, All, Bool, IsFalse, List, None, Option, Some, false, filter_map, length, map, suc, take, ℕ, ⊤}
 use Rattle.switch_table.specs.Keys.{Pair}
-use Rattle.switch_table.specs.Live.{AreLiveCounts}
+use Rattle.switch_table.specs.Live.{AreCacheLiveCounts}
 use Rattle.switch_table.specs.declared.key.CacheKey.{CacheKey}
 use Rattle.switch_table.specs.declared.key.Slot.{Slot}
 use Rattle.switch_table.specs.declared.live.LiveCounts.{LiveCounts}
@@ -10,35 +10,35 @@ abbrev pub SlotPair : Type 0
 SlotPair = CacheKey × Slot
 
 -- the pair of a live slot
-abbrev pub live_pair : SlotPair → Option Pair
-live_pair slot = if slot.1.is_live then Some (slot.0, slot.1.learnt) else None
+abbrev pub live_cache_pair : SlotPair → Option Pair
+live_cache_pair slot = if slot.1.is_live then Some (slot.0, slot.1.learnt) else None
 
-abbrev pub live_pairs : List SlotPair → List Pair
-live_pairs slots = filter_map live_pair slots
+abbrev pub live_cache_pairs : List SlotPair → List Pair
+live_cache_pairs slots = filter_map live_cache_pair slots
 
 abbrev pub is_live : SlotPair → Bool
 is_live slot = slot.1.is_live
 
-abbrev pub live_flags_of : List SlotPair → List Bool
-live_flags_of slots = map is_live slots
+abbrev pub cache_live_flags_of : List SlotPair → List Bool
+cache_live_flags_of slots = map is_live slots
 
 -- the slot after it is removed: dead
-abbrev pub killed_slot : SlotPair → SlotPair
-killed_slot slot = (slot.0, record slot.1 { is_live = false })
+abbrev pub killed_cache_slot : SlotPair → SlotPair
+killed_cache_slot slot = (slot.0, record slot.1 { is_live = false })
 
 -- the key is made of a version and a shift; that of a dead slot may be made of its place instead
-abbrev pub IsNamed : ℕ → SlotPair → Type 0
-IsNamed place slot =
+abbrev pub IsCacheSlotNamed : ℕ → SlotPair → Type 0
+IsCacheSlotNamed place slot =
     (slot.0.number < 2 ^ 33) ⊎ ((slot.0.number + place ≡ 2 ^ 64 - 1) × IsFalse (is_live slot))
 
 -- the same is true of the keys of slots from this place on
-unfoldable pub AreNamed : ℕ → List SlotPair → Type 0
-AreNamed place [] = ⊤
-AreNamed place (slot ∷ slots) = IsNamed place slot × AreNamed (suc place) slots
+unfoldable pub AreCacheSlotsNamed : ℕ → List SlotPair → Type 0
+AreCacheSlotsNamed place [] = ⊤
+AreCacheSlotsNamed place (slot ∷ slots) = IsCacheSlotNamed place slot × AreCacheSlotsNamed (suc place) slots
 
 -- the slots before `first` are dead, and the live ones are counted
-pub record AreSlots (live : LiveCounts) (first : ℕ) (slots : List SlotPair) : Type 0 where
+pub record AreCacheSlots (live : LiveCounts) (first : ℕ) (slots : List SlotPair) : Type 0 where
   pub within : first ≤ length slots
   pub dead : All (λ slot. IsFalse (is_live slot)) (take first slots)
-  pub counted : AreLiveCounts live (live_flags_of slots)
-  pub named : AreNamed 0 slots
+  pub counted : AreCacheLiveCounts live (cache_live_flags_of slots)
+  pub named : AreCacheSlotsNamed 0 slots

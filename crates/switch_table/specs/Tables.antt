@@ -7,25 +7,25 @@ use Rattle.five_tuple.specs.Exports.{IsHeader, number_of}
 use Rattle.five_tuple.specs.declared.header.Header.{Header}
 use Rattle.ternary.specs.Exports.{holds}
 pub use Rattle.policy_rules.specs.Hosted.{Hosted}
-use Rattle.policy_rules.specs.Exports.{LastRuleCovers, first_rule, is_in}
+use Rattle.policy_rules.specs.Exports.{LastRuleCovers, first_rule, is_in_policy_partition}
 use Rattle.policy_rules.specs.declared.rules.Partition.{Partition}
 use Rattle.switch_table.specs.declared.tables.PartRow.{PartRow}
 use Rattle.switch_table.specs.declared.tables.Tables.{Tables}
 
 -- the row's region holds this header
-abbrev pub part_row_has : Header → PartRow → Bool
-part_row_has header row = holds row.region (number_of header)
+abbrev pub table_part_row_has : Header → PartRow → Bool
+table_part_row_has header row = holds row.region (number_of header)
 
 -- some rule of the partition holds each header of its region, for example if the last one covers it
-abbrev pub PartitionDecidesAll : Partition → Type 0
-PartitionDecidesAll part =
-    (header : Header) → IsHeader header → IsTrue (is_in header part)
+abbrev pub TablePartitionDecidesAll : Partition → Type 0
+TablePartitionDecidesAll part =
+    (header : Header) → IsHeader header → IsTrue (is_in_policy_partition header part)
     → IsSome (first_rule part.rules header)
 
 -- each header lies in one region; an authority partition has the place of its region as its
 -- number, which no other has, and its last rule covers the region; a place has 32 bits
-pub record AreSoundTables (tables : Tables) : Type 0 where
-  pub one : (header : Header) → IsHeader header → count_by (part_row_has header) tables.parts ≡ 1
+pub record AreSoundSwitchTables (tables : Tables) : Type 0 where
+  pub one : (header : Header) → IsHeader header → count_by (table_part_row_has header) tables.parts ≡ 1
   pub numbers : (let regions = map (λ row. row.region) tables.parts in
       All (λ part. slice_get regions part.number ≡ Some part.region) tables.auth)
   pub distinct : AllPairs (λ a b. a.number ≢ b.number) tables.auth

@@ -1,8 +1,8 @@
 ghost use Rattle.std.specs.Prelude.{◌≡◌, ◌≤◌, ◌<◌, ◌+◌, ◌^◌, [], filter_map, map, slice_get, option_map, IfOk, OnOk, OnErr};
 ghost use Rattle.std.specs.List.{list_any};
-ghost use Rattle.switch_table.specs.Cache.{IsCache, after_accept, after_expire, cache_after_raise, after_clear, first_entry, same_key};
-ghost use Rattle.switch_table.specs.CacheLaws.{CacheLaws, CarryLaws};
-ghost use Rattle.switch_table.specs.Carried.{after_carry, carried_entry};
+ghost use Rattle.switch_table.specs.Cache.{IsCache, cache_after_accept, after_expire, cache_after_raise, cache_after_clear, first_entry, same_key};
+ghost use Rattle.switch_table.specs.CacheLaws.{CacheLaws, CacheCarryLaws};
+ghost use Rattle.switch_table.specs.Carried.{cache_after_carry, carried_entry};
 ghost use Rattle.switch_table.specs.Keys.{kept_entry, cache_key_of, cache_learnt_of, pair_of};
 
 use crate::items::CacheItems;
@@ -126,7 +126,7 @@ impl Cache {
     /// Only out of memory; then nothing changes.
     #[tactic(auto, using(crate::proofs::CachePairs::has_key_of_entry))]
     pub fn accept(&mut self, stamp: u32, entry: CacheEntry) -> Result<(), AllocError>
-        ensures ok { OnOk result (self.new ≡ after_accept stamp entry self.old) }
+        ensures ok { OnOk result (self.new ≡ cache_after_accept stamp entry self.old) }
         ensures err { OnErr result (self.new ≡ self.old) }
     {
         if self.capacity == 0 || entry.version < stamp || self.has_key_of(&entry) {
@@ -173,7 +173,7 @@ impl Cache {
     /// # Errors
     /// Only out of memory; then nothing changes.
     pub fn carry(&mut self, version: u32, touched: &Touched) -> Result<(), AllocError>
-        ensures ok { OnOk result (self.new ≡ after_carry version touched.now self.old) }
+        ensures ok { OnOk result (self.new ≡ cache_after_carry version touched.now self.old) }
         ensures err { OnErr result (self.new ≡ self.old) }
     {
         if self.newest < version {
@@ -190,7 +190,7 @@ impl Cache {
 
     /// Removes all entries, and frees their memory.
     pub fn clear(&mut self)
-        ensures { self.new ≡ after_clear self.old }
+        ensures { self.new ≡ cache_after_clear self.old }
     {
         *self = Cache::new(self.slots.allocator(), self.capacity);
     }
@@ -230,7 +230,7 @@ impl Cache {
 
     // A new cache of what is left of the entries, in order.
     fn carried(&self, version: u32, touched: &Touched) -> Result<Cache, AllocError>
-        ensures { IfOk result (λ cache. cache ≡ after_carry version touched.now self.now) }
+        ensures { IfOk result (λ cache. cache ≡ cache_after_carry version touched.now self.now) }
     {
         let mut cache = Cache::new(self.slots.allocator(), self.capacity);
         for entry in self.entries() {
@@ -270,5 +270,5 @@ pub fn cache_laws()
 /// What is carried to a version: no rule of the version before is lost that the change doesn't
 /// touch; each carried rule was in the cache, untouched. A law about the definitions only.
 pub fn carry_laws()
-    ensures { CarryLaws }
+    ensures { CacheCarryLaws }
 {}

@@ -1,7 +1,7 @@
 ghost use Rattle.std.specs.Prelude.{◌≡◌};
 ghost use Rattle.switch_table.specs.Keys.{kept_entries};
-ghost use Rattle.switch_table.specs.Pairs.{KeysHaveVersions};
-ghost use Rattle.switch_table.specs.Slots.{live_pairs};
+ghost use Rattle.switch_table.specs.Pairs.{CacheKeysHaveVersions};
+ghost use Rattle.switch_table.specs.Slots.{live_cache_pairs};
 
 use crate::cache::CacheEntry;
 use crate::key::{CacheKey, LearntEntry, Slot};
@@ -17,16 +17,16 @@ pub struct SlotItems<'a> {
 impl<'a> Model for SlotItems<'a> {
     ghost use Rattle.std.specs.Prelude.{List};
     ghost use Rattle.switch_table.specs.Keys.{Pair};
-    ghost use Rattle.switch_table.specs.Slots.{live_pairs};
+    ghost use Rattle.switch_table.specs.Slots.{live_cache_pairs};
 
     ghost Value = { List Pair };
 
-    ghost view = { λ i. live_pairs i.slots };
+    ghost view = { λ i. live_cache_pairs i.slots };
 }
 
 impl<'a> SlotItems<'a> {
     pub fn new(slots: Iter<'a, CacheKey, Slot>) -> SlotItems<'a>
-        ensures { result ≡ live_pairs slots.entry }
+        ensures { result ≡ live_cache_pairs slots.entry }
     {
         SlotItems { slots }
     }
@@ -61,20 +61,20 @@ pub struct CacheItems<'a> {
 impl<'a> Model for CacheItems<'a> {
     ghost use Rattle.std.specs.Prelude.{List};
     ghost use Rattle.switch_table.specs.Keys.{kept_entries};
-    ghost use Rattle.switch_table.specs.Pairs.{KeysHaveVersions};
+    ghost use Rattle.switch_table.specs.Pairs.{CacheKeysHaveVersions};
     ghost use Rattle.switch_table.specs.declared.cache.CacheEntry.{CacheEntry};
 
     ghost Value = { List CacheEntry };
 
     ghost view = { λ i. kept_entries i.shift i.slots };
 
-    ghost invariant = { λ i. KeysHaveVersions i.shift i.slots };
+    ghost invariant = { λ i. CacheKeysHaveVersions i.shift i.slots };
 }
 
 impl<'a> CacheItems<'a> {
     /// The entries of these slots, whose keys have this shift added to the versions.
     pub(crate) fn new(slots: SlotItems<'a>, shift: u64) -> CacheItems<'a>
-        requires { KeysHaveVersions shift slots }
+        requires { CacheKeysHaveVersions shift slots }
         ensures { result ≡ kept_entries shift slots.entry }
     {
         CacheItems { slots, shift }

@@ -1,5 +1,5 @@
 ghost use Rattle.std.specs.Prelude.{ℕ, ◌≡◌, ◌<◌, ◌≤◌, ◌+◌, ◌*◌, ◌^◌, ◌++◌, ◌∷◌, [], true, false, Bool, List, Some, OnOk, length, take, drop, set, replicate, slice_get, slice_index, sum};
-ghost use Rattle.switch_table.specs.Live.{AreLiveBlocks, AreLiveCounts, CountLivePlaces, live_count_set};
+ghost use Rattle.switch_table.specs.Live.{AreCacheLiveBlocks, AreCacheLiveCounts, CountLiveCachePlaces, cache_live_count_set};
 
 use std::alloc::{AllocError, Global};
 
@@ -8,7 +8,7 @@ pub const BLOCK: usize = 64;
 
 /// How many places of a list are live: in all, and of each block.
 ///
-/// Contracts are about the flags of the places: `AreLiveCounts` says that these are their counts.
+/// Contracts are about the flags of the places: `AreCacheLiveCounts` says that these are their counts.
 #[derive(Drop)]
 pub struct LiveCounts {
     all: usize,
@@ -18,7 +18,7 @@ pub struct LiveCounts {
 impl LiveCounts {
     /// The counts of no places.
     pub fn new(alloc: Global) -> LiveCounts
-        ensures { AreLiveCounts result [] }
+        ensures { AreCacheLiveCounts result [] }
     {
         LiveCounts {
             all: 0,
@@ -38,18 +38,18 @@ impl LiveCounts {
     /// # Errors
     /// Only out of memory; then the counts are those of the same places.
     pub fn make_room(&mut self, places: usize) -> Result<(), AllocError>
-        ensures kept { (flags : List Bool) → AreLiveCounts self.old flags → AreLiveCounts self.new flags }
-        ensures room { OnOk result (CountLivePlaces self.new places) }
+        ensures kept { (flags : List Bool) → AreCacheLiveCounts self.old flags → AreCacheLiveCounts self.new flags }
+        ensures room { OnOk result (CountLiveCachePlaces self.new places) }
     {
         reach(&mut self.blocks, places.div_ceil(BLOCK))
     }
 
     /// Adds a live place after the first `place` places.
     pub fn add(&mut self, place: usize)
-        requires room { CountLivePlaces self.old (place + 1) }
+        requires room { CountLiveCachePlaces self.old (place + 1) }
         requires fits { place < 2 ^ 63 }
-        ensures { (flags : List Bool) → AreLiveCounts self.old flags → length flags ≡ place →
-            AreLiveCounts self.new (flags ++ true ∷ []) }
+        ensures { (flags : List Bool) → AreCacheLiveCounts self.old flags → length flags ≡ place →
+            AreCacheLiveCounts self.new (flags ++ true ∷ []) }
     {
         let block = &mut self.blocks[place / BLOCK];
         *block = block.wrapping_add(1);
@@ -58,9 +58,9 @@ impl LiveCounts {
 
     /// Makes this live place dead.
     pub fn take(&mut self, place: usize)
-        requires { CountLivePlaces self.old (place + 1) }
-        ensures { (flags : List Bool) → AreLiveCounts self.old flags →
-            slice_get flags place ≡ Some true → AreLiveCounts self.new (set flags place false) }
+        requires { CountLiveCachePlaces self.old (place + 1) }
+        ensures { (flags : List Bool) → AreCacheLiveCounts self.old flags →
+            slice_get flags place ≡ Some true → AreCacheLiveCounts self.new (set flags place false) }
     {
         let block = &mut self.blocks[place / BLOCK];
         *block = block.wrapping_sub(1);
@@ -69,8 +69,8 @@ impl LiveCounts {
 
     /// Sets the counts to those of this many places, all of them live.
     pub fn fill(&mut self, places: usize)
-        requires { CountLivePlaces self.old places }
-        ensures { AreLiveCounts self.new (replicate places true) }
+        requires { CountLiveCachePlaces self.old places }
+        ensures { AreCacheLiveCounts self.new (replicate places true) }
     {
         fill(&mut self.blocks, places);
         self.all = places;
@@ -79,9 +79,9 @@ impl LiveCounts {
     /// The block of the live place that has this many live ones before it, and how many of these
     /// are in that block.
     pub fn block_of(&self, before: usize) -> (usize, usize)
-        ensures { (flags : List Bool) → AreLiveCounts self.now flags → before < live_count_set flags →
-            (live_count_set (take (64 * result.0) flags) + result.1 ≡ before)
-            × (result.1 < live_count_set (take 64 (drop (64 * result.0) flags))) }
+        ensures { (flags : List Bool) → AreCacheLiveCounts self.now flags → before < cache_live_count_set flags →
+            (cache_live_count_set (take (64 * result.0) flags) + result.1 ≡ before)
+            × (result.1 < cache_live_count_set (take 64 (drop (64 * result.0) flags))) }
     {
         block_at(&self.blocks, before)
     }
@@ -89,8 +89,8 @@ impl LiveCounts {
 
 // Adds counts of 0 until there are this many.
 fn reach(counts: &mut Vec<u32>, len: usize) -> Result<(), AllocError>
-    ensures kept { (flags : List Bool) → AreLiveBlocks counts.old.items flags →
-        AreLiveBlocks counts.new.items flags }
+    ensures kept { (flags : List Bool) → AreCacheLiveBlocks counts.old.items flags →
+        AreCacheLiveBlocks counts.new.items flags }
     ensures room { OnOk result (len ≤ length counts.new.items) }
 {
     while counts.len() < len {
@@ -102,7 +102,7 @@ fn reach(counts: &mut Vec<u32>, len: usize) -> Result<(), AllocError>
 // Sets the counts to those of this many live places.
 fn fill(counts: &mut [u32], places: usize)
     requires { places ≤ 64 * length counts.old }
-    ensures { AreLiveBlocks counts.new (replicate places true) }
+    ensures { AreCacheLiveBlocks counts.new (replicate places true) }
 {
     let mut left = places;
     for count in counts {

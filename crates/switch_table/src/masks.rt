@@ -1,6 +1,6 @@
 ghost use Rattle.std.specs.List.{list_any};
 ghost use Rattle.std.specs.Prelude.{◌≡◌, ◌==◌, Some, All, IfOk, IfSome, OnOk};
-ghost use Rattle.switch_table.specs.Masks.{HasMaskIn, HasMaskOf};
+ghost use Rattle.switch_table.specs.Masks.{HasMaskIn, HasCacheMaskOf};
 ghost use Rattle.ternary.specs.Word.{WordValue};
 
 use crate::items::CacheItems;
@@ -42,7 +42,7 @@ impl Masks {
 
     // Unknown masks, to be collected after this many new entries, at least 1,024.
     fn unknown(alloc: Global, entries: usize) -> Masks
-        ensures { (word : WordValue) → HasMaskOf result word }
+        ensures { (word : WordValue) → HasCacheMaskOf result word }
     {
         Masks {
             words: Vec::new(alloc),
@@ -57,7 +57,7 @@ impl Masks {
     /// Only out of memory.
     pub fn gather(alloc: Global, entries: CacheItems<'_>, count: usize) -> Result<Masks, AllocError>
         ensures { IfOk result
-            (λ masks. All (λ entry. HasMaskOf masks entry.word) entries.entry) }
+            (λ masks. All (λ entry. HasCacheMaskOf masks entry.word) entries.entry) }
     {
         let mut words = Vec::new(alloc);
         for entry in entries {
@@ -90,8 +90,8 @@ impl Masks {
     /// # Errors
     /// Only out of memory.
     pub fn add(&mut self, word: &Word, count: usize) -> Result<(), AllocError>
-        ensures kept { (one : WordValue) → HasMaskOf self.old one → HasMaskOf self.new one }
-        ensures added { OnOk result (HasMaskOf self.new word.now) }
+        ensures kept { (one : WordValue) → HasCacheMaskOf self.old one → HasCacheMaskOf self.new one }
+        ensures added { OnOk result (HasCacheMaskOf self.new word.now) }
     {
         if !self.are_known {
             self.wait = self.wait.saturating_sub(1);

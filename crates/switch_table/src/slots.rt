@@ -1,10 +1,10 @@
 ghost use Rattle.std.specs.Prelude.{ℕ, ◌≡◌, ◌<◌, ◌≤◌, ◌^◌, ◌++◌, ◌∷◌, ◌&&◌, [], false, List, None, Some, OnOk, OnErr, IsFalse, drop, length, find, filter, map, option_map, set, remove, nat_le, slice_get};
 ghost use Rattle.indexmap.specs.IndexMap.{IsUnique, get};
 ghost use Rattle.std.specs.List.{position_or_len};
-ghost use Rattle.switch_table.specs.Keys.{HaveOwnKeys, equal_keys, cache_has_key, is_cache_hit, is_carried_key, cache_key_under};
+ghost use Rattle.switch_table.specs.Keys.{HaveOwnKeys, equal_keys, cache_has_key, is_cache_hit, is_carried_cache_key, cache_key_under};
 ghost use Rattle.switch_table.specs.declared.live.LiveCounts.{LiveCounts};
-ghost use Rattle.switch_table.specs.Live.{AreLiveCounts, IsNthSet, live_count_set};
-ghost use Rattle.switch_table.specs.Slots.{AreNamed, AreSlots, SlotPair, live_flags_of, is_live, killed_slot, live_pairs};
+ghost use Rattle.switch_table.specs.Live.{AreCacheLiveCounts, IsNthLiveCacheFlag, cache_live_count_set};
+ghost use Rattle.switch_table.specs.Slots.{AreCacheSlotsNamed, AreCacheSlots, SlotPair, cache_live_flags_of, is_live, killed_cache_slot, live_cache_pairs};
 
 use crate::items::SlotItems;
 use crate::key::{CacheKey, LearntEntry, Slot};
@@ -36,17 +36,17 @@ const MAX_DEAD: usize = 64;
 impl Model for Slots {
     ghost use Rattle.std.specs.Prelude.{List};
     ghost use Rattle.switch_table.specs.Keys.{Pair};
-    ghost use Rattle.switch_table.specs.Slots.{AreSlots, live_pairs};
+    ghost use Rattle.switch_table.specs.Slots.{AreCacheSlots, live_cache_pairs};
 
     ghost Value = { List Pair };
 
-    ghost view = { λ s. live_pairs s.map.entries };
+    ghost view = { λ s. live_cache_pairs s.map.entries };
 
-    ghost invariant = { λ s. AreSlots s.live s.first s.map.entries };
+    ghost invariant = { λ s. AreCacheSlots s.live s.first s.map.entries };
 }
 
 impl Slots {
-    #[tactic(auto, unfolding(crate::specs::Slots::AreNamed))]
+    #[tactic(auto, unfolding(crate::specs::Slots::AreCacheSlotsNamed))]
     pub fn new(alloc: Global) -> Slots
         ensures { result ≡ [] }
     {
@@ -136,7 +136,7 @@ impl Slots {
 
     /// Keeps only the pairs of this number whose words overlap none of the touched ones.
     pub fn keep_carried(&mut self, number: u64, touched: &Touched)
-        ensures { self.new ≡ filter (λ pair. is_carried_key number touched.now pair.0) self.old }
+        ensures { self.new ≡ filter (λ pair. is_carried_cache_key number touched.now pair.0) self.old }
     {
         self.map.retain(|key, slot| {
             slot.is_live && key.number == number && !touched.meets(&key.word)
@@ -211,9 +211,9 @@ fn place_of_live_slot(
     first: usize,
     before: usize,
 ) -> usize
-    requires slots { AreSlots live.now first map.now.entries }
-    requires some { before < live_count_set (live_flags_of map.now.entries) }
-    ensures { IsNthSet before result (live_flags_of map.now.entries) }
+    requires slots { AreCacheSlots live.now first map.now.entries }
+    requires some { before < cache_live_count_set (cache_live_flags_of map.now.entries) }
+    ensures { IsNthLiveCacheFlag before result (cache_live_flags_of map.now.entries) }
 {
     let slots = map.as_slice();
     let (start, left) = if before == 0 {
@@ -230,7 +230,7 @@ fn place_of_live_slot(
 fn nth_live_slot(slots: &[Slot], before: usize) -> usize
     ensures within { result ≤ length slots.now }
     ensures found { let flags = map (λ slot. slot.is_live) slots.now in
-        before < live_count_set flags → IsNthSet before result flags }
+        before < cache_live_count_set flags → IsNthLiveCacheFlag before result flags }
 {
     let mut left = before;
     for (place, slot) in slots.iter().enumerate() {
@@ -247,7 +247,7 @@ fn nth_live_slot(slots: &[Slot], before: usize) -> usize
 // Makes the slot at this place dead.
 fn kill(map: &mut IndexMap<CacheKey, Slot>, place: usize)
     ensures { (slot : SlotPair) → slice_get map.old.entries place ≡ Some slot →
-        map.new.entries ≡ set map.old.entries place (killed_slot slot) }
+        map.new.entries ≡ set map.old.entries place (killed_cache_slot slot) }
 {
     if let Some(slot) = map.get_index_mut(place) {
         slot.is_live = false;
@@ -256,14 +256,14 @@ fn kill(map: &mut IndexMap<CacheKey, Slot>, place: usize)
 
 // Makes sure that no slot has this key, which no live one has.
 fn release_slot_key(map: &mut IndexMap<CacheKey, Slot>, key: &CacheKey) -> Result<(), AllocError>
-    requires named { AreNamed 0 map.old.entries }
+    requires named { AreCacheSlotsNamed 0 map.old.entries }
     requires few { length map.old.entries < 2 ^ 63 }
     requires fits { key.now.number < 2 ^ 33 }
-    requires absent { IsFalse (cache_has_key key.now (live_pairs map.old.entries)) }
-    ensures slots { (live : LiveCounts) (first : ℕ) → AreSlots live first map.old.entries →
-        AreSlots live first map.new.entries }
-    ensures pairs { live_pairs map.new.entries ≡ live_pairs map.old.entries }
-    ensures flags { live_flags_of map.new.entries ≡ live_flags_of map.old.entries }
+    requires absent { IsFalse (cache_has_key key.now (live_cache_pairs map.old.entries)) }
+    ensures slots { (live : LiveCounts) (first : ℕ) → AreCacheSlots live first map.old.entries →
+        AreCacheSlots live first map.new.entries }
+    ensures pairs { live_cache_pairs map.new.entries ≡ live_cache_pairs map.old.entries }
+    ensures flags { cache_live_flags_of map.new.entries ≡ cache_live_flags_of map.old.entries }
     ensures gone { OnOk result (get equal_keys map.new key.now ≡ None) }
 {
     let Some(dead) = map.get_index_of(key) else {
@@ -274,14 +274,14 @@ fn release_slot_key(map: &mut IndexMap<CacheKey, Slot>, key: &CacheKey) -> Resul
 
 // Gives the dead slot at this place a key made of the place, which no version and shift make.
 fn vacate_slot(map: &mut IndexMap<CacheKey, Slot>, place: usize) -> Result<(), AllocError>
-    requires dead { slice_get (live_flags_of map.old.entries) place ≡ Some false }
-    requires named { AreNamed 0 map.old.entries }
+    requires dead { slice_get (cache_live_flags_of map.old.entries) place ≡ Some false }
+    requires named { AreCacheSlotsNamed 0 map.old.entries }
     requires few { length map.old.entries < 2 ^ 63 }
     requires old { (pair : SlotPair) → slice_get map.old.entries place ≡ Some pair →
         pair.0.number < 2 ^ 33 }
-    ensures pairs { live_pairs map.new.entries ≡ live_pairs map.old.entries }
-    ensures flags { live_flags_of map.new.entries ≡ live_flags_of map.old.entries }
-    ensures named { AreNamed 0 map.new.entries }
+    ensures pairs { live_cache_pairs map.new.entries ≡ live_cache_pairs map.old.entries }
+    ensures flags { cache_live_flags_of map.new.entries ≡ cache_live_flags_of map.old.entries }
+    ensures named { AreCacheSlotsNamed 0 map.new.entries }
     ensures gone { OnOk result ((pair : SlotPair) →
         slice_get map.old.entries place ≡ Some pair → get equal_keys map.new pair.0 ≡ None) }
 {
@@ -297,9 +297,9 @@ fn vacate_slot(map: &mut IndexMap<CacheKey, Slot>, place: usize) -> Result<(), A
 
 // Removes the dead slots.
 fn sweep_dead_slots(map: &mut IndexMap<CacheKey, Slot>, live: &mut LiveCounts)
-    requires { AreLiveCounts live.old (live_flags_of map.old.entries) }
+    requires { AreCacheLiveCounts live.old (cache_live_flags_of map.old.entries) }
     ensures slots { map.new.entries ≡ filter is_live map.old.entries }
-    ensures counts { AreLiveCounts live.new (live_flags_of map.new.entries) }
+    ensures counts { AreCacheLiveCounts live.new (cache_live_flags_of map.new.entries) }
 {
     map.retain(|_, slot| slot.is_live);
     live.fill(map.len());

@@ -1,5 +1,5 @@
 ghost use Rattle.std.specs.Prelude.{◌≡◌, ◌≤◌, ◌<◌, ◌↔◌, length, vec_len, IfSome, IsNone};
-ghost use Rattle.switch_table.specs.Carried.{all_touched, meets_any_touched};
+ghost use Rattle.switch_table.specs.Carried.{cache_all_touched, cache_word_meets_touched};
 
 use std::alloc::AllocError;
 use std::marker::Model;
@@ -25,13 +25,13 @@ enum Listed {
 impl Model for Touched {
     ghost use Rattle.std.specs.Prelude.{◌≤◌, List, length};
     ghost use Rattle.ternary.specs.Word.{WordValue};
-    ghost use Rattle.switch_table.specs.Listed.{touched_list_words};
+    ghost use Rattle.switch_table.specs.Listed.{table_touched_list_words};
 
     ghost Value = { List WordValue };
 
-    ghost view = { λ t. touched_list_words t.listed };
+    ghost view = { λ t. table_touched_list_words t.listed };
 
-    ghost invariant = { λ t. length (touched_list_words t.listed) ≤ 16 };
+    ghost invariant = { λ t. length (table_touched_list_words t.listed) ≤ 16 };
 }
 
 impl Touched {
@@ -50,7 +50,7 @@ impl Touched {
 
     /// Only the word of every header.
     pub fn all() -> Touched
-        ensures { result ≡ all_touched }
+        ensures { result ≡ cache_all_touched }
     {
         Touched {
             listed: Listed::All([Word::any()]),
@@ -70,7 +70,7 @@ impl Touched {
 
     /// Whether the word meets one of these.
     pub fn meets(&self, word: &Word) -> bool
-        ensures { result ≡ meets_any_touched self.now word.now }
+        ensures { result ≡ cache_word_meets_touched self.now word.now }
     {
         self.words().iter().any(|one| word.meets(one))
     }

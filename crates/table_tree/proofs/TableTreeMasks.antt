@@ -6,10 +6,10 @@ use Rattle.std.proofs.lemmas.Bool.Decides.{nat_tests}
 use Rattle.std.proofs.lemmas.List.Folds.{list_all_more, list_any_more}
 use Rattle.std.proofs.lemmas.Nat.Bits.{bit_at-lt, bit_at-zero, bit_at_and, bit_at_or, bit_at_ones, bit_at-trailing_zeros}
 use Rattle.ternary.specs.Exports.{WordValue, is_fixed_of}
-use Rattle.ternary.proofs.CallerLemmas.{both_set}
-use Rattle.cut_tree.specs.Exports.{IsFreeBit}
-use Rattle.table_tree.specs.Cutting.{IsLowestBit, IsLeastFree, NoneFixesFreeBit}
-use Rattle.table_tree.specs.Regions.{all_regions_fix, some_region_fixes}
+use Rattle.ternary.proofs.TernaryCallerLemmas.{both_set}
+use Rattle.cut_tree.specs.Exports.{IsCuttableBit}
+use Rattle.table_tree.specs.Cutting.{IsLowestBit, IsLeastFreeLookupBit, LookupPassesNoFreeBit}
+use Rattle.table_tree.specs.Regions.{table_tree_all_fix, table_tree_some_fixes}
 use Rattle.table_tree.specs.declared.node.Candidate.{Candidate}
 
 -- ---- one bit of a mask
@@ -36,20 +36,20 @@ mask_fixes candidates index candidate mask bit is same = cc (same, is)
 
 pub all_more : (candidates : List Candidate) (index : ℕ) (candidate : Candidate) (bits mask bit : ℕ)
     → index < length candidates → candidate ≡ get_or candidates index candidate
-    → mask ≡ candidate.region.mask → (bit_at bits bit == 1) ≡ all_regions_fix (take index candidates) bit
-    → (bit_at (bit_and bits mask) bit == 1) ≡ all_regions_fix (take (index + 1) candidates) bit
+    → mask ≡ candidate.region.mask → (bit_at bits bit == 1) ≡ table_tree_all_fix (take index candidates) bit
+    → (bit_at (bit_and bits mask) bit == 1) ≡ table_tree_all_fix (take (index + 1) candidates) bit
 all_more candidates index candidate bits mask bit within is same so_far = and_bit bits mask bit
-    ∙ ap (λ t. t && (bit_at mask bit == 1)) so_far ∙ ap (λ t. all_regions_fix (take index candidates) bit
+    ∙ ap (λ t. t && (bit_at mask bit == 1)) so_far ∙ ap (λ t. table_tree_all_fix (take index candidates) bit
     && t) (mask_fixes candidates index candidate mask bit is same) ∙ sym
     (list_all_more (λ (s : Candidate). is_fixed_of s.region bit) candidates index candidate within)
 
 pub some_more : (candidates : List Candidate)
     (index : ℕ) (candidate : Candidate) (bits mask bit : ℕ) → index < length candidates
     → candidate ≡ get_or candidates index candidate
-    → mask ≡ candidate.region.mask → (bit_at bits bit == 1) ≡ some_region_fixes (take index candidates) bit
-    → (bit_at (bit_or bits mask) bit == 1) ≡ some_region_fixes (take (index + 1) candidates) bit
+    → mask ≡ candidate.region.mask → (bit_at bits bit == 1) ≡ table_tree_some_fixes (take index candidates) bit
+    → (bit_at (bit_or bits mask) bit == 1) ≡ table_tree_some_fixes (take (index + 1) candidates) bit
 some_more candidates index candidate bits mask bit within is same so_far = or_bit bits mask bit
-    ∙ ap (λ t. t || (bit_at mask bit == 1)) so_far ∙ ap (λ t. some_region_fixes (take index candidates) bit
+    ∙ ap (λ t. t || (bit_at mask bit == 1)) so_far ∙ ap (λ t. table_tree_some_fixes (take index candidates) bit
     || t) (mask_fixes candidates index candidate mask bit is same) ∙ sym
     (list_any_more (λ (s : Candidate). is_fixed_of s.region bit) candidates index candidate within)
 
@@ -68,8 +68,8 @@ lowest_of n some small = let lowest = bit_at-trailing_zeros w128 n some small in
 -- a mask of the bits that pass, and one of the bits that are free
 pub least_free : (region : WordValue) (passes : ℕ → Bool) (bits free bit : ℕ)
     → ((k : ℕ) → k < 104 → (bit_at bits k == 1) ≡ passes k)
-    → ((k : ℕ) → (bit_at free k ≡ 1) ↔ IsFreeBit region k) → IsLowestBit (bit_and bits free) bit
-    → IsLeastFree region passes bit
+    → ((k : ℕ) → (bit_at free k ≡ 1) ↔ IsCuttableBit region k) → IsLowestBit (bit_and bits free) bit
+    → IsLeastFreeLookupBit region passes bit
 least_free region passes bits free bit tests frees low =
     let left : bit_at bits bit ≡ 1 = omega
     (arith, low.set, bit_at_and bits free bit, bit_at-lt bits bit, bit_at-lt free bit) in
@@ -92,8 +92,8 @@ least_free region passes bits free bit tests frees low =
 
 pub none_free : (region : WordValue) (passes : ℕ → Bool) (bits free : ℕ)
     → ((k : ℕ) → k < 104 → (bit_at bits k == 1) ≡ passes k)
-    → ((k : ℕ) → (bit_at free k ≡ 1) ↔ IsFreeBit region k) → bit_and bits free ≡ 0
-    → NoneFixesFreeBit region passes
+    → ((k : ℕ) → (bit_at free k ≡ 1) ↔ IsCuttableBit region k) → bit_and bits free ≡ 0
+    → LookupPassesNoFreeBit region passes
 none_free region passes bits free tests frees none = λ bit is_free. elim (cases_Bool (passes bit)) [
   | inr fails ↦ fails
   | inl passing ↦

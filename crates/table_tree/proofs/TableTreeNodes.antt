@@ -2,18 +2,18 @@
 use Rattle.std.proofs.Common.{[], ◌++◌, ◌+◌, ◌<◌, ◌==◌, ◌^◌, ◌||◌, ◌∙◌, ◌∷◌, ◌≡◌, All, Bool, IsFalse, IsSome, IsTrue, List, None, Option, Some, ap, append_assoc, arith, cond, count_by, drop, eqb-true, false, filter, find, get_or, inl, inr, is_some, length, refl, sym, true, ℕ, rules}
 use Rattle.std.specs.Int.{bit_at}
 use Rattle.std.proofs.lemmas.Bool.{cases_eq, cases_lt, cases_Bool, both_ways, and_parts}
-use Rattle.policy_rules.proofs.CallerLemmas.{count_by-cons, count-filter-le, at_item, find_kept, found_from_count}
+use Rattle.policy_rules.proofs.PolicyRulesCallerLemmas.{count_by-cons, count-filter-le, at_item, find_kept, found_from_count}
 use Rattle.std.proofs.lemmas.List.Elements.{All-head, All-tail, All-filter, filter_passes}
 use Rattle.std.proofs.lemmas.Nat.Bits.{bit_at_above}
 use Rattle.five_tuple.specs.Exports.{HeaderLaws, IsHeader, header_numbered}
 use Rattle.five_tuple.specs.declared.header.Header.{Header}
-use Rattle.ternary.specs.Exports.{HoldsLaws, IsWord, MeetLaws, WordValue, any_word, fix_of, holds, is_fixed_of, meet_of, meets}
-use Rattle.ternary.proofs.CallerLemmas.{any_covers, fix_holds, fix_word, free_bits_shorter, meet_is_some, meet_both, meet_word, meets_cover, held_meets}
-use Rattle.switch_table.specs.Exports.{part_row_has}
+use Rattle.ternary.specs.Exports.{WordHoldsLaws, IsWord, MeetLaws, WordValue, any_word, word_fix_of, holds, is_fixed_of, meet_of, meets}
+use Rattle.ternary.proofs.TernaryCallerLemmas.{any_covers, fix_holds, fix_word, free_bits_shorter, meet_is_some, meet_both, meet_word, meets_cover, held_meets}
+use Rattle.switch_table.specs.Exports.{table_part_row_has}
 use Rattle.switch_table.specs.declared.tables.PartRow.{PartRow}
-use Rattle.cut_tree.specs.Exports.{IsFreeBit, free_count}
-use Rattle.table_tree.specs.Cutting.{NoneFixesFreeBit}
-use Rattle.table_tree.specs.Regions.{AreNodeCandidates, AreTreeRegions, IsCutBit, has_number, candidate_meets, candidates_of_side, some_region_fixes, candidates_from, candidates_of}
+use Rattle.cut_tree.specs.Exports.{IsCuttableBit, free_cut_bit_count}
+use Rattle.table_tree.specs.Cutting.{LookupPassesNoFreeBit}
+use Rattle.table_tree.specs.Regions.{AreTableTreeCandidates, AreTableTreeRegions, IsTableTreeCutBit, table_tree_candidate_holds, table_tree_candidate_meets, table_tree_side_candidates, table_tree_some_fixes, lookup_candidates_from, lookup_candidates_of}
 use Rattle.table_tree.specs.declared.node.Candidate.{Candidate}
 
 -- ---- lists
@@ -28,35 +28,35 @@ abbrev pub candidate_at : ℕ → PartRow → Candidate
 candidate_at place row = record { place = place; region = row.region }
 
 pub candidates_count : (place number : ℕ) (rows : List PartRow)
-    → count_by (has_number number) (candidates_from place rows)
+    → count_by (table_tree_candidate_holds number) (lookup_candidates_from place rows)
     ≡ count_by (λ (row : PartRow). holds row.region number) rows
 candidates_count place number [] = refl
 candidates_count place number (row ∷ rows) = omega (
   arith,
-  count_by-cons (has_number number) (candidate_at place row) (candidates_from (place + 1) rows),
+  count_by-cons (table_tree_candidate_holds number) (candidate_at place row) (lookup_candidates_from (place + 1) rows),
   count_by-cons (λ (r : PartRow). holds r.region number) row rows,
   candidates_count (place + 1) number rows,
 )
 
 pub any_meets : (candidates : List Candidate) → All
-    (λ candidate. IsTrue (candidate_meets any_word candidate)) candidates
+    (λ candidate. IsTrue (table_tree_candidate_meets any_word candidate)) candidates
 any_meets candidates = search (rules, meets_cover, any_covers)
 
 pub root_node : HeaderLaws → (rows : List PartRow)
-    → ((header : Header) → IsHeader header → count_by (part_row_has header) rows ≡ 1)
-    → AreTreeRegions (candidates_of rows) → AreNodeCandidates (candidates_of rows) any_word
+    → ((header : Header) → IsHeader header → count_by (table_part_row_has header) rows ≡ 1)
+    → AreTableTreeRegions (lookup_candidates_of rows) → AreTableTreeCandidates (lookup_candidates_of rows) any_word
 root_node laws rows one words =
     let count : (number : ℕ) → number < 2 ^ 104
-    → count_by (has_number number) (candidates_of rows) ≡ 1 =
+    → count_by (table_tree_candidate_holds number) (lookup_candidates_of rows) ≡ 1 =
     λ number small. candidates_count 0 number rows
     ∙ ap (λ n. count_by (λ (row : PartRow). holds row.region n) rows)
     (sym (laws.numbered number small)) ∙ one (header_numbered number) (laws.header number small) in
     record {
       whole = record { within = refl; bounded = omega arith };
       words = words;
-      meet = any_meets (candidates_of rows);
+      meet = any_meets (lookup_candidates_of rows);
       one = λ number small. omega (arith, count number small);
-      held = λ number small inside. found_from_count (has_number number) (candidates_of rows)
+      held = λ number small inside. found_from_count (table_tree_candidate_holds number) (lookup_candidates_of rows)
           (omega (arith, count number small));
     }
 
@@ -64,25 +64,25 @@ root_node laws rows one words =
 
 -- a header of a half is one of the region, with the bit
 pub half_holds : (region : WordValue) (bit number : ℕ) (one : Bool) → IsFalse
-    (is_fixed_of region bit) → IsTrue (holds (fix_of region bit one) number)
+    (is_fixed_of region bit) → IsTrue (holds (word_fix_of region bit one) number)
     → IsTrue (holds region number)
 half_holds region bit number one free held = search (rules, fix_holds)
 
 -- on a side, the one that has a header of the half is that of the node
 pub side_finds : (candidates : List Candidate) (region : WordValue) (bit number : ℕ) (one : Bool)
-    → IsTrue (holds (fix_of region bit one) number)
-    → find (has_number number) (candidates_of_side candidates region bit one)
-    ≡ find (has_number number) candidates
+    → IsTrue (holds (word_fix_of region bit one) number)
+    → find (table_tree_candidate_holds number) (table_tree_side_candidates candidates region bit one)
+    ≡ find (table_tree_candidate_holds number) candidates
 side_finds candidates region bit number one held = search (rules, find_kept, held_meets)
 
 pub half_node : (candidates : List Candidate) (region : WordValue) (bit : ℕ) (one : Bool)
-    → AreNodeCandidates candidates region → IsFreeBit region bit
-    → AreNodeCandidates (candidates_of_side candidates region bit one) (fix_of region bit one)
-half_node candidates region bit one node free = let half = fix_of region bit one in record {
+    → AreTableTreeCandidates candidates region → IsCuttableBit region bit
+    → AreTableTreeCandidates (table_tree_side_candidates candidates region bit one) (word_fix_of region bit one)
+half_node candidates region bit one node free = let half = word_fix_of region bit one in record {
   whole = fix_word region bit one node.whole free.bound;
-  words = All-filter (candidate_meets half) (λ (candidate : Candidate). IsWord candidate.region)
+  words = All-filter (table_tree_candidate_meets half) (λ (candidate : Candidate). IsWord candidate.region)
       candidates node.words;
-  meet = filter_passes (candidate_meets half) candidates;
+  meet = filter_passes (table_tree_candidate_meets half) candidates;
   one = λ number small. omega (arith, node.one, count-filter-le);
   held = λ number small inside. rw (side_finds candidates region bit number one inside)
       (node.held number small (half_holds region bit number one free.free inside));
@@ -92,7 +92,7 @@ half_node candidates region bit one node free = let half = fix_of region bit one
 
 -- of two regions of which neither fixes a free bit of a region that they meet, each meets the other
 pub unfixed_meet : MeetLaws → (region a b : WordValue) → IsWord a → meets a region ≡ true
-    → meets b region ≡ true → ((bit : ℕ) → IsFreeBit region bit → is_fixed_of a bit ≡ false)
+    → meets b region ≡ true → ((bit : ℕ) → IsCuttableBit region bit → is_fixed_of a bit ≡ false)
     → meets a b ≡ true
 unfolding is_fixed_of
 unfixed_meet laws region a b word meet_a meet_b unfixed = (laws.bitwise a b).1 agrees where
@@ -109,7 +109,7 @@ unfixed_meet laws region a b word meet_a meet_b unfixed = (laws.bitwise a b).1 a
   ]
 
 -- and then a header is in both
-pub meeting_shares : HoldsLaws → (a b : WordValue) → IsWord a → IsWord b → meets a b ≡ true
+pub meeting_shares : WordHoldsLaws → (a b : WordValue) → IsWord a → IsWord b → meets a b ≡ true
     → (number : ℕ) × (number < 2 ^ 104) × IsTrue (holds a number) × IsTrue (holds b number)
 meeting_shares laws a b a_word b_word meet = by_case (meet_of a b) refl where
   by_case : (m : Option WordValue) → meet_of a b ≡ m → (number : ℕ) × (number < 2 ^ 104)
@@ -120,15 +120,15 @@ meeting_shares laws a b a_word b_word meet = by_case (meet_of a b) refl where
       (m.value, laws.bound m (meet_word a b m a_word b_word is), both.0, both.1)
 
 -- so the regions of a node, where they are not one, fix a free bit
-pub never_stuck : HoldsLaws → MeetLaws → (candidates : List Candidate) (region : WordValue)
-    → AreNodeCandidates candidates region → NoneFixesFreeBit region (some_region_fixes candidates)
+pub never_stuck : WordHoldsLaws → MeetLaws → (candidates : List Candidate) (region : WordValue)
+    → AreTableTreeCandidates candidates region → LookupPassesNoFreeBit region (table_tree_some_fixes candidates)
     → length candidates ≡ 1
 never_stuck holds_laws meet_laws [] region node none = absurd (both_ways false refl
     (node.held region.value (holds_laws.bound region node.whole) (holds_laws.value region)))
 never_stuck holds_laws meet_laws (a ∷ []) region node none = refl
 never_stuck holds_laws meet_laws (a ∷ b ∷ rest) region node none =
     let P : Candidate → Type 0 = λ s. IsWord s.region in
-    let Q : Candidate → Type 0 = λ s. IsTrue (candidate_meets region s) in
+    let Q : Candidate → Type 0 = λ s. IsTrue (table_tree_candidate_meets region s) in
     let a_word = All-head P a (b ∷ rest) node.words in
     let b_word = All-head P b rest (All-tail P a (b ∷ rest) node.words) in
     let a_meets = All-head Q a (b ∷ rest) node.meet in
@@ -139,8 +139,8 @@ never_stuck holds_laws meet_laws (a ∷ b ∷ rest) region node none =
     absurd (omega (
       arith,
       node.one number shared.1,
-      count_by-cons (has_number number) a (b ∷ rest),
-      count_by-cons (has_number number) b rest,
+      count_by-cons (table_tree_candidate_holds number) a (b ∷ rest),
+      count_by-cons (table_tree_candidate_holds number) b rest,
       ap weight shared.2,
       ap weight shared.3,
     ))
@@ -150,13 +150,13 @@ never_stuck holds_laws meet_laws (a ∷ b ∷ rest) region node none =
     first_unfixed false b e = refl
 
 some_candidate : (candidates : List Candidate) (number : ℕ)
-    → IsSome (find (has_number number) candidates) → 0 < length candidates
+    → IsSome (find (table_tree_candidate_holds number) candidates) → 0 < length candidates
 some_candidate [] number found = absurd (both_ways false refl found)
 some_candidate (candidate ∷ candidates) number found = omega arith
 
 -- where they are not one, they are several
-pub several_candidates : HoldsLaws → (candidates : List Candidate) (region : WordValue)
-    → AreNodeCandidates candidates region → (length candidates ≡ 1 → ⊥) → 1 < length candidates
+pub several_candidates : WordHoldsLaws → (candidates : List Candidate) (region : WordValue)
+    → AreTableTreeCandidates candidates region → (length candidates ≡ 1 → ⊥) → 1 < length candidates
 several_candidates laws candidates region node not_one =
     let some = some_candidate candidates region.value
     (node.held region.value (laws.bound region node.whole) (laws.value region)) in
@@ -165,13 +165,13 @@ several_candidates laws candidates region node not_one =
       | inr other ↦ omega (arith, some, other)
     ]
 
-pub cut_is_free : (candidates : List Candidate) (region : WordValue) (bit : ℕ) → IsCutBit candidates
-    region bit → IsFreeBit region bit
+pub cut_is_free : (candidates : List Candidate) (region : WordValue) (bit : ℕ) → IsTableTreeCutBit candidates
+    region bit → IsCuttableBit region bit
 cut_is_free candidates region bit h3 = search rules
 
 -- fewer bits are free in a half
-pub half_smaller : (region half : WordValue) (bit : ℕ) (one : Bool) → IsFreeBit region bit
-    → half ≡ fix_of region bit one → free_count half < free_count region
+pub half_smaller : (region half : WordValue) (bit : ℕ) (one : Bool) → IsCuttableBit region bit
+    → half ≡ word_fix_of region bit one → free_cut_bit_count half < free_cut_bit_count region
 half_smaller region half bit one free same = rw same (omega (arith, free_bits_shorter))
 
 -- ---- the loops

@@ -2,7 +2,7 @@
 use Rattle.std.specs.Prelude.{◌<◌, ◌≡◌, ◌≤◌, Bool, IsFalse, IsTrue, ℕ}
 use Rattle.std.specs.Int.{bit_at}
 use Rattle.ternary.specs.Exports.{WordValue}
-use Rattle.cut_tree.specs.Exports.{IsFreeBit}
+use Rattle.cut_tree.specs.Exports.{IsCuttableBit}
 
 -- of the bits of n, k is the lowest
 pub record IsLowestBit (n k : ℕ) : Type 0 where
@@ -10,11 +10,11 @@ pub record IsLowestBit (n k : ℕ) : Type 0 where
   pub below : (j : ℕ) → j < k → bit_at n j ≡ 0
 
 -- of the region's free bits that pass, this is the least
-pub record IsLeastFree (region : WordValue) (passes : ℕ → Bool) (bit : ℕ) : Type 0 where
-  pub free : IsFreeBit region bit
+pub record IsLeastFreeLookupBit (region : WordValue) (passes : ℕ → Bool) (bit : ℕ) : Type 0 where
+  pub free : IsCuttableBit region bit
   pub passing : IsTrue (passes bit)
-  pub least : (other : ℕ) → IsFreeBit region other → IsTrue (passes other) → bit ≤ other
+  pub least : (other : ℕ) → IsCuttableBit region other → IsTrue (passes other) → bit ≤ other
 
 -- none of the region's free bits passes
-abbrev pub NoneFixesFreeBit : WordValue → (ℕ → Bool) → Type 0
-NoneFixesFreeBit region passes = (bit : ℕ) → IsFreeBit region bit → IsFalse (passes bit)
+abbrev pub LookupPassesNoFreeBit : WordValue → (ℕ → Bool) → Type 0
+LookupPassesNoFreeBit region passes = (bit : ℕ) → IsCuttableBit region bit → IsFalse (passes bit)

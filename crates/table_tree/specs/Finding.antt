@@ -2,14 +2,14 @@
 -- Freedman and Wang, "Scalable Flow-Based Networking with DIFANE", SIGCOMM 2010; the order of the
 -- bits is this project's own.
 use Rattle.std.specs.Prelude.{◌<◌, ◌≡◌, ◌≢◌, ◌⊎◌, All, List, false, length, map, true, ℕ}
-use Rattle.ternary.specs.Exports.{WordValue, any_word, fix_of}
-use Rattle.switch_table.specs.Exports.{AreSoundTables}
+use Rattle.ternary.specs.Exports.{WordValue, any_word, word_fix_of}
+use Rattle.switch_table.specs.Exports.{AreSoundSwitchTables}
 use Rattle.switch_table.specs.declared.tables.PartRow.{PartRow}
 use Rattle.switch_table.specs.declared.tables.Tables.{Tables}
 use Rattle.policy_rules.specs.declared.rules.Partition.{Partition}
-use Rattle.table_tree.specs.Cutting.{NoneFixesFreeBit}
-use Rattle.table_tree.specs.Regions.{AreTreeRegions, IsCutBit, candidates_of_side, some_region_fixes, candidates_of}
-use Rattle.table_tree.specs.Ruling.{part_tree, seen_tree}
+use Rattle.table_tree.specs.Cutting.{LookupPassesNoFreeBit}
+use Rattle.table_tree.specs.Regions.{AreTableTreeRegions, IsTableTreeCutBit, table_tree_side_candidates, table_tree_some_fixes, lookup_candidates_of}
+use Rattle.table_tree.specs.Ruling.{part_lookup_tree, seen_tree}
 use Rattle.table_tree.specs.LookupTrees.{LookupTree, Leaf, Sides, lookup_tree_of}
 use Rattle.table_tree.specs.declared.rule_tree.RuleTree.{RuleTree}
 use Rattle.table_tree.specs.declared.node.Candidate.{Candidate}
@@ -17,8 +17,8 @@ use Rattle.table_tree.specs.declared.bit_tree.BitTree.{BitTree}
 use Rattle.table_tree.specs.declared.trees.Trees.{Trees}
 
 -- the shape of a tree, which leads to places of the partition rules
-abbrev pub candidate_shape_of : BitTree ℕ → LookupTree ℕ
-candidate_shape_of tree = lookup_tree_of (λ place. place) tree
+abbrev pub table_tree_candidate_shape : BitTree ℕ → LookupTree ℕ
+table_tree_candidate_shape tree = lookup_tree_of (λ place. place) tree
 
 -- one region is left, and this is its place
 pub record IsTreeEnd (candidates : List Candidate) (place : ℕ) : Type 0 where
@@ -26,37 +26,37 @@ pub record IsTreeEnd (candidates : List Candidate) (place : ℕ) : Type 0 where
   pub there : All (λ candidate. candidate.place ≡ place) candidates
 
 -- the tree of these regions within a region: more than one are separated at their cut bit
-abbrev pub IsCandidateTreeOf : List Candidate → WordValue → LookupTree ℕ → Type 0
-IsCandidateTreeOf candidates region (Leaf place) = IsTreeEnd candidates place
-IsCandidateTreeOf candidates region (Sides bit low high) =
-    (1 < length candidates) × IsCutBit candidates region bit
-    × IsCandidateTreeOf (candidates_of_side candidates region bit false) (fix_of region bit false)
+abbrev pub IsLookupTreeOfCandidates : List Candidate → WordValue → LookupTree ℕ → Type 0
+IsLookupTreeOfCandidates candidates region (Leaf place) = IsTreeEnd candidates place
+IsLookupTreeOfCandidates candidates region (Sides bit low high) =
+    (1 < length candidates) × IsTableTreeCutBit candidates region bit
+    × IsLookupTreeOfCandidates (table_tree_side_candidates candidates region bit false) (word_fix_of region bit false)
     low
-    × IsCandidateTreeOf (candidates_of_side candidates region bit true) (fix_of region bit true)
+    × IsLookupTreeOfCandidates (table_tree_side_candidates candidates region bit true) (word_fix_of region bit true)
     high
 
 -- none or several regions are left, and none of them fixes a free bit
 pub record IsTreeStuck (candidates : List Candidate) (region : WordValue) : Type 0 where
   pub not_one : length candidates ≢ 1
-  pub none : NoneFixesFreeBit region (some_region_fixes candidates)
+  pub none : LookupPassesNoFreeBit region (table_tree_some_fixes candidates)
 
 -- a tree that is built in the same way from regions of any kind, some of which can't be separated
 abbrev pub IsGrownShape : List Candidate → WordValue → LookupTree ℕ → Type 0
 IsGrownShape candidates region (Leaf place) = IsTreeEnd candidates place ⊎ IsTreeStuck candidates region
 IsGrownShape candidates region (Sides bit low high) =
-    (length candidates ≢ 1) × IsCutBit candidates region bit
-    × IsGrownShape (candidates_of_side candidates region bit false) (fix_of region bit false) low
-    × IsGrownShape (candidates_of_side candidates region bit true) (fix_of region bit true) high
+    (length candidates ≢ 1) × IsTableTreeCutBit candidates region bit
+    × IsGrownShape (table_tree_side_candidates candidates region bit false) (word_fix_of region bit false) low
+    × IsGrownShape (table_tree_side_candidates candidates region bit true) (word_fix_of region bit true) high
 
 -- the tree of the partition rules
 abbrev pub IsFinderTree : List PartRow → LookupTree ℕ → Type 0
-IsFinderTree rows tree = IsCandidateTreeOf (candidates_of rows) any_word tree
+IsFinderTree rows tree = IsLookupTreeOfCandidates (lookup_candidates_of rows) any_word tree
 
 -- the trees that are built from these partition rules and authority partitions
 pub record AreTreesOf (rows : List PartRow) (parts : List Partition) (trees : Trees) : Type 0 where
-  pub words : AreTreeRegions (candidates_of rows)
-  pub tree : IsGrownShape (candidates_of rows) any_word (candidate_shape_of trees.tree)
-  pub rules : map seen_tree trees.rule_trees.items ≡ map part_tree parts
+  pub words : AreTableTreeRegions (lookup_candidates_of rows)
+  pub tree : IsGrownShape (lookup_candidates_of rows) any_word (table_tree_candidate_shape trees.tree)
+  pub rules : map seen_tree trees.rule_trees.items ≡ map part_lookup_tree parts
 
 -- the tables of a finder, and its tree
 pub record FinderValue : Type 0 where
@@ -65,6 +65,6 @@ pub record FinderValue : Type 0 where
 
 -- the tables are sound, the tree is theirs, and these are the trees of the authority partitions
 pub record IsFinder (finder : FinderValue) (rule_trees : List RuleTree) : Type 0 where
-  pub sound : AreSoundTables finder.tables
-  pub tree : IsFinderTree finder.tables.parts (candidate_shape_of finder.tree)
-  pub rules : map seen_tree rule_trees ≡ map part_tree finder.tables.auth
+  pub sound : AreSoundSwitchTables finder.tables
+  pub tree : IsFinderTree finder.tables.parts (table_tree_candidate_shape finder.tree)
+  pub rules : map seen_tree rule_trees ≡ map part_lookup_tree finder.tables.auth

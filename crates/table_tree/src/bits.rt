@@ -1,8 +1,8 @@
 ghost use Rattle.std.specs.Prelude.{ℕ, ◌≡◌, ◌<◌, ◌==◌, IfNone, IfSome};
 ghost use Rattle.std.specs.Int.{bit_at};
-ghost use Rattle.cut_tree.specs.Cuts.{IsFreeBit};
-ghost use Rattle.table_tree.specs.Cutting.{IsLowestBit, NoneFixesFreeBit};
-ghost use Rattle.table_tree.specs.Regions.{IsCutBit, all_regions_fix, some_region_fixes};
+ghost use Rattle.cut_tree.specs.Cuts.{IsCuttableBit};
+ghost use Rattle.table_tree.specs.Cutting.{IsLowestBit, LookupPassesNoFreeBit};
+ghost use Rattle.table_tree.specs.Regions.{IsTableTreeCutBit, table_tree_all_fix, table_tree_some_fixes};
 
 use crate::node::Candidate;
 use cut_tree::free_bits_to_cut;
@@ -12,9 +12,9 @@ use ternary::{ALL_BITS, Word};
 /// that all of them fix, otherwise the least one that some of them fixes. `None` if none of them
 /// fixes a free bit.
 pub fn tree_cut_bit(candidates: &[Candidate], region: &Word) -> Option<u32>
-    ensures some { IfSome result (λ bit. IsCutBit candidates.now region.now bit) }
-    ensures free { IfSome result (λ bit. IsFreeBit region.now bit) }
-    ensures none { IfNone result (NoneFixesFreeBit region.now (some_region_fixes candidates.now)) }
+    ensures some { IfSome result (λ bit. IsTableTreeCutBit candidates.now region.now bit) }
+    ensures free { IfSome result (λ bit. IsCuttableBit region.now bit) }
+    ensures none { IfNone result (LookupPassesNoFreeBit region.now (table_tree_some_fixes candidates.now)) }
 {
     let free = free_bits_to_cut(region);
     match lowest(fixed_by_all_regions(candidates) & free) {
@@ -24,7 +24,7 @@ pub fn tree_cut_bit(candidates: &[Candidate], region: &Word) -> Option<u32>
 }
 
 fn fixed_by_all_regions(candidates: &[Candidate]) -> u128
-    ensures { (bit : ℕ) → bit < 104 → (bit_at result bit == 1) ≡ all_regions_fix candidates.now bit }
+    ensures { (bit : ℕ) → bit < 104 → (bit_at result bit == 1) ≡ table_tree_all_fix candidates.now bit }
 {
     let mut bits = ALL_BITS;
     for candidate in candidates {
@@ -34,7 +34,7 @@ fn fixed_by_all_regions(candidates: &[Candidate]) -> u128
 }
 
 fn fixed_by_some_region(candidates: &[Candidate]) -> u128
-    ensures { (bit : ℕ) → (bit_at result bit == 1) ≡ some_region_fixes candidates.now bit }
+    ensures { (bit : ℕ) → (bit_at result bit == 1) ≡ table_tree_some_fixes candidates.now bit }
 {
     let mut bits = 0;
     for candidate in candidates {

@@ -1,10 +1,10 @@
 ghost use Rattle.std.specs.Prelude.{◌≡◌, ◌<◌, ◌^◌, ◌==◌, IfOk, IfSome, IsSomeAnd, IsTrue, find, position, slice_get};
 ghost use Rattle.std.specs.Option.{option_and_then};
 ghost use Rattle.five_tuple.specs.Header.{IsHeader, number_of};
-ghost use Rattle.policy_rules.specs.Exports.{is_held, is_in};
+ghost use Rattle.policy_rules.specs.Exports.{is_held, is_in_policy_partition};
 ghost use Rattle.switch_table.specs.Lookup.{lookup_of, table_lookup};
-ghost use Rattle.switch_table.specs.Tables.{AreSoundTables};
-ghost use Rattle.table_tree.specs.Finding.{AreTreesOf, IsFinderTree, candidate_shape_of};
+ghost use Rattle.switch_table.specs.Tables.{AreSoundSwitchTables};
+ghost use Rattle.table_tree.specs.Finding.{AreTreesOf, IsFinderTree, table_tree_candidate_shape};
 
 use crate::bit_tree::BitTree;
 use crate::trees::Trees;
@@ -48,10 +48,10 @@ impl Finder {
     /// # Errors
     /// Only out of memory.
     pub fn build(alloc: Global, tables: Rc<Tables>) -> Result<Finder, AllocError>
-        requires { AreSoundTables tables.value }
+        requires { AreSoundSwitchTables tables.value }
         ensures tables { IfOk result (λ finder. finder.tables ≡ tables.value) }
         ensures tree { IfOk result (λ finder. IsFinderTree tables.value.parts
-            (candidate_shape_of finder.tree)) }
+            (table_tree_candidate_shape finder.tree)) }
     {
         let trees = Trees::grow(alloc, tables.parts.items(), tables.auth.items())?;
         let trees = Rc::new(alloc, trees)?;
@@ -60,10 +60,10 @@ impl Finder {
 
     /// The finder of these tables, with trees that were built for the same rows and partitions.
     pub fn of(tables: Rc<Tables>, trees: Rc<Trees>) -> Finder
-        requires sound { AreSoundTables tables.value }
+        requires sound { AreSoundSwitchTables tables.value }
         requires trees { AreTreesOf tables.value.parts tables.value.auth trees.value }
         ensures tables { result.tables ≡ tables.value }
-        ensures tree { IsFinderTree tables.value.parts (candidate_shape_of result.tree) }
+        ensures tree { IsFinderTree tables.value.parts (table_tree_candidate_shape result.tree) }
     {
         header_laws();
         holds_laws();
@@ -101,12 +101,12 @@ impl Finder {
     /// number; `None` if no rule holds it. It allocates nothing.
     pub fn first(&self, partition: u32, header: &Header) -> Option<usize>
         requires { IsSomeAnd (find (λ part. part.number == partition) self.now.tables.auth)
-            (λ part. IsTrue (is_in header.now part)) }
+            (λ part. IsTrue (is_in_policy_partition header.now part)) }
         ensures place { result ≡ option_and_then
             (λ part. position (is_held (number_of header.now)) part.rules)
             (find (λ part. part.number == partition) self.now.tables.auth) }
         ensures small { IfSome result (λ place. place < 2 ^ 32) }
-        ensures sound { AreSoundTables self.now.tables }
+        ensures sound { AreSoundSwitchTables self.now.tables }
         ensures header { IsHeader header.now }
     {
         // For the proof: the contract of `number` says that it is a header.
@@ -120,7 +120,7 @@ impl Finder {
     // The same, in the authority partition at this place of the list.
     fn first_at(&self, own: usize, header: &Header) -> Option<usize>
         requires { IsSomeAnd (slice_get self.now.tables.auth own)
-            (λ part. IsTrue (is_in header.now part)) }
+            (λ part. IsTrue (is_in_policy_partition header.now part)) }
         ensures place { result ≡ option_and_then
             (λ part. position (is_held (number_of header.now)) part.rules)
             (slice_get self.now.tables.auth own) }

@@ -1,7 +1,7 @@
 ghost use Rattle.std.specs.Prelude.{◌≡◌, ◌^◌, ◌<◌, IfOk, filter, length};
-ghost use Rattle.ternary.specs.Meets.{any_word, fix_of, meets};
-ghost use Rattle.cut_tree.specs.Cuts.{IsFreeBit};
-ghost use Rattle.table_tree.specs.Regions.{AreTreeRegions, candidate_meets, candidates_of_side, candidates_of};
+ghost use Rattle.ternary.specs.Meets.{any_word, word_fix_of, meets};
+ghost use Rattle.cut_tree.specs.Cuts.{IsCuttableBit};
+ghost use Rattle.table_tree.specs.Regions.{AreTableTreeRegions, table_tree_candidate_meets, table_tree_side_candidates, lookup_candidates_of};
 
 use std::alloc::{AllocError, Global};
 use switch_table::PartRow;
@@ -28,9 +28,9 @@ impl PartNode {
     /// Only out of memory.
     pub fn root(alloc: Global, rows: &[PartRow]) -> Result<PartNode, AllocError>
         requires { length rows.now < 2 ^ 32 }
-        ensures candidates { IfOk result (λ node. node.candidates.items ≡ candidates_of rows.now) }
+        ensures candidates { IfOk result (λ node. node.candidates.items ≡ lookup_candidates_of rows.now) }
         ensures region { IfOk result (λ node. node.region ≡ any_word) }
-        ensures words { IfOk result (λ node. AreTreeRegions node.candidates.items) }
+        ensures words { IfOk result (λ node. AreTableTreeRegions node.candidates.items) }
     {
         let candidates = numbered(alloc, rows)?;
         Ok(PartNode {
@@ -44,11 +44,11 @@ impl PartNode {
     /// # Errors
     /// Only out of memory.
     pub fn half(&self, alloc: Global, bit: u32, one: bool) -> Result<PartNode, AllocError>
-        requires { IsFreeBit self.now.region bit }
+        requires { IsCuttableBit self.now.region bit }
         ensures candidates { IfOk result (λ half.
-            half.candidates.items ≡ candidates_of_side self.now.candidates.items self.now.region bit
+            half.candidates.items ≡ table_tree_side_candidates self.now.candidates.items self.now.region bit
             one) }
-        ensures region { IfOk result (λ half. half.region ≡ fix_of self.now.region bit one) }
+        ensures region { IfOk result (λ half. half.region ≡ word_fix_of self.now.region bit one) }
     {
         let region = self.region.fix(bit, one);
         let candidates = meeting(alloc, &self.candidates, &region)?;
@@ -59,8 +59,8 @@ impl PartNode {
 // The regions of the rows, each with its place.
 fn numbered(alloc: Global, rows: &[PartRow]) -> Result<Vec<Candidate>, AllocError>
     requires { length rows.now < 2 ^ 32 }
-    ensures candidates { IfOk result (λ candidates. candidates.items ≡ candidates_of rows.now) }
-    ensures words { IfOk result (λ candidates. AreTreeRegions candidates.items) }
+    ensures candidates { IfOk result (λ candidates. candidates.items ≡ lookup_candidates_of rows.now) }
+    ensures words { IfOk result (λ candidates. AreTableTreeRegions candidates.items) }
 {
     let mut candidates = Vec::with_capacity(alloc, rows.len())?;
     for row in rows {
@@ -82,7 +82,7 @@ fn meeting(
     candidates: &[Candidate],
     region: &Word,
 ) -> Result<Vec<Candidate>, AllocError>
-    ensures { IfOk result (λ kept. kept.items ≡ filter (candidate_meets region.now)
+    ensures { IfOk result (λ kept. kept.items ≡ filter (table_tree_candidate_meets region.now)
         candidates.now) }
 {
     let mut kept = Vec::with_capacity(alloc, candidates.len())?;

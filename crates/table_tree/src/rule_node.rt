@@ -1,7 +1,7 @@
 ghost use Rattle.std.specs.Prelude.{◌≡◌, ◌<◌, IfOk, IfSome, map};
 ghost use Rattle.policy_rules.specs.declared.rules.Rule.{Rule};
-ghost use Rattle.cut_tree.specs.Cuts.{IsFreeBit};
-ghost use Rattle.table_tree.specs.Ruling.{paying_cut, rule_shape, rule_tree_within};
+ghost use Rattle.cut_tree.specs.Cuts.{IsCuttableBit};
+ghost use Rattle.table_tree.specs.Ruling.{table_tree_paying_cut, rule_shape, rule_tree_within};
 
 use crate::bit_tree::{BitTree, HeaderBit};
 use cut_tree::{Cost, Node};
@@ -19,7 +19,7 @@ pub fn grow(alloc: Global, node: Node, cuts: u32) -> Result<BitTree<Vec<u32>>, A
     ensures { IfOk result (λ tree.
         rule_shape tree ≡ rule_tree_within cuts node.rules.items node.region) }
 {
-    let Some(cost) = paying_cut(&node, cuts) else {
+    let Some(cost) = table_tree_paying_cut(&node, cuts) else {
         let places = rule_places_of(alloc, &node.rules)?;
         return Ok(BitTree::End(places));
     };
@@ -38,9 +38,9 @@ pub fn grow(alloc: Global, node: Node, cuts: u32) -> Result<BitTree<Vec<u32>>, A
 
 // The least cut of the node, if any cuts are left and this one pays.
 #[tactic(auto, using(crate::proofs::TableTreeRules::none_left, crate::proofs::TableTreeRules::few_stay, crate::proofs::TableTreeRules::large_stays, crate::proofs::TableTreeRules::spread_stays, crate::proofs::TableTreeRules::cut_pays))]
-fn paying_cut(node: &Node, cuts: u32) -> Option<Cost>
-    ensures cut { result ≡ paying_cut cuts node.now.rules.items node.now.region }
-    ensures free { IfSome result (λ cost. IsFreeBit node.now.region cost.bit) }
+fn table_tree_paying_cut(node: &Node, cuts: u32) -> Option<Cost>
+    ensures cut { result ≡ table_tree_paying_cut cuts node.now.rules.items node.now.region }
+    ensures free { IfSome result (λ cost. IsCuttableBit node.now.region cost.bit) }
     ensures left { IfSome result (λ cost. 0 < cuts) }
 {
     let count = node.rules.len();

@@ -3,8 +3,8 @@ ghost use Rattle.std.specs.Option.{option_copied};
 ghost use Rattle.five_tuple.specs.Header.{number_of};
 ghost use Rattle.ternary.specs.Word.{holds};
 ghost use Rattle.policy_rules.specs.Rules.{is_held};
-ghost use Rattle.cut_tree.specs.Nodes.{AreRuleWords};
-ghost use Rattle.table_tree.specs.Ruling.{is_held_at, ranked_by_place, rule_shape, rule_tree};
+ghost use Rattle.cut_tree.specs.Nodes.{AreCutRuleWords};
+ghost use Rattle.table_tree.specs.Ruling.{is_held_by_lookup_rule, table_tree_ranked_rules, rule_shape, rule_tree};
 
 use crate::bit_tree::BitTree;
 use crate::rule_node::grow;
@@ -68,7 +68,7 @@ impl RuleTree {
 
 // The first of the places whose rule holds the number.
 fn first_of<'a>(places: &'a [u32], rules: &[Rule], number: u128) -> Option<&'a u32>
-    ensures { option_copied result ≡ find (is_held_at rules.now number) places.now }
+    ensures { option_copied result ≡ find (is_held_by_lookup_rule rules.now number) places.now }
 {
     places
         .iter()
@@ -77,7 +77,7 @@ fn first_of<'a>(places: &'a [u32], rules: &[Rule], number: u128) -> Option<&'a u
 
 // Whether there is a rule at the place that holds the number.
 fn rule_holds_at(rules: &[Rule], place: u32, number: u128) -> bool
-    ensures { result ≡ is_held_at rules.now number place }
+    ensures { result ≡ is_held_by_lookup_rule rules.now number place }
 {
     match rules.get(place as usize) {
         Some(rule) => rule.word.holds(number),
@@ -88,8 +88,8 @@ fn rule_holds_at(rules: &[Rule], place: u32, number: u128) -> bool
 // The rules, each with its place as its rank.
 fn ranked(alloc: Global, rules: &[Rule]) -> Result<Vec<Rule>, AllocError>
     requires { length rules.now < 2 ^ 32 }
-    ensures rules { IfOk result (λ ranked. ranked.items ≡ ranked_by_place 0 rules.now) }
-    ensures words { IfOk result (λ ranked. AreRuleWords ranked.items) }
+    ensures rules { IfOk result (λ ranked. ranked.items ≡ table_tree_ranked_rules 0 rules.now) }
+    ensures words { IfOk result (λ ranked. AreCutRuleWords ranked.items) }
 {
     let mut ranked = Vec::with_capacity(alloc, rules.len())?;
     for rule in rules {

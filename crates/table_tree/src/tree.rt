@@ -1,5 +1,5 @@
 ghost use Rattle.std.specs.Prelude.{IfOk};
-ghost use Rattle.table_tree.specs.Finding.{IsGrownShape, candidate_shape_of};
+ghost use Rattle.table_tree.specs.Finding.{IsGrownShape, table_tree_candidate_shape};
 
 use crate::bit_tree::{BitTree, HeaderBit};
 use crate::bits::tree_cut_bit;
@@ -14,7 +14,7 @@ use std::alloc::{AllocError, Global};
 #[tactic(auto, using(crate::proofs::TableTreeNodes::half_smaller, crate::proofs::TableTreeFinder::end_is))]
 pub fn grow(alloc: Global, node: PartNode) -> Result<BitTree<u32>, AllocError>
     ensures { IfOk result (λ tree. IsGrownShape node.candidates.items node.region
-        (candidate_shape_of tree)) }
+        (table_tree_candidate_shape tree)) }
 {
     if node.candidates.len() == 1 {
         let place = node.candidates[0].place;

@@ -3,4 +3,4 @@ mod TernaryWords
 mod TernaryFreedBits
 mod TernaryFreeBits
 mod TernaryHexDigits
-pub mod CallerLemmas
+pub mod TernaryCallerLemmas

@@ -5,7 +5,7 @@ use Rattle.std.specs.Int.Bits.{xor_add_and, and_le_l, and_self, and_comm, or_com
 use Rattle.std.proofs.lemmas.Nat.{and_assoc, pow_below}
 use Rattle.std.proofs.lemmas.Nat.Bits.{bit_at_and, bit_at_or, bit_at_xor, bit_at-lt, bit_at-zero, bit_at-pow_same, bit_at-pow_other, bit_at_above, bit_at_clear_same, bit_at_clear_other, and_pow, same_from_bits, same_from_bits_below}
 use Rattle.std.proofs.lemmas.Bool.{cases_eq}
-use Rattle.ternary.specs.Exports.{with_bit, without_bit}
+use Rattle.ternary.specs.Exports.{with_bit, ternary_without_bit}
 
 -- ---- one digit
 
@@ -53,31 +53,31 @@ right_set m n k h = search (rules, bit_at-lt, bit_at_and)
 
 -- ---- one bit set to 0, or to 1 or 0
 
-cleared_by_xor : (n k : ℕ) → without_bit n k ≡ bit_xor n (bit_and n (2 ^ k))
+cleared_by_xor : (n k : ℕ) → ternary_without_bit n k ≡ bit_xor n (bit_and n (2 ^ k))
 cleared_by_xor n k =
     let p = bit_and n (2 ^ k) in
     let inside = sym (and_assoc (2 ^ k) n n) ∙ ap (λ x. bit_and x (2 ^ k)) (and_self n) in
     omega (arith, and_pow n k, xor_add_and n p, inside, and_le_l n (2 ^ k))
 
-cleared : (n k i : ℕ) → bit_at (without_bit n k) i
+cleared : (n k i : ℕ) → bit_at (ternary_without_bit n k) i
     ≡ (bit_at n i + min (bit_at n i) (bit_at (2 ^ k) i)) % 2
 cleared n k i = ap (λ x. bit_at x i) (cleared_by_xor n k) ∙ bit_at_xor n _ i
     ∙ ap (λ d. (bit_at n i + d) % 2) (bit_at_and n (2 ^ k) i)
 
-pub without_bit-same : (n k : ℕ) → bit_at (without_bit n k) k ≡ 0
-without_bit-same n k = cleared n k k ∙ twice _ _ (bit_at-lt n k) (bit_at-pow_same k) where
+pub ternary_without_bit-same : (n k : ℕ) → bit_at (ternary_without_bit n k) k ≡ 0
+ternary_without_bit-same n k = cleared n k k ∙ twice _ _ (bit_at-lt n k) (bit_at-pow_same k) where
   twice : (d p : ℕ) → d < 2 → p ≡ 1 → (d + min d p) % 2 ≡ 0
   twice d p fits e = omega arith
 
-pub without_bit-other : (n k i : ℕ) → i ≢ k → bit_at (without_bit n k) i ≡ bit_at n i
-without_bit-other n k i apart = cleared n k i
+pub ternary_without_bit-other : (n k i : ℕ) → i ≢ k → bit_at (ternary_without_bit n k) i ≡ bit_at n i
+ternary_without_bit-other n k i apart = cleared n k i
     ∙ once _ _ (bit_at-lt n i) (bit_at-pow_other k i apart)
   where
     once : (d p : ℕ) → d < 2 → p ≡ 0 → (d + min d p) % 2 ≡ d
     once d p fits e = omega arith
 
-pub without_bit-le : (n k : ℕ) → without_bit n k ≤ n
-without_bit-le n k = omega arith
+pub ternary_without_bit-le : (n k : ℕ) → ternary_without_bit n k ≤ n
+ternary_without_bit-le n k = omega arith
 
 placed_same : (k : ℕ) (one : Bool) → bit_at (from_bool one * 2 ^ k) k ≡ from_bool one
 placed_same k one = search (rules, bit_at-pow_same, false, bit_at-zero)
@@ -88,17 +88,17 @@ placed_other k true i apart = let e : 1 * 2 ^ k ≡ 2 ^ k = omega arith in ap (�
 placed_other k false i apart = search (rules, bit_at-zero)
 
 pub with_bit-same : (n k : ℕ) (one : Bool) → bit_at (with_bit n k one) k ≡ from_bool one
-with_bit-same n k one = search (rules, bit_at_or, without_bit-same, placed_same)
+with_bit-same n k one = search (rules, bit_at_or, ternary_without_bit-same, placed_same)
 
 pub with_bit-other : (n k : ℕ) (one : Bool) (i : ℕ) → i ≢ k → bit_at (with_bit n k one) i ≡ bit_at n
     i
-with_bit-other n k one i apart = search (rules, bit_at_or, without_bit-other, placed_other)
+with_bit-other n k one i apart = search (rules, bit_at_or, ternary_without_bit-other, placed_other)
 
 placed_lt : (w k : ℕ) (one : Bool) → k < w → from_bool one * 2 ^ k < 2 ^ w
 placed_lt w k one within = search (rules, pow_below)
 
 pub with_bit-lt : (w n k : ℕ) (one : Bool) → n < 2 ^ w → k < w → with_bit n k one < 2 ^ w
-with_bit-lt w n k one fits within = search (rules, or_lt, without_bit-le, placed_lt)
+with_bit-lt w n k one fits within = search (rules, or_lt, ternary_without_bit-le, placed_lt)
 
 -- the bit k beside those of n
 pub or_pow-same : (n k : ℕ) → bit_at (bit_or n (2 ^ k)) k ≡ 1
@@ -185,17 +185,17 @@ shifted_one k within = let one : 1 * 2 ^ k ≡ 2 ^ k = omega arith in shifted k 
 
 -- `n & !(1 << k)`
 pub masked_out : (n k : ℕ) → n < 2 ^ 104 → k < 104 → bit_and n (2 ^ 128 - 1 - 1 * 2 ^ k % 2 ^ 128)
-    ≡ without_bit n k
+    ≡ ternary_without_bit n k
 masked_out n k fits within =
     let inside : k < 128 = omega arith in
     let wide : n < 2 ^ 128 = omega arith in
     same_from_bits_below 128 _ _ (omega (arith, and_le_l n (2 ^ 128 - 1 - 1 * 2 ^ k % 2 ^ 128)))
-    (omega (arith, without_bit-le n k))
+    (omega (arith, ternary_without_bit-le n k))
     (by_place k (λ j. j < 128 → bit_at (bit_and n (2 ^ 128 - 1 - 1 * 2 ^ k % 2 ^ 128)) j
-    ≡ bit_at (without_bit n k) j) (λ _. bit_at_clear_same w128 n k inside
-    ∙ sym (without_bit-same n k)) (λ j away low. bit_at_clear_other w128 n k inside j low away
-    ∙ sym (without_bit-other n k j away)))
+    ≡ bit_at (ternary_without_bit n k) j) (λ _. bit_at_clear_same w128 n k inside
+    ∙ sym (ternary_without_bit-same n k)) (λ j away low. bit_at_clear_other w128 n k inside j low away
+    ∙ sym (ternary_without_bit-other n k j away)))
 
 -- a bit that is not set is not there to be cleared
-pub without_bit-unset : (n k : ℕ) → (bit_at n k ≡ 1 → ⊥) → without_bit n k ≡ n
-without_bit-unset n k unset = search (rules, digit_cases)
+pub ternary_without_bit-unset : (n k : ℕ) → (bit_at n k ≡ 1 → ⊥) → ternary_without_bit n k ≡ n
+ternary_without_bit-unset n k unset = search (rules, digit_cases)

@@ -8,7 +8,7 @@ use Rattle.std.proofs.lemmas.List.FromFn.{length-range_with_len, get_or-range_wi
 use Rattle.std.proofs.lemmas.List.Kept.{IsStrictlyIncreasing-filter}
 use Rattle.std.proofs.lemmas.Nat.Bits.{bit_at-zero, bit_at_ones}
 use Rattle.std.proofs.Math.Bool.{and-true}
-use Rattle.ternary.specs.Exports.{WordValue, any_word, exact_word, fix_of, free_bits, is_fixed_of}
+use Rattle.ternary.specs.Exports.{WordValue, any_word, exact_word, word_fix_of, free_bits, is_fixed_of}
 use Rattle.ternary.proofs.TernaryWords.{is_fixed_decides, fix_fixed, fix_other}
 
 -- ---- words of no fixed bit, and of no free bit
@@ -129,23 +129,23 @@ exact_free_bits h = empty_list (free_bits (exact_word h)) (λ k has. let free =
     (free_bits_member (exact_word h) k).0 has in both_ways _ free.1 (exact_fixed h k free.0))
 
 module _ (w : WordValue) (k : ℕ) (one : Bool) where
-  pub free_bits_fixed : free_bits (fix_of w k one) ≡ filter (λ j. not (j == k)) (free_bits w)
+  pub free_bits_fixed : free_bits (word_fix_of w k one) ≡ filter (λ j. not (j == k)) (free_bits w)
   unfolding free_bits
-  free_bits_fixed = filter_agree (is_free (fix_of w k one)) (λ j. is_free w j && not (j == k)) same
+  free_bits_fixed = filter_agree (is_free (word_fix_of w k one)) (λ j. is_free w j && not (j == k)) same
       (range_with_len 0 104)
       ∙ sym (filter_twice (is_free w) (λ j. not (j == k)) (range_with_len 0 104))
     where
-      same : (j : ℕ) → is_free (fix_of w k one) j ≡ (is_free w j && not (j == k))
+      same : (j : ℕ) → is_free (word_fix_of w k one) j ≡ (is_free w j && not (j == k))
       same j = elim (cases_eq j k) [
-        | inl here ↦ ap not (ap (is_fixed_of (fix_of w k one)) here ∙ fix_fixed w k one)
+        | inl here ↦ ap not (ap (is_fixed_of (word_fix_of w k one)) here ∙ fix_fixed w k one)
             ∙ sym (and_right (is_free w j) (not (j == k)) (ap not (eq-eqb j k here)))
         | inr away ↦ ap not (fix_other w k one j away)
             ∙ sym (ap (λ t. is_free w j && t) (ap not (ne_eqb j k away)) ∙ and-true (is_free w j))
       ]
 
   pub free_bits_shorter : k < 104 → IsFalse (is_fixed_of w k)
-      → length (free_bits (fix_of w k one)) + 1 ≡ length (free_bits w)
+      → length (free_bits (word_fix_of w k one)) + 1 ≡ length (free_bits w)
   unfolding free_bits
-  free_bits_shorter low free = one_less (is_free w) (is_free (fix_of w k one)) k
+  free_bits_shorter low free = one_less (is_free w) (is_free (word_fix_of w k one)) k
       (λ j away. ap not (fix_other w k one j away)) (ap not free) (ap not (fix_fixed w k one)) 0 104
       (omega arith) (omega arith)

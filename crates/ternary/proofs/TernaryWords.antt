@@ -7,8 +7,8 @@ use Rattle.std.proofs.lemmas.Bool.Decides.{same_from_decides, Decides-like, Deci
 use Rattle.std.proofs.lemmas.Nat.{and_assoc, and_le_r, and_mask, pow_below}
 use Rattle.std.proofs.lemmas.Nat.Bits.{bit_at-zero, bit_at_ones, shr_and_one, same_from_bits_below}
 use Rattle.std.proofs.lemmas.Option.{cond_some}
-use Rattle.ternary.specs.Exports.{AgreesOnBoth, AgreesOnMask, AreDisjointWords, WordIncludes, IsFixedIn, IsMeet, IsWord, WordValue, word_admits, any_word, covers_of, exact_word, fix_of, word_fixed_value, free_of, holds, is_fixed_of, meet_of, meeting_word, meets, with_bit, without_bit, word_eq}
-use Rattle.ternary.proofs.TernaryBits.{masked, unmasked, part, of_part, both_set, left_set, right_set, or_assoc, absorbed, same_set, set_below, not_set, by_place, digit_cases, with_bit-same, with_bit-other, with_bit-lt, without_bit-same, without_bit-other, without_bit-le, without_bit-unset, shifted, shifted_one, masked_out, or_pow-same, or_pow-other, masked_sum-left, masked_sum-right, or_left, or_right, or_from}
+use Rattle.ternary.specs.Exports.{AgreesOnFixedBits, AgreesOnWordMask, AreDisjointWords, WordIncludes, IsFixedIn, IsMeet, IsWord, WordValue, word_admits, any_word, word_covers_of, exact_word, word_fix_of, word_fixed_value, free_of, holds, is_fixed_of, meet_of, meeting_word, meets, with_bit, ternary_without_bit, word_eq}
+use Rattle.ternary.proofs.TernaryBits.{masked, unmasked, part, of_part, both_set, left_set, right_set, or_assoc, absorbed, same_set, set_below, not_set, by_place, digit_cases, with_bit-same, with_bit-other, with_bit-lt, ternary_without_bit-same, ternary_without_bit-other, ternary_without_bit-le, ternary_without_bit-unset, shifted, shifted_one, masked_out, or_pow-same, or_pow-other, masked_sum-left, masked_sum-right, or_left, or_right, or_from}
 
 -- words of the same value and mask are equal
 pub same_word : (a b : WordValue) → a.value ≡ b.value → a.mask ≡ b.mask → a ≡ b
@@ -19,14 +19,14 @@ word_eq_decides a b = search (rules, Decides-like, same_word, Decides-and)
 
 -- ---- each test, bit by bit
 
-pub holds_decides : (w : WordValue) (h : ℕ) → Decides (holds w h) (AgreesOnMask w h)
+pub holds_decides : (w : WordValue) (h : ℕ) → Decides (holds w h) (AgreesOnWordMask w h)
 unfolding holds
 holds_decides w h = (
   λ t. unmasked h w.value w.mask (eqb-true _ _ t),
   λ bits. eq-eqb _ _ (masked h w.value w.mask bits),
 )
 
-pub meets_decides : (a b : WordValue) → Decides (meets a b) (AgreesOnBoth a b)
+pub meets_decides : (a b : WordValue) → Decides (meets a b) (AgreesOnFixedBits a b)
 unfolding meets
 meets_decides a b = (
   λ t k p q. unmasked a.value b.value (bit_and a.mask b.mask) (eqb-true _ _ t) k
@@ -35,8 +35,8 @@ meets_decides a b = (
       (λ k s. bits k (left_set _ _ k s) (right_set _ _ k s))),
 )
 
-pub covers_decides : (a b : WordValue) → Decides (covers_of a b) (IsFixedIn a b)
-unfolding covers_of
+pub covers_decides : (a b : WordValue) → Decides (word_covers_of a b) (IsFixedIn a b)
+unfolding word_covers_of
 covers_decides a b = (
   λ t k p. let h = and_parts _ _ t in (
     of_part a.mask b.mask (eqb-true _ _ h.0) k p,
@@ -64,19 +64,19 @@ exact_is_word h fits = record { within = and_mask h 104 ∙ mod-eq_of_lt fits; b
 
 -- ---- the order
 
-pub covers_held : (a b : WordValue) (h : ℕ) → IsTrue (covers_of a b) → IsTrue (holds b h)
+pub covers_held : (a b : WordValue) (h : ℕ) → IsTrue (word_covers_of a b) → IsTrue (holds b h)
     → IsTrue (holds a h)
 covers_held a b h c held = search (rules, holds_decides, covers_decides)
 
-pub covers_reflexive : (a : WordValue) → IsTrue (covers_of a a)
+pub covers_reflexive : (a : WordValue) → IsTrue (word_covers_of a a)
 covers_reflexive a = (covers_decides a a).1 (λ k p. (p, refl))
 
-pub covers_transitive : (a b c : WordValue) → IsTrue (covers_of a b) → IsTrue (covers_of b c)
-    → IsTrue (covers_of a c)
+pub covers_transitive : (a b c : WordValue) → IsTrue (word_covers_of a b) → IsTrue (word_covers_of b c)
+    → IsTrue (word_covers_of a c)
 covers_transitive a b c ab bc = search (rules, covers_decides)
 
-pub covers_antisymmetric : (a b : WordValue) → IsWord a → IsWord b → IsTrue (covers_of a b)
-    → IsTrue (covers_of b a) → a ≡ b
+pub covers_antisymmetric : (a b : WordValue) → IsWord a → IsWord b → IsTrue (word_covers_of a b)
+    → IsTrue (word_covers_of b a) → a ≡ b
 covers_antisymmetric a b a_word b_word ab ba =
     let f = (covers_decides a b).0 ab in
     let g = (covers_decides b a).0 ba in
@@ -84,10 +84,10 @@ covers_antisymmetric a b a_word b_word ab ba =
     let value = masked a.value b.value a.mask (λ k p. sym (f k p).1) ∙ ap (bit_and b.value) mask in
     same_word a b (sym a_word.within ∙ value ∙ b_word.within) mask
 
-pub any_covers : (w : WordValue) → IsTrue (covers_of any_word w)
+pub any_covers : (w : WordValue) → IsTrue (word_covers_of any_word w)
 any_covers w = (covers_decides any_word w).1 (λ k set. absurd (not_set 0 k (bit_at-zero k) set))
 
-pub covers_exact : (w : WordValue) (h : ℕ) → IsWord w → h < 2 ^ 104 → covers_of w (exact_word h)
+pub covers_exact : (w : WordValue) (h : ℕ) → IsWord w → h < 2 ^ 104 → word_covers_of w (exact_word h)
     ≡ holds w h
 covers_exact w h w_word fits = same_from_decides _ _ (Decides-like _ (λ fixed k p. (fixed k p).1)
     (λ bits k p. (bit_at_ones 104 k (set_below 104 w.mask k w_word.bounded p), bits k p))
@@ -103,11 +103,11 @@ zero_not_one d p q = omega (arith, p, q)
 -- A bit that a fixes and b leaves free would have two values in a, since b holds its value with
 -- that bit set to either.
 pub includes_covers : (a b : WordValue) → IsWord a → IsWord b → WordIncludes a b
-    → IsTrue (covers_of a b)
+    → IsTrue (word_covers_of a b)
 includes_covers a b a_word b_word inside = (covers_decides a b).1
     (λ k p. (fixed k p, agrees b.value (value_below b b_word) (λ j set. refl) k p))
   where
-    agrees : (h : ℕ) → h < 2 ^ 104 → AgreesOnMask b h → AgreesOnMask a h
+    agrees : (h : ℕ) → h < 2 ^ 104 → AgreesOnWordMask b h → AgreesOnWordMask a h
     agrees h fits bits = (holds_decides a h).0 (inside h fits ((holds_decides b h).1 bits))
 
     either : (k : ℕ) → bit_at a.mask k ≡ 1 → bit_at b.mask k ≡ 0 → (one : Bool)
@@ -131,7 +131,7 @@ same_headers a b a_word b_word same = search (rules, covers_antisymmetric, inclu
 
 -- ---- what is in both
 
-module _ (a b : WordValue) (agree : AgreesOnBoth a b) where
+module _ (a b : WordValue) (agree : AgreesOnFixedBits a b) where
   joined_left : IsFixedIn a (meeting_word a b)
   joined_left k p = search (rules, or_left, masked_sum-left)
 
@@ -169,10 +169,10 @@ module _ (a b : WordValue) (agree : AgreesOnBoth a b) where
   joined_meets c = joined_test (λ k d. bit_at c.mask k ≡ 1 → d ≡ bit_at c.value k) (λ w. meets w c)
       (λ w. meets_decides w c)
 
-  joined_covers : (c : WordValue) → covers_of (meeting_word a b) c
-      ≡ (covers_of a c && covers_of b c)
+  joined_covers : (c : WordValue) → word_covers_of (meeting_word a b) c
+      ≡ (word_covers_of a c && word_covers_of b c)
   joined_covers c =
-      joined_test (λ k d. (bit_at c.mask k ≡ 1) × (bit_at c.value k ≡ d)) (λ w. covers_of w c)
+      joined_test (λ k d. (bit_at c.mask k ≡ 1) × (bit_at c.value k ≡ d)) (λ w. word_covers_of w c)
       (λ w. covers_decides w c)
 
 -- the joined value has no bit outside the joined mask
@@ -264,7 +264,7 @@ meet_right a b c = then_cond (meet_of a) (meets b c) (meeting_word b c) ∙ cond
 
 -- any two of three words agree
 abbrev AgreesOnEach : WordValue → WordValue → WordValue → Type 0
-AgreesOnEach a b c = AgreesOnBoth a b × AgreesOnBoth a c × AgreesOnBoth b c
+AgreesOnEach a b c = AgreesOnFixedBits a b × AgreesOnFixedBits a c × AgreesOnFixedBits b c
 
 left_decides : (a b c : WordValue) → Decides (meets a b && meets (meeting_word a b) c)
     (AgreesOnEach a b c)
@@ -306,37 +306,37 @@ meet_exact w h w_word fits = same_from_decides _ _ (Decides-like _
     (λ bits k p s. sym (bits k p)) (meets_decides w (exact_word h))) (holds_decides w h)
 
 pub meet_greatest : (a b m c : WordValue) → meet_of a b ≡ Some m
-    → covers_of m c ≡ (covers_of a c && covers_of b c)
+    → word_covers_of m c ≡ (word_covers_of a c && word_covers_of b c)
 meet_greatest a b m c e = let found = meet_some a b m e in
-    ap (λ w. covers_of w c) (sym found.1) ∙ joined_covers a b ((meets_decides a b).0 found.0) c
+    ap (λ w. word_covers_of w c) (sym found.1) ∙ joined_covers a b ((meets_decides a b).0 found.0) c
 
-pub meet_within : (a b m : WordValue) → meet_of a b ≡ Some m → IsTrue (covers_of a m)
-    × IsTrue (covers_of b m)
+pub meet_within : (a b m : WordValue) → meet_of a b ≡ Some m → IsTrue (word_covers_of a m)
+    × IsTrue (word_covers_of b m)
 meet_within a b m e = and_parts _ _ (sym (meet_greatest a b m m e) ∙ covers_reflexive m)
 
 -- a word agrees with what it covers, and with less of what that meets
-covers_meets : (a b c : WordValue) → IsTrue (covers_of a b) → meets b c ≡ true → meets a c ≡ true
+covers_meets : (a b c : WordValue) → IsTrue (word_covers_of a b) → meets b c ≡ true → meets a c ≡ true
 covers_meets a b c ab bc = search (rules, covers_decides, meets_decides)
 
 meets_itself : (a : WordValue) → meets a a ≡ true
 meets_itself a = (meets_decides a a).1 (λ k p q. refl)
 
-pub meet_covered : (a b : WordValue) → IsWord b → IsTrue (covers_of a b) → meet_of a b ≡ Some b
+pub meet_covered : (a b : WordValue) → IsWord b → IsTrue (word_covers_of a b) → meet_of a b ≡ Some b
 meet_covered a b b_word ab = met_joined a b (covers_meets a b b ab (meets_itself b))
     ∙ ap Some (joined_covered a b ((covers_decides a b).0 ab) ∙ same_word _ _ b_word.within refl)
 
-pub meets_cover : (a b : WordValue) → IsTrue (covers_of a b) → IsTrue (meets b a)
+pub meets_cover : (a b : WordValue) → IsTrue (word_covers_of a b) → IsTrue (meets b a)
 meets_cover a b ab = meets_comm b a ∙ covers_meets a b b ab (meets_itself b)
 
 pub meet_any : (a : WordValue) → IsWord a → meet_of a any_word ≡ Some a
 meet_any a a_word = meet_comm a any_word ∙ meet_covered any_word a a_word (any_covers a)
 
-pub meet_monotone : (a b c : WordValue) → IsTrue (covers_of a b) → meet_of a c ≡ None
+pub meet_monotone : (a b c : WordValue) → IsTrue (word_covers_of a b) → meet_of a c ≡ None
     → meet_of b c ≡ None
 meet_monotone a b c ab none = apart_none b c
     (false_from_ne_true _ (λ t. both_ways _ (meet_none a c none) (covers_meets a b c ab t)))
 
-pub meet_narrowed : (w a b : WordValue) → IsTrue (covers_of a b)
+pub meet_narrowed : (w a b : WordValue) → IsTrue (word_covers_of a b)
     → option_and_then (λ m. meet_of m b) (meet_of w a) ≡ meet_of w b
 unfolding meet_of
 meet_narrowed w a b ab =
@@ -375,7 +375,7 @@ admits_decides w k one = search (rules, implies_decides, is_fixed_decides)
 
 -- A word that fixes all of the 104 bits fixes what any word does: what agrees with it covers it.
 pub covers_full : (a b : WordValue) → IsWord a → ((k : ℕ) → k < 104 → IsTrue (is_fixed_of b k))
-    → IsTrue (meets a b) → IsTrue (covers_of a b)
+    → IsTrue (meets a b) → IsTrue (word_covers_of a b)
 covers_full a b a_word full agree = (covers_decides a b).1
     (λ k p. let q = (is_fixed_decides b k).0 (full k (set_below 104 a.mask k a_word.bounded p)) in
     (q, sym ((meets_decides a b).0 agree k p q)))
@@ -385,16 +385,16 @@ pub held_admits : (w : WordValue) (k : ℕ) (one : Bool) (h : ℕ) → IsTrue (h
 held_admits w k one h held e = search (rules, admits_decides, holds_decides)
 
 module _ (w : WordValue) (k : ℕ) (one : Bool) where
-  pub fix_fixed : IsTrue (is_fixed_of (fix_of w k one) k)
-  unfolding fix_of
-  fix_fixed = (is_fixed_decides (fix_of w k one) k).1 (or_pow-same w.mask k)
+  pub fix_fixed : IsTrue (is_fixed_of (word_fix_of w k one) k)
+  unfolding word_fix_of
+  fix_fixed = (is_fixed_decides (word_fix_of w k one) k).1 (or_pow-same w.mask k)
 
-  pub fix_other : (j : ℕ) → j ≢ k → is_fixed_of (fix_of w k one) j ≡ is_fixed_of w j
-  unfolding fix_of
-  fix_other j away = is_fixed_same (fix_of w k one) w j (or_pow-other w.mask k j away)
+  pub fix_other : (j : ℕ) → j ≢ k → is_fixed_of (word_fix_of w k one) j ≡ is_fixed_of w j
+  unfolding word_fix_of
+  fix_other j away = is_fixed_same (word_fix_of w k one) w j (or_pow-other w.mask k j away)
 
-  pub fix_word : IsWord w → k < 104 → IsWord (fix_of w k one)
-  unfolding fix_of
+  pub fix_word : IsWord w → k < 104 → IsWord (word_fix_of w k one)
+  unfolding word_fix_of
   fix_word w_word within = record {
     within = part (with_bit w.value k one) (bit_or w.mask (2 ^ k)) (by_place k
         (λ j. bit_at (with_bit w.value k one) j ≡ 1 → bit_at (bit_or w.mask (2 ^ k)) j ≡ 1) (λ _.
@@ -404,9 +404,9 @@ module _ (w : WordValue) (k : ℕ) (one : Bool) where
   }
 
   module _ (free : IsFalse (is_fixed_of w k)) where
-    pub fix_holds : (h : ℕ) → holds (fix_of w k one) h
+    pub fix_holds : (h : ℕ) → holds (word_fix_of w k one) h
         ≡ (holds w h && (bit_at h k == from_bool one))
-    unfolding fix_of
+    unfolding word_fix_of
     fix_holds h = same_from_decides _ _ (Decides-like _ (λ bits. (
       by_place k (λ j. bit_at w.mask j ≡ 1 → bit_at h j ≡ bit_at w.value j)
           (λ p. absurd (free_bit w k free p)) (λ j away p. bits j
@@ -417,11 +417,11 @@ module _ (w : WordValue) (k : ℕ) (one : Bool) where
         (λ j. bit_at (bit_or w.mask (2 ^ k)) j ≡ 1 → bit_at h j ≡ bit_at (with_bit w.value k one) j)
         (λ _. both.1 ∙ sym (with_bit-same w.value k one)) (λ j away s. both.0 j
         (sym (or_pow-other w.mask k j away) ∙ s) ∙ sym (with_bit-other w.value k one j away)))
-        (holds_decides (fix_of w k one) h))
+        (holds_decides (word_fix_of w k one) h))
         (Decides-and _ _ (holds_decides w h) (Decides-eqb (bit_at h k) (from_bool one)))
 
-    pub fix_within : IsTrue (covers_of w (fix_of w k one))
-    unfolding fix_of
+    pub fix_within : IsTrue (word_covers_of w (word_fix_of w k one))
+    unfolding word_fix_of
     fix_within = search (rules, covers_decides, free_bit, or_pow-other, with_bit-other)
 
 -- one of two tests on the halves
@@ -435,19 +435,19 @@ bit_parts : (h k : ℕ) → (((bit_at h k == from_bool false) ≡ true)
 bit_parts h k = search (rules, digit_cases, eq-eqb, ne_eqb, zero_not_one)
 
 pub halves_split : (w : WordValue) (k h : ℕ) → IsFalse (is_fixed_of w k)
-    → holds w h ≡ (holds (fix_of w k false) h || holds (fix_of w k true) h)
+    → holds w h ≡ (holds (word_fix_of w k false) h || holds (word_fix_of w k true) h)
 halves_split w k h free = search (rules, bit_parts, fix_holds)
 
-pub halves_apart : (w : WordValue) (k : ℕ) → meet_of (fix_of w k false) (fix_of w k true) ≡ None
-unfolding fix_of
+pub halves_apart : (w : WordValue) (k : ℕ) → meet_of (word_fix_of w k false) (word_fix_of w k true) ≡ None
+unfolding word_fix_of
 halves_apart w k = apart_none _ _ (false_from_ne_true _ (λ t. zero_not_one _ refl
-    (sym (with_bit-same w.value k false) ∙ (meets_decides (fix_of w k false) (fix_of w k true)).0 t
+    (sym (with_bit-same w.value k false) ∙ (meets_decides (word_fix_of w k false) (word_fix_of w k true)).0 t
     k (or_pow-same w.mask k) (or_pow-same w.mask k) ∙ with_bit-same w.value k true)))
 
 module _ (w r : WordValue) (k : ℕ) (one : Bool) where
   pub meets_half : IsFalse (is_fixed_of r k)
-      → meets w (fix_of r k one) ≡ (meets w r && word_admits w k one)
-  unfolding fix_of
+      → meets w (word_fix_of r k one) ≡ (meets w r && word_admits w k one)
+  unfolding word_fix_of
   meets_half free = same_from_decides _ _ (Decides-like _ (λ bits. (
     by_place k
         (λ j. bit_at w.mask j ≡ 1 → bit_at r.mask j ≡ 1 → bit_at w.value j ≡ bit_at r.value j)
@@ -459,30 +459,30 @@ module _ (w r : WordValue) (k : ℕ) (one : Bool) where
       → bit_at w.value j ≡ bit_at (with_bit r.value k one) j)
       (λ p _. both.1 p ∙ sym (with_bit-same r.value k one)) (λ j away p s. both.0 j p
       (sym (or_pow-other r.mask k j away) ∙ s) ∙ sym (with_bit-other r.value k one j away)))
-      (meets_decides w (fix_of r k one)))
+      (meets_decides w (word_fix_of r k one)))
       (Decides-and _ _ (meets_decides w r) (admits_decides w k one))
 
-  pub covers_half : covers_of w (fix_of r k one) ≡ (covers_of (free_of w k) r && word_admits w k one)
-  unfolding fix_of free_of
+  pub covers_half : word_covers_of w (word_fix_of r k one) ≡ (word_covers_of (free_of w k) r && word_admits w k one)
+  unfolding word_fix_of free_of
   covers_half = same_from_decides _ _ (Decides-like _ (λ bits. (
-    by_place k (λ j. bit_at (without_bit w.mask k) j ≡ 1 → (bit_at r.mask j ≡ 1)
-        × (bit_at r.value j ≡ bit_at (without_bit w.value k) j))
-        (λ s. absurd (not_set _ k (without_bit-same w.mask k) s))
-        (λ j away s. let b = bits j (sym (without_bit-other w.mask k j away) ∙ s) in (
+    by_place k (λ j. bit_at (ternary_without_bit w.mask k) j ≡ 1 → (bit_at r.mask j ≡ 1)
+        × (bit_at r.value j ≡ bit_at (ternary_without_bit w.value k) j))
+        (λ s. absurd (not_set _ k (ternary_without_bit-same w.mask k) s))
+        (λ j away s. let b = bits j (sym (ternary_without_bit-other w.mask k j away) ∙ s) in (
           sym (or_pow-other r.mask k j away) ∙ b.0,
           sym (with_bit-other r.value k one j away)
-              ∙ b.1 ∙ sym (without_bit-other w.value k j away),
+              ∙ b.1 ∙ sym (ternary_without_bit-other w.value k j away),
         )),
     λ p. sym (bits k p).1 ∙ with_bit-same r.value k one,
   ))
       (λ both. by_place k (λ j. bit_at w.mask j ≡ 1 → (bit_at (bit_or r.mask (2 ^ k)) j ≡ 1)
       × (bit_at (with_bit r.value k one) j ≡ bit_at w.value j))
       (λ p. (or_pow-same r.mask k, with_bit-same r.value k one ∙ sym (both.1 p)))
-      (λ j away p. let b = both.0 j (without_bit-other w.mask k j away ∙ p) in (
+      (λ j away p. let b = both.0 j (ternary_without_bit-other w.mask k j away ∙ p) in (
         or_pow-other r.mask k j away ∙ b.0,
-        with_bit-other r.value k one j away ∙ b.1 ∙ without_bit-other w.value k j away,
+        with_bit-other r.value k one j away ∙ b.1 ∙ ternary_without_bit-other w.value k j away,
       )))
-      (covers_decides w (fix_of r k one)))
+      (covers_decides w (word_fix_of r k one)))
       (Decides-and _ _ (covers_decides (free_of w k) r) (admits_decides w k one))
 
 -- ---- a freed bit
@@ -491,31 +491,31 @@ module _ (w : WordValue) (k : ℕ) where
   pub free_free : IsFalse (is_fixed_of (free_of w k) k)
   unfolding free_of
   free_free = false_from_ne_true _
-      (λ t. not_set _ k (without_bit-same w.mask k) ((is_fixed_decides (free_of w k) k).0 t))
+      (λ t. not_set _ k (ternary_without_bit-same w.mask k) ((is_fixed_decides (free_of w k) k).0 t))
 
   pub free_other : (j : ℕ) → j ≢ k → is_fixed_of (free_of w k) j ≡ is_fixed_of w j
   unfolding free_of
-  free_other j away = is_fixed_same (free_of w k) w j (without_bit-other w.mask k j away)
+  free_other j away = is_fixed_same (free_of w k) w j (ternary_without_bit-other w.mask k j away)
 
   pub free_word : IsWord w → IsWord (free_of w k)
   unfolding free_of
   free_word w_word = record {
-    within = part (without_bit w.value k) (without_bit w.mask k) (by_place k
-        (λ j. bit_at (without_bit w.value k) j ≡ 1 → bit_at (without_bit w.mask k) j ≡ 1) (λ s.
-        absurd (not_set _ k (without_bit-same w.value k) s))
-        (λ j away s. without_bit-other w.mask k j away
-        ∙ of_part w.value w.mask w_word.within j (sym (without_bit-other w.value k j away) ∙ s)));
-    bounded = omega (arith, without_bit-le w.mask k, w_word.bounded);
+    within = part (ternary_without_bit w.value k) (ternary_without_bit w.mask k) (by_place k
+        (λ j. bit_at (ternary_without_bit w.value k) j ≡ 1 → bit_at (ternary_without_bit w.mask k) j ≡ 1) (λ s.
+        absurd (not_set _ k (ternary_without_bit-same w.value k) s))
+        (λ j away s. ternary_without_bit-other w.mask k j away
+        ∙ of_part w.value w.mask w_word.within j (sym (ternary_without_bit-other w.value k j away) ∙ s)));
+    bounded = omega (arith, ternary_without_bit-le w.mask k, w_word.bounded);
   }
 
-  pub free_wider : IsTrue (covers_of (free_of w k) w)
+  pub free_wider : IsTrue (word_covers_of (free_of w k) w)
   unfolding free_of
   free_wider = (covers_decides (free_of w k) w).1
-      (by_place k (λ j. bit_at (without_bit w.mask k) j ≡ 1
-      → (bit_at w.mask j ≡ 1) × (bit_at w.value j ≡ bit_at (without_bit w.value k) j))
-      (λ s. absurd (not_set _ k (without_bit-same w.mask k) s)) (λ j away s. (
-        cc (without_bit-other w.mask k j away, s),
-        sym (without_bit-other w.value k j away),
+      (by_place k (λ j. bit_at (ternary_without_bit w.mask k) j ≡ 1
+      → (bit_at w.mask j ≡ 1) × (bit_at w.value j ≡ bit_at (ternary_without_bit w.value k) j))
+      (λ s. absurd (not_set _ k (ternary_without_bit-same w.mask k) s)) (λ j away s. (
+        cc (ternary_without_bit-other w.mask k j away, s),
+        sym (ternary_without_bit-other w.value k j away),
       )))
 
   pub free_holds : (h : ℕ)
@@ -529,37 +529,37 @@ module _ (w : WordValue) (k : ℕ) where
       (holds_decides (free_of w k) h))
       (Decides-or _ _ (holds_decides w (with_bit h k false)) (holds_decides w (with_bit h k true)))
     where
-      filled : AgreesOnMask (free_of w k) h → (one : Bool) → bit_at w.value k ≡ from_bool one
-          → AgreesOnMask w (with_bit h k one)
+      filled : AgreesOnWordMask (free_of w k) h → (one : Bool) → bit_at w.value k ≡ from_bool one
+          → AgreesOnWordMask w (with_bit h k one)
       filled bits one e = by_place k
           (λ j. bit_at w.mask j ≡ 1 → bit_at (with_bit h k one) j ≡ bit_at w.value j)
           (λ _. with_bit-same h k one ∙ sym e) (λ j away p. with_bit-other h k one j away
-          ∙ bits j (without_bit-other w.mask k j away ∙ p) ∙ without_bit-other w.value k j away)
+          ∙ bits j (ternary_without_bit-other w.mask k j away ∙ p) ∙ ternary_without_bit-other w.value k j away)
 
-      emptied : (one : Bool) → AgreesOnMask w (with_bit h k one) → AgreesOnMask (free_of w k) h
+      emptied : (one : Bool) → AgreesOnWordMask w (with_bit h k one) → AgreesOnWordMask (free_of w k) h
       emptied one bits = by_place k
-          (λ j. bit_at (without_bit w.mask k) j ≡ 1 → bit_at h j ≡ bit_at (without_bit w.value k) j)
-          (λ s. absurd (not_set _ k (without_bit-same w.mask k) s))
+          (λ j. bit_at (ternary_without_bit w.mask k) j ≡ 1 → bit_at h j ≡ bit_at (ternary_without_bit w.value k) j)
+          (λ s. absurd (not_set _ k (ternary_without_bit-same w.mask k) s))
           (λ j away s. sym (with_bit-other h k one j away) ∙ bits j
-          (sym (without_bit-other w.mask k j away) ∙ s) ∙ sym (without_bit-other w.value k j away))
+          (sym (ternary_without_bit-other w.mask k j away) ∙ s) ∙ sym (ternary_without_bit-other w.value k j away))
 
-pub free_monotone : (a b : WordValue) (k : ℕ) → IsTrue (covers_of a b)
-    → IsTrue (covers_of (free_of a k) (free_of b k))
+pub free_monotone : (a b : WordValue) (k : ℕ) → IsTrue (word_covers_of a b)
+    → IsTrue (word_covers_of (free_of a k) (free_of b k))
 unfolding free_of
 free_monotone a b k ab = let fixed = (covers_decides a b).0 ab in
     (covers_decides (free_of a k) (free_of b k)).1
-    (by_place k (λ j. bit_at (without_bit a.mask k) j ≡ 1 → (bit_at (without_bit b.mask k) j ≡ 1)
-    × (bit_at (without_bit b.value k) j ≡ bit_at (without_bit a.value k) j))
-    (λ s. absurd (not_set _ k (without_bit-same a.mask k) s))
-    (λ j away s. let f = fixed j (sym (without_bit-other a.mask k j away) ∙ s) in (
-      without_bit-other b.mask k j away ∙ f.0,
-      without_bit-other b.value k j away ∙ f.1 ∙ sym (without_bit-other a.value k j away),
+    (by_place k (λ j. bit_at (ternary_without_bit a.mask k) j ≡ 1 → (bit_at (ternary_without_bit b.mask k) j ≡ 1)
+    × (bit_at (ternary_without_bit b.value k) j ≡ bit_at (ternary_without_bit a.value k) j))
+    (λ s. absurd (not_set _ k (ternary_without_bit-same a.mask k) s))
+    (λ j away s. let f = fixed j (sym (ternary_without_bit-other a.mask k j away) ∙ s) in (
+      ternary_without_bit-other b.mask k j away ∙ f.0,
+      ternary_without_bit-other b.value k j away ∙ f.1 ∙ sym (ternary_without_bit-other a.value k j away),
     )))
 
 -- ---- what the methods compute
 
 module _ (a b : WordValue) (a_word : IsWord a) (b_word : IsWord b) where
-  pub inclusion : IsTrue (covers_of a b) ↔ WordIncludes a b
+  pub inclusion : IsTrue (word_covers_of a b) ↔ WordIncludes a b
   inclusion = (λ t h fits held. covers_held a b h t held, includes_covers a b a_word b_word)
 
   pub disjoint : IsNone (meet_of a b) ↔ AreDisjointWords a b
@@ -574,7 +574,7 @@ module _ (a b : WordValue) (a_word : IsWord a) (b_word : IsWord b) where
   )
 
   -- the same of a test, or of a meet, where the two words go by other names
-  pub inclusion_as : {v w : WordValue} {t : Bool} → a ≡ v → b ≡ w → t ≡ covers_of v w
+  pub inclusion_as : {v w : WordValue} {t : Bool} → a ≡ v → b ≡ w → t ≡ word_covers_of v w
       → IsTrue t ↔ WordIncludes v w
   inclusion_as same also is = rw (is, ← same, ← also) inclusion
 
@@ -610,13 +610,13 @@ module _ (w : WordValue) (w_word : IsWord w) where
   pub set_fix : (k : ℕ) (one : Bool) → k < 104 → IsFalse (is_fixed_of w k) → record {
     value = bit_or w.value (from_bool one * 2 ^ k % 2 ^ 128);
     mask = bit_or w.mask (1 * 2 ^ k % 2 ^ 128);
-  } ≡ fix_of w k one
-  unfolding fix_of
+  } ≡ word_fix_of w k one
+  unfolding word_fix_of
   set_fix k one within free =
       let unset : bit_at w.value k ≡ 1
       → ⊥ = λ set. free_bit w k free (of_part w.value w.mask w_word.within k set) in
       same_word _ _
-      (λ i. bit_or (sym (without_bit-unset w.value k unset) i) (shifted k one within i))
+      (λ i. bit_or (sym (ternary_without_bit-unset w.value k unset) i) (shifted k one within i))
       (ap (bit_or w.mask) (shifted_one k within))
 
   pub cleared_free : (k : ℕ) → k < 104 → record {

@@ -4,11 +4,11 @@ use Rattle.std.specs.Int.{bit_at, from_bool}
 use Rattle.std.specs.List.Sorted.{IsStrictlyIncreasing}
 use Rattle.ternary.specs.Word.{WordValue, holds}
 use Rattle.ternary.specs.WordBits.{IsWord}
-use Rattle.ternary.specs.Meets.{AgreesOnMask, AgreesOnBoth, IsFixedIn, IsMeet, any_word, exact_word, meets, meet_of, covers_of, with_bit, is_fixed_of, word_admits, words_agree_at, word_includes_at, fix_of, free_of, free_bits, word_eq}
+use Rattle.ternary.specs.Meets.{AgreesOnWordMask, AgreesOnFixedBits, IsFixedIn, IsMeet, any_word, exact_word, meets, meet_of, word_covers_of, with_bit, is_fixed_of, word_admits, words_agree_at, word_includes_at, word_fix_of, free_of, free_bits, word_eq}
 
-pub record HoldsLaws : Type 0 where
+pub record WordHoldsLaws : Type 0 where
   -- the test is agreement, bit by bit
-  pub bitwise : (w : WordValue) (h : ℕ) → IsTrue (holds w h) ↔ AgreesOnMask w h
+  pub bitwise : (w : WordValue) (h : ℕ) → IsTrue (holds w h) ↔ AgreesOnWordMask w h
   -- every word holds a header, its value
   pub value : (w : WordValue) → IsTrue (holds w w.value)
   pub bound : (w : WordValue) → IsWord w → w.value < 2 ^ 104
@@ -17,7 +17,7 @@ pub record HoldsLaws : Type 0 where
   pub same : (a b : WordValue) → IsWord a → IsWord b
       → ((h : ℕ) → h < 2 ^ 104 → holds a h ≡ holds b h) → a ≡ b
 
-pub record AnyLaws : Type 0 where
+pub record AnyWordLaws : Type 0 where
   pub word : IsWord any_word
   pub holds : (h : ℕ) → IsTrue (holds any_word h)
   pub no_fixed_bit : (k : ℕ) → IsFalse (is_fixed_of any_word k)
@@ -30,26 +30,26 @@ pub record ExactLaws : Type 0 where
 
 pub record CoversLaws : Type 0 where
   -- a word covers another if each bit that it fixes is fixed to the same in the other
-  pub bitwise : (a b : WordValue) → IsTrue (covers_of a b) ↔ IsFixedIn a b
+  pub bitwise : (a b : WordValue) → IsTrue (word_covers_of a b) ↔ IsFixedIn a b
   -- a word holds each header of a word that it covers
-  pub held : (a b : WordValue) (h : ℕ) → IsTrue (covers_of a b) → IsTrue (holds b h)
+  pub held : (a b : WordValue) (h : ℕ) → IsTrue (word_covers_of a b) → IsTrue (holds b h)
       → IsTrue (holds a h)
-  pub reflexive : (a : WordValue) → IsTrue (covers_of a a)
-  pub transitive : (a b c : WordValue) → IsTrue (covers_of a b) → IsTrue (covers_of b c)
-      → IsTrue (covers_of a c)
-  pub antisymmetric : (a b : WordValue) → IsWord a → IsWord b → IsTrue (covers_of a b)
-      → IsTrue (covers_of b a) → a ≡ b
-  pub any : (w : WordValue) → IsTrue (covers_of any_word w)
+  pub reflexive : (a : WordValue) → IsTrue (word_covers_of a a)
+  pub transitive : (a b c : WordValue) → IsTrue (word_covers_of a b) → IsTrue (word_covers_of b c)
+      → IsTrue (word_covers_of a c)
+  pub antisymmetric : (a b : WordValue) → IsWord a → IsWord b → IsTrue (word_covers_of a b)
+      → IsTrue (word_covers_of b a) → a ≡ b
+  pub any : (w : WordValue) → IsTrue (word_covers_of any_word w)
   -- a word covers the word of one header exactly if it holds the header
   pub exact : (w : WordValue) (h : ℕ) → IsWord w → h < 2 ^ 104
-      → covers_of w (exact_word h) ≡ holds w h
+      → word_covers_of w (exact_word h) ≡ holds w h
   -- a word covers each word without a free bit that it meets
   pub no_free_bit : (a b : WordValue) → IsWord a → ((k : ℕ) → k < 104 → IsTrue (is_fixed_of b k))
-      → IsTrue (meets a b) → IsTrue (covers_of a b)
+      → IsTrue (meets a b) → IsTrue (word_covers_of a b)
 
 pub record MeetLaws : Type 0 where
   -- words meet if no bit is fixed in both to different values
-  pub bitwise : (a b : WordValue) → IsTrue (meets a b) ↔ AgreesOnBoth a b
+  pub bitwise : (a b : WordValue) → IsTrue (meets a b) ↔ AgreesOnFixedBits a b
   -- the meet holds what both hold, and there is none if both hold no header
   pub both : (a b m : WordValue) → meet_of a b ≡ Some m → IsMeet a b m
   pub none : (a b : WordValue) (h : ℕ) → meet_of a b ≡ None → (holds a h && holds b h) ≡ false
@@ -64,71 +64,71 @@ pub record MeetLaws : Type 0 where
   pub exact : (w : WordValue) (h : ℕ) → IsWord w → h < 2 ^ 104 → meets w (exact_word h) ≡ holds w h
   -- the meet is the greatest word that both cover
   pub within : (a b m : WordValue) → meet_of a b ≡ Some m
-      → IsTrue (covers_of a m) × IsTrue (covers_of b m)
+      → IsTrue (word_covers_of a m) × IsTrue (word_covers_of b m)
   pub greatest : (a b m c : WordValue) → meet_of a b ≡ Some m
-      → covers_of m c ≡ (covers_of a c && covers_of b c)
-  pub covered : (a b : WordValue) → IsWord b → IsTrue (covers_of a b) ↔ (meet_of a b ≡ Some b)
-  pub meets_cover : (a b : WordValue) → IsTrue (covers_of a b) → IsTrue (meets b a)
+      → word_covers_of m c ≡ (word_covers_of a c && word_covers_of b c)
+  pub covered : (a b : WordValue) → IsWord b → IsTrue (word_covers_of a b) ↔ (meet_of a b ≡ Some b)
+  pub meets_cover : (a b : WordValue) → IsTrue (word_covers_of a b) → IsTrue (meets b a)
   -- if a word doesn't meet c, no word that it covers does
-  pub monotone : (a b c : WordValue) → IsTrue (covers_of a b) → meet_of a c ≡ None
+  pub monotone : (a b c : WordValue) → IsTrue (word_covers_of a b) → meet_of a c ≡ None
       → meet_of b c ≡ None
   -- narrowing to a, and then to a word that a covers, is narrowing to the latter
-  pub narrowed : (w a b : WordValue) → IsTrue (covers_of a b)
+  pub narrowed : (w a b : WordValue) → IsTrue (word_covers_of a b)
       → option_and_then (λ m. meet_of m b) (meet_of w a) ≡ meet_of w b
 
-pub record FixLaws : Type 0 where
+pub record WordFixLaws : Type 0 where
   -- a half holds the headers of the word that have its bit, so each is in exactly one half
   pub half : (w : WordValue) (k : ℕ) (one : Bool) (h : ℕ) → IsFalse (is_fixed_of w k)
-      → holds (fix_of w k one) h ≡ (holds w h && (bit_at h k == from_bool one))
+      → holds (word_fix_of w k one) h ≡ (holds w h && (bit_at h k == from_bool one))
   pub split : (w : WordValue) (k h : ℕ) → IsFalse (is_fixed_of w k)
-      → holds w h ≡ (holds (fix_of w k false) h || holds (fix_of w k true) h)
-  pub apart : (w : WordValue) (k : ℕ) → meet_of (fix_of w k false) (fix_of w k true) ≡ None
+      → holds w h ≡ (holds (word_fix_of w k false) h || holds (word_fix_of w k true) h)
+  pub apart : (w : WordValue) (k : ℕ) → meet_of (word_fix_of w k false) (word_fix_of w k true) ≡ None
   pub within : (w : WordValue) (k : ℕ) (one : Bool) → IsFalse (is_fixed_of w k)
-      → IsTrue (covers_of w (fix_of w k one))
-  pub word : (w : WordValue) (k : ℕ) (one : Bool) → IsWord w → k < 104 → IsWord (fix_of w k one)
-  pub same_bit : (w : WordValue) (k : ℕ) (one : Bool) → IsTrue (is_fixed_of (fix_of w k one) k)
+      → IsTrue (word_covers_of w (word_fix_of w k one))
+  pub word : (w : WordValue) (k : ℕ) (one : Bool) → IsWord w → k < 104 → IsWord (word_fix_of w k one)
+  pub same_bit : (w : WordValue) (k : ℕ) (one : Bool) → IsTrue (is_fixed_of (word_fix_of w k one) k)
   pub other_bit : (w : WordValue) (k j : ℕ) (one : Bool) → j ≢ k
-      → is_fixed_of (fix_of w k one) j ≡ is_fixed_of w j
+      → is_fixed_of (word_fix_of w k one) j ≡ is_fixed_of w j
   -- the bit of a header that w holds; whether w meets or covers a half of r
   pub admits_bit : (w : WordValue) (k : ℕ) (one : Bool) (h : ℕ) → IsTrue (holds w h)
       → bit_at h k ≡ from_bool one → IsTrue (word_admits w k one)
   pub meets_half : (w r : WordValue) (k : ℕ) (one : Bool) → IsFalse (is_fixed_of r k)
-      → meets w (fix_of r k one) ≡ (meets w r && word_admits w k one)
+      → meets w (word_fix_of r k one) ≡ (meets w r && word_admits w k one)
   pub covers_half : (w r : WordValue) (k : ℕ) (one : Bool)
-      → covers_of w (fix_of r k one) ≡ (covers_of (free_of w k) r && word_admits w k one)
+      → word_covers_of w (word_fix_of r k one) ≡ (word_covers_of (free_of w k) r && word_admits w k one)
 
 pub record FreeLaws : Type 0 where
   -- the freed word holds what the word holds with the bit set to 0 or to 1
   pub either : (w : WordValue) (k h : ℕ)
       → holds (free_of w k) h ≡ (holds w (with_bit h k false) || holds w (with_bit h k true))
-  pub wider : (w : WordValue) (k : ℕ) → IsTrue (covers_of (free_of w k) w)
-  pub monotone : (a b : WordValue) (k : ℕ) → IsTrue (covers_of a b)
-      → IsTrue (covers_of (free_of a k) (free_of b k))
+  pub wider : (w : WordValue) (k : ℕ) → IsTrue (word_covers_of (free_of w k) w)
+  pub monotone : (a b : WordValue) (k : ℕ) → IsTrue (word_covers_of a b)
+      → IsTrue (word_covers_of (free_of a k) (free_of b k))
   pub word : (w : WordValue) (k : ℕ) → IsWord w → IsWord (free_of w k)
   pub same_bit : (w : WordValue) (k : ℕ) → IsFalse (is_fixed_of (free_of w k) k)
   pub other_bit : (w : WordValue) (k j : ℕ) → j ≢ k → is_fixed_of (free_of w k) j ≡ is_fixed_of w j
   -- freeing a free bit changes nothing; freeing and fixing a bit undo each other
   pub unfixed : (w : WordValue) (k : ℕ) → IsWord w → IsFalse (is_fixed_of w k) → free_of w k ≡ w
   pub undone : (w : WordValue) (k : ℕ) (one : Bool) → IsWord w → IsFalse (is_fixed_of w k)
-      → free_of (fix_of w k one) k ≡ w
+      → free_of (word_fix_of w k one) k ≡ w
   pub restored : (w : WordValue) (k : ℕ) (one : Bool) → IsWord w → IsTrue (is_fixed_of w k)
-      → bit_at w.value k ≡ from_bool one → fix_of (free_of w k) k one ≡ w
+      → bit_at w.value k ≡ from_bool one → word_fix_of (free_of w k) k one ≡ w
   -- one bit is tested apart from the others
   pub meets_bit : (a b : WordValue) (k : ℕ) → meets a b ≡ (meets (free_of a k) b && words_agree_at a b k)
   pub covers_bit : (a b : WordValue) (k : ℕ)
-      → covers_of a b ≡ (covers_of (free_of a k) b && word_includes_at a b k)
+      → word_covers_of a b ≡ (word_covers_of (free_of a k) b && word_includes_at a b k)
   -- a freed bit no longer matters
   pub meets_others : (a b : WordValue) (k : ℕ)
       → IsTrue (meets (free_of a k) b) ↔ ((j : ℕ) → j ≢ k → IsTrue (words_agree_at a b j))
   pub covers_others : (a b : WordValue) (k : ℕ)
-      → IsTrue (covers_of (free_of a k) b) ↔ ((j : ℕ) → j ≢ k → IsTrue (word_includes_at a b j))
+      → IsTrue (word_covers_of (free_of a k) b) ↔ ((j : ℕ) → j ≢ k → IsTrue (word_includes_at a b j))
   pub meets_freed : (a b : WordValue) (k : ℕ)
       → meets (free_of a k) b ≡ meets (free_of a k) (free_of b k)
   pub covers_freed : (a b : WordValue) (k : ℕ)
-      → covers_of (free_of a k) b ≡ covers_of (free_of a k) (free_of b k)
+      → word_covers_of (free_of a k) b ≡ word_covers_of (free_of a k) (free_of b k)
   -- a word that covers a freed word leaves the bit free
   pub freed_covered : (a b : WordValue) (k : ℕ)
-      → covers_of a (free_of b k) ≡ (not (is_fixed_of a k) && covers_of a b)
+      → word_covers_of a (free_of b k) ≡ (not (is_fixed_of a k) && word_covers_of a b)
 
 pub record FreeBitsLaws : Type 0 where
   pub member : (w : WordValue) (k : ℕ)
@@ -138,6 +138,6 @@ pub record FreeBitsLaws : Type 0 where
   pub exact : (h : ℕ) → free_bits (exact_word h) ≡ []
   -- fixing a bit removes only it
   pub fixed : (w : WordValue) (k : ℕ) (one : Bool)
-      → free_bits (fix_of w k one) ≡ filter (λ j. not (j == k)) (free_bits w)
+      → free_bits (word_fix_of w k one) ≡ filter (λ j. not (j == k)) (free_bits w)
   pub shorter : (w : WordValue) (k : ℕ) (one : Bool) → k < 104 → IsFalse (is_fixed_of w k)
-      → length (free_bits (fix_of w k one)) + 1 ≡ length (free_bits w)
+      → length (free_bits (word_fix_of w k one)) + 1 ≡ length (free_bits w)

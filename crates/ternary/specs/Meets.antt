@@ -5,8 +5,8 @@ use Rattle.std.specs.List.{range_with_len}
 use Rattle.ternary.specs.Word.{WordValue, word_fixed_value, holds}
 
 -- h and the value agree on each bit of the mask
-abbrev pub AgreesOnMask : WordValue → ℕ → Type 0
-AgreesOnMask w h = (k : ℕ) → bit_at w.mask k ≡ 1 → bit_at h k ≡ bit_at w.value k
+abbrev pub AgreesOnWordMask : WordValue → ℕ → Type 0
+AgreesOnWordMask w h = (k : ℕ) → bit_at w.mask k ≡ 1 → bit_at h k ≡ bit_at w.value k
 
 -- a holds each header that b holds
 abbrev pub WordIncludes : WordValue → WordValue → Type 0
@@ -33,8 +33,8 @@ abbrev pub word_eq : WordValue → WordValue → Bool
 word_eq a b = (a.value == b.value) && (a.mask == b.mask)
 
 -- the values agree on each bit that both fix
-abbrev pub AgreesOnBoth : WordValue → WordValue → Type 0
-AgreesOnBoth a b = (k : ℕ) → bit_at a.mask k ≡ 1 → bit_at b.mask k ≡ 1
+abbrev pub AgreesOnFixedBits : WordValue → WordValue → Type 0
+AgreesOnFixedBits a b = (k : ℕ) → bit_at a.mask k ≡ 1 → bit_at b.mask k ≡ 1
     → bit_at a.value k ≡ bit_at b.value k
 
 -- each bit that a fixes, b fixes to the same
@@ -58,16 +58,16 @@ unfoldable pub meet_of : WordValue → WordValue → Option WordValue
 meet_of a b = if meets a b then Some (meeting_word a b) else None
 
 -- each fixed bit of a is fixed in b, and to the same
-unfoldable pub covers_of : WordValue → WordValue → Bool
-covers_of a b = (bit_and a.mask b.mask == a.mask) && (bit_and b.value a.mask == word_fixed_value a)
+unfoldable pub word_covers_of : WordValue → WordValue → Bool
+word_covers_of a b = (bit_and a.mask b.mask == a.mask) && (bit_and b.value a.mask == word_fixed_value a)
 
 -- n with its bit k set to 0
-abbrev pub without_bit : ℕ → ℕ → ℕ
-without_bit n k = n - bit_at n k * 2 ^ k
+abbrev pub ternary_without_bit : ℕ → ℕ → ℕ
+ternary_without_bit n k = n - bit_at n k * 2 ^ k
 
 -- n with its bit k set to 1 or 0
 abbrev pub with_bit : ℕ → ℕ → Bool → ℕ
-with_bit n k one = bit_or (without_bit n k) (from_bool one * 2 ^ k)
+with_bit n k one = bit_or (ternary_without_bit n k) (from_bool one * 2 ^ k)
 
 -- bit k is fixed
 unfoldable pub is_fixed_of : WordValue → ℕ → Bool
@@ -78,12 +78,12 @@ unfoldable pub word_admits : WordValue → ℕ → Bool → Bool
 word_admits w k one = not (is_fixed_of w k) || (bit_at w.value k == from_bool one)
 
 -- bit k fixed to 1 or 0: a half of w, if the bit was free
-unfoldable pub fix_of : WordValue → ℕ → Bool → WordValue
-fix_of w k one = record { value = with_bit w.value k one; mask = bit_or w.mask (2 ^ k) }
+unfoldable pub word_fix_of : WordValue → ℕ → Bool → WordValue
+word_fix_of w k one = record { value = with_bit w.value k one; mask = bit_or w.mask (2 ^ k) }
 
 -- bit k freed
 unfoldable pub free_of : WordValue → ℕ → WordValue
-free_of w k = record { value = without_bit w.value k; mask = without_bit w.mask k }
+free_of w k = record { value = ternary_without_bit w.value k; mask = ternary_without_bit w.mask k }
 
 -- bit k is not fixed in both to different values
 unfoldable pub words_agree_at : WordValue → WordValue → ℕ → Bool

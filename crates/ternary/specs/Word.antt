@@ -22,10 +22,10 @@ holds w h = bit_and h w.mask == word_fixed_value w
 -- ---- the printed form
 
 -- this many hexadecimal digits in lower case, the highest first
-unfoldable pub hex_digits : ℕ → ℕ → List ℕ
-hex_digits zero n = []
-hex_digits (suc count) n = hex_digits count (n / 16) ++ digit_glyph false (n % 16) ∷ []
+unfoldable pub word_hex_digits : ℕ → ℕ → List ℕ
+word_hex_digits zero n = []
+word_hex_digits (suc count) n = word_hex_digits count (n / 16) ++ digit_glyph false (n % 16) ∷ []
 
 -- value and mask with a slash between them, each in 26 digits
 unfoldable pub word_text : WordValue → List ℕ
-word_text w = hex_digits 26 w.value ++ 47 ∷ hex_digits 26 w.mask
+word_text w = word_hex_digits 26 w.value ++ 47 ∷ word_hex_digits 26 w.mask

@@ -1,14 +1,14 @@
-ghost use Rattle.ternary.specs.Laws.{HoldsLaws, AnyLaws, ExactLaws, CoversLaws, MeetLaws, FixLaws, FreeLaws, FreeBitsLaws};
+ghost use Rattle.ternary.specs.Laws.{WordHoldsLaws, AnyWordLaws, ExactLaws, CoversLaws, MeetLaws, WordFixLaws, FreeLaws, FreeBitsLaws};
 
 /// A word holds the headers that agree with its value on each fixed bit, so it holds its value;
 /// words that hold the same headers are equal.
 pub fn holds_laws()
-    ensures { HoldsLaws }
+    ensures { WordHoldsLaws }
 {}
 
 /// The word that fixes no bit holds every header.
 pub fn any_laws()
-    ensures { AnyLaws }
+    ensures { AnyWordLaws }
 {}
 
 /// The word of one header fixes each bit, and holds only this header.
@@ -30,7 +30,7 @@ pub fn meet_laws()
 
 /// A free bit divides a word into two halves: each header is in the one that has its bit.
 pub fn fix_laws()
-    ensures { FixLaws }
+    ensures { WordFixLaws }
 {}
 
 /// Freeing a bit widens a word, and keeps the order of words. Two words meet exactly if they meet

@@ -2,7 +2,7 @@ ghost use Rattle.std.specs.Prelude.{◌≡◌, ◌≢◌, ◌^◌, ◌<◌, ◌�
 ghost use Rattle.std.specs.Int.{bit_at, from_bool};
 ghost use Rattle.ternary.specs.Word.{WordValue, holds, word_text};
 ghost use Rattle.ternary.specs.WordBits.{IsWord};
-ghost use Rattle.ternary.specs.Meets.{AgreesOnMask, WordIncludes, AreDisjointWords, IsMeet, any_word, exact_word, meet_of, meets, covers_of, with_bit, is_fixed_of, fix_of, free_of};
+ghost use Rattle.ternary.specs.Meets.{AgreesOnWordMask, WordIncludes, AreDisjointWords, IsMeet, any_word, exact_word, meet_of, meets, word_covers_of, with_bit, is_fixed_of, word_fix_of, free_of};
 
 use std::fmt;
 use std::marker::Model;
@@ -93,7 +93,7 @@ impl Word {
     /// Whether the word holds this header number.
     pub fn holds(&self, h: u128) -> bool
         ensures test { result ≡ holds self.now h }
-        ensures agrees { IsTrue result ↔ AgreesOnMask self.now h }
+        ensures agrees { IsTrue result ↔ AgreesOnWordMask self.now h }
         ensures word { IsWord self.now }
     {
         h & self.mask == self.value
@@ -118,9 +118,9 @@ impl Word {
     }
 
     /// Whether this word holds each header that `other` holds.
-    #[tactic(auto, unfolding(crate::specs::Meets::covers_of))]
+    #[tactic(auto, unfolding(crate::specs::Meets::word_covers_of))]
     pub fn covers(&self, other: &Word) -> bool
-        ensures test { result ≡ covers_of self.now other.now }
+        ensures test { result ≡ word_covers_of self.now other.now }
         ensures inclusion { IsTrue result ↔ WordIncludes self.now other.now }
         ensures words { IsWord self.now × IsWord other.now }
     {
@@ -128,7 +128,7 @@ impl Word {
     }
 
     /// Whether both words hold some header.
-    #[tactic(auto, using(crate::proofs::CallerLemmas::meet_is_some))]
+    #[tactic(auto, using(crate::proofs::TernaryCallerLemmas::meet_is_some))]
     pub fn meets(&self, other: &Word) -> bool
         ensures { result ≡ meets self.now other.now }
     {
@@ -147,7 +147,7 @@ impl Word {
     pub fn fix(&self, bit: u32, one: bool) -> Word
         requires bound { bit < 104 }
         requires free { IsFalse (is_fixed_of self.now bit) }
-        ensures pair { result ≡ fix_of self.now bit one }
+        ensures pair { result ≡ word_fix_of self.now bit one }
         ensures half { (h : ℕ) →
             holds result h ≡ (holds self.now h && (bit_at h bit == from_bool one)) }
         ensures word { IsWord result }
@@ -197,9 +197,9 @@ struct Hex {
 
 impl fmt::Display for Hex {
     ghost use Rattle.std.specs.Prelude.{Some};
-    ghost use Rattle.ternary.specs.Word.{hex_digits};
+    ghost use Rattle.ternary.specs.Word.{word_hex_digits};
 
-    ghost output = { λ hex. Some (hex_digits 26 hex.number) };
+    ghost output = { λ hex. Some (word_hex_digits 26 hex.number) };
 
     fn fmt<W: fmt::Write>(&self, f: &mut fmt::Formatter<W>) -> fmt::Result {
         let high = (self.number >> 64) as u64;

@@ -1,10 +1,10 @@
 -- A word at the beginning of a text, with a blank after it.
 use Rattle.std.proofs.Common.{[], ◌++◌, ◌+◌, ◌<◌, ◌==◌, ◌∙◌, ◌∷◌, ◌≡◌, ◌≢◌, All, Bor, List, MatchBool, None, Option, Some, ap, arith, drop, drop-cons, false, get_or, is_some, length, not, refl, suc, sym, take, take-append-drop, true, ℕ}
 use Rattle.base.proofs.Exports.{All-weaker, AllPass-from_list_all, bytes_eq-Decides, false_from_ne_true, join_with_byte, join_with_byte-slice_split, not-true, slice_split_at}
-use Rattle.trace_audit.specs.Exports.{IsWordTaken, begins_with, has_no_blank, trace_words_left, words_of}
+use Rattle.trace_audit.specs.Exports.{IsTraceWordTaken, begins_with, trace_word_lacks_blank, trace_words_left, words_of}
 use Rattle.trace_audit.proofs.AuditTraceLines.{first_part}
 
-pub word_before : (word text : List ℕ) → has_no_blank word ≡ true → length word < length text
+pub word_before : (word text : List ℕ) → trace_word_lacks_blank word ≡ true → length word < length text
     → take (length word) text ≡ word → get_or text (length word) 0 ≡ 32
     → words_of text ≡ word ∷ words_of (drop (length word + 1) text)
 word_before word text plain room front blank =
@@ -31,7 +31,7 @@ not_begun word text lacks = by (words_of text) (join_with_byte-slice_split 32 te
       lacks rest (sym e ∙ ap (λ w. w ++ 32 ∷ rest) ((bytes_eq-Decides first word).0 same)))
 
 pub words_taken : (word rest : List ℕ) (old : List (List ℕ)) → old ≡ word ∷ words_of rest
-    → IsWordTaken word old (words_of rest)
+    → IsTraceWordTaken word old (words_of rest)
 words_taken word rest old e =
     let w = first_part 32 rest in (w.0, w.1, e ∙ ap (λ ws. word ∷ ws) w.2, w.2)
 

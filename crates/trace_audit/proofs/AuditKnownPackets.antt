@@ -1,39 +1,39 @@
 -- What a reader's state says of the lines before it, and so of each packet's decision.
 use Rattle.base.proofs.Exports.{All-cons, All-contains, All-nil, All-push, All-tail, All-weaker, Contains-append_left, Contains-append_right, Contains-push, eqb-false, ⊤}
 use Rattle.std.proofs.Common.{[], ◌++◌, ◌+◌, ◌<◌, ◌==◌, ◌∙◌, ◌∷◌, ◌≡◌, ◌≤◌, All, Bool, Contains, List, None, Option, Some, ap, append-nil, append_assoc, arith, cond, eq-eqb, eqb-true, false, inl, inr, length, option_map, option_to_list, refl, subst, sym, true, ℕ}
-use Rattle.update_machine.specs.Exports.{Action, Dropped, End, Ends, Header, Hit, LeftBy, Lost, Machine, PolicyFile, Row, Stuck, with_packet}
+use Rattle.update_machine.specs.Exports.{Action, Dropped, End, Ends, Header, Hit, LeftBy, Lost, Machine, PolicyFile, Row, Stuck, machine_with_packet}
 use Rattle.policy_rules.specs.declared.policy.Action.TheVariants as action
 use Rattle.update_machine.specs.Machine.{Packet}
-use Rattle.trace_audit.specs.Exports.{AreGood, AreJustified, DecidesOther, EntersOther, Follows, HasDecision, TraceHasEntered, IsAuditVerdict, IsBetween, IsDecidedOnce, IsTraceJustified, IsTraceMark, IsTraceWaiting, Open, ReadsAll, RetiresUpTo, Told, TraceLine, TraceState, Whole, all_trace_told, first_state, latest_policy, made_policy, policies_from, policies_told, policies_with}
+use Rattle.trace_audit.specs.Exports.{AreGoodTraceLines, AreTraceEndsJustified, TraceDecidesOther, TraceEntersOther, Follows, TraceHasDecision, TraceHasEntered, IsTraceAuditVerdict, IsTraceToldBetween, IsTraceDecidedOnce, IsTraceJustified, IsTraceMark, IsTraceWaiting, Open, ReadsAllTraceLines, TraceRetiresUpTo, Told, TraceLine, TraceState, Whole, all_trace_told, first_trace_state, audit_latest_policy, trace_made_policy, audit_policies_from, audit_policies_told, audit_policies_with}
 use Rattle.trace_audit.specs.Told as told
 use Rattle.trace_audit.specs.declared.trace.Verdict.{Verdict}
 use Rattle.trace_audit.specs.declared.trace.Verdict.TheVariants.{Yes, No}
 
 -- ---- one more thing told
 
-waits_on : (ts : List Told) (t : Told) (header : Header) → IsBetween t → IsTraceWaiting ts header
+waits_on : (ts : List Told) (t : Told) (header : Header) → IsTraceToldBetween t → IsTraceWaiting ts header
     → IsTraceWaiting (ts ++ t ∷ []) header
 waits_on ts t header between w = record {
   before = w.before;
   after = w.after ++ t ∷ [];
   row = cc (w.row, append_assoc w.before (told.Row (Some header) ∷ w.after) (t ∷ []));
-  last = All-push IsBetween w.after t w.last between;
+  last = All-push IsTraceToldBetween w.after t w.last between;
 }
 
-entered_on : (ts : List Told) (t : Told) (i : ℕ) (header : Header) (mark : ℕ) → EntersOther i t
+entered_on : (ts : List Told) (t : Told) (i : ℕ) (header : Header) (mark : ℕ) → TraceEntersOther i t
     → TraceHasEntered ts i header mark → TraceHasEntered (ts ++ t ∷ []) i header mark
 entered_on ts t i header mark other e = record {
   before = e.before;
   after = e.after ++ t ∷ [];
   entry = ap (λ x. x ++ t ∷ []) e.entry ∙ append_assoc e.before (told.Entered i ∷ e.after) (t ∷ []);
   none_before = e.none_before;
-  none_after = All-push (EntersOther i) e.after t e.none_after other;
+  none_after = All-push (TraceEntersOther i) e.after t e.none_after other;
   own_row = e.own_row;
   own_mark = e.own_mark;
 }
 
 decided_on : (files : List PolicyFile) (ts : List Told) (t : Told) (i : ℕ) (action : Action)
-    → DecidesOther i t → HasDecision files ts i action → HasDecision files (ts ++ t ∷ []) i action
+    → TraceDecidesOther i t → TraceHasDecision files ts i action → TraceHasDecision files (ts ++ t ∷ []) i action
 decided_on files ts t i action other d = record {
   before = d.before;
   after = d.after ++ t ∷ [];
@@ -43,7 +43,7 @@ decided_on files ts t i action other d = record {
   decision = ap (λ x. x ++ t ∷ []) d.decision
       ∙ append_assoc d.before (told.Decided i d.version d.rule_text d.action_text ∷ d.after) (t ∷ []);
   none_before = d.none_before;
-  none_after = All-push (DecidesOther i) d.after t d.none_after other;
+  none_after = All-push (TraceDecidesOther i) d.after t d.none_after other;
   header = d.header;
   mark = d.mark;
   entered = d.entered;
@@ -56,10 +56,10 @@ decided_on files ts t i action other d = record {
   acts = d.acts;
 }
 
-mark_on : (ts : List Told) (t : Told) (mark : ℕ) → RetiresUpTo mark t → IsTraceMark ts mark
+mark_on : (ts : List Told) (t : Told) (mark : ℕ) → TraceRetiresUpTo mark t → IsTraceMark ts mark
     → IsTraceMark (ts ++ t ∷ []) mark
 mark_on ts t mark below m = record {
-  greatest = All-push (RetiresUpTo mark) ts t m.greatest below;
+  greatest = All-push (TraceRetiresUpTo mark) ts t m.greatest below;
   retired = elim m.retired [
     | inl none ↦ inl none
     | inr there ↦ inr (Contains-append_left ts (t ∷ []) (told.Retired mark) there)
@@ -73,38 +73,38 @@ IsWaitingIf ts None = ⊤
 IsWaitingIf ts (Some header) = IsTraceWaiting ts header
 
 abbrev pub IsDecidedIf : List PolicyFile → List Told → ℕ → Option Hit → Type 0
-IsDecidedIf files ts i None = All (DecidesOther i) ts
-IsDecidedIf files ts i (Some hit) = HasDecision files ts i hit.action
+IsDecidedIf files ts i None = All (TraceDecidesOther i) ts
+IsDecidedIf files ts i (Some hit) = TraceHasDecision files ts i hit.action
 
 abbrev pub IsPacketIf : List PolicyFile → List Told → ℕ → Option Packet → Type 0
-IsPacketIf files ts i None = All (EntersOther i) ts × All (DecidesOther i) ts
+IsPacketIf files ts i None = All (TraceEntersOther i) ts × All (TraceDecidesOther i) ts
 IsPacketIf files ts i (Some packet) = TraceHasEntered ts i packet.header packet.entry_mark
     × IsDecidedIf files ts i packet.decision
 
 pub record IsKnown (files : List PolicyFile) (ts : List Told) (state : TraceState) : Type 0 where
-  pub policies : state.machine.policies ≡ policies_told files ts
+  pub policies : state.machine.policies ≡ audit_policies_told files ts
   pub mark : IsTraceMark ts state.machine.mark
   pub waits : IsWaitingIf ts state.pending
   pub packets : (i : ℕ) → IsPacketIf files ts i (state.machine.packets i)
 
-waits_on_if : (ts : List Told) (t : Told) (pending : Option Header) → IsBetween t
+waits_on_if : (ts : List Told) (t : Told) (pending : Option Header) → IsTraceToldBetween t
     → IsWaitingIf ts pending → IsWaitingIf (ts ++ t ∷ []) pending
 waits_on_if ts t None between w = tt
 waits_on_if ts t (Some header) between w = waits_on ts t header between w
 
 decided_on_if : (files : List PolicyFile) (ts : List Told) (t : Told) (i : ℕ) (o : Option Hit)
-    → DecidesOther i t → IsDecidedIf files ts i o → IsDecidedIf files (ts ++ t ∷ []) i o
-decided_on_if files ts t i None other d = All-push (DecidesOther i) ts t d other
+    → TraceDecidesOther i t → IsDecidedIf files ts i o → IsDecidedIf files (ts ++ t ∷ []) i o
+decided_on_if files ts t i None other d = All-push (TraceDecidesOther i) ts t d other
 decided_on_if files ts t i (Some hit) other d = decided_on files ts t i hit.action other d
 
 -- neither an entry nor a decision of this packet
 abbrev IsOfOther : ℕ → Told → Type 0
-IsOfOther i t = EntersOther i t × DecidesOther i t
+IsOfOther i t = TraceEntersOther i t × TraceDecidesOther i t
 
 packet_on : (files : List PolicyFile) (ts : List Told) (t : Told) (i : ℕ) (o : Option Packet)
     → IsOfOther i t → IsPacketIf files ts i o → IsPacketIf files (ts ++ t ∷ []) i o
 packet_on files ts t i None other k =
-    (All-push (EntersOther i) ts t k.0 other.0, All-push (DecidesOther i) ts t k.1 other.1)
+    (All-push (TraceEntersOther i) ts t k.0 other.0, All-push (TraceDecidesOther i) ts t k.1 other.1)
 packet_on files ts t i (Some p) other k = (
   entered_on ts t i p.header p.entry_mark other.0 k.0,
   decided_on_if files ts t i p.decision other.1 k.1,
@@ -124,7 +124,7 @@ put P packets i p here other j = put_by P packets i p j (j == i) refl here (othe
 
 -- ---- marks and policies
 
-up_to : (m n : ℕ) (t : Told) → m ≤ n → RetiresUpTo m t → RetiresUpTo n t
+up_to : (m n : ℕ) (t : Told) → m ≤ n → TraceRetiresUpTo m t → TraceRetiresUpTo n t
 up_to m n (told.Retired version) le r = omega arith
 up_to m n (told.Row header) le r = tt
 up_to m n (told.Entered packet) le r = tt
@@ -134,23 +134,23 @@ up_to m n (told.Ended packet end) le r = tt
 up_to m n told.Nothing le r = tt
 
 policies_more : (files : List PolicyFile) (policies : List (List Row)) (ts : List Told) (t : Told)
-    → policies_from files policies (ts ++ t ∷ [])
-    ≡ policies_with files (policies_from files policies ts) t
+    → audit_policies_from files policies (ts ++ t ∷ [])
+    ≡ audit_policies_with files (audit_policies_from files policies ts) t
 policies_more files policies [] t = refl
 policies_more files policies (first ∷ ts) t =
-    policies_more files (policies_with files policies first) ts t
+    policies_more files (audit_policies_with files policies first) ts t
 
 policies_on : (files : List PolicyFile) (ts : List Told) (t : Told) (old new : List (List Row))
-    → old ≡ policies_told files ts → new ≡ policies_with files old t
-    → new ≡ policies_told files (ts ++ t ∷ [])
-policies_on files ts t old new known e = e ∙ ap (λ x. policies_with files x t) known
-    ∙ sym (policies_more files (option_to_list (made_policy files 1 None)) ts t)
+    → old ≡ audit_policies_told files ts → new ≡ audit_policies_with files old t
+    → new ≡ audit_policies_told files (ts ++ t ∷ [])
+policies_on files ts t old new known e = e ∙ ap (λ x. audit_policies_with files x t) known
+    ∙ sym (policies_more files (option_to_list (trace_made_policy files 1 None)) ts t)
 
 -- the next version's policy is added
 submits_next : (files : List PolicyFile) (policies : List (List Row)) (file version : ℕ)
     (policy : List Row) → version ≡ length policies + 1
-    → made_policy files file (latest_policy policies) ≡ Some policy
-    → policies ++ policy ∷ [] ≡ policies_with files policies (told.Submitted file version)
+    → trace_made_policy files file (audit_latest_policy policies) ≡ Some policy
+    → policies ++ policy ∷ [] ≡ audit_policies_with files policies (told.Submitted file version)
 submits_next files policies file version policy newest there =
     cc (there, eq-eqb version (length policies + 1) newest)
 
@@ -177,7 +177,7 @@ row_waits : (ts : List Told) (header : Option Header)
     → IsWaitingIf (ts ++ told.Row header ∷ []) header
 row_waits ts None = tt
 row_waits ts (Some header) =
-    record { before = ts; after = []; row = refl; last = All-nil IsBetween }
+    record { before = ts; after = []; row = refl; last = All-nil IsTraceToldBetween }
 
 known_at : (files : List PolicyFile) (ts : List Told) (packets : ℕ → Option Packet) (i : ℕ)
     (o : Option Packet) → packets i ≡ o → ((j : ℕ) → IsPacketIf files ts j (packets j))
@@ -186,14 +186,14 @@ known_at files ts packets i o e known = subst (IsPacketIf files ts i) e (known i
 
 module _ (files : List PolicyFile) (ts : List Told) (old new : TraceState) (known : IsKnown files ts old)
   where
-    still_waits : (t : Told) → new.pending ≡ old.pending → IsBetween t
+    still_waits : (t : Told) → new.pending ≡ old.pending → IsTraceToldBetween t
         → IsWaitingIf (ts ++ t ∷ []) new.pending
     still_waits t same between = rw same (waits_on_if ts t old.pending between known.waits)
 
     -- behind what only puts a packet
-    after_put : (t : Told) (i : ℕ) (p : Packet) → new.machine ≡ with_packet old.machine i p
-        → policies_with files old.machine.policies t ≡ old.machine.policies
-        → RetiresUpTo old.machine.mark t → IsWaitingIf (ts ++ t ∷ []) new.pending
+    after_put : (t : Told) (i : ℕ) (p : Packet) → new.machine ≡ machine_with_packet old.machine i p
+        → audit_policies_with files old.machine.policies t ≡ old.machine.policies
+        → TraceRetiresUpTo old.machine.mark t → IsWaitingIf (ts ++ t ∷ []) new.pending
         → ((j : ℕ) → (j ≡ i → ⊥) → IsOfOther j t) → IsPacketIf files (ts ++ t ∷ []) i (Some p)
         → IsKnown files (ts ++ t ∷ []) new
     after_put t i p after same below waits other here = record {
@@ -230,11 +230,11 @@ module _ (files : List PolicyFile) (ts : List Told) (old new : TraceState) (know
             after = [];
             entry = refl;
             none_before = none.0;
-            none_after = All-nil (EntersOther i);
+            none_after = All-nil (TraceEntersOther i);
             own_row = subst (IsWaitingIf ts) f.1 known.waits;
             own_mark = known.mark;
           },
-          All-push (DecidesOther i) ts t none.1 tt,
+          All-push (TraceDecidesOther i) ts t none.1 tt,
         )
 
     after_submitted : (file version : ℕ) → Follows files old (told.Submitted file version) new
@@ -257,8 +257,8 @@ module _ (files : List PolicyFile) (ts : List Told) (old new : TraceState) (know
           policies = policies_on files ts t old.machine.policies new.machine.policies known.policies
               (ap (λ (m : Machine). m.policies) f.0.after);
           mark = subst (λ (m : Machine). IsTraceMark (ts ++ t ∷ []) m.mark) (sym f.0.after) (record {
-            greatest = All-push (RetiresUpTo version) ts t
-                (All-weaker (RetiresUpTo old.machine.mark) (RetiresUpTo version)
+            greatest = All-push (TraceRetiresUpTo version) ts t
+                (All-weaker (TraceRetiresUpTo old.machine.mark) (TraceRetiresUpTo version)
                 (λ x r. up_to old.machine.mark version x (omega arith) r) ts known.mark.greatest)
                 (omega arith);
             retired = inr (Contains-push ts t);
@@ -286,7 +286,7 @@ module _ (files : List PolicyFile) (ts : List Told) (old new : TraceState) (know
             action_text = action;
             decision = refl;
             none_before = (subst (IsDecidedIf files ts i) d.undecided k.1);
-            none_after = All-nil (DecidesOther i);
+            none_after = All-nil (TraceDecidesOther i);
             header = d.packet.header;
             mark = d.packet.entry_mark;
             entered = k.0;
@@ -337,7 +337,7 @@ FollowsAll files old (t ∷ ts) new =
     (middle : TraceState) × Follows files old t middle × FollowsAll files middle ts new
 
 pub reads_told : (files : List PolicyFile) (old : TraceState) (lines : List TraceLine) (new : TraceState)
-    → ReadsAll files old lines new → FollowsAll files old (all_trace_told lines) new
+    → ReadsAllTraceLines files old lines new → FollowsAll files old (all_trace_told lines) new
 reads_told files old [] new r = r
 reads_told files old (Whole text ∷ lines) new r = rw r.1.1
     (r.0, r.1.2, reads_told files r.0 lines new r.2)
@@ -356,32 +356,32 @@ known_all files ts old [] new r known = rw (append-nil ts) (rw r known)
 known_all files ts old (t ∷ more) new r known = rw (append_assoc ts (t ∷ []) more) at
     (known_all files (ts ++ t ∷ []) r.0 more new r.2 (after_told files ts old r.0 known t r.1))
 
-pub known_first : (files : List PolicyFile) → IsKnown files [] (first_state files)
+pub known_first : (files : List PolicyFile) → IsKnown files [] (first_trace_state files)
 known_first files = record {
   policies = refl;
-  mark = record { greatest = All-nil (RetiresUpTo 0); retired = inl refl };
+  mark = record { greatest = All-nil (TraceRetiresUpTo 0); retired = inl refl };
   waits = tt;
-  packets = λ i. (All-nil (EntersOther i), All-nil (DecidesOther i));
+  packets = λ i. (All-nil (TraceEntersOther i), All-nil (TraceDecidesOther i));
 }
 
 -- ---- a second decision
 
 -- what has a decision of the packet isn't free of them
 not_undecided : (files : List PolicyFile) (ts : List Told) (i : ℕ) (a : Action)
-    → HasDecision files ts i a → All (DecidesOther i) ts → ⊥
+    → TraceHasDecision files ts i a → All (TraceDecidesOther i) ts → ⊥
 not_undecided files ts i a d none =
     let t = told.Decided i d.version d.rule_text d.action_text in
     let there : Contains (t ∷ d.after) t = (0, omega arith, refl) in
-    All-contains (DecidesOther i) ts t none
+    All-contains (TraceDecidesOther i) ts t none
     (rw d.decision (Contains-append_right d.before (t ∷ d.after) t there)) refl
 
 decides_other : (files : List PolicyFile) (ts : List Told) (old : TraceState) (t : Told) (new : TraceState)
-    (i : ℕ) (a : Action) → IsKnown files ts old → HasDecision files ts i a → Follows files old t new
-    → DecidesOther i t
+    (i : ℕ) (a : Action) → IsKnown files ts old → TraceHasDecision files ts i a → Follows files old t new
+    → TraceDecidesOther i t
 decides_other files ts old (told.Decided j version rule action) new i a known d f = λ same.
-    let none : All (DecidesOther j) ts = subst (IsDecidedIf files ts j) f.2.undecided
+    let none : All (TraceDecidesOther j) ts = subst (IsDecidedIf files ts j) f.2.undecided
     (known_at files ts old.machine.packets j (Some f.2.packet) f.2.entered known.packets).1 in
-    not_undecided files ts i a d (subst (λ (n : ℕ). All (DecidesOther n) ts) same none)
+    not_undecided files ts i a d (subst (λ (n : ℕ). All (TraceDecidesOther n) ts) same none)
 decides_other files ts old (told.Row header) new i a known d f = tt
 decides_other files ts old (told.Entered packet) new i a known d f = tt
 decides_other files ts old (told.Submitted file version) new i a known d f = tt
@@ -390,12 +390,12 @@ decides_other files ts old (told.Ended packet end) new i a known d f = tt
 decides_other files ts old told.Nothing new i a known d f = tt
 
 none_later : (files : List PolicyFile) (ts : List Told) (old : TraceState) (more : List Told)
-    (new : TraceState) (i : ℕ) (a : Action) → IsKnown files ts old → HasDecision files ts i a
-    → FollowsAll files old more new → All (DecidesOther i) more
-none_later files ts old [] new i a known d r = All-nil (DecidesOther i)
+    (new : TraceState) (i : ℕ) (a : Action) → IsKnown files ts old → TraceHasDecision files ts i a
+    → FollowsAll files old more new → All (TraceDecidesOther i) more
+none_later files ts old [] new i a known d r = All-nil (TraceDecidesOther i)
 none_later files ts old (t ∷ more) new i a known d r =
-    let other : DecidesOther i t = decides_other files ts old t r.0 i a known d r.1 in
-    All-cons (DecidesOther i) t more other
+    let other : TraceDecidesOther i t = decides_other files ts old t r.0 i a known d r.1 in
+    All-cons (TraceDecidesOther i) t more other
     (none_later files (ts ++ t ∷ []) r.0 more new i a (after_told files ts old r.0 known t r.1)
     (decided_on files ts t i a other d) r.2)
 
@@ -403,23 +403,23 @@ none_later files ts old (t ∷ more) new i a known d r =
 
 decided_as : (files : List PolicyFile) (ts : List Told) (i : ℕ) (o : Option Hit) (a : Action)
     → IsDecidedIf files ts i o → option_map (λ (hit : Hit). hit.action) o ≡ Some a
-    → HasDecision files ts i a
+    → TraceHasDecision files ts i a
 decided_as files ts i None a d e = absurd cc
 decided_as files ts i (Some hit) a d e =
-    let same : hit.action ≡ a = cc in subst (HasDecision files ts i) same d
+    let same : hit.action ≡ a = cc in subst (TraceHasDecision files ts i) same d
 
 module _ (files : List PolicyFile) (before : List Told) (state : TraceState)
     (known : IsKnown files before state) (after : List Told) (new : TraceState) (i : ℕ) where
   decided_once : (end : End) (a : Action) (e : Ends state.machine i end new.machine)
       → option_map (λ (hit : Hit). hit.action) e.packet.decision ≡ Some a
       → (last : TraceState) → FollowsAll files state (told.Ended i end ∷ after) last
-      → IsDecidedOnce files before after i a
+      → IsTraceDecidedOnce files before after i a
   decided_once end a e may last r =
-      let d : HasDecision files before i a = decided_as files before i e.packet.decision a
+      let d : TraceHasDecision files before i a = decided_as files before i e.packet.decision a
       (known_at files before state.machine.packets i (Some e.packet) e.entered known.packets).1
       may in record {
         decided = d;
-        none_later = All-tail (DecidesOther i) (told.Ended i end) after
+        none_later = All-tail (TraceDecidesOther i) (told.Ended i end) after
             (none_later files before state (told.Ended i end ∷ after) last i a known d r);
       }
 
@@ -431,17 +431,17 @@ module _ (files : List PolicyFile) (before : List Told) (state : TraceState)
   ends_justified Lost e last r = tt
   ends_justified Stuck e last r = tt
 
-good_justified : (files : List PolicyFile) (lines : List TraceLine) → AreGood files lines
-    → AreJustified files lines
+good_justified : (files : List PolicyFile) (lines : List TraceLine) → AreGoodTraceLines files lines
+    → AreTraceEndsJustified files lines
 good_justified files lines good = λ before after i end order.
-    let all = subst (λ (ts : List Told). FollowsAll files (first_state files) ts good.0) order
-    (reads_told files (first_state files) lines good.0 good.1) in
-    let w = follows_split files (first_state files) good.0 before (told.Ended i end ∷ after) all in
+    let all = subst (λ (ts : List Told). FollowsAll files (first_trace_state files) ts good.0) order
+    (reads_told files (first_trace_state files) lines good.0 good.1) in
+    let w = follows_split files (first_trace_state files) good.0 before (told.Ended i end ∷ after) all in
     ends_justified files before w.0
-    (known_all files [] (first_state files) before w.0 w.1 (known_first files)) after w.2.0 i end
+    (known_all files [] (first_trace_state files) before w.0 w.1 (known_first files)) after w.2.0 i end
     w.2.1.0 good.0 w.2
 
 pub verdict_justified : (files : List PolicyFile) (lines : List TraceLine) (verdict : Verdict)
-    → IsAuditVerdict files lines verdict → verdict ≡ Yes → AreJustified files lines
+    → IsTraceAuditVerdict files lines verdict → verdict ≡ Yes → AreTraceEndsJustified files lines
 verdict_justified files lines Yes v e = good_justified files lines v
 verdict_justified files lines (No line) v e = absurd cc

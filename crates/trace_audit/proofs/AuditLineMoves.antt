@@ -4,7 +4,7 @@ use Rattle.base.proofs.Exports.{same_some, slice_get_read}
 use Rattle.policy_rules.specs.Exports.{IsFirstMatch}
 use Rattle.update_machine.specs.Exports.{Decides, Hit, Machine, Row, submitted_policy}
 use Rattle.update_machine.specs.Machine.{Packet}
-use Rattle.trace_audit.specs.Exports.{IsPrinted, trace_packets_seen, with_one}
+use Rattle.trace_audit.specs.Exports.{IsPrinted, trace_packets_seen, trace_packets_with_one}
 use Rattle.trace_audit.specs.declared.auditor.Auditor.{Auditor}
 
 -- what is known, except the packets
@@ -32,7 +32,7 @@ not_decided old new number version rule action packet rows hit g there submitted
 
 -- a packet is put, and nothing else changes
 pub put_after : (a : Auditor) (number : ℕ) (after : ℕ → Option Packet) (put packet : Packet)
-    → put ≡ packet → after ≡ with_one (trace_packets_seen a.packets) number put
-    → with_packets a after ≡ with_packets a (with_one (trace_packets_seen a.packets) number packet)
+    → put ≡ packet → after ≡ trace_packets_with_one (trace_packets_seen a.packets) number put
+    → with_packets a after ≡ with_packets a (trace_packets_with_one (trace_packets_seen a.packets) number packet)
 put_after a number after put packet is done = ap (with_packets a)
-    (done ∙ ap (with_one (trace_packets_seen a.packets) number) is)
+    (done ∙ ap (trace_packets_with_one (trace_packets_seen a.packets) number) is)

@@ -3,7 +3,7 @@ use Rattle.std.proofs.Common.{[], ◌<◌, ◌==◌, ◌∙◌, ◌∷◌, ◌�
 use Rattle.base.proofs.Exports.{length-slice_split, onto_first}
 use Rattle.five_tuple.specs.Exports.{text_parts_round_byte}
 use Rattle.update_machine.specs.Exports.{PolicyFile}
-use Rattle.trace_audit.specs.Exports.{Follows, IsLineRead, IsTaken, Open, Told, TraceState, Whole, begins_with, trace_decided_told, indented_told, is_row_number, item_told, lines_of, lines_of_parts, open_line, silent_told, told_by_words, told_of}
+use Rattle.trace_audit.specs.Exports.{Follows, IsTraceLineRead, IsTraceLineTaken, Open, Told, TraceState, Whole, begins_with, trace_decided_told, indented_told, is_trace_row_number, item_told, lines_of, trace_lines_of_parts, open_trace_line, trace_silent_told, trace_told_by_words, told_of}
 
 -- ---- parts
 
@@ -20,13 +20,13 @@ first_part byte text = some_parts (text_parts_round_byte byte text) (omega (arit
 -- a word in which something follows the colon is no row's number
 row_number_by : (digits : List ℕ) (b : ℕ) (is_end : Bool) (parts : List (List ℕ)) (part : List ℕ)
     (more : List (List ℕ)) → parts ≡ part ∷ more
-    → is_row_number (digits ∷ cond is_end ([] ∷ parts) (onto_first b parts)) ≡ false
+    → is_trace_row_number (digits ∷ cond is_end ([] ∷ parts) (onto_first b parts)) ≡ false
 row_number_by digits b true parts part more e = rw e refl
 row_number_by digits b false parts part [] e = rw e refl
 row_number_by digits b false parts part (next ∷ more) e = rw e refl
 
 pub row_number_rest : (byte : ℕ) (digits rest : List ℕ) → (rest ≡ [] → ⊥)
-    → is_row_number (digits ∷ text_parts_round_byte byte rest) ≡ false
+    → is_trace_row_number (digits ∷ text_parts_round_byte byte rest) ≡ false
 row_number_rest byte digits [] some = absurd (some refl)
 row_number_rest byte digits (b ∷ rest) some = let w = first_part byte rest in
     row_number_by digits b (b == byte) (text_parts_round_byte byte rest) w.0 w.1 w.2
@@ -39,7 +39,7 @@ lines_nil = refl
 
 line_next : (text : List ℕ) (parts rest : List (List ℕ)) (part : List ℕ) (more : List (List ℕ))
     → parts ≡ text ∷ rest → rest ≡ part ∷ more
-    → lines_of_parts parts ≡ Whole text ∷ lines_of_parts rest
+    → trace_lines_of_parts parts ≡ Whole text ∷ trace_lines_of_parts rest
 line_next text parts rest part more e f = rw (e, f) refl
 
 pub lines_next : (rest text next : List ℕ) → text_parts_round_byte 10 rest ≡ text ∷ text_parts_round_byte 10 next
@@ -48,31 +48,31 @@ unfolding lines_of
 lines_next rest text next e = let w = first_part 10 next in
     line_next text (text_parts_round_byte 10 rest) (text_parts_round_byte 10 next) w.0 w.1 e w.2
 
-open_some : (rest : List ℕ) → (rest ≡ [] → ⊥) → open_line rest ≡ Open rest ∷ []
+open_some : (rest : List ℕ) → (rest ≡ [] → ⊥) → open_trace_line rest ≡ Open rest ∷ []
 open_some [] some = absurd (some refl)
 open_some (byte ∷ bytes) some = refl
 
 pub lines_open : (rest : List ℕ) → (rest ≡ [] → ⊥) → text_parts_round_byte 10 rest ≡ rest ∷ []
     → lines_of rest ≡ Open rest ∷ []
 unfolding lines_of
-lines_open rest some e = ap lines_of_parts e ∙ open_some rest some
+lines_open rest some e = ap trace_lines_of_parts e ∙ open_some rest some
 
 -- ---- what a line says
 
 read_by : (files : List PolicyFile) (old new : TraceState) (text : List ℕ) (t : Told) (good : Bool)
-    → told_of text ≡ Some t → IsTaken files old t new good → IsLineRead files old (Whole text) new good
+    → told_of text ≡ Some t → IsTraceLineTaken files old t new good → IsTraceLineRead files old (Whole text) new good
 read_by files old new text t true e h = (t, e, h)
 read_by files old new text t false e h = λ other r.
     let same : r.0 ≡ t = cc in h other (subst (λ x. Follows files old x other) same r.2)
 
 pub line_read : {E : Type 0} (files : List PolicyFile) (old new : TraceState) (text : List ℕ) (t : Told)
-    (good : Result Bool E) → told_of text ≡ Some t → IfOk good (IsTaken files old t new)
-    → IfOk good (IsLineRead files old (Whole text) new)
+    (good : Result Bool E) → told_of text ≡ Some t → IfOk good (IsTraceLineTaken files old t new)
+    → IfOk good (IsTraceLineRead files old (Whole text) new)
 line_read files old new text t (Ok good) e h = read_by files old new text t good e h
 line_read files old new text t (Err error) e h = tt
 
 pub line_unread : (files : List PolicyFile) (old new : TraceState) (text : List ℕ)
-    → told_of text ≡ None → IsLineRead files old (Whole text) new false
+    → told_of text ≡ None → IsTraceLineRead files old (Whole text) new false
 line_unread files old new text e = λ other r. absurd cc
 
 -- ---- by its first words
@@ -84,7 +84,7 @@ either_way false t = refl
 -- a line that begins with no word of these is bad
 pub other_line : (words : List (List ℕ)) → begins_with [] words ≡ false
     → begins_with (codes "row") words ≡ false → begins_with (codes "meter") words ≡ false
-    → begins_with (codes "quiet") words ≡ false → told_by_words words ≡ None
+    → begins_with (codes "quiet") words ≡ false → trace_told_by_words words ≡ None
 other_line [] blank row meter quiet = refl
 other_line (word ∷ []) blank row meter quiet = simp either_way
 other_line (word ∷ next ∷ more) blank row meter quiet = rw (blank, row, meter, quiet) refl
@@ -111,7 +111,7 @@ pub other_item : (words : List (List ℕ)) → begins_with (codes "decided") wor
     → begins_with (codes "entered") words ≡ false → begins_with (codes "dropped") words ≡ false
     → begins_with (codes "out") words ≡ false → begins_with (codes "submitted") words ≡ false
     → begins_with (codes "retired") words ≡ false → begins_with (codes "lost") words ≡ false
-    → begins_with (codes "stuck") words ≡ false → indented_told ([] ∷ words) ≡ silent_told words
+    → begins_with (codes "stuck") words ≡ false → indented_told ([] ∷ words) ≡ trace_silent_told words
 unfolding item_told
 other_item [] decided entered dropped out submitted retired lost stuck = refl
 other_item (word ∷ []) decided entered dropped out submitted retired lost stuck = simp either_way

@@ -3,7 +3,7 @@ use Rattle.std.proofs.Common.{[], ◌++◌, ◌∷◌, ◌≡◌, List, None, ap
 use Rattle.five_tuple.specs.Exports.{header_of}
 use Rattle.update_machine.specs.Exports.{Cached, Dropped, Exit, Item, Leaving, LeftBy, Lost, Machine, NoRoute, PolicyFile, Runs, Setting, Stuck}
 use Rattle.journal.specs.declared.item.Item.TheVariants as item
-use Rattle.trace_audit.specs.Exports.{AreGood, AreTraceItems, AreItemsOf, AreTraceRun, Follows, IsAuditVerdict, Told, TraceLine, TraceState, all_trace_told, first_state}
+use Rattle.trace_audit.specs.Exports.{AreGoodTraceLines, AreTraceItems, AreTraceLineItems, AreTraceRun, Follows, IsTraceAuditVerdict, Told, TraceLine, TraceState, all_trace_told, first_trace_state}
 use Rattle.trace_audit.specs.Told as told
 use Rattle.trace_audit.specs.declared.trace.Verdict.{Verdict}
 use Rattle.trace_audit.specs.declared.trace.Verdict.TheVariants.{Yes, No}
@@ -34,7 +34,7 @@ module _ (files : List PolicyFile) where
   -- what was told is the items of a run
   follows_run : (ts : List Told) (old : TraceState) (t : Told) (new : TraceState) → IsKnown files ts old
       → Follows files old t new
-      → (items : List Item) × AreItemsOf ts t items × RunsAnywhere files old.machine items new.machine
+      → (items : List Item) × AreTraceLineItems ts t items × RunsAnywhere files old.machine items new.machine
   follows_run ts old (told.Row header) new known f = ([], refl, λ setting same. ap (λ (s : TraceState). s.machine) f)
   follows_run ts old (told.Entered packet) new known f = (
     item.Entered packet 0 f.0 ∷ [],
@@ -82,20 +82,20 @@ module _ (files : List PolicyFile) where
             (first.2 setting same) (others.2 setting same),
       )
 
-good_run : (files : List PolicyFile) (lines : List TraceLine) → AreGood files lines → AreTraceRun files lines
+good_run : (files : List PolicyFile) (lines : List TraceLine) → AreGoodTraceLines files lines → AreTraceRun files lines
 good_run files lines good =
-    let w = told_run files [] (first_state files) (all_trace_told lines) good.0 (known_first files)
-    (reads_told files (first_state files) lines good.0 good.1) in record {
+    let w = told_run files [] (first_trace_state files) (all_trace_told lines) good.0 (known_first files)
+    (reads_told files (first_trace_state files) lines good.0 good.1) in record {
       moves = w.0;
       told = w.1;
       run = λ setting same. (
         good.0.machine,
-        subst (λ (all : List PolicyFile). Runs setting (first_state all).machine w.0
+        subst (λ (all : List PolicyFile). Runs setting (first_trace_state all).machine w.0
             good.0.machine) (sym same) (w.2 setting same),
       );
     }
 
 pub verdict_run : (files : List PolicyFile) (lines : List TraceLine) (verdict : Verdict)
-    → IsAuditVerdict files lines verdict → verdict ≡ Yes → AreTraceRun files lines
+    → IsTraceAuditVerdict files lines verdict → verdict ≡ Yes → AreTraceRun files lines
 verdict_run files lines Yes v e = good_run files lines v
 verdict_run files lines (No line) v e = absurd cc

@@ -3,7 +3,7 @@ use Rattle.std.specs.Prelude.{[], if◌then◌else◌, ◌++◌, ◌+◌, ◌-�
 use Rattle.update_machine.specs.Exports.{Action, Dropped, End, Header, Hit, LeftBy, PolicyFile, Row}
 use Rattle.policy_rules.specs.Exports.{IsFirstMatch}
 use Rattle.policy_rules.specs.declared.policy.Action.TheVariants as action
-use Rattle.trace_audit.specs.Reading.{IsPrinted, TraceLine, Open, Whole, latest_policy, made_policy}
+use Rattle.trace_audit.specs.Reading.{IsPrinted, TraceLine, Open, Whole, audit_latest_policy, trace_made_policy}
 use Rattle.trace_audit.specs.Told.{Told, told_of}
 use Rattle.trace_audit.specs.Told as told
 
@@ -23,68 +23,68 @@ all_trace_told (Open text ∷ lines) = all_trace_told lines
 
 -- the policies of the versions after a line: one that submits the next version adds the policy
 -- that its file makes
-abbrev pub policies_with : List PolicyFile → List (List Row) → Told → List (List Row)
-policies_with files policies (told.Submitted file version) = if version == length policies + 1
-    then policies ++ option_to_list (made_policy files file (latest_policy policies)) else policies
-policies_with files policies _ = policies
+abbrev pub audit_policies_with : List PolicyFile → List (List Row) → Told → List (List Row)
+audit_policies_with files policies (told.Submitted file version) = if version == length policies + 1
+    then policies ++ option_to_list (trace_made_policy files file (audit_latest_policy policies)) else policies
+audit_policies_with files policies _ = policies
 
-abbrev pub policies_from : List PolicyFile → List (List Row) → List Told → List (List Row)
-policies_from files policies [] = policies
-policies_from files policies (first ∷ more) =
-    policies_from files (policies_with files policies first) more
+abbrev pub audit_policies_from : List PolicyFile → List (List Row) → List Told → List (List Row)
+audit_policies_from files policies [] = policies
+audit_policies_from files policies (first ∷ more) =
+    audit_policies_from files (audit_policies_with files policies first) more
 
 -- the policy of the first file, and then those that these lines submit, by version
-abbrev pub policies_told : List PolicyFile → List Told → List (List Row)
-policies_told files ts = policies_from files (option_to_list (made_policy files 1 None)) ts
+abbrev pub audit_policies_told : List PolicyFile → List Told → List (List Row)
+audit_policies_told files ts = audit_policies_from files (option_to_list (trace_made_policy files 1 None)) ts
 
 -- the line retires no version above this one
-abbrev pub RetiresUpTo : ℕ → Told → Type 0
-RetiresUpTo mark (told.Retired version) = version ≤ mark
-RetiresUpTo mark _ = ⊤
+abbrev pub TraceRetiresUpTo : ℕ → Told → Type 0
+TraceRetiresUpTo mark (told.Retired version) = version ≤ mark
+TraceRetiresUpTo mark _ = ⊤
 
 -- the mark after these lines: the greatest version that they retire, or 0
 pub record IsTraceMark (ts : List Told) (mark : ℕ) : Type 0 where
-  pub greatest : All (RetiresUpTo mark) ts
+  pub greatest : All (TraceRetiresUpTo mark) ts
   pub retired : (mark ≡ 0) ⊎ Contains ts (told.Retired mark)
 
 -- ---- packets
 
 -- the line is neither a row nor an entry
-abbrev pub IsBetween : Told → Type 0
-IsBetween (told.Row header) = ⊥
-IsBetween (told.Entered packet) = ⊥
-IsBetween _ = ⊤
+abbrev pub IsTraceToldBetween : Told → Type 0
+IsTraceToldBetween (told.Row header) = ⊥
+IsTraceToldBetween (told.Entered packet) = ⊥
+IsTraceToldBetween _ = ⊤
 
 -- the line is no entry of this packet
-abbrev pub EntersOther : ℕ → Told → Type 0
-EntersOther packet (told.Entered other) = other ≢ packet
-EntersOther packet _ = ⊤
+abbrev pub TraceEntersOther : ℕ → Told → Type 0
+TraceEntersOther packet (told.Entered other) = other ≢ packet
+TraceEntersOther packet _ = ⊤
 
 -- the line is no decision of this packet
-abbrev pub DecidesOther : ℕ → Told → Type 0
-DecidesOther packet (told.Decided other version rule action) = other ≢ packet
-DecidesOther packet _ = ⊤
+abbrev pub TraceDecidesOther : ℕ → Told → Type 0
+TraceDecidesOther packet (told.Decided other version rule action) = other ≢ packet
+TraceDecidesOther packet _ = ⊤
 
 -- the last row is a packet's, with this header, and no packet entered since
 pub record IsTraceWaiting (ts : List Told) (header : Header) : Type 0 where
   pub before : List Told
   pub after : List Told
   pub row : ts ≡ before ++ told.Row (Some header) ∷ after
-  pub last : All IsBetween after
+  pub last : All IsTraceToldBetween after
 
 -- the packet entered once, after its own row with this header, under this mark
 pub record TraceHasEntered (ts : List Told) (packet : ℕ) (header : Header) (mark : ℕ) : Type 0 where
   pub before : List Told
   pub after : List Told
   pub entry : ts ≡ before ++ told.Entered packet ∷ after
-  pub none_before : All (EntersOther packet) before
-  pub none_after : All (EntersOther packet) after
+  pub none_before : All (TraceEntersOther packet) before
+  pub none_after : All (TraceEntersOther packet) after
   pub own_row : IsTraceWaiting before header
   pub own_mark : IsTraceMark before mark
 
 -- the packet got one decision, with this action: the first match of its header under one version
 -- that was submitted before, and is above the mark at its entry
-pub record HasDecision (files : List PolicyFile) (ts : List Told) (packet : ℕ) (action : Action)
+pub record TraceHasDecision (files : List PolicyFile) (ts : List Told) (packet : ℕ) (action : Action)
     : Type 0 where
   pub before : List Told
   pub after : List Told
@@ -92,33 +92,33 @@ pub record HasDecision (files : List PolicyFile) (ts : List Told) (packet : ℕ)
   pub rule_text : List ℕ
   pub action_text : List ℕ
   pub decision : ts ≡ before ++ told.Decided packet version rule_text action_text ∷ after
-  pub none_before : All (DecidesOther packet) before
-  pub none_after : All (DecidesOther packet) after
+  pub none_before : All (TraceDecidesOther packet) before
+  pub none_after : All (TraceDecidesOther packet) after
   pub header : Header
   pub mark : ℕ
   pub entered : TraceHasEntered before packet header mark
   pub above_mark : mark < version
   pub policy : List Row
-  pub submitted : slice_get (policies_told files before) (version - 1) ≡ Some policy
+  pub submitted : slice_get (audit_policies_told files before) (version - 1) ≡ Some policy
   pub hit : Hit
   pub first_match : IsFirstMatch policy header hit
   pub printed : IsPrinted rule_text action_text hit
   pub acts : hit.action ≡ action
 
 -- the packet got its one decision before it ended, and none after its end
-pub record IsDecidedOnce (files : List PolicyFile) (before after : List Told) (packet : ℕ)
+pub record IsTraceDecidedOnce (files : List PolicyFile) (before after : List Told) (packet : ℕ)
     (action : Action) : Type 0 where
-  pub decided : HasDecision files before packet action
-  pub none_later : All (DecidesOther packet) after
+  pub decided : TraceHasDecision files before packet action
+  pub none_later : All (TraceDecidesOther packet) after
 
 -- a packet that the lines say is dropped, or out by a port, was decided like that
 abbrev pub IsTraceJustified : List PolicyFile → List Told → List Told → ℕ → End → Type 0
-IsTraceJustified files before after packet Dropped = IsDecidedOnce files before after packet action.Drop
+IsTraceJustified files before after packet Dropped = IsTraceDecidedOnce files before after packet action.Drop
 IsTraceJustified files before after packet (LeftBy port) =
-    IsDecidedOnce files before after packet (action.Out port)
+    IsTraceDecidedOnce files before after packet (action.Out port)
 IsTraceJustified files before after packet _ = ⊤
 
-abbrev pub AreJustified : List PolicyFile → List TraceLine → Type 0
-AreJustified files lines = (before after : List Told) (packet : ℕ) (end : End)
+abbrev pub AreTraceEndsJustified : List PolicyFile → List TraceLine → Type 0
+AreTraceEndsJustified files lines = (before after : List Told) (packet : ℕ) (end : End)
     → all_trace_told lines ≡ before ++ told.Ended packet end ∷ after
     → IsTraceJustified files before after packet end

@@ -3,7 +3,7 @@
 use Rattle.std.specs.Prelude.{[], if◌then◌else◌, ◌-◌, ◌==◌, ◌∷◌, ◌≡◌, ◌≤◌, List, None, Option, Some, length, option_to_list, slice_get, ℕ}
 use Rattle.base.specs.Exports.{result_ok}
 use Rattle.five_tuple.specs.Exports.{text_parts_round_byte}
-use Rattle.update_machine.specs.Exports.{Decides, Ends, MachineEnters, Header, Hit, Machine, PolicyFile, MachineRetires, Row, MachineSubmits, made_by, most_versions}
+use Rattle.update_machine.specs.Exports.{Decides, Ends, MachineEnters, Header, Hit, Machine, PolicyFile, MachineRetires, Row, MachineSubmits, made_by, most_journal_versions}
 use Rattle.policy_rules.specs.Exports.{action_text, rule_text}
 use Rattle.trace_audit.specs.Told.{Told, told_of}
 use Rattle.trace_audit.specs.Told as told
@@ -11,15 +11,15 @@ use Rattle.trace_audit.specs.Told as told
 -- ---- policies
 
 -- the file of a number, from 1, if it exists
-abbrev pub numbered_file : List PolicyFile → ℕ → Option PolicyFile
-numbered_file files file = if file == 0 then None else slice_get files (file - 1)
+abbrev pub trace_numbered_file : List PolicyFile → ℕ → Option PolicyFile
+trace_numbered_file files file = if file == 0 then None else slice_get files (file - 1)
 
 -- the policy that the file of this number has, or makes of the newest one, if there is one
-abbrev pub made_policy : List PolicyFile → ℕ → Option (List Row) → Option (List Row)
-made_policy files file newest = result_ok (made_by (numbered_file files file) newest)
+abbrev pub trace_made_policy : List PolicyFile → ℕ → Option (List Row) → Option (List Row)
+trace_made_policy files file newest = result_ok (made_by (trace_numbered_file files file) newest)
 
-abbrev pub latest_policy : List (List Row) → Option (List Row)
-latest_policy policies = slice_get policies (length policies - 1)
+abbrev pub audit_latest_policy : List (List Row) → Option (List Row)
+audit_latest_policy policies = slice_get policies (length policies - 1)
 
 -- ---- states
 
@@ -29,10 +29,10 @@ pub record TraceState : Type 0 where
   pub pending : Option Header
 
 -- the policy of the first file, the mark 0, no packets, and no pending header
-abbrev pub first_state : List PolicyFile → TraceState
-first_state files = record {
+abbrev pub first_trace_state : List PolicyFile → TraceState
+first_trace_state files = record {
   machine = record {
-    policies = option_to_list (made_policy files 1 None);
+    policies = option_to_list (trace_made_policy files 1 None);
     mark = 0;
     packets = λ _. None;
   };
@@ -50,9 +50,9 @@ Follows files old (told.Row header) new = new ≡ record old { pending = header 
 Follows files old (told.Entered packet) new = (header : Header) × (old.pending ≡ Some header)
     × MachineEnters old.machine packet header new.machine × (new.pending ≡ None)
 Follows files old (told.Submitted file version) new =
-    MachineSubmits old.machine version (made_policy files file (latest_policy old.machine.policies))
+    MachineSubmits old.machine version (trace_made_policy files file (audit_latest_policy old.machine.policies))
     new.machine
-    × (version ≤ most_versions) × (new.pending ≡ old.pending)
+    × (version ≤ most_journal_versions) × (new.pending ≡ old.pending)
 Follows files old (told.Retired version) new =
     MachineRetires old.machine version new.machine × (new.pending ≡ old.pending)
 Follows files old (told.Decided packet version rule action) new = (hit : Hit)
@@ -70,33 +70,33 @@ pub data TraceLine : Type 0 where
   Open : (text : List ℕ) → TraceLine
 
 -- the lines of the parts between line feeds
-abbrev pub open_line : List ℕ → List TraceLine
-open_line [] = []
-open_line (byte ∷ bytes) = Open (byte ∷ bytes) ∷ []
+abbrev pub open_trace_line : List ℕ → List TraceLine
+open_trace_line [] = []
+open_trace_line (byte ∷ bytes) = Open (byte ∷ bytes) ∷ []
 
-abbrev pub lines_of_parts : List (List ℕ) → List TraceLine
-lines_of_parts [] = []
-lines_of_parts (rest ∷ []) = open_line rest
-lines_of_parts (text ∷ next ∷ parts) = Whole text ∷ lines_of_parts (next ∷ parts)
+abbrev pub trace_lines_of_parts : List (List ℕ) → List TraceLine
+trace_lines_of_parts [] = []
+trace_lines_of_parts (rest ∷ []) = open_trace_line rest
+trace_lines_of_parts (text ∷ next ∷ parts) = Whole text ∷ trace_lines_of_parts (next ∷ parts)
 
 unfoldable pub lines_of : List ℕ → List TraceLine
-lines_of trace = lines_of_parts (text_parts_round_byte 10 trace)
+lines_of trace = trace_lines_of_parts (text_parts_round_byte 10 trace)
 
 -- a good line leads from one state to another; one without its line feed is bad
-abbrev pub ReadsLine : List PolicyFile → TraceState → TraceLine → TraceState → Type 0
-ReadsLine files old (Whole text) new =
+abbrev pub ReadsTraceLine : List PolicyFile → TraceState → TraceLine → TraceState → Type 0
+ReadsTraceLine files old (Whole text) new =
     (told : Told) × (told_of text ≡ Some told) × Follows files old told new
-ReadsLine files old (Open text) new = ⊥
+ReadsTraceLine files old (Open text) new = ⊥
 
-abbrev pub IsGoodLine : List PolicyFile → TraceState → TraceLine → Type 0
-IsGoodLine files old line = (new : TraceState) × ReadsLine files old line new
+abbrev pub IsGoodTraceLine : List PolicyFile → TraceState → TraceLine → Type 0
+IsGoodTraceLine files old line = (new : TraceState) × ReadsTraceLine files old line new
 
 -- good lines, one after another
-abbrev pub ReadsAll : List PolicyFile → TraceState → List TraceLine → TraceState → Type 0
-ReadsAll files old [] new = new ≡ old
-ReadsAll files old (line ∷ lines) new =
-    (middle : TraceState) × ReadsLine files old line middle × ReadsAll files middle lines new
+abbrev pub ReadsAllTraceLines : List PolicyFile → TraceState → List TraceLine → TraceState → Type 0
+ReadsAllTraceLines files old [] new = new ≡ old
+ReadsAllTraceLines files old (line ∷ lines) new =
+    (middle : TraceState) × ReadsTraceLine files old line middle × ReadsAllTraceLines files middle lines new
 
 -- all these lines are good, from the beginning on
-abbrev pub AreGood : List PolicyFile → List TraceLine → Type 0
-AreGood files lines = (new : TraceState) × ReadsAll files (first_state files) lines new
+abbrev pub AreGoodTraceLines : List PolicyFile → List TraceLine → Type 0
+AreGoodTraceLines files lines = (new : TraceState) × ReadsAllTraceLines files (first_trace_state files) lines new

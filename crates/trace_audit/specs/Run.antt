@@ -9,28 +9,28 @@ use Rattle.trace_audit.specs.Told as told
 
 -- the items of a line after these: the one that it states if it is a move, otherwise none. A packet
 -- enters with the header of its row. Fields that the machine doesn't read may be anything.
-abbrev pub AreItemsOf : List Told → Told → List Item → Type 0
-AreItemsOf before (told.Entered packet) items = (switch : ℕ) × (header : Header)
+abbrev pub AreTraceLineItems : List Told → Told → List Item → Type 0
+AreTraceLineItems before (told.Entered packet) items = (switch : ℕ) × (header : Header)
     × IsTraceWaiting before header × (items ≡ item.Entered packet switch header ∷ [])
-AreItemsOf before (told.Submitted file version) items = items ≡ item.Submitted file version ∷ []
-AreItemsOf before (told.Retired version) items = items ≡ item.Retired version ∷ []
-AreItemsOf before (told.Decided packet version rule action) items = (hit : Hit) × (how : How)
+AreTraceLineItems before (told.Submitted file version) items = items ≡ item.Submitted file version ∷ []
+AreTraceLineItems before (told.Retired version) items = items ≡ item.Retired version ∷ []
+AreTraceLineItems before (told.Decided packet version rule action) items = (hit : Hit) × (how : How)
     × IsPrinted rule action hit
     × (items ≡ item.Decided packet version hit.rule hit.action how ∷ [])
-AreItemsOf before (told.Ended packet Dropped) items = items ≡ item.Dropped packet ∷ []
-AreItemsOf before (told.Ended packet (LeftBy port)) items = (leaving : Leaving)
+AreTraceLineItems before (told.Ended packet Dropped) items = items ≡ item.Dropped packet ∷ []
+AreTraceLineItems before (told.Ended packet (LeftBy port)) items = (leaving : Leaving)
     × (items ≡ item.Left packet port leaving ∷ [])
-AreItemsOf before (told.Ended packet Lost) items = items ≡ item.Lost packet ∷ []
-AreItemsOf before (told.Ended packet Stuck) items = (switch : ℕ) × (cause : Cause) × (leg : Leg)
+AreTraceLineItems before (told.Ended packet Lost) items = items ≡ item.Lost packet ∷ []
+AreTraceLineItems before (told.Ended packet Stuck) items = (switch : ℕ) × (cause : Cause) × (leg : Leg)
     × (down : List ℕ) × (items ≡ item.Stuck packet switch cause leg down ∷ [])
-AreItemsOf before (told.Row header) items = items ≡ []
-AreItemsOf before told.Nothing items = items ≡ []
+AreTraceLineItems before (told.Row header) items = items ≡ []
+AreTraceLineItems before told.Nothing items = items ≡ []
 
 -- the items of all lines after these, in order
 abbrev pub AreTraceItems : List Told → List Told → List Item → Type 0
 AreTraceItems before [] items = items ≡ []
 AreTraceItems before (first ∷ more) items = (front rest : List Item) × (items ≡ front ++ rest)
-    × AreItemsOf before first front × AreTraceItems (before ++ first ∷ []) more rest
+    × AreTraceLineItems before first front × AreTraceItems (before ++ first ∷ []) more rest
 
 -- the moves that the lines state are a run of the machine that has these files of policies and
 -- changes, on whatever network

@@ -4,7 +4,7 @@ use Rattle.base.specs.Exports.{get, nat_cmp, option_or}
 use Rattle.five_tuple.specs.Exports.{header_of}
 use Rattle.update_machine.specs.Exports.{Action, Drop, Dropped, End, Hit, LeftBy, Lost, Out, PolicyFile, Stuck}
 use Rattle.update_machine.specs.Machine.{Packet}
-use Rattle.trace_audit.specs.Reading.{Follows, TraceLine, ReadsLine, TraceState}
+use Rattle.trace_audit.specs.Reading.{Follows, TraceLine, ReadsTraceLine, TraceState}
 use Rattle.trace_audit.specs.Told.{Told}
 use Rattle.trace_audit.specs.Told as told
 use Rattle.trace_audit.specs.declared.auditor.Auditor.{Auditor}
@@ -26,15 +26,15 @@ trace_end_seen (end.LeftBy port) = LeftBy port
 trace_end_seen end.Lost = Lost
 trace_end_seen end.Stuck = Stuck
 
-abbrev pub told_seen : LineMeaning → Told
-told_seen (line.Row header) = told.Row header
-told_seen (line.Entered packet) = told.Entered packet
-told_seen (line.Submitted file version) = told.Submitted file version
-told_seen (line.Retired version) = told.Retired version
-told_seen (line.Decided packet version rule action) =
+abbrev pub trace_told_seen : LineMeaning → Told
+trace_told_seen (line.Row header) = told.Row header
+trace_told_seen (line.Entered packet) = told.Entered packet
+trace_told_seen (line.Submitted file version) = told.Submitted file version
+trace_told_seen (line.Retired version) = told.Retired version
+trace_told_seen (line.Decided packet version rule action) =
     told.Decided packet version rule.now action.now
-told_seen (line.Ended packet end) = told.Ended packet (trace_end_seen end)
-told_seen line.Nothing = told.Nothing
+trace_told_seen (line.Ended packet end) = told.Ended packet (trace_end_seen end)
+trace_told_seen line.Nothing = told.Nothing
 
 -- the action of a packet's decision, if it has one
 abbrev pub trace_action_seen : TracePacket → Action
@@ -92,15 +92,15 @@ trace_state_seen a = record {
 }
 
 -- the packets with this one instead of what was known by its number
-abbrev pub with_one : (ℕ → Option Packet) → ℕ → Packet → ℕ → Option Packet
-with_one packets number packet = λ other. if other == number then Some packet else packets other
+abbrev pub trace_packets_with_one : (ℕ → Option Packet) → ℕ → Packet → ℕ → Option Packet
+trace_packets_with_one packets number packet = λ other. if other == number then Some packet else packets other
 
 -- if good, what a line says led from one state to the other; if not, it leads to none
-abbrev pub IsTaken : List PolicyFile → TraceState → Told → TraceState → Bool → Type 0
-IsTaken files old told new good = MatchBool good
+abbrev pub IsTraceLineTaken : List PolicyFile → TraceState → Told → TraceState → Bool → Type 0
+IsTraceLineTaken files old told new good = MatchBool good
     (Follows files old told new) ((other : TraceState) → Follows files old told other → ⊥)
 
 -- the same for a line
-abbrev pub IsLineRead : List PolicyFile → TraceState → TraceLine → TraceState → Bool → Type 0
-IsLineRead files old line new good = MatchBool good
-    (ReadsLine files old line new) ((other : TraceState) → ReadsLine files old line other → ⊥)
+abbrev pub IsTraceLineRead : List PolicyFile → TraceState → TraceLine → TraceState → Bool → Type 0
+IsTraceLineRead files old line new good = MatchBool good
+    (ReadsTraceLine files old line new) ((other : TraceState) → ReadsTraceLine files old line other → ⊥)

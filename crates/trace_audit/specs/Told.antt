@@ -2,10 +2,10 @@
 -- that two blanks make an empty word. A number is decimal, without sign or leading zero.
 use Rattle.std.specs.Prelude.{[], if◌then◌else◌, ◌&&◌, ◌==◌, ◌||◌, ◌∷◌, ◌≡◌, ◌⊎◌, Bool, List, MatchOption, None, Option, Some, bytes_eq, codes, drop, false, nat_le, not, option_map, take, ℕ}
 use Rattle.base.specs.Exports.{Bor, list_all, list_any, option_map_or}
-use Rattle.five_tuple.specs.Exports.{header_of, number_up_to, packet_fields_of, text_parts_round_byte}
+use Rattle.five_tuple.specs.Exports.{header_of, number_up_to, tuple_fields_of, text_parts_round_byte}
 use Rattle.update_machine.specs.Exports.{Dropped, End, Header, LeftBy, Lost, Stuck}
 use Rattle.net_file.specs.Exports.{is_name}
-use Rattle.steps.specs.Exports.{max_events, max_number}
+use Rattle.steps.specs.Exports.{max_events, max_step_number}
 
 pub data Told : Type 0 where
   -- a row of a schedule, with its header if it is a packet's
@@ -36,8 +36,8 @@ trace_words_left None = []
 trace_words_left (Some text) = words_of text.now
 
 -- the word has no blank
-abbrev pub has_no_blank : List ℕ → Bool
-has_no_blank word = list_all (λ b. not (b == 32)) word
+abbrev pub trace_word_lacks_blank : List ℕ → Bool
+trace_word_lacks_blank word = list_all (λ b. not (b == 32)) word
 
 -- this is the first word, and more words follow it
 abbrev pub begins_with : List ℕ → List (List ℕ) → Bool
@@ -45,13 +45,13 @@ begins_with word (first ∷ next ∷ more) = bytes_eq first word
 begins_with word _ = false
 
 -- the part of the text after the word and a blank, if it begins with them
-abbrev pub IsRestAfter : List ℕ → List ℕ → Option (Bor (List ℕ)) → Type 0
-IsRestAfter word text after = MatchOption after
+abbrev pub IsTraceRestAfter : List ℕ → List ℕ → Option (Bor (List ℕ)) → Type 0
+IsTraceRestAfter word text after = MatchOption after
     (begins_with word (words_of text) ≡ false) (λ rest. words_of text ≡ word ∷ words_of rest.now)
 
 -- the first word is this one and was taken, and more words follow
-abbrev pub IsWordTaken : List ℕ → List (List ℕ) → List (List ℕ) → Type 0
-IsWordTaken word old new = (next : List ℕ) × (more : List (List ℕ))
+abbrev pub IsTraceWordTaken : List ℕ → List (List ℕ) → List (List ℕ) → Type 0
+IsTraceWordTaken word old new = (next : List ℕ) × (more : List (List ℕ))
     × (old ≡ word ∷ next ∷ more) × (new ≡ next ∷ more)
 
 -- the first word was taken, and `said` is whether it passes the test
@@ -59,90 +59,90 @@ abbrev pub TakesTraceWord : List (List ℕ) → (List ℕ → Bool) → List (Li
 TakesTraceWord old passes new said = (next : List ℕ) × (old ≡ next ∷ new) × (said ≡ passes next)
 
 -- there is no word, or more than one
-abbrev pub IsNoSingle : List (List ℕ) → Type 0
-IsNoSingle words = (words ≡ []) ⊎ ((one : List ℕ) × (two : List ℕ) × (more : List (List ℕ))
+abbrev pub IsNoSingleTraceWord : List (List ℕ) → Type 0
+IsNoSingleTraceWord words = (words ≡ []) ⊎ ((one : List ℕ) × (two : List ℕ) × (more : List (List ℕ))
     × (words ≡ one ∷ two ∷ more))
 
 -- the number of a packet, a file or a version
-abbrev pub number_of_word : List ℕ → Option ℕ
-number_of_word word = number_up_to max_number word
+abbrev pub trace_number_of_word : List ℕ → Option ℕ
+trace_number_of_word word = number_up_to max_step_number word
 
 -- the version of the word `vV`
-abbrev pub version_of_word : List ℕ → Option ℕ
-version_of_word word =
-    if bytes_eq (take 1 word) (codes "v") then number_of_word (drop 1 word) else None
+abbrev pub trace_version_of_word : List ℕ → Option ℕ
+trace_version_of_word word =
+    if bytes_eq (take 1 word) (codes "v") then trace_number_of_word (drop 1 word) else None
 
 -- the parts of a word cut at its colons are the number of a row and nothing after it
-abbrev pub is_row_number : List (List ℕ) → Bool
-is_row_number (number ∷ [] ∷ []) = option_map_or (nat_le 1) (number_up_to max_events number) false
-is_row_number _ = false
+abbrev pub is_trace_row_number : List (List ℕ) → Bool
+is_trace_row_number (number ∷ [] ∷ []) = option_map_or (nat_le 1) (number_up_to max_events number) false
+is_trace_row_number _ = false
 
-abbrev pub pair_told : (ℕ → ℕ → Told) → Option ℕ → Option ℕ → Option Told
-pair_told told (Some one) (Some two) = Some (told one two)
-pair_told told _ _ = None
+abbrev pub trace_pair_told : (ℕ → ℕ → Told) → Option ℕ → Option ℕ → Option Told
+trace_pair_told told (Some one) (Some two) = Some (told one two)
+trace_pair_told told _ _ = None
 
 -- ---- rows
 
 -- the words of `row R: packet S SRC DST SPORT DPORT PROTO` after `packet`
-abbrev pub packet_row_told : List ℕ → List (List ℕ) → Option Told
-packet_row_told row (switch ∷ src ∷ dst ∷ sport ∷ dport ∷ proto ∷ []) =
-    if is_row_number (text_parts_round_byte 58 row) && is_name switch
+abbrev pub trace_packet_row_told : List ℕ → List (List ℕ) → Option Told
+trace_packet_row_told row (switch ∷ src ∷ dst ∷ sport ∷ dport ∷ proto ∷ []) =
+    if is_trace_row_number (text_parts_round_byte 58 row) && is_name switch
     then option_map (λ fields. Row (Some (header_of fields)))
-    (packet_fields_of src dst sport dport proto) else None
-packet_row_told row _ = None
+    (tuple_fields_of src dst sport dport proto) else None
+trace_packet_row_told row _ = None
 
 -- a row of another kind may have any form
-abbrev pub row_told : List (List ℕ) → Option Told
-row_told (row ∷ kind ∷ fields) =
-    if bytes_eq kind (codes "packet") then packet_row_told row fields else Some (Row None)
-row_told (row ∷ []) = Some (Row None)
-row_told [] = None
+abbrev pub trace_row_told : List (List ℕ) → Option Told
+trace_row_told (row ∷ kind ∷ fields) =
+    if bytes_eq kind (codes "packet") then trace_packet_row_told row fields else Some (Row None)
+trace_row_told (row ∷ []) = Some (Row None)
+trace_row_told [] = None
 
 -- ---- moves, by the words after the first one
 
 -- `entered I S`
-abbrev pub entered_told : List (List ℕ) → Option Told
-entered_told (packet ∷ switch ∷ []) =
-    if is_name switch then option_map Entered (number_of_word packet) else None
-entered_told _ = None
+abbrev pub trace_entered_told : List (List ℕ) → Option Told
+trace_entered_told (packet ∷ switch ∷ []) =
+    if is_name switch then option_map Entered (trace_number_of_word packet) else None
+trace_entered_told _ = None
 
 -- `submitted file F version V`
-abbrev pub submitted_told : List (List ℕ) → Option Told
-submitted_told (first ∷ file ∷ second ∷ version ∷ []) =
+abbrev pub trace_submitted_told : List (List ℕ) → Option Told
+trace_submitted_told (first ∷ file ∷ second ∷ version ∷ []) =
     if bytes_eq first (codes "file") && bytes_eq second (codes "version")
-    then pair_told Submitted (number_of_word file) (number_of_word version) else None
-submitted_told _ = None
+    then trace_pair_told Submitted (trace_number_of_word file) (trace_number_of_word version) else None
+trace_submitted_told _ = None
 
 -- `retired V`
-abbrev pub retired_told : List (List ℕ) → Option Told
-retired_told (version ∷ []) = option_map Retired (number_of_word version)
-retired_told _ = None
+abbrev pub trace_retired_told : List (List ℕ) → Option Told
+trace_retired_told (version ∷ []) = option_map Retired (trace_number_of_word version)
+trace_retired_told _ = None
 
 -- `decided I vV rule RULE ACTION cache ` or with ` authority `, and any bytes
 abbrev pub trace_decided_told : List (List ℕ) → Option Told
 trace_decided_told (packet ∷ version ∷ word ∷ rule ∷ action ∷ how ∷ more ∷ others) =
     if bytes_eq word (codes "rule") && (bytes_eq how (codes "cache") || bytes_eq how (codes "authority"))
-    then pair_told (λ i v. Decided i v rule action) (number_of_word packet) (version_of_word version)
+    then trace_pair_told (λ i v. Decided i v rule action) (trace_number_of_word packet) (trace_version_of_word version)
     else None
 trace_decided_told _ = None
 
 -- `dropped I`, `lost I`
-abbrev pub ended_told : End → List (List ℕ) → Option Told
-ended_told end (packet ∷ []) = option_map (λ i. Ended i end) (number_of_word packet)
-ended_told end _ = None
+abbrev pub trace_ended_told : End → List (List ℕ) → Option Told
+trace_ended_told end (packet ∷ []) = option_map (λ i. Ended i end) (trace_number_of_word packet)
+trace_ended_told end _ = None
 
 -- `out I port P`
-abbrev pub left_told : List (List ℕ) → Option Told
-left_told (packet ∷ word ∷ port ∷ []) =
+abbrev pub trace_left_told : List (List ℕ) → Option Told
+trace_left_told (packet ∷ word ∷ port ∷ []) =
     if bytes_eq word (codes "port")
-    then pair_told (λ i p. Ended i (LeftBy p)) (number_of_word packet) (number_up_to 4294967295 port)
+    then trace_pair_told (λ i p. Ended i (LeftBy p)) (trace_number_of_word packet) (number_up_to 4294967295 port)
     else None
-left_told _ = None
+trace_left_told _ = None
 
 -- `stuck I ` and any bytes
-abbrev pub stuck_told : List (List ℕ) → Option Told
-stuck_told (packet ∷ more ∷ others) = option_map (λ i. Ended i Stuck) (number_of_word packet)
-stuck_told _ = None
+abbrev pub trace_stuck_told : List (List ℕ) → Option Told
+trace_stuck_told (packet ∷ more ∷ others) = option_map (λ i. Ended i Stuck) (trace_number_of_word packet)
+trace_stuck_told _ = None
 
 -- ---- lines
 
@@ -164,24 +164,24 @@ silent_words = codes "closed" ∷ codes "tunnelled" ∷ codes "exit" ∷ codes "
     ∷ codes "over" ∷ codes "link" ∷ []
 
 -- an item that is no move
-abbrev pub silent_told : List (List ℕ) → Option Told
-silent_told (word ∷ args) =
+abbrev pub trace_silent_told : List (List ℕ) → Option Told
+trace_silent_told (word ∷ args) =
     if bytes_eq word (codes "nothing") then alone_told args else
     if list_any (bytes_eq word) silent_words then any_told args else None
-silent_told [] = None
+trace_silent_told [] = None
 
 -- an item, by its word and the words after it
 unfoldable pub item_told : List ℕ → List (List ℕ) → Option Told
 item_told word args =
     if bytes_eq word (codes "nothing") then alone_told args else
-    if bytes_eq word (codes "entered") then entered_told args else
-    if bytes_eq word (codes "submitted") then submitted_told args else
-    if bytes_eq word (codes "retired") then retired_told args else
+    if bytes_eq word (codes "entered") then trace_entered_told args else
+    if bytes_eq word (codes "submitted") then trace_submitted_told args else
+    if bytes_eq word (codes "retired") then trace_retired_told args else
     if bytes_eq word (codes "decided") then trace_decided_told args else
-    if bytes_eq word (codes "dropped") then ended_told Dropped args else
-    if bytes_eq word (codes "out") then left_told args else
-    if bytes_eq word (codes "lost") then ended_told Lost args else
-    if bytes_eq word (codes "stuck") then stuck_told args else
+    if bytes_eq word (codes "dropped") then trace_ended_told Dropped args else
+    if bytes_eq word (codes "out") then trace_left_told args else
+    if bytes_eq word (codes "lost") then trace_ended_told Lost args else
+    if bytes_eq word (codes "stuck") then trace_stuck_told args else
     if list_any (bytes_eq word) silent_words then any_told args else None
 
 -- after a first empty word: an item follows two blanks
@@ -189,13 +189,13 @@ abbrev pub indented_told : List (List ℕ) → Option Told
 indented_told (second ∷ word ∷ args) = if bytes_eq second [] then item_told word args else None
 indented_told _ = None
 
-abbrev pub told_by_words : List (List ℕ) → Option Told
-told_by_words (first ∷ args) =
-    if bytes_eq first (codes "row") then row_told args else
+abbrev pub trace_told_by_words : List (List ℕ) → Option Told
+trace_told_by_words (first ∷ args) =
+    if bytes_eq first (codes "row") then trace_row_told args else
     if bytes_eq first (codes "meter") || bytes_eq first (codes "quiet") then any_told args else
     if bytes_eq first [] then indented_told args else None
-told_by_words [] = None
+trace_told_by_words [] = None
 
 -- what a line says; none if it is bad whatever precedes it
 unfoldable pub told_of : List ℕ → Option Told
-told_of line = told_by_words (words_of line)
+told_of line = trace_told_by_words (words_of line)

@@ -2,15 +2,15 @@ ghost use Rattle.std.specs.Prelude.{◌≡◌, ◌↔◌, IfOk, IsTrue, List, So
 ghost use Rattle.std.specs.Result.{result_ok};
 ghost use Rattle.policy_rules.specs.Applied.{applied};
 ghost use Rattle.policy_rules.specs.declared.file.PolicyFile.{PolicyFile};
-ghost use Rattle.update_machine.specs.Machine.{PacketMayEnd};
-ghost use Rattle.trace_audit.specs.Reading.{numbered_file, first_state, latest_policy, made_policy};
+ghost use Rattle.update_machine.specs.Machine.{MachinePacketMayEnd};
+ghost use Rattle.trace_audit.specs.Reading.{trace_numbered_file, first_trace_state, audit_latest_policy, trace_made_policy};
 ghost use Rattle.update_machine.specs.Setting.{made_by};
-ghost use Rattle.trace_audit.specs.Seen.{IsTaken, trace_end_seen, trace_packet_seen, trace_state_seen, told_seen};
+ghost use Rattle.trace_audit.specs.Seen.{IsTraceLineTaken, trace_end_seen, trace_packet_seen, trace_state_seen, trace_told_seen};
 ghost use Rattle.trace_audit.specs.Told as told;
 
 use crate::index::IndexedPolicy;
 use crate::packets::{Packets, TracePacket};
-use crate::printed::is_printed;
+use crate::printed::is_printed_in_trace;
 use crate::told::{End, LineMeaning};
 use base::MAX_VERSIONS;
 use policy_rules::{Action, Amendment, ApplyError, Header, Policy, PolicyFile, apply};
@@ -28,23 +28,23 @@ pub(crate) struct Auditor {
 
 /// The policy that the file of this number has, or makes of the newest one, if there is one.
 #[tactic(auto, using(crate::proofs::AuditMadePolicies::policy_of, crate::proofs::AuditMadePolicies::no_policy))]
-fn made_policy(
+fn trace_made_policy(
     alloc: Global,
     files: &[PolicyFile],
     file: u32,
     newest: Option<&Policy>,
 ) -> Result<Option<Policy>, AllocError>
-    ensures { IfOk result (λ made. made ≡ made_policy files.now file (option_copied newest.entry)) }
+    ensures { IfOk result (λ made. made ≡ trace_made_policy files.now file (option_copied newest.entry)) }
 {
-    match numbered_file(files, file) {
+    match trace_numbered_file(files, file) {
         Some(file) => made_by(alloc, file, newest),
         None => Ok(None),
     }
 }
 
 // The file of this number, from 1, if it exists.
-fn numbered_file(files: &[PolicyFile], file: u32) -> Option<&PolicyFile>
-    ensures { option_copied result ≡ numbered_file files.now file }
+fn trace_numbered_file(files: &[PolicyFile], file: u32) -> Option<&PolicyFile>
+    ensures { option_copied result ≡ trace_numbered_file files.now file }
 {
     if file == 0 {
         return None;
@@ -88,10 +88,10 @@ impl Auditor {
     /// # Errors
     /// Only out of memory.
     pub fn new(alloc: Global, files: &[PolicyFile]) -> Result<Auditor, AllocError>
-        ensures { IfOk result (λ auditor. trace_state_seen auditor ≡ first_state files.now) }
+        ensures { IfOk result (λ auditor. trace_state_seen auditor ≡ first_trace_state files.now) }
     {
         let mut policies = Vec::new(alloc);
-        if let Some(policy) = made_policy(alloc, files, 1, None)? {
+        if let Some(policy) = trace_made_policy(alloc, files, 1, None)? {
             policies.push(IndexedPolicy::new(alloc, policy)?)?;
         }
         Ok(Auditor {
@@ -104,7 +104,7 @@ impl Auditor {
 
     // The policy of the newest version, if there is one.
     fn newest(&self) -> Option<&Policy>
-        ensures { option_copied result ≡ latest_policy self.now.policies.items }
+        ensures { option_copied result ≡ audit_latest_policy self.now.policies.items }
     {
         match self.policies.last() {
             Some(version) => Some(version.policy()),
@@ -114,7 +114,7 @@ impl Auditor {
 
     fn enter(&mut self, number: u32) -> Result<bool, AllocError>
         ensures { (files : List PolicyFile) → IfOk result
-            (IsTaken files (trace_state_seen self.old) (told.Entered number) (trace_state_seen self.new)) }
+            (IsTraceLineTaken files (trace_state_seen self.old) (told.Entered number) (trace_state_seen self.new)) }
     {
         let Some(header) = self.pending else {
             return Ok(false);
@@ -135,12 +135,12 @@ impl Auditor {
         file: u32,
         version: u32,
     ) -> Result<bool, AllocError>
-        ensures { IfOk result (IsTaken files.now (trace_state_seen self.old) (told.Submitted file version) (trace_state_seen self.new)) }
+        ensures { IfOk result (IsTraceLineTaken files.now (trace_state_seen self.old) (told.Submitted file version) (trace_state_seen self.new)) }
     {
         if version > MAX_VERSIONS || version as usize != self.policies.len() + 1 {
             return Ok(false);
         }
-        match made_policy(alloc, files, file, self.newest())? {
+        match trace_made_policy(alloc, files, file, self.newest())? {
             None => Ok(false),
             Some(policy) => {
                 self.policies.push(IndexedPolicy::new(alloc, policy)?)?;
@@ -151,7 +151,7 @@ impl Auditor {
 
     fn retire(&mut self, version: u32) -> bool
         ensures { (files : List PolicyFile) →
-            IsTaken files (trace_state_seen self.old) (told.Retired version) (trace_state_seen self.new) result }
+            IsTraceLineTaken files (trace_state_seen self.old) (told.Retired version) (trace_state_seen self.new) result }
     {
         if version <= self.mark || version as usize >= self.policies.len() {
             return false;
@@ -168,7 +168,7 @@ impl Auditor {
         action: &[u8],
     ) -> Result<bool, AllocError>
         ensures { (files : List PolicyFile) → IfOk result
-            (IsTaken files (trace_state_seen self.old) (told.Decided number version rule.now action.now) (trace_state_seen self.new)) }
+            (IsTraceLineTaken files (trace_state_seen self.old) (told.Decided number version rule.now action.now) (trace_state_seen self.new)) }
     {
         let Some(packet) = self.packets.get(number) else {
             return Ok(false);
@@ -180,7 +180,7 @@ impl Auditor {
             return Ok(false);
         };
         let hit = policy.first_match(&packet.header());
-        if !is_printed(rule, action, hit) {
+        if !is_printed_in_trace(rule, action, hit) {
             return Ok(false);
         }
         self.packets.put(number, packet.decided(hit))?;
@@ -189,7 +189,7 @@ impl Auditor {
 
     fn end(&mut self, number: u32, end: End) -> Result<bool, AllocError>
         ensures { (files : List PolicyFile) → IfOk result
-            (IsTaken files (trace_state_seen self.old) (told.Ended number (trace_end_seen end)) (trace_state_seen self.new)) }
+            (IsTraceLineTaken files (trace_state_seen self.old) (told.Ended number (trace_end_seen end)) (trace_state_seen self.new)) }
     {
         let Some(packet) = self.packets.get(number) else {
             return Ok(false);
@@ -211,7 +211,7 @@ impl Auditor {
         files: &[PolicyFile],
         told: &LineMeaning,
     ) -> Result<bool, AllocError>
-        ensures { IfOk result (IsTaken files.now (trace_state_seen self.old) (told_seen told.now) (trace_state_seen self.new)) }
+        ensures { IfOk result (IsTraceLineTaken files.now (trace_state_seen self.old) (trace_told_seen told.now) (trace_state_seen self.new)) }
     {
         match *told {
             LineMeaning::Row(header) => {
@@ -235,7 +235,7 @@ impl Auditor {
 
 // Whether the packet may end like this.
 fn may_end(packet: &TracePacket, end: End) -> bool
-    ensures { IsTrue result ↔ PacketMayEnd (trace_packet_seen packet.now) (trace_end_seen end) }
+    ensures { IsTrue result ↔ MachinePacketMayEnd (trace_packet_seen packet.now) (trace_end_seen end) }
 {
     match end {
         End::Dropped => packet.action() == Some(Action::Drop),

@@ -2,7 +2,7 @@ ghost use Rattle.std.specs.Prelude.{◌≡◌, ◌<◌, ◌+◌, List, IfOk, IfS
 ghost use Rattle.policy_rules.specs.Exports.{IsFirstMatch, IsPolicy};
 ghost use Rattle.policy_rules.specs.declared.policy.Hit.{Hit};
 ghost use Rattle.policy_rules.specs.declared.policy.Row.{Row};
-ghost use Rattle.trace_audit.specs.Index.{AreShapesOf, HasShape, IsBest, IsBetterIndexHit, IsIndexOf, IsIndexUpTo, IndexNotes, better_index_hit, is_index_shape, shape_of_row, index_slot_of, slot_of_row};
+ghost use Rattle.trace_audit.specs.Index.{AreAuditShapesOf, HasAuditShape, IsBestAuditHit, IsBetterAuditHit, IsAuditIndexOf, IsAuditIndexUpTo, AuditIndexNotes, audit_better_index_hit, is_audit_index_shape, audit_shape_of_row, audit_index_slot_of, audit_slot_of_row};
 
 use five_tuple::{Fields, Header, Prefix};
 use policy_rules::{Hit, Policy, Row, policy_laws};
@@ -46,19 +46,19 @@ pub(crate) struct IndexedPolicy {
 impl Model for IndexedPolicy {
     ghost use Rattle.std.specs.Prelude.{List, IfSome};
     ghost use Rattle.policy_rules.specs.declared.policy.Row.{Row};
-    ghost use Rattle.trace_audit.specs.Index.{IsIndexOf};
+    ghost use Rattle.trace_audit.specs.Index.{IsAuditIndexOf};
 
     ghost Value = { List Row };
 
     ghost view = { λ version. version.policy };
 
-    ghost invariant = { λ version. IfSome version.index (IsIndexOf version.policy) };
+    ghost invariant = { λ version. IfSome version.index (IsAuditIndexOf version.policy) };
 }
 
 // The slot of blocks that begin with these addresses, of the shape at this place.
 fn slot(shapes: &[Shape], place: usize, src: u32, dst: u32) -> usize
     requires { place < length shapes.now }
-    ensures slot { result ≡ index_slot_of (length shapes.now) place src dst }
+    ensures slot { result ≡ audit_index_slot_of (length shapes.now) place src dst }
     ensures bound { result < 4096 }
 {
     let mixed = src
@@ -70,16 +70,16 @@ fn slot(shapes: &[Shape], place: usize, src: u32, dst: u32) -> usize
 
 // The place of the shape among the others, if it is one of them.
 fn place_of(shapes: &[Shape], shape: Shape) -> Option<usize>
-    ensures { result ≡ position (is_index_shape shape) shapes.now }
+    ensures { result ≡ position (is_audit_index_shape shape) shapes.now }
 {
     shapes
         .iter()
         .position(|other| other.src == shape.src && other.dst == shape.dst)
 }
 
-fn slot_of_row(shapes: &[Shape], row: &Row) -> usize
-    requires { HasShape shapes.now row.now }
-    ensures slot { result ≡ slot_of_row shapes.now row.now }
+fn audit_slot_of_row(shapes: &[Shape], row: &Row) -> usize
+    requires { HasAuditShape shapes.now row.now }
+    ensures slot { result ≡ audit_slot_of_row shapes.now row.now }
     ensures bound { result < 4096 }
 {
     let place = place_of(shapes, Shape::of(row)).unwrap();
@@ -88,7 +88,7 @@ fn slot_of_row(shapes: &[Shape], row: &Row) -> usize
 
 // The better of the row, if it matches, and the hit.
 fn better(row: &Row, fields: &Fields, hit: Hit) -> Hit
-    ensures { result ≡ better_index_hit row.now fields.now hit }
+    ensures { result ≡ audit_better_index_hit row.now fields.now hit }
 {
     let exceeds = match hit.rule {
         None => true,
@@ -103,7 +103,7 @@ fn better(row: &Row, fields: &Fields, hit: Hit) -> Hit
 
 impl Shape {
     fn of(row: &Row) -> Shape
-        ensures { result ≡ shape_of_row row.now }
+        ensures { result ≡ audit_shape_of_row row.now }
     {
         Shape {
             src: row.src.len,
@@ -114,7 +114,7 @@ impl Shape {
 
 // Adds the shape unless it is among these.
 fn note(shapes: &mut Vec<Shape>, shape: Shape) -> Result<(), AllocError>
-    ensures { OnOk result (IndexNotes shapes.old.items shape shapes.new.items) }
+    ensures { OnOk result (AuditIndexNotes shapes.old.items shape shapes.new.items) }
 {
     if place_of(shapes, shape).is_none() {
         shapes.push(shape)?;
@@ -125,7 +125,7 @@ fn note(shapes: &mut Vec<Shape>, shape: Shape) -> Result<(), AllocError>
 // The shapes of the rows; `None` if there are too many of them for an index.
 fn row_shapes_of(alloc: Global, rows: &[Row]) -> Result<Option<Vec<Shape>>, AllocError>
     requires { IsPolicy rows.now }
-    ensures { IfOk result (λ some. IfSome some (λ shapes. AreShapesOf rows.now shapes.items)) }
+    ensures { IfOk result (λ some. IfSome some (λ shapes. AreAuditShapesOf rows.now shapes.items)) }
 {
     let most = rows.len() / ROWS_A_SHAPE;
     let mut shapes = Vec::new(alloc);
@@ -140,8 +140,8 @@ fn row_shapes_of(alloc: Global, rows: &[Row]) -> Result<Option<Vec<Shape>>, Allo
 
 impl Index {
     fn new(alloc: Global, shapes: Vec<Shape>) -> Result<Index, AllocError>
-        ensures { (rows : List Row) → AreShapesOf rows shapes.items
-            → IfOk result (IsIndexUpTo rows 0) }
+        ensures { (rows : List Row) → AreAuditShapesOf rows shapes.items
+            → IfOk result (IsAuditIndexUpTo rows 0) }
     {
         Ok(Index {
             shapes,
@@ -153,10 +153,10 @@ impl Index {
     // Adds the row at this place.
     fn add(&mut self, rows: &[Row], place: u32) -> Result<(), AllocError>
         requires place { place < length rows.now }
-        requires index { IsIndexUpTo rows.now place self.old }
-        ensures { OnOk result (IsIndexUpTo rows.now (place + 1) self.new) }
+        requires index { IsAuditIndexUpTo rows.now place self.old }
+        ensures { OnOk result (IsAuditIndexUpTo rows.now (place + 1) self.new) }
     {
-        let slot = slot_of_row(&self.shapes, &rows[place as usize]);
+        let slot = audit_slot_of_row(&self.shapes, &rows[place as usize]);
         let before = self.last[slot];
         self.earlier.push(before)?;
         self.last[slot] = Some(place);
@@ -166,7 +166,7 @@ impl Index {
     // An index of the rows, if they have few shapes: with more, a scan costs less.
     fn of(alloc: Global, rows: &[Row]) -> Result<Option<Index>, AllocError>
         requires { IsPolicy rows.now }
-        ensures { IfOk result (λ some. IfSome some (IsIndexOf rows.now)) }
+        ensures { IfOk result (λ some. IfSome some (IsAuditIndexOf rows.now)) }
     {
         let Some(shapes) = row_shapes_of(alloc, rows)? else {
             return Ok(None);
@@ -180,9 +180,9 @@ impl Index {
 
     // The best of the hit and of the matching rows in the slot.
     fn best_in(&self, rows: &[Row], slot: usize, fields: &Fields, hit: Hit) -> Hit
-        requires index { IsIndexOf rows.now self.now }
+        requires index { IsAuditIndexOf rows.now self.now }
         requires slot { slot < 4096 }
-        ensures { IsBetterIndexHit self.now.shapes.items rows.now slot fields.now hit result }
+        ensures { IsBetterAuditHit self.now.shapes.items rows.now slot fields.now hit result }
     {
         let mut best = hit;
         let mut at = self.last[slot];
@@ -196,8 +196,8 @@ impl Index {
     // The best of all matching rows; the default if none matches.
     fn best(&self, rows: &[Row], fields: &Fields) -> Hit
         requires rows { IsPolicy rows.now }
-        requires index { IsIndexOf rows.now self.now }
-        ensures { IsBest rows.now fields.now result }
+        requires index { IsAuditIndexOf rows.now self.now }
+        ensures { IsBestAuditHit rows.now fields.now result }
     {
         let mut best = Hit::DEFAULT;
         for (place, shape) in self.shapes.iter().enumerate() {

@@ -1,6 +1,6 @@
 ghost use Rattle.std.specs.Prelude.{◌≡◌, None, OnOk, Some, is_some, option_map};
-ghost use Rattle.update_machine.specs.Machine.{PacketMayEnd};
-ghost use Rattle.trace_audit.specs.Seen.{trace_action_seen, trace_end_seen, trace_packet_seen, trace_packets_seen, trace_run_get, with_one};
+ghost use Rattle.update_machine.specs.Machine.{MachinePacketMayEnd};
+ghost use Rattle.trace_audit.specs.Seen.{trace_action_seen, trace_end_seen, trace_packet_seen, trace_packets_seen, trace_run_get, trace_packets_with_one};
 
 use crate::told::End;
 use five_tuple::{Fields, Header};
@@ -147,7 +147,7 @@ impl TracePacket {
 
     /// The packet with this end.
     pub fn ended(self, end: End) -> TracePacket
-        requires { PacketMayEnd (trace_packet_seen self) (trace_end_seen end) }
+        requires { MachinePacketMayEnd (trace_packet_seen self) (trace_end_seen end) }
         ensures { trace_packet_seen result ≡ record (trace_packet_seen self) { end = Some (trace_end_seen end) } }
     {
         let ending = match end {
@@ -205,7 +205,7 @@ impl Packets {
     /// # Errors
     /// Only out of memory.
     pub fn put(&mut self, number: u32, packet: TracePacket) -> Result<(), AllocError>
-        ensures { OnOk result (trace_packets_seen self.new ≡ with_one (trace_packets_seen self.old) number (trace_packet_seen packet)) }
+        ensures { OnOk result (trace_packets_seen self.new ≡ trace_packets_with_one (trace_packets_seen self.old) number (trace_packet_seen packet)) }
     {
         if self.run.is_empty() {
             self.first = number;

@@ -35,7 +35,7 @@ fn is_action(text: &[u8], action: Action) -> bool
 }
 
 /// Whether the decision is printed in these texts.
-pub(crate) fn is_printed(rule: &[u8], action: &[u8], hit: Hit) -> bool
+pub(crate) fn is_printed_in_trace(rule: &[u8], action: &[u8], hit: Hit) -> bool
     ensures { IsTrue result ↔ IsPrinted rule.now action.now hit }
 {
     is_rule(rule, hit.rule) && is_action(action, hit.action)

@@ -2,10 +2,10 @@ ghost use Rattle.std.specs.Prelude.{◌≡◌, ◌∷◌, ◌==◌, ◌<◌, ◌
 ghost use Rattle.std.specs.List.{list_any};
 ghost use Rattle.five_tuple.specs.Texts.{number_up_to, text_parts_round_byte};
 ghost use Rattle.update_machine.specs.Machine as machine;
-ghost use Rattle.trace_audit.specs.Seen.{trace_end_seen, told_seen};
-ghost use Rattle.trace_audit.specs.Told.{begins_with, trace_decided_told, ended_told, entered_told, indented_told, is_row_number, left_told, number_of_word, packet_row_told, retired_told, row_told, silent_told, stuck_told, submitted_told, told_of, version_of_word};
+ghost use Rattle.trace_audit.specs.Seen.{trace_end_seen, trace_told_seen};
+ghost use Rattle.trace_audit.specs.Told.{begins_with, trace_decided_told, trace_ended_told, trace_entered_told, indented_told, is_trace_row_number, trace_left_told, trace_number_of_word, trace_packet_row_told, trace_retired_told, trace_row_told, trace_silent_told, trace_stuck_told, trace_submitted_told, told_of, trace_version_of_word};
 
-use crate::words::{Words, cut_text_near};
+use crate::words::{Words, cut_trace_text_near};
 use five_tuple::{Header, read_fields, read_number};
 use net_file::is_name;
 use steps::{MAX_EVENTS, MAX_NUMBER};
@@ -49,7 +49,7 @@ pub(crate) enum LineMeaning<'a> {
 
 // The number of a packet, a file or a version.
 fn number(word: &[u8]) -> Option<u32>
-    ensures { result ≡ number_of_word word.now }
+    ensures { result ≡ trace_number_of_word word.now }
 {
     let number = read_number(word, u64::from(MAX_NUMBER))?;
     Some(number as u32)
@@ -57,17 +57,17 @@ fn number(word: &[u8]) -> Option<u32>
 
 // The version of a word `vV`.
 fn version(word: &[u8]) -> Option<u32>
-    ensures { result ≡ version_of_word word.now }
+    ensures { result ≡ trace_version_of_word word.now }
 {
     number(word.strip_prefix(b"v".as_slice())?)
 }
 
 // Whether the word is the number of a row, from 1, and a colon.
 #[tactic(auto, using(crate::proofs::AuditTraceLines::row_number_rest))]
-fn is_row_number(word: &[u8]) -> bool
-    ensures { result ≡ is_row_number (text_parts_round_byte 58 word.now) }
+fn is_trace_row_number(word: &[u8]) -> bool
+    ensures { result ≡ is_trace_row_number (text_parts_round_byte 58 word.now) }
 {
-    let Some((digits, rest)) = cut_text_near(word, b':') else {
+    let Some((digits, rest)) = cut_trace_text_near(word, b':') else {
         return false;
     };
     if !rest.is_empty() {
@@ -82,7 +82,7 @@ fn is_row_number(word: &[u8]) -> bool
 // ---- rows
 
 fn read_packet_row<'a>(row: &[u8], mut words: Words<'a>) -> Option<LineMeaning<'a>>
-    ensures { option_map told_seen result ≡ packet_row_told row.now words.entry }
+    ensures { option_map trace_told_seen result ≡ trace_packet_row_told row.now words.entry }
 {
     let switch = words.next()?;
     let src = words.next()?;
@@ -90,7 +90,7 @@ fn read_packet_row<'a>(row: &[u8], mut words: Words<'a>) -> Option<LineMeaning<'
     let sport = words.next()?;
     let dport = words.next()?;
     let proto = words.last()?;
-    if !is_row_number(row) || !is_name(switch) {
+    if !is_trace_row_number(row) || !is_name(switch) {
         return None;
     }
     let fields = read_fields(src, dst, sport, dport, proto)?;
@@ -100,7 +100,7 @@ fn read_packet_row<'a>(row: &[u8], mut words: Words<'a>) -> Option<LineMeaning<'
 // If this and others below were inlined, the loop over the lines would be slower.
 #[inline(never)]
 fn read_row<'a>(mut words: Words<'a>) -> Option<LineMeaning<'a>>
-    ensures { option_map told_seen result ≡ row_told words.entry }
+    ensures { option_map trace_told_seen result ≡ trace_row_told words.entry }
 {
     let row = words.next()?;
     match words.next_is(b"packet".as_slice()) {
@@ -113,7 +113,7 @@ fn read_row<'a>(mut words: Words<'a>) -> Option<LineMeaning<'a>>
 
 #[inline(never)]
 fn read_entered<'a>(mut words: Words<'a>) -> Option<LineMeaning<'a>>
-    ensures { option_map told_seen result ≡ entered_told words.entry }
+    ensures { option_map trace_told_seen result ≡ trace_entered_told words.entry }
 {
     let packet = words.next()?;
     let switch = words.last()?;
@@ -124,7 +124,7 @@ fn read_entered<'a>(mut words: Words<'a>) -> Option<LineMeaning<'a>>
 }
 
 fn read_submitted<'a>(mut words: Words<'a>) -> Option<LineMeaning<'a>>
-    ensures { option_map told_seen result ≡ submitted_told words.entry }
+    ensures { option_map trace_told_seen result ≡ trace_submitted_told words.entry }
 {
     let first = words.next()?;
     let file = words.next()?;
@@ -140,7 +140,7 @@ fn read_submitted<'a>(mut words: Words<'a>) -> Option<LineMeaning<'a>>
 }
 
 fn read_retired<'a>(words: Words<'a>) -> Option<LineMeaning<'a>>
-    ensures { option_map told_seen result ≡ retired_told words.entry }
+    ensures { option_map trace_told_seen result ≡ trace_retired_told words.entry }
 {
     let version = number(words.last()?)?;
     Some(LineMeaning::Retired(version))
@@ -149,7 +149,7 @@ fn read_retired<'a>(words: Words<'a>) -> Option<LineMeaning<'a>>
 #[tactic(auto, using(crate::proofs::AuditTraceLines::no_how, crate::proofs::AuditTraceLines::no_rule))]
 #[inline(never)]
 fn read_decided<'a>(mut words: Words<'a>) -> Option<LineMeaning<'a>>
-    ensures { option_map told_seen result ≡ trace_decided_told words.entry }
+    ensures { option_map trace_told_seen result ≡ trace_decided_told words.entry }
 {
     let packet = words.next()?;
     let version = words.next()?;
@@ -170,14 +170,14 @@ fn read_decided<'a>(mut words: Words<'a>) -> Option<LineMeaning<'a>>
 }
 
 fn read_ended<'a>(end: End, words: Words<'a>) -> Option<LineMeaning<'a>>
-    ensures { option_map told_seen result ≡ ended_told (trace_end_seen end) words.entry }
+    ensures { option_map trace_told_seen result ≡ trace_ended_told (trace_end_seen end) words.entry }
 {
     let packet = number(words.last()?)?;
     Some(LineMeaning::Ended { packet, end })
 }
 
 fn read_left<'a>(mut words: Words<'a>) -> Option<LineMeaning<'a>>
-    ensures { option_map told_seen result ≡ left_told words.entry }
+    ensures { option_map trace_told_seen result ≡ trace_left_told words.entry }
 {
     let packet = words.next()?;
     let word = words.next()?;
@@ -194,7 +194,7 @@ fn read_left<'a>(mut words: Words<'a>) -> Option<LineMeaning<'a>>
 }
 
 fn read_stuck<'a>(mut words: Words<'a>) -> Option<LineMeaning<'a>>
-    ensures { option_map told_seen result ≡ stuck_told words.entry }
+    ensures { option_map trace_told_seen result ≡ trace_stuck_told words.entry }
 {
     let packet = words.next()?;
     let _more = words.next()?;
@@ -237,7 +237,7 @@ fn is_among(words: &[&[u8]], word: &[u8]) -> bool
 
 // An item that is no move: only `nothing`, or another such word, a blank and any bytes.
 fn read_silent<'a>(mut words: Words<'a>) -> Option<LineMeaning<'a>>
-    ensures { option_map told_seen result ≡ silent_told words.entry }
+    ensures { option_map trace_told_seen result ≡ trace_silent_told words.entry }
 {
     let word = words.next()?;
     let is_good = if word == b"nothing".as_slice() {
@@ -255,7 +255,7 @@ fn read_rare_item<'a>(mut words: Words<'a>) -> Option<LineMeaning<'a>>
     requires decided { begins_with (codes "decided") words ≡ false }
     requires entered { begins_with (codes "entered") words ≡ false }
     requires dropped { begins_with (codes "dropped") words ≡ false }
-    ensures { option_map told_seen result ≡ indented_told ([] ∷ words.entry) }
+    ensures { option_map trace_told_seen result ≡ indented_told ([] ∷ words.entry) }
 {
     if words.take(b"out".as_slice()) {
         read_left(words)
@@ -276,7 +276,7 @@ fn read_rare_item<'a>(mut words: Words<'a>) -> Option<LineMeaning<'a>>
 // of the items that each packet has are tried first.
 #[tactic(auto, unfolding(crate::specs::Told::item_told))]
 fn read_item<'a>(mut words: Words<'a>) -> Option<LineMeaning<'a>>
-    ensures { option_map told_seen result ≡ indented_told words.entry }
+    ensures { option_map trace_told_seen result ≡ indented_told words.entry }
 {
     if !words.take(b"".as_slice()) {
         return None;
@@ -296,7 +296,7 @@ fn read_item<'a>(mut words: Words<'a>) -> Option<LineMeaning<'a>>
 /// What a line says; `None` if it is bad whatever precedes it.
 #[tactic(auto, using(crate::proofs::AuditTraceLines::other_line), unfolding(crate::specs::Told::told_of))]
 pub(crate) fn read_line<'a>(line: &'a [u8]) -> Option<LineMeaning<'a>>
-    ensures { option_map told_seen result ≡ told_of line.now }
+    ensures { option_map trace_told_seen result ≡ told_of line.now }
 {
     let mut words = Words::of(line);
     if words.take(b"".as_slice()) {

@@ -1,10 +1,10 @@
 ghost use Rattle.std.specs.Prelude.{◌≡◌, ◌↔◌, All, IfOk};
-ghost use Rattle.policy_rules.specs.PolicyFiles.{IsPolicyFile};
-ghost use Rattle.trace_audit.specs.Decided.{AreJustified};
-ghost use Rattle.trace_audit.specs.Reading.{AreGood, Whole, lines_of};
+ghost use Rattle.policy_rules.specs.PolicyFiles.{IsPolicyOrAmendment};
+ghost use Rattle.trace_audit.specs.Decided.{AreTraceEndsJustified};
+ghost use Rattle.trace_audit.specs.Reading.{AreGoodTraceLines, Whole, lines_of};
 ghost use Rattle.trace_audit.specs.Run.{AreTraceRun};
-ghost use Rattle.trace_audit.specs.Seen.{IsLineRead, trace_state_seen};
-ghost use Rattle.trace_audit.specs.Verdicts.{IsAuditVerdict};
+ghost use Rattle.trace_audit.specs.Seen.{IsTraceLineRead, trace_state_seen};
+ghost use Rattle.trace_audit.specs.Verdicts.{IsTraceAuditVerdict};
 ghost use Rattle.trace_audit.specs.declared.trace.Verdict.TheVariants.{Yes};
 
 use crate::auditor::Auditor;
@@ -31,12 +31,12 @@ pub enum Verdict {
 /// # Errors
 /// Only out of memory.
 pub fn audit(alloc: Global, trace: &[u8], files: &[PolicyFile]) -> Result<Verdict, AllocError>
-    ensures verdict { IfOk result (IsAuditVerdict files.now (lines_of trace.now)) }
+    ensures verdict { IfOk result (IsTraceAuditVerdict files.now (lines_of trace.now)) }
     ensures exactly { IfOk result
-        (λ verdict. (verdict ≡ Yes) ↔ AreGood files.now (lines_of trace.now)) }
+        (λ verdict. (verdict ≡ Yes) ↔ AreGoodTraceLines files.now (lines_of trace.now)) }
     ensures run { IfOk result (λ verdict. verdict ≡ Yes → AreTraceRun files.now (lines_of trace.now)) }
     ensures justified { IfOk result
-        (λ verdict. verdict ≡ Yes → AreJustified files.now (lines_of trace.now)) }
+        (λ verdict. verdict ≡ Yes → AreTraceEndsJustified files.now (lines_of trace.now)) }
 {
     audited_files_are_sound(files);
     let mut auditor = Auditor::new(alloc, files)?;
@@ -60,7 +60,7 @@ pub fn audit(alloc: Global, trace: &[u8], files: &[PolicyFile]) -> Result<Verdic
 
 // Each file is sound, by the invariant of its type.
 fn audited_files_are_sound(files: &[PolicyFile])
-    ensures { All IsPolicyFile files.now }
+    ensures { All IsPolicyOrAmendment files.now }
 {
     for file in files {
         file_is_sound(file);
@@ -68,7 +68,7 @@ fn audited_files_are_sound(files: &[PolicyFile])
 }
 
 fn file_is_sound(file: &PolicyFile)
-    ensures { IsPolicyFile file.now }
+    ensures { IsPolicyOrAmendment file.now }
 {
     match file {
         PolicyFile::Whole(policy) => {
@@ -89,7 +89,7 @@ fn take_trace_line(
     line: &[u8],
 ) -> Result<bool, AllocError>
     ensures { IfOk result
-        (IsLineRead files.now (trace_state_seen auditor.old) (Whole line.now) (trace_state_seen auditor.new)) }
+        (IsTraceLineRead files.now (trace_state_seen auditor.old) (Whole line.now) (trace_state_seen auditor.new)) }
 {
     match read_line(line) {
         Some(told) => auditor.take(alloc, files, &told),

@@ -1,5 +1,5 @@
 ghost use Rattle.std.specs.Prelude.{◌≡◌, ◌∷◌, ◌==◌, [], IfNone, IfSome, IsTrue, List, MatchBool, bytes_eq, false, position, ℕ};
-ghost use Rattle.trace_audit.specs.Told.{IsRestAfter, IsCut, IsNoSingle, IsWordTaken, TakesTraceWord, begins_with, has_no_blank, words_of};
+ghost use Rattle.trace_audit.specs.Told.{IsTraceRestAfter, IsCut, IsNoSingleTraceWord, IsTraceWordTaken, TakesTraceWord, begins_with, trace_word_lacks_blank, words_of};
 
 use memchr::memchr;
 use std::marker::Model;
@@ -40,7 +40,7 @@ pub(crate) fn cut(text: &[u8], byte: u8) -> Option<(&[u8], &[u8])>
 
 /// The same for a byte that is likely to be near.
 #[inline(always)]
-pub(crate) fn cut_text_near(text: &[u8], byte: u8) -> Option<(&[u8], &[u8])>
+pub(crate) fn cut_trace_text_near(text: &[u8], byte: u8) -> Option<(&[u8], &[u8])>
     ensures { IsCut byte text.now result }
 {
     cut_at(text, near_place_in_text(text, byte))
@@ -49,8 +49,8 @@ pub(crate) fn cut_text_near(text: &[u8], byte: u8) -> Option<(&[u8], &[u8])>
 // The text after the word and a blank, if it begins with them.
 #[inline(always)]
 fn after<'a>(text: &'a [u8], word: &[u8]) -> Option<&'a [u8]>
-    requires { IsTrue (has_no_blank word.now) }
-    ensures { IsRestAfter word.now text.now result }
+    requires { IsTrue (trace_word_lacks_blank word.now) }
+    ensures { IsTraceRestAfter word.now text.now result }
 {
     if text.len() <= word.len() {
         return None;
@@ -108,7 +108,7 @@ impl<'a> Words<'a> {
         ensures none { IfNone result (self.old ≡ []) }
     {
         let rest = self.rest?;
-        match cut_text_near(rest, b' ') {
+        match cut_trace_text_near(rest, b' ') {
             Some((word, rest)) => {
                 self.rest = Some(rest);
                 Some(word)
@@ -124,7 +124,7 @@ impl<'a> Words<'a> {
     #[inline(always)]
     pub fn last(mut self) -> Option<&'a [u8]>
         ensures some { IfSome result (λ word. self.entry ≡ word.now ∷ []) }
-        ensures none { IfNone result (IsNoSingle self.entry) }
+        ensures none { IfNone result (IsNoSingleTraceWord self.entry) }
     {
         let word = self.next()?;
         if self.has_more() {
@@ -137,9 +137,9 @@ impl<'a> Words<'a> {
     #[tactic(auto, using(crate::proofs::AuditFirstWords::words_taken))]
     #[inline(always)]
     pub fn take(&mut self, word: &[u8]) -> bool
-        requires { IsTrue (has_no_blank word.now) }
+        requires { IsTrue (trace_word_lacks_blank word.now) }
         ensures { MatchBool result
-            (IsWordTaken word.now self.old self.new)
+            (IsTraceWordTaken word.now self.old self.new)
             ((begins_with word.now self.old ≡ false) × (self.new ≡ self.old)) }
     {
         let Some(rest) = self.rest else {
@@ -157,7 +157,7 @@ impl<'a> Words<'a> {
     /// Takes the next word, and returns whether it is this one; `None` if there is none.
     #[inline(always)]
     pub fn next_is(&mut self, word: &[u8]) -> Option<bool>
-        requires { IsTrue (has_no_blank word.now) }
+        requires { IsTrue (trace_word_lacks_blank word.now) }
         ensures some { IfSome result (TakesTraceWord self.old (λ next. bytes_eq next word.now) self.new) }
         ensures none { IfNone result (self.old ≡ []) }
     {

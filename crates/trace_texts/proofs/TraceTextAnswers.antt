@@ -1,16 +1,16 @@
 -- The text of a journal that answers a schedule: what is known at its beginning.
 use Rattle.std.proofs.Common.{[], ◌++◌, ◌+◌, ◌-◌, ◌∙◌, ◌∷◌, ◌≡◌, ◌≤◌, All, List, None, Option, Some, ap, append-nil, arith, get_or, length, length-append, length-take, map, subst, sym, take, ℕ}
 use Rattle.base.proofs.Exports.{All-append, All-cons, All-head, All-nil, All-tail, All-take, length-option_to_list, result_ok}
-use Rattle.control_laws.specs.Exports.{AreNetworkEvents, HoldsAlways, HoldsReached, VersionsArePlanned}
-use Rattle.update_machine.specs.Exports.{Answers, BeginsAnswer, Deliver, Drain, Event, Flush, HasCause, HaveCauses, Hop, IsPlay, IsRun, IsSetting, Item, Net, One, Packet, Setting, Step, count_of, first_machine, is_submission, policy_by, version_count}
+use Rattle.control_laws.specs.Exports.{AreNetworkEvents, HoldsAlways, HoldsReached, ControlVersionsArePlanned}
+use Rattle.update_machine.specs.Exports.{Answers, JournalBeginsAnswer, Deliver, Drain, Event, Flush, HasCause, JournalItemsHaveCauses, Hop, IsMachinePlay, IsRun, IsSetting, Item, Net, One, Packet, Setting, Step, count_of, first_machine, is_submission, policy_by, journal_version_count}
 use Rattle.journal_text.specs.Lines.{item_line, journal_text}
-use Rattle.net_file.specs.Exports.{PortLaws}
+use Rattle.net_file.specs.Exports.{NetPortLaws}
 use Rattle.packet_laws.proofs.Exports.{play_begins}
 use Rattle.packet_laws.specs.Exports.{AreEntered, StepRow, event_row, rows_played, step_row, step_rows, step_rows_in}
 use Rattle.steps.specs.Exports.{IsEvent, IsStep, max_events}
-use Rattle.trace_audit.specs.Exports.{ReadsAll, Whole, first_state, lines_of}
+use Rattle.trace_audit.specs.Exports.{ReadsAllTraceLines, Whole, first_trace_state, lines_of}
 use Rattle.update_machine.proofs.Exports.{answers_so_far, begins_itself}
-use Rattle.trace_texts.specs.Texts.{IsAnsweredTo, TextsAreGood, with_line_feeds}
+use Rattle.trace_texts.specs.Texts.{IsTraceTextAnswerTo, TextsAreGood, trace_text_with_feeds}
 use Rattle.trace_texts.proofs.TraceTextWholeLines.{last_read, lines_each, none_behind}
 use Rattle.trace_texts.proofs.TraceTextOneLine.{item_one_line}
 use Rattle.trace_texts.proofs.TraceTextGoodLines.{IsOwnRow, Known, reads_from}
@@ -18,28 +18,28 @@ use Rattle.trace_texts.proofs.TraceTextItems.{TextLaws}
 
 pub record PlayLaws : Type 0 where
   pub texts : TextLaws
-  pub ports : PortLaws
-  pub planned : HoldsAlways (λ setting journal. VersionsArePlanned setting journal)
+  pub ports : NetPortLaws
+  pub planned : HoldsAlways (λ setting journal. ControlVersionsArePlanned setting journal)
   pub entered : (setting : Setting) (events : List Event) (journal : List Item) (full : Option ℕ)
-      → IsAnsweredTo setting events journal full → AreEntered (rows_played full events) journal
+      → IsTraceTextAnswerTo setting events journal full → AreEntered (rows_played full events) journal
   pub runs : HoldsReached (λ setting journal. IsSetting setting → IsRun setting journal)
   pub causes : HoldsReached (λ setting journal.
-      IsSetting setting → HaveCauses (HasCause setting) [] journal)
+      IsSetting setting → JournalItemsHaveCauses (HasCause setting) [] journal)
 
 -- ---- whole answers, and those that stop full
 
 pub answered_entered : ((setting : Setting) (events : List Event) (journal : List Item)
     → Answers setting events journal → AreEntered (step_rows 1 events) journal)
     → ((setting : Setting) (events : List Event) (journal : List Item) (full : Option ℕ)
-    → IsPlay setting events journal full → AreEntered (rows_played full events) journal)
+    → IsMachinePlay setting events journal full → AreEntered (rows_played full events) journal)
     → (setting : Setting) (events : List Event) (journal : List Item) (full : Option ℕ)
-    → IsAnsweredTo setting events journal full → AreEntered (rows_played full events) journal
+    → IsTraceTextAnswerTo setting events journal full → AreEntered (rows_played full events) journal
 answered_entered answered played setting events journal None is = answered setting events journal is
 answered_entered answered played setting events journal (Some row) is =
     played setting events journal (Some row) is
 
 answered_begins : (setting : Setting) (events : List Event) (journal : List Item) (full : Option ℕ)
-    → IsAnsweredTo setting events journal full → BeginsAnswer setting events journal
+    → IsTraceTextAnswerTo setting events journal full → JournalBeginsAnswer setting events journal
 answered_begins setting events journal None answers =
     begins_itself setting events journal (answers_so_far setting events journal answers)
 answered_begins setting events journal (Some row) stop =
@@ -115,9 +115,9 @@ played_rows net files (Some row) events are most =
 
 known_first : (laws : PlayLaws) (setting : Setting) (events : List Event) (journal : List Item)
     (full : Option ℕ) → IsSetting setting → AreNetworkEvents setting events
-    → IsAnsweredTo setting events journal full → length events ≤ max_events
+    → IsTraceTextAnswerTo setting events journal full → length events ≤ max_events
     → Known setting [] (first_machine setting) journal
-unfolding version_count
+unfolding journal_version_count
 known_first laws setting events journal full is own play most =
     let begins = answered_begins setting events journal full play in
     let rows : AreFewOwn setting.net (step_rows_in journal) = subst (AreFewOwn setting.net)
@@ -142,12 +142,12 @@ texts_good laws setting events journal full last is own play most numbered are =
     (λ state. last_read setting.files state last are) [] (first_machine setting) None journal run.0
     (known_first laws setting events journal full is own play most)
     (laws.entered setting events journal full play).each run.1 in
-    let behind : lines_of (with_line_feeds last) ≡ ends =
-    ap lines_of (sym (append-nil (with_line_feeds last))) ∙ lines_each (λ (text : List ℕ). text)
+    let behind : lines_of (trace_text_with_feeds last) ≡ ends =
+    ap lines_of (sym (append-nil (trace_text_with_feeds last))) ∙ lines_each (λ (text : List ℕ). text)
     last [] (λ k d within. record { bytes = (are k d within).one_line }) ∙ none_behind ends in
-    let lines : lines_of (journal_text net journal ++ with_line_feeds last)
+    let lines : lines_of (journal_text net journal ++ trace_text_with_feeds last)
     ≡ map (λ first. Whole (item_line net first)) journal ++ ends =
-    lines_each (item_line net) journal (with_line_feeds last)
+    lines_each (item_line net) journal (trace_text_with_feeds last)
     (λ k d within. item_one_line laws.texts.names net is.net (get_or journal k d))
     ∙ ap (λ more. map (λ first. Whole (item_line net first)) journal ++ more) behind in
-    (read.0, subst (λ ls. ReadsAll setting.files (first_state setting.files) ls read.0) (sym lines) read.1)
+    (read.0, subst (λ ls. ReadsAllTraceLines setting.files (first_trace_state setting.files) ls read.0) (sym lines) read.1)

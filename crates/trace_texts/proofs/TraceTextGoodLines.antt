@@ -2,15 +2,15 @@
 -- says, and each packet's row is followed by its entry.
 use Rattle.std.proofs.Common.{[], ◌++◌, ◌+◌, ◌-◌, ◌<◌, ◌==◌, ◌∙◌, ◌∷◌, ◌≡◌, ◌≤◌, All, Bool, List, None, Option, Some, ap, append_assoc, arith, cond, eqb-true, false, length, length-append, map, refl, slice_get, subst, sym, true, ℕ}
 use Rattle.base.proofs.Exports.{All-head, All-tail, result_ok, slice_get_within, sum_by-cons, ⊤}
-use Rattle.update_machine.specs.Exports.{HasCause, HaveCauses, Header, Item, Machine, Net, Packet, PolicyFile, Row, Runs, Setting, Step, Takes, count_of, is_packet, is_submission, made_by, next_packet}
-use Rattle.net_file.specs.Exports.{IsNet, PortLaws}
+use Rattle.update_machine.specs.Exports.{HasCause, JournalItemsHaveCauses, Header, Item, Machine, Net, Packet, PolicyFile, Row, Runs, Setting, Step, Takes, count_of, is_packet, is_submission, made_by, journal_next_packet}
+use Rattle.net_file.specs.Exports.{IsNet, NetPortLaws}
 use Rattle.journal.specs.declared.item.Item.TheVariants as item
 use Rattle.journal_text.specs.Lines.{item_line}
-use Rattle.packet_laws.specs.Exports.{EachPacketRowEnters, IsEntryOf, StepRow, gives_step_row, step_rows_in}
-use Rattle.steps.specs.Exports.{HasSwitch, max_events, max_number}
+use Rattle.packet_laws.specs.Exports.{EachPacketRowEnters, IsPacketEntryOf, StepRow, gives_step_row, step_rows_in}
+use Rattle.steps.specs.Exports.{HasSwitch, max_events, max_step_number}
 use Rattle.update_machine.proofs.Exports.{count_of_append}
 use Rattle.update_machine.specs.Machine as machine
-use Rattle.trace_audit.specs.Exports.{Follows, ReadsAll, TraceLine, TraceState, Whole}
+use Rattle.trace_audit.specs.Exports.{Follows, ReadsAllTraceLines, TraceLine, TraceState, Whole}
 use Rattle.trace_texts.proofs.TraceTextItems.{IsReadable, TextLaws, line_told, told_item}
 
 -- what is pending behind an item
@@ -64,19 +64,19 @@ item_follows setting old new pending first takes next few = ap (λ m. at m pendi
 
 -- a packet that is known has a number that is small enough
 abbrev AreSmall : Machine → Type 0
-AreSmall now = (i : ℕ) (packet : machine.Packet) → now.packets i ≡ Some packet → i ≤ max_number
+AreSmall now = (i : ℕ) (packet : machine.Packet) → now.packets i ≡ Some packet → i ≤ max_step_number
 
 abbrev EntersSmall : Item → Type 0
-EntersSmall (item.Entered packet switch header) = packet ≤ max_number
+EntersSmall (item.Entered packet switch header) = packet ≤ max_step_number
 EntersSmall _ = ⊤
 
 put_small : (old new : Machine) (i : ℕ) (packet : machine.Packet)
-    → new ≡ machine.with_packet old i packet → i ≤ max_number → AreSmall old → AreSmall new
+    → new ≡ machine.machine_with_packet old i packet → i ≤ max_step_number → AreSmall old → AreSmall new
 put_small old new i packet after most small j other is =
     by (j == i) refl (sym (ap (λ (m : Machine). m.packets j) after) ∙ is)
   where
     by : (same : Bool) → (j == i) ≡ same
-        → cond same (Some packet) (old.packets j) ≡ Some other → j ≤ max_number
+        → cond same (Some packet) (old.packets j) ≡ Some other → j ≤ max_step_number
     by true e f = omega (arith, eqb-true j i e, most)
     by false e f = small j other f
 
@@ -141,7 +141,7 @@ pub record Known (setting : Setting) (before : List Item) (now : Machine) (items
   pub small : AreSmall now
   pub few : count_of is_packet before + length (step_rows_in items) ≤ max_events
   pub rows : All (IsOwnRow setting.net) (step_rows_in items)
-  pub causes : HaveCauses (HasCause setting) before items
+  pub causes : JournalItemsHaveCauses (HasCause setting) before items
 
 rows_behind : (net : Net) (rows more : List StepRow) → All (IsOwnRow net) (rows ++ more)
     → All (IsOwnRow net) more
@@ -204,8 +204,8 @@ record IsEntry (net : Net) (header : Header) (entry : Item) : Type 0 where
   no_row : gives_step_row entry ≡ []
   readable : IsEntryReadable net entry
 
-module _ (laws : TextLaws) (ports : PortLaws) (setting : Setting) (sound : IsNet setting.net)
-    (numbered : length setting.files ≤ max_number) where
+module _ (laws : TextLaws) (ports : NetPortLaws) (setting : Setting) (sound : IsNet setting.net)
+    (numbered : length setting.files ≤ max_step_number) where
   readable : (before : List Item) (old new : Machine) (first : Item) → Takes setting old first new
       → HasCause setting before first → AreSmall old → length old.policies ≤ 64
       → IsEntryReadable setting.net first → IsReadable setting.net first
@@ -246,8 +246,8 @@ module _ (laws : TextLaws) (ports : PortLaws) (setting : Setting) (sound : IsNet
       (items : List Item) (rest : List TraceLine) (last : TraceState)
       → Known setting before old (first ∷ items) → Takes setting old first new
       → IsNext pending first → IsEntryReadable setting.net first
-      → ReadsAll setting.files (at new (pending_after pending first)) rest last
-      → ReadsAll setting.files (at old pending) (line first ∷ rest) last
+      → ReadsAllTraceLines setting.files (at new (pending_after pending first)) rest last
+      → ReadsAllTraceLines setting.files (at old pending) (line first ∷ rest) last
   line_reads before old new pending first items rest last known takes next entry reads = (
     at new (pending_after pending first),
     (
@@ -263,7 +263,7 @@ module _ (laws : TextLaws) (ports : PortLaws) (setting : Setting) (sound : IsNet
   -- ---- a packet's row and its entry
 
   entry_is : (serving : Bool) (i s : ℕ) (header : Header) (entry : Item)
-      → IsEntryOf serving i s header entry → i ≤ max_number → HasSwitch setting.net s
+      → IsPacketEntryOf serving i s header entry → i ≤ max_step_number → HasSwitch setting.net s
       → IsEntry setting.net header entry
   entry_is serving i s header (item.Entered packet switch came) is most there =
       let number : packet ≡ i = is.0 in record {
@@ -278,17 +278,17 @@ module _ (laws : TextLaws) (ports : PortLaws) (setting : Setting) (sound : IsNet
   entry_is serving i s header entry is most there = absurd is
 
   next_small : (before : List Item) (n : ℕ) → count_of is_packet before + n ≤ max_events
-      → next_packet before ≤ max_number
-  unfolding next_packet
+      → journal_next_packet before ≤ max_step_number
+  unfolding journal_next_packet
   next_small before n few = omega (arith, few)
 
   -- ---- all items, and lines that tell nothing behind them
 
-  pub reads_from : (ends : List TraceLine) → ((state : TraceState) → ReadsAll setting.files state ends state)
+  pub reads_from : (ends : List TraceLine) → ((state : TraceState) → ReadsAllTraceLines setting.files state ends state)
       → (before : List Item) (old : Machine) (pending : Option Header) (items : List Item)
       (new : Machine) → Known setting before old items → EachPacketRowEnters before items
       → Runs setting old items new
-      → (last : TraceState) × ReadsAll setting.files (at old pending) (map line items ++ ends) last
+      → (last : TraceState) × ReadsAllTraceLines setting.files (at old pending) (map line items ++ ends) last
   reads_from ends closed before old pending [] new known enters runs =
       (at old pending, closed (at old pending))
   reads_from ends closed before old pending (item.Row row (Packet s header) ∷ []) new known enters
@@ -300,7 +300,7 @@ module _ (laws : TextLaws) (ports : PortLaws) (setting : Setting) (sound : IsNet
       (record { row = row; step = Packet s header }) (step_rows_in (entry ∷ items)) known.rows in
       let few : count_of is_packet before + length (step_rows_in (asked ∷ entry ∷ items)) ≤ max_events =
       known.few in
-      let is : IsEntry setting.net header entry = entry_is _ (next_packet before) s header entry
+      let is : IsEntry setting.net header entry = entry_is _ (journal_next_packet before) s header entry
       enters.0 (next_small before (length (step_rows_in (asked ∷ entry ∷ items))) few) own.2 in
       let one = known_next setting before old runs.0 asked (entry ∷ items) known runs.1 tt
       (few_next before asked (entry ∷ items) refl few) in

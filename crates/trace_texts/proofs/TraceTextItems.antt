@@ -1,14 +1,14 @@
 -- What the line of an item tells: printing and reading are inverse.
 use Rattle.std.proofs.Common.{[], ◌++◌, ◌<◌, ◌==◌, ◌^◌, ◌||◌, ◌∙◌, ◌∷◌, ◌≡◌, ◌≤◌, Bool, List, None, Option, Some, ap, append_assoc, arith, bytes_eq, cond, false, le-leb, length, option_map, refl, sym, true, ℕ}
 use Rattle.base.proofs.Exports.{codes, decimal, length-slice_split, onto_first, ⊤}
-use Rattle.five_tuple.specs.Exports.{IsHeader, address_of, address_text, header_fields_from, fields_text, header_of, number_up_to, packet_fields_of, text_parts_round_byte, proto_number_of, proto_number_text}
+use Rattle.five_tuple.specs.Exports.{IsHeader, address_of, address_text, tuple_fields_from, fields_text, header_of, number_up_to, tuple_fields_of, text_parts_round_byte, proto_number_of, proto_number_text}
 use Rattle.update_machine.specs.Exports.{Action, Authority, Cached, Dropped, Fields, Header, How, Item, LeftBy, Lost, Net, Packet, Step, Stuck}
 use Rattle.net_file.specs.Exports.{IsNet, NameLaws, is_name, switch_name_of}
 use Rattle.policy_rules.specs.Exports.{action_text, rule_text}
 use Rattle.journal.specs.declared.item.Item.TheVariants as item
-use Rattle.journal_text.specs.Lines.{body_text, cause_text, how_text, item_line, packet_at_text, receiver_text, cached_rule_text, state_text, step_text, two_numbers_text, via_text, text_with_name, text_with_number}
-use Rattle.steps.specs.Exports.{HasSwitch, max_events, max_number}
-use Rattle.trace_audit.specs.Exports.{Told, any_told, is_row_number, item_told, number_of_word, packet_row_told, pair_told, row_told, told_by_words, told_of, words_of}
+use Rattle.journal_text.specs.Lines.{body_text, cause_text, how_text, item_line, packet_at_text, journal_receiver_text, journal_cached_rule_text, state_text, journal_step_text, journal_two_numbers_text, via_text, text_with_name, journal_text_with_number}
+use Rattle.steps.specs.Exports.{HasSwitch, max_events, max_step_number}
+use Rattle.trace_audit.specs.Exports.{Told, any_told, is_trace_row_number, item_told, trace_number_of_word, trace_packet_row_told, trace_pair_told, trace_row_told, trace_told_by_words, told_of, words_of}
 use Rattle.trace_audit.specs.Told as told
 use Rattle.trace_texts.proofs.TraceTextPieces.{action_word, address_word, first_word, name_is, name_word, number_word, one_word, proto_word, row_parts, row_word, rule_word}
 
@@ -45,15 +45,15 @@ IsReadableRow net row _ = ⊤
 
 abbrev pub IsReadable : Net → Item → Type 0
 IsReadable net (item.Row row step) = IsReadableRow net row step
-IsReadable net (item.Entered packet switch header) = (packet ≤ max_number) × HasSwitch net switch
-IsReadable net (item.Submitted file version) = (file ≤ max_number) × (version ≤ max_number)
-IsReadable net (item.Retired version) = version ≤ max_number
+IsReadable net (item.Entered packet switch header) = (packet ≤ max_step_number) × HasSwitch net switch
+IsReadable net (item.Submitted file version) = (file ≤ max_step_number) × (version ≤ max_step_number)
+IsReadable net (item.Retired version) = version ≤ max_step_number
 IsReadable net (item.Decided packet version rule action how) =
-    (packet ≤ max_number) × (version ≤ max_number)
-IsReadable net (item.Left packet port leaving) = (packet ≤ max_number) × (port ≤ 4294967295)
-IsReadable net (item.Dropped packet) = packet ≤ max_number
-IsReadable net (item.Lost packet) = packet ≤ max_number
-IsReadable net (item.Stuck packet switch cause leg down) = packet ≤ max_number
+    (packet ≤ max_step_number) × (version ≤ max_step_number)
+IsReadable net (item.Left packet port leaving) = (packet ≤ max_step_number) × (port ≤ 4294967295)
+IsReadable net (item.Dropped packet) = packet ≤ max_step_number
+IsReadable net (item.Lost packet) = packet ≤ max_step_number
+IsReadable net (item.Stuck packet switch cause leg down) = packet ≤ max_step_number
 IsReadable net _ = ⊤
 
 -- ---- words
@@ -85,19 +85,19 @@ behind : (before : List (List ℕ)) (xs ys : List (List ℕ)) → xs ≡ ys → 
 behind before xs ys e = ap (λ ws. before ++ ws) e
 
 words_number : (text : List ℕ) (n : ℕ)
-    → words_of (text_with_number text n) ≡ words_of text ++ decimal n ∷ []
+    → words_of (journal_text_with_number text n) ≡ words_of text ++ decimal n ∷ []
 words_number text n = words_next text [] (decimal n) ∙ behind (words_of text) (words_of (decimal n))
     (decimal n ∷ []) (one_word (decimal n) (number_word n))
 
 -- of two numbers, the second with a text before it that begins with a blank
-words_two : (text next : List ℕ) (n m : ℕ) → words_of (two_numbers_text text n (32 ∷ next) m)
+words_two : (text next : List ℕ) (n m : ℕ) → words_of (journal_two_numbers_text text n (32 ∷ next) m)
     ≡ (words_of text ++ decimal n ∷ []) ++ words_of (next ++ decimal m)
-unfolding two_numbers_text
-words_two text next n m = cc (words_next (text_with_number text n) next (decimal m), words_number text n)
+unfolding journal_two_numbers_text
+words_two text next n m = cc (words_next (journal_text_with_number text n) next (decimal m), words_number text n)
 
 -- the second behind these words
 words_both : (text words : List ℕ) (n m : ℕ)
-    → words_of (two_numbers_text text n (32 ∷ (words ++ 32 ∷ [])) m)
+    → words_of (journal_two_numbers_text text n (32 ∷ (words ++ 32 ∷ [])) m)
     ≡ (words_of text ++ decimal n ∷ []) ++ (words_of words ++ decimal m ∷ [])
 words_both text words n m = words_two text (words ++ 32 ∷ []) n m
     ∙ behind (words_of text ++ decimal n ∷ []) (words_of ((words ++ 32 ∷ []) ++ decimal m))
@@ -139,29 +139,29 @@ silent text = any_some (words_of text) (some_words text)
 -- ---- lines that tell moves
 
 pair_both : (tells : ℕ → ℕ → Told) (a b : Option ℕ) (n m : ℕ) → a ≡ Some n → b ≡ Some m
-    → pair_told tells a b ≡ Some (tells n m)
+    → trace_pair_told tells a b ≡ Some (tells n m)
 pair_both tells a b n m e f = rw (e, f) refl
 
 fields_both : (src dst sport dport proto : Option ℕ) (f : Fields) → src ≡ Some f.src
     → dst ≡ Some f.dst → sport ≡ Some f.sport → dport ≡ Some f.dport → proto ≡ Some f.proto
-    → header_fields_from src dst sport dport proto ≡ Some f
+    → tuple_fields_from src dst sport dport proto ≡ Some f
 fields_both src dst sport dport proto f a b c d e = rw (a, b, c, d, e) refl
 
 row_first : (digits : List ℕ) (row : ℕ) → number_up_to max_events digits ≡ Some row → 1 ≤ row
-    → is_row_number (digits ∷ [] ∷ []) ≡ true
+    → is_trace_row_number (digits ∷ [] ∷ []) ≡ true
 row_first digits row e above = cc (e, le-leb 1 row above)
 
 row_packet : (row switch src dst sport dport proto : List ℕ) (f : Fields)
-    → is_row_number (text_parts_round_byte 58 row) ≡ true → is_name switch ≡ true
-    → packet_fields_of src dst sport dport proto ≡ Some f → packet_row_told row
+    → is_trace_row_number (text_parts_round_byte 58 row) ≡ true → is_name switch ≡ true
+    → tuple_fields_of src dst sport dport proto ≡ Some f → trace_packet_row_told row
     (switch ∷ src ∷ dst ∷ sport ∷ dport ∷ proto ∷ []) ≡ Some (told.Row (Some (header_of f)))
 row_packet row switch src dst sport dport proto f a b c = rw (a, b, c) refl
 
 row_told_by : (row : ℕ) (step : List ℕ)
-    → told_of ((text_with_number (codes "row") row ++ codes ": ") ++ step)
-    ≡ row_told ((decimal row ++ 58 ∷ []) ∷ words_of step)
+    → told_of ((journal_text_with_number (codes "row") row ++ codes ": ") ++ step)
+    ≡ trace_row_told ((decimal row ++ 58 ∷ []) ∷ words_of step)
 unfolding told_of
-row_told_by row step = ap row_told (row_words row step)
+row_told_by row step = ap trace_row_told (row_words row step)
 
 -- one of the two words for how a packet was decided, and something behind it
 record IsHowText (text : List ℕ) : Type 0 where
@@ -172,8 +172,8 @@ record IsHowText (text : List ℕ) : Type 0 where
   known : (bytes_eq how (codes "cache") || bytes_eq how (codes "authority")) ≡ true
 
 module _ (laws : TextLaws) (net : Net) (sound : IsNet net) where
-  number : (n : ℕ) → n ≤ max_number → number_of_word (decimal n) ≡ Some n
-  number n most = laws.number max_number n most (omega (arith, most))
+  number : (n : ℕ) → n ≤ max_step_number → trace_number_of_word (decimal n) ≡ Some n
+  number n most = laws.number max_step_number n most (omega (arith, most))
 
   words_name : (text : List ℕ) (s : ℕ)
       → words_of (text_with_name net text s) ≡ words_of text ++ switch_name_of net s ∷ []
@@ -183,11 +183,11 @@ module _ (laws : TextLaws) (net : Net) (sound : IsNet net) where
 
   words_at : (text : List ℕ) (packet s : ℕ) → words_of (packet_at_text net text packet s)
       ≡ (words_of text ++ decimal packet ∷ []) ++ switch_name_of net s ∷ []
-  words_at text packet s = cc (words_name (text_with_number text packet) s, words_number text packet)
+  words_at text packet s = cc (words_name (journal_text_with_number text packet) s, words_number text packet)
 
   -- ---- rows
 
-  packet_words : (switch : ℕ) (header : Header) → words_of (step_text net (Packet switch header))
+  packet_words : (switch : ℕ) (header : Header) → words_of (journal_step_text net (Packet switch header))
       ≡ codes "packet" ∷ switch_name_of net switch ∷ address_text header.fields.src
       ∷ address_text header.fields.dst ∷ decimal header.fields.sport
       ∷ decimal header.fields.dport ∷ proto_number_text header.fields.proto ∷ []
@@ -198,7 +198,7 @@ module _ (laws : TextLaws) (net : Net) (sound : IsNet net) where
       (fields_words header.fields)
 
   fields_back : (header : Header) → IsHeader header
-      → packet_fields_of (address_text header.fields.src) (address_text header.fields.dst)
+      → tuple_fields_of (address_text header.fields.src) (address_text header.fields.dst)
       (decimal header.fields.sport) (decimal header.fields.dport)
       (proto_number_text header.fields.proto) ≡ Some header.fields
   fields_back header is = fields_both _ _ _ _ _ header.fields
@@ -208,62 +208,62 @@ module _ (laws : TextLaws) (net : Net) (sound : IsNet net) where
       (laws.proto_number header.fields.proto is.proto)
 
   row_number_is : (row : ℕ) → 1 ≤ row → row ≤ max_events
-      → is_row_number (text_parts_round_byte 58 (decimal row ++ 58 ∷ [])) ≡ true
-  row_number_is row above most = ap is_row_number (row_parts row)
+      → is_trace_row_number (text_parts_round_byte 58 (decimal row ++ 58 ∷ [])) ≡ true
+  row_number_is row above most = ap is_trace_row_number (row_parts row)
       ∙ row_first (decimal row) row (laws.number max_events row most (omega arith)) above
 
   row_line_told : (row : ℕ) (step : Step) → IsReadableRow net row step
       → told_of (item_line net (item.Row row step)) ≡ Some (told_row step)
   row_line_told row (Packet switch header) is =
-      row_told_by row (step_text net (Packet switch header)) ∙ ap (λ (ws : List (List ℕ)). row_told
+      row_told_by row (journal_step_text net (Packet switch header)) ∙ ap (λ (ws : List (List ℕ)). trace_row_told
       ((decimal row ++ 58 ∷ []) ∷ ws)) (packet_words switch header)
       ∙ row_packet (decimal row ++ 58 ∷ []) (switch_name_of net switch) (address_text header.fields.src)
       (address_text header.fields.dst) (decimal header.fields.sport) (decimal header.fields.dport)
       (proto_number_text header.fields.proto) header.fields (row_number_is row is.0 is.1)
       (name_is laws.names net sound switch is.2) (fields_back header is.3)
-  row_line_told row step is = row_told_by row (step_text net step)
+  row_line_told row step is = row_told_by row (journal_step_text net step)
 
   -- ---- moves
 
-  entered_line_told : (packet switch : ℕ) → packet ≤ max_number → HasSwitch net switch
+  entered_line_told : (packet switch : ℕ) → packet ≤ max_step_number → HasSwitch net switch
       → told_of (packet_at_text net (codes "  entered") packet switch) ≡ Some (told.Entered packet)
   unfolding told_of item_told
   entered_line_told packet switch most there =
-      ap told_by_words (words_at (codes "  entered") packet switch)
-      ∙ ap (λ (b : Bool). cond b (option_map told.Entered (number_of_word (decimal packet))) None)
+      ap trace_told_by_words (words_at (codes "  entered") packet switch)
+      ∙ ap (λ (b : Bool). cond b (option_map told.Entered (trace_number_of_word (decimal packet))) None)
       (name_is laws.names net sound switch there)
       ∙ ap (option_map told.Entered) (number packet most)
 
-  submitted_line_told : (file version : ℕ) → file ≤ max_number → version ≤ max_number
-      → told_of (two_numbers_text (codes "  submitted file") file (codes " version ") version)
+  submitted_line_told : (file version : ℕ) → file ≤ max_step_number → version ≤ max_step_number
+      → told_of (journal_two_numbers_text (codes "  submitted file") file (codes " version ") version)
       ≡ Some (told.Submitted file version)
   unfolding told_of item_told
   submitted_line_told file version some few =
-      ap told_by_words (words_both (codes "  submitted file") (codes "version") file version)
+      ap trace_told_by_words (words_both (codes "  submitted file") (codes "version") file version)
       ∙ pair_both told.Submitted _ _ file version (number file some) (number version few)
 
   -- of one number alone
-  number_line_told : (text : List ℕ) (tells : ℕ → Told) (n : ℕ) → n ≤ max_number
-      → told_by_words (words_of text ++ decimal n ∷ []) ≡ option_map tells (number_of_word (decimal n))
-      → told_of (text_with_number text n) ≡ Some (tells n)
+  number_line_told : (text : List ℕ) (tells : ℕ → Told) (n : ℕ) → n ≤ max_step_number
+      → trace_told_by_words (words_of text ++ decimal n ∷ []) ≡ option_map tells (trace_number_of_word (decimal n))
+      → told_of (journal_text_with_number text n) ≡ Some (tells n)
   unfolding told_of
   number_line_told text tells n most is = cc (words_number text n, is, number n most)
 
-  left_line_told : (packet port : ℕ) → packet ≤ max_number → port ≤ 4294967295
-      → told_of (two_numbers_text (codes "  out") packet (codes " port ") port)
+  left_line_told : (packet port : ℕ) → packet ≤ max_step_number → port ≤ 4294967295
+      → told_of (journal_two_numbers_text (codes "  out") packet (codes " port ") port)
       ≡ Some (told.Ended packet (LeftBy port))
   unfolding told_of item_told
   left_line_told packet port most small =
-      ap told_by_words (words_both (codes "  out") (codes "port") packet port)
+      ap trace_told_by_words (words_both (codes "  out") (codes "port") packet port)
       ∙ pair_both (λ i p. told.Ended i (LeftBy p)) _ _ packet port (number packet most)
       (laws.number 4294967295 port small (omega (arith, small)))
 
-  stuck_line_told : (packet switch : ℕ) (cause : List ℕ) → packet ≤ max_number
+  stuck_line_told : (packet switch : ℕ) (cause : List ℕ) → packet ≤ max_step_number
       → told_of ((packet_at_text net (codes "  stuck") packet switch ++ codes " ") ++ cause)
       ≡ Some (told.Ended packet Stuck)
   unfolding told_of item_told
   stuck_line_told packet switch cause most =
-      ap told_by_words (words_next (packet_at_text net (codes "  stuck") packet switch) [] cause
+      ap trace_told_by_words (words_next (packet_at_text net (codes "  stuck") packet switch) [] cause
       ∙ ap (λ ws. ws ++ words_of cause) (words_at (codes "  stuck") packet switch))
       ∙ ap (option_map (λ i. told.Ended i Stuck)) (number packet most)
 
@@ -302,14 +302,14 @@ module _ (laws : TextLaws) (net : Net) (sound : IsNet net) where
   version_words version = cc (one_word (decimal version) (number_word version))
 
   decided_words : (packet version : ℕ) (rule : Option ℕ) (action : Action) (how : List ℕ)
-      → words_of (((two_numbers_text (codes "  decided") packet (codes " v") version
-      ++ cached_rule_text rule action) ++ codes " ") ++ how)
+      → words_of (((journal_two_numbers_text (codes "  decided") packet (codes " v") version
+      ++ journal_cached_rule_text rule action) ++ codes " ") ++ how)
       ≡ [] ∷ [] ∷ codes "decided" ∷ decimal packet ∷ (118 ∷ decimal version) ∷ codes "rule"
       ∷ rule_text rule ∷ action_text action ∷ words_of how
-  unfolding cached_rule_text
+  unfolding journal_cached_rule_text
   decided_words packet version rule action how =
-      let two = two_numbers_text (codes "  decided") packet (codes " v") version in
-      words_next (two ++ cached_rule_text rule action) [] how
+      let two = journal_two_numbers_text (codes "  decided") packet (codes " v") version in
+      words_next (two ++ journal_cached_rule_text rule action) [] how
       ∙ ap (λ ws. ws ++ words_of how)
       (words_blank two (((codes "rule " ++ rule_text rule) ++ codes " ") ++ action_text action)
       ∙ ap (λ ws. ws ++ words_of (((codes "rule " ++ rule_text rule) ++ codes " ")
@@ -322,25 +322,25 @@ module _ (laws : TextLaws) (net : Net) (sound : IsNet net) where
 
   -- what is read of the words of a decision
   decided_read : (packet version : ℕ) (rule action how more : List ℕ) (others : List (List ℕ))
-      → packet ≤ max_number → version ≤ max_number
+      → packet ≤ max_step_number → version ≤ max_step_number
       → (bytes_eq how (codes "cache") || bytes_eq how (codes "authority")) ≡ true
-      → told_by_words ([] ∷ [] ∷ codes "decided" ∷ decimal packet ∷ (118 ∷ decimal version)
+      → trace_told_by_words ([] ∷ [] ∷ codes "decided" ∷ decimal packet ∷ (118 ∷ decimal version)
       ∷ codes "rule" ∷ rule ∷ action ∷ how ∷ more ∷ others)
       ≡ Some (told.Decided packet version rule action)
   unfolding item_told
   decided_read packet version rule action how more others most few known =
-      ap (λ (b : Bool). cond b (pair_told (λ i v. told.Decided i v rule action)
-      (number_of_word (decimal packet)) (number_of_word (decimal version))) None) known
+      ap (λ (b : Bool). cond b (trace_pair_told (λ i v. told.Decided i v rule action)
+      (trace_number_of_word (decimal packet)) (trace_number_of_word (decimal version))) None) known
       ∙ pair_both (λ i v. told.Decided i v rule action) _ _ packet version (number packet most)
       (number version few)
 
   decided_line_told : (packet version : ℕ) (rule : Option ℕ) (action : Action) (how : How)
-      → packet ≤ max_number → version ≤ max_number
+      → packet ≤ max_step_number → version ≤ max_step_number
       → told_of (item_line net (item.Decided packet version rule action how))
       ≡ Some (told.Decided packet version (rule_text rule) (action_text action))
   unfolding told_of
   decided_line_told packet version rule action how most few = let h = how_is how in
-      ap told_by_words (decided_words packet version rule action (how_text net how)
+      ap trace_told_by_words (decided_words packet version rule action (how_text net how)
       ∙ ap (λ (ws : List (List ℕ)). [] ∷ [] ∷ codes "decided" ∷ decimal packet
       ∷ (118 ∷ decimal version) ∷ codes "rule" ∷ rule_text rule ∷ action_text action ∷ ws) h.words)
       ∙ decided_read packet version (rule_text rule) (action_text action) h.how h.more h.others
@@ -350,7 +350,7 @@ module _ (laws : TextLaws) (net : Net) (sound : IsNet net) where
 
   pub line_told : (item : Item) → IsReadable net item
       → told_of (item_line net item) ≡ Some (told_item item)
-  unfolding told_of item_told two_numbers_text
+  unfolding told_of item_told journal_two_numbers_text
   line_told (item.Row row step) is = row_line_told row step is
   line_told (item.Entered packet switch header) is = entered_line_told packet switch is.0 is.1
   line_told (item.Submitted file version) is = submitted_line_told file version is.0 is.1
@@ -369,7 +369,7 @@ module _ (laws : TextLaws) (net : Net) (sound : IsNet net) where
       silent ((decimal packet ++ codes " ") ++ switch_name_of net switch)
   line_told (item.Seeking packet version partition route) is =
       silent ((((decimal packet ++ codes " v") ++ decimal version)
-      ++ text_with_number (codes " part") partition) ++ via_text net route)
+      ++ journal_text_with_number (codes " part") partition) ++ via_text net route)
   line_told (item.Exiting packet route) is = silent (decimal packet ++ via_text net route)
   line_told (item.Hopped packet switch) is =
       silent ((decimal packet ++ codes " ") ++ switch_name_of net switch)
@@ -377,7 +377,7 @@ module _ (laws : TextLaws) (net : Net) (sound : IsNet net) where
       silent ((((decimal packet ++ codes " ") ++ switch_name_of net one) ++ codes " ") ++ switch_name_of net two)
   line_told (item.Rerouted packet route) is = silent (decimal packet ++ via_text net route)
   line_told (item.Sent number message) is =
-      silent ((((decimal number ++ codes " ") ++ receiver_text net message.to) ++ codes " ")
+      silent ((((decimal number ++ codes " ") ++ journal_receiver_text net message.to) ++ codes " ")
       ++ body_text net message.body)
   line_told (item.Delivered number) is = silent (decimal number)
   line_told (item.Forgotten number) is = silent (decimal number)

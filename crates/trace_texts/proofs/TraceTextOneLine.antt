@@ -6,7 +6,7 @@ use Rattle.update_machine.specs.Exports.{Action, Advert, Advertise, Authority, B
 use Rattle.ctrl_msg.specs.declared.message.Place.TheVariants as receiver
 use Rattle.net_file.specs.Exports.{IsNet, NameLaws, names_text}
 use Rattle.journal.specs.declared.item.Item.TheVariants as item
-use Rattle.journal_text.specs.Lines.{advert_text, body_text, boot_text, cause_text, how_text, item_line, mask_text, text_with_name, text_with_number, packet_at_text, pair_text, receiver_text, cached_rule_text, state_text, step_text, two_numbers_text, version_text, via_text}
+use Rattle.journal_text.specs.Lines.{advert_text, body_text, boot_text, cause_text, how_text, item_line, journal_mask_text, text_with_name, journal_text_with_number, packet_at_text, journal_pair_text, journal_receiver_text, journal_cached_rule_text, state_text, journal_step_text, journal_two_numbers_text, version_text, via_text}
 use Rattle.trace_texts.proofs.TraceTextPieces.{IsOneLine, action_word, bits_line, fields_line, joined, name_line, names_line, number_line, rule_word, tested, word_line}
 
 -- a text behind another one, its bytes tested one by one
@@ -14,12 +14,12 @@ onto : {xs : List ℕ} → IsOneLine xs → (text : List ℕ)
     → list_all (λ b. not (b == 10)) text ≡ true → IsOneLine (xs ++ text)
 onto a text all = joined a (tested text all)
 
-numbered : {text : List ℕ} → IsOneLine text → (n : ℕ) → IsOneLine (text_with_number text n)
+numbered : {text : List ℕ} → IsOneLine text → (n : ℕ) → IsOneLine (journal_text_with_number text n)
 numbered a n = joined (onto a (codes " ") refl) (number_line n)
 
 two_line : {text next : List ℕ} → IsOneLine text → IsOneLine next → (n m : ℕ)
-    → IsOneLine (two_numbers_text text n next m)
-unfolding two_numbers_text
+    → IsOneLine (journal_two_numbers_text text n next m)
+unfolding journal_two_numbers_text
 two_line a b n m = joined (joined (numbered a n) b) (number_line m)
 
 boot_line : {text : List ℕ} → IsOneLine text → (boot : ℕ) → IsOneLine (boot_text text boot)
@@ -30,8 +30,8 @@ version_line : {text : List ℕ} → IsOneLine text → (boot version : ℕ)
 version_line a boot version =
     joined (onto (boot_line a boot) (codes " version ") refl) (number_line version)
 
-ruled_line : (rule : Option ℕ) (action : Action) → IsOneLine (cached_rule_text rule action)
-unfolding cached_rule_text
+ruled_line : (rule : Option ℕ) (action : Action) → IsOneLine (journal_cached_rule_text rule action)
+unfolding journal_cached_rule_text
 ruled_line rule action =
     joined (onto (joined (tested (codes " rule ") refl) (word_line (rule_word rule))) (codes " ") refl)
     (word_line (action_word action))
@@ -54,14 +54,14 @@ module _ (laws : NameLaws) (net : Net) (sound : IsNet net) where
       joined (onto (numbered a packet) (codes " ") refl) (name_line laws net sound s)
 
   pair_line : {text : List ℕ} → IsOneLine text → (one two : ℕ)
-      → IsOneLine (pair_text net text one two)
+      → IsOneLine (journal_pair_text net text one two)
   pair_line a one two = joined (onto (named a one) (codes " ") refl) (name_line laws net sound two)
 
   via_line : (route : List ℕ) → IsOneLine (via_text net route)
   unfolding via_text
   via_line route = joined (tested (codes " via") refl) (names_line laws net sound route)
 
-  mask_line : (mask : ℕ) → IsOneLine (mask_text net mask)
+  mask_line : (mask : ℕ) → IsOneLine (journal_mask_text net mask)
   mask_line mask =
       cond_both (mask == 0) (codes " -") (names_text net (filter (has mask) switches)) IsOneLine
       (λ _. tested (codes " -") refl)
@@ -69,7 +69,7 @@ module _ (laws : NameLaws) (net : Net) (sound : IsNet net) where
 
   -- ---- steps and messages
 
-  step_line : (step : Step) → IsOneLine (step_text net step)
+  step_line : (step : Step) → IsOneLine (journal_step_text net step)
   step_line (Packet switch header) =
       joined (onto (named (tested (codes "packet") refl) switch) (codes " ") refl)
       (fields_line header.fields)
@@ -89,7 +89,7 @@ module _ (laws : NameLaws) (net : Net) (sound : IsNet net) where
   step_line (Confirm switch) = named (tested (codes "confirm") refl) switch
   step_line (Resend switch) = named (tested (codes "resend") refl) switch
 
-  receiver_line : (to : Place) → IsOneLine (receiver_text net to)
+  receiver_line : (to : Place) → IsOneLine (journal_receiver_text net to)
   receiver_line (receiver.Switch s) = name_line laws net sound s
   receiver_line receiver.Controller = tested (codes "controller") refl
 

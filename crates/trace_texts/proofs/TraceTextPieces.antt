@@ -4,9 +4,9 @@ use Rattle.std.proofs.Common.{[], if◌then◌else◌, ◌%◌, ◌&&◌, ◌++�
 use Rattle.base.proofs.Exports.{All-append, All-cons, All-get_or, All-nil, All-weaker, AllPass-from_list_all, and_parts, cond_both, digit_glyph, digits, digits_onto, eqb-false, list_all, not-true, slice_get_cases, slice_split_at, slice_split_none}
 use Rattle.update_machine.specs.Exports.{Action, Drop, Fields, Net, Out, SwitchRow}
 use Rattle.five_tuple.specs.Exports.{address_text, fields_text, text_parts_round_byte, proto_number_text}
-use Rattle.net_file.specs.Exports.{IsNet, IsPlainByte, IsSwitchRow, NameLaws, is_name, switch_name_of, names_text}
+use Rattle.net_file.specs.Exports.{IsNet, IsPlainNetByte, IsNetSwitchRow, NameLaws, is_name, switch_name_of, names_text}
 use Rattle.policy_rules.specs.Exports.{action_text, rule_text}
-use Rattle.ternary.specs.Exports.{WordValue, hex_digits, word_text}
+use Rattle.ternary.specs.Exports.{WordValue, word_hex_digits, word_text}
 
 abbrev IsLineByte : ℕ → Type 0
 IsLineByte byte = byte ≢ 10
@@ -126,8 +126,8 @@ fields_line fields = joined (word_line (address_word fields.src))
     blank : IsOneLine (32 ∷ [])
     blank = tested (32 ∷ []) refl
 
-hex_line : (count n : ℕ) → IsOneLine (hex_digits count n)
-unfolding hex_digits
+hex_line : (count n : ℕ) → IsOneLine (word_hex_digits count n)
+unfolding word_hex_digits
 hex_line zero n = tested [] refl
 hex_line (suc count) n = joined (hex_line count (n / 16)) (word_line (record {
   bytes = All-cons IsWordByte (digit_glyph false (n % 16)) []
@@ -140,14 +140,14 @@ bits_line w = joined (hex_line 26 w.value) (joined (tested (47 ∷ []) refl) (he
 
 -- ---- names
 
-plain_in_word : (byte : ℕ) → IsPlainByte byte → IsWordByte byte
+plain_in_word : (byte : ℕ) → IsPlainNetByte byte → IsWordByte byte
 plain_in_word byte is = (is.no_blank, is.no_line_feed)
 
 module _ (laws : NameLaws) (net : Net) (sound : IsNet net) where
   row_name : (s : ℕ) (row : SwitchRow) → s < length net.switches → get_or net.switches s row ≡ row
       → is_name row.name ≡ true
   row_name s row within is =
-      (subst IsSwitchRow is (All-get_or IsSwitchRow net.switches s row within sound.switches)).name
+      (subst IsNetSwitchRow is (All-get_or IsNetSwitchRow net.switches s row within sound.switches)).name
 
   pub name_word : (s : ℕ) → IsOneWord (switch_name_of net s)
   name_word s = by (slice_get_cases net.switches s).1 where
@@ -156,7 +156,7 @@ module _ (laws : NameLaws) (net : Net) (sound : IsNet net) where
         ⊎ ((length net.switches ≤ s) × (slice_get net.switches s ≡ None))
         → IsOneWord (switch_name_of net s)
     by (inl w) = rw w.2 (record {
-      bytes = All-weaker IsPlainByte IsWordByte plain_in_word w.0.name
+      bytes = All-weaker IsPlainNetByte IsWordByte plain_in_word w.0.name
           (laws.plain w.0.name (row_name s w.0 w.1 w.3));
     })
     by (inr w) = rw w.1 (tested_word [] refl)

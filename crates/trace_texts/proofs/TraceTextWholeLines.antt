@@ -3,21 +3,21 @@ use Rattle.std.proofs.Common.{[], ◌++◌, ◌<◌, ◌∙◌, ◌∷◌, ◌�
 use Rattle.base.proofs.Exports.{All-head, All-tail, length-slice_split}
 use Rattle.five_tuple.specs.Exports.{text_parts_round_byte}
 use Rattle.update_machine.specs.Exports.{PolicyFile}
-use Rattle.trace_audit.specs.Exports.{ReadsAll, TraceLine, TraceState, Whole, lines_of, lines_of_parts, told_of}
+use Rattle.trace_audit.specs.Exports.{ReadsAllTraceLines, TraceLine, TraceState, Whole, lines_of, trace_lines_of_parts, told_of}
 use Rattle.trace_audit.specs.Told as told
-use Rattle.trace_texts.specs.Texts.{IsLastLine}
+use Rattle.trace_texts.specs.Texts.{IsLastTraceTextLine}
 use Rattle.trace_texts.proofs.TraceTextPieces.{IsOneLine, first_line}
 use Rattle.trace_texts.proofs.TraceTextItems.{silent}
 
 some_left : (text : List ℕ) (parts : List (List ℕ)) → 0 < length parts
-    → lines_of_parts (text ∷ parts) ≡ Whole text ∷ lines_of_parts parts
+    → trace_lines_of_parts (text ∷ parts) ≡ Whole text ∷ trace_lines_of_parts parts
 some_left text [] some = absurd (omega (arith, some))
 some_left text (part ∷ parts) some = refl
 
 line_off : (text rest : List ℕ) → IsOneLine text
     → lines_of (text ++ 10 ∷ rest) ≡ Whole text ∷ lines_of rest
 unfolding lines_of
-line_off text rest one = ap lines_of_parts (first_line text rest one)
+line_off text rest one = ap trace_lines_of_parts (first_line text rest one)
     ∙ some_left text (text_parts_round_byte 10 rest) (omega (arith, length-slice_split))
 
 -- a line for each item, and what follows them
@@ -39,7 +39,7 @@ pub none_behind : (lines : List TraceLine) → lines ++ lines_of [] ≡ lines
 unfolding lines_of
 none_behind lines = append-nil lines
 
-last_told : (text : List ℕ) → IsLastLine text → told_of text ≡ Some told.Nothing
+last_told : (text : List ℕ) → IsLastTraceTextLine text → told_of text ≡ Some told.Nothing
 unfolding told_of
 last_told text is = elim is.begins [
   | inl meter ↦ ap told_of meter ∙ silent is.rest
@@ -47,10 +47,10 @@ last_told text is = elim is.begins [
 ]
 
 pub last_read : (files : List PolicyFile) (state : TraceState) (last : List (List ℕ))
-    → All IsLastLine last → ReadsAll files state (map (λ text. Whole text) last) state
+    → All IsLastTraceTextLine last → ReadsAllTraceLines files state (map (λ text. Whole text) last) state
 last_read files state [] are = refl
 last_read files state (text ∷ last) are = (
   state,
-  (told.Nothing, last_told text (All-head IsLastLine text last are), refl),
-  last_read files state last (All-tail IsLastLine text last are),
+  (told.Nothing, last_told text (All-head IsLastTraceTextLine text last are), refl),
+  last_read files state last (All-tail IsLastTraceTextLine text last are),
 )

@@ -2,18 +2,18 @@
 use Rattle.std.proofs.Common.{[], ◌%◌, ◌&&◌, ◌*◌, ◌+◌, ◌-◌, ◌/◌, ◌<◌, ◌==◌, ◌^◌, ◌∙◌, ◌≡◌, ◌≢◌, ◌≤◌, ◌⊎◌, ◌||◌, Bool, IsSomeAnd, List, None, ap, arith, bit_xor, eq-eqb, eqb-true, false, get_or, get_or-set_other, get_or-set_same, inl, inr, is_some, length, max, not, refl, set, shr-shr, subst, sym, true, ℕ}
 use Rattle.base.proofs.Exports.{bit_at, bit_at-lt, bit_at-pow_same, bit_at_xor, cases_lt, get_or_past, has-xor_other, has-zero, has_above, has_least, least_below, nat_tests, shr_le}
 use Rattle.base.specs.Exports.{has, least_in}
-use Rattle.travelling.specs.SwitchIndex.{mark_flipped_if, has_marks, is_marked}
-use Rattle.travelling.specs.Travelling.{Flight, AreMarked, Flights, stands_at, flight}
+use Rattle.travelling.specs.SwitchIndex.{traveller_mark_flipped_if, has_traveller_marks, is_traveller_marked}
+use Rattle.travelling.specs.Travelling.{Flight, AreTravellersMarked, Flights, stands_at, flight}
 
 -- ---- empty masks
 
-pub none_marked : (i s : ℕ) → is_marked [] i s ≡ false
+pub none_marked : (i s : ℕ) → is_traveller_marked [] i s ≡ false
 none_marked i s = has-zero (i % 64)
 
 -- the same masks mark the same packets
-pub marked_on : (before after : Flights) (masks more : List ℕ) → AreMarked before masks
+pub marked_on : (before after : Flights) (masks more : List ℕ) → AreTravellersMarked before masks
     → ((i : ℕ) → flight after i ≡ flight before i)
-    → ((j : ℕ) → get_or more j 0 ≡ get_or masks j 0) → AreMarked after more
+    → ((j : ℕ) → get_or more j 0 ≡ get_or masks j 0) → AreTravellersMarked after more
 marked_on before after masks more marked same same_masks = λ i s below.
     ap (λ m. has m (i % 64)) (same_masks (i / 64 * 64 + s)) ∙ marked i s below
     ∙ ap (stands_at s) (sym (same i))
@@ -77,7 +77,7 @@ module _ (masks : List ℕ) (n t : ℕ) (t_below : t < 64)
   turned = set masks p (bit_xor (get_or masks p 0) (2 ^ (n % 64)))
 
   abbrev Turns : ℕ → ℕ → Bool → Type 0
-  Turns i s test = is_marked turned i s ≡ mark_flipped_if test (is_marked masks i s)
+  Turns i s test = is_traveller_marked turned i s ≡ traveller_mark_flipped_if test (is_traveller_marked masks i s)
 
   same_mask : (i s : ℕ) → i / 64 * 64 + s ≡ p → get_or turned (i / 64 * 64 + s) 0
       ≡ bit_xor (get_or masks (i / 64 * 64 + s) 0) (2 ^ (n % 64))
@@ -118,8 +118,8 @@ module _ (masks : List ℕ) (n t : ℕ) (t_below : t < 64)
   new = bit_xor old (2 ^ (n % 64))
 
   abbrev Changes : ℕ → ℕ → Bool → Type 0
-  Changes block s test = has_marks turned block s
-      ≡ mark_flipped_if (((old == 0) || (new == 0)) && test) (has_marks masks block s)
+  Changes block s test = has_traveller_marks turned block s
+      ≡ traveller_mark_flipped_if (((old == 0) || (new == 0)) && test) (has_traveller_marks masks block s)
 
   -- one of them has the mark
   not_both : (old == 0) ≡ true → (new == 0) ≡ true → ⊥
@@ -131,13 +131,13 @@ module _ (masks : List ℕ) (n t : ℕ) (t_below : t < 64)
       let flips = has-xor_same old (n % 64) in cc
 
   changed : (was is : Bool) → (was ≡ true → is ≡ true → ⊥)
-      → not is ≡ mark_flipped_if ((was || is) && true) (not was)
+      → not is ≡ traveller_mark_flipped_if ((was || is) && true) (not was)
   changed true true clash = absurd (clash refl refl)
   changed true false clash = refl
   changed false true clash = refl
   changed false false clash = refl
 
-  unchanged : (b had : Bool) → had ≡ mark_flipped_if (b && false) had
+  unchanged : (b had : Bool) → had ≡ traveller_mark_flipped_if (b && false) had
   unchanged true had = refl
   unchanged false had = refl
 
@@ -148,7 +148,7 @@ module _ (masks : List ℕ) (n t : ℕ) (t_below : t < 64)
   changes_none : (block s : ℕ) → block * 64 + s ≢ p → Changes block s false
   changes_none block s apart =
       ap (λ mask. not (mask == 0)) (get_or-set_other masks p (block * 64 + s) new 0 apart)
-      ∙ unchanged ((old == 0) || (new == 0)) (has_marks masks block s)
+      ∙ unchanged ((old == 0) || (new == 0)) (has_traveller_marks masks block s)
 
   pub changes : (block s : ℕ) → s < 64 → Changes block s (block == n / 64 && t == s)
   changes block s below = by_tests (block == n / 64) (t == s) refl refl where
@@ -181,18 +181,18 @@ module _ (masks : List ℕ) (s next : ℕ) where
 
   -- a packet of the same block
   in_block : (i : ℕ) → next ≤ i → i < (next / 64 + 1) * 64
-      → is_marked masks i s ≡ has rest (i - next)
+      → is_traveller_marked masks i s ≡ has rest (i - next)
   in_block i above below = let high : i / 64 ≡ next / 64 = omega (arith, above, below) in
       ap (λ q. has (get_or masks (q * 64 + s) 0) (i % 64)) high
       ∙ ap (has (get_or masks (next / 64 * 64 + s) 0)) (omega (arith, above, below, high))
       ∙ sym (has-shr (get_or masks (next / 64 * 64 + s) 0) (next % 64) (i - next))
 
   pub none_in_mask : rest ≡ 0 → (i : ℕ) → next ≤ i → i < (next / 64 + 1) * 64
-      → is_marked masks i s ≡ false
+      → is_traveller_marked masks i s ≡ false
   none_in_mask empty i above below = cc (in_block i above below, empty, has-zero (i - next))
 
   pub none_past : length masks ≤ next / 64 * 64 + s → (i : ℕ) → next ≤ i
-      → is_marked masks i s ≡ false
+      → is_traveller_marked masks i s ≡ false
   none_past past i above =
       cc (get_or_past masks (i / 64 * 64 + s) 0 (omega (arith, past, above)), has-zero (i % 64))
 
@@ -209,11 +209,11 @@ module _ (masks : List ℕ) (s next : ℕ) where
           let no = has_above (get_or masks (next / 64 * 64 + s) 0) (next % 64 + least_in rest) fits past in
           cc)
 
-    pub least_marked : is_marked masks (next + least_in rest) s ≡ true
+    pub least_marked : is_traveller_marked masks (next + least_in rest) s ≡ true
     least_marked = in_block (next + least_in rest) (omega arith) (omega (arith, within))
         ∙ ap (has rest) (let e : next + least_in rest - next ≡ least_in rest = omega arith in e)
         ∙ has_least rest some rest_fits
 
-    pub none_before : (i : ℕ) → next ≤ i → i < next + least_in rest → is_marked masks i s ≡ false
+    pub none_before : (i : ℕ) → next ≤ i → i < next + least_in rest → is_traveller_marked masks i s ≡ false
     none_before i above below = in_block i above (omega (arith, within, below))
         ∙ least_below rest some rest_fits (i - next) (omega (arith, above, below))

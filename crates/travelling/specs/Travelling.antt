@@ -5,7 +5,7 @@ use Rattle.failover.specs.Exports.{no_links, with_link}
 use Rattle.five_tuple.specs.declared.header.Header.{Header}
 use Rattle.policy_rules.specs.declared.packet.Leg.{Leg}
 use Rattle.tunnel.specs.Exports.{TunnelValue, here, tunnel_begun}
-use Rattle.travelling.specs.SwitchIndex.{is_marked}
+use Rattle.travelling.specs.SwitchIndex.{is_traveller_marked}
 use Rattle.travelling.specs.declared.stored_flight.StoredFlight.TheInside.{Inside}
 use Rattle.travelling.specs.declared.standing.Standing as standing
 
@@ -28,8 +28,8 @@ TravellingWithOne before packet this after =
     (i : ℕ) → flight after i ≡ (if i == packet then this else flight before i)
 
 -- the least number at or above `from` of a packet that travels; `None` if there is none
-abbrev pub IsNextFrom : Flights → ℕ → Option ℕ → Type 0
-IsNextFrom flights from next = MatchOption next
+abbrev pub IsNextTravellerFrom : Flights → ℕ → Option ℕ → Type 0
+IsNextTravellerFrom flights from next = MatchOption next
     ((i : ℕ) → from ≤ i → flight flights i ≡ None)
     (λ least. (from ≤ least) × IsSome (flight flights least)
     × ((i : ℕ) → from ≤ i → i < least → flight flights i ≡ None))
@@ -75,8 +75,8 @@ flight_begun_at at leg targets route =
     tunnel_begun at.packet at.header at.ingress leg targets route at.down
 
 -- as contracts see it; without a set of links it found none down
-abbrev pub standing_kept : standing.Standing → Standing
-standing_kept at = record {
+abbrev pub traveller_standing_kept : standing.Standing → Standing
+traveller_standing_kept at = record {
   packet = at.packet;
   header = at.header;
   ingress = at.ingress;
@@ -92,8 +92,8 @@ stands_at switch None = false
 stands_at switch (Some t) = here t.tunnel == switch
 
 -- the least number at or above `from` of a packet at the switch; `None` if there is none
-abbrev pub IsNextAt : Flights → ℕ → ℕ → Option ℕ → Type 0
-IsNextAt flights switch from next = MatchOption next
+abbrev pub IsNextTravellerAt : Flights → ℕ → ℕ → Option ℕ → Type 0
+IsNextTravellerAt flights switch from next = MatchOption next
     ((i : ℕ) → from ≤ i → stands_at switch (flight flights i) ≡ false)
     (λ least. (from ≤ least) × (stands_at switch (flight flights least) ≡ true)
     × ((i : ℕ) → from ≤ i → i < least → stands_at switch (flight flights i) ≡ false))
@@ -128,9 +128,9 @@ flight_kept kept = record {
 }
 
 -- each packet is marked where it is, and nowhere else
-abbrev pub AreMarked : Flights → List ℕ → Type 0
-AreMarked flights by_switch =
-    (i s : ℕ) → s < 64 → is_marked by_switch i s ≡ stands_at s (flight flights i)
+abbrev pub AreTravellersMarked : Flights → List ℕ → Type 0
+AreTravellersMarked flights by_switch =
+    (i s : ℕ) → s < 64 → is_traveller_marked by_switch i s ≡ stands_at s (flight flights i)
 
 -- packets are only at switches below 64
 abbrev pub TravellingStandBelow : Flights → Type 0
@@ -141,5 +141,5 @@ pub record IsTravellingTable (flights : Flights) (first : ℕ) (by_switch : List
   pub few : length flights ≤ 4_294_967_296
   pub none : (i : ℕ) → i < first → flight flights i ≡ None
   pub room : (i : ℕ) → i < length flights → i + 64 ≤ length by_switch
-  pub marked : AreMarked flights by_switch
+  pub marked : AreTravellersMarked flights by_switch
   pub below : TravellingStandBelow flights

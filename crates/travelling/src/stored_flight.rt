@@ -1,6 +1,6 @@
 ghost use Rattle.std.specs.Prelude.{◌≡◌, ◌<◌, IfOk};
 ghost use Rattle.tunnel.specs.Moves.{here, next};
-ghost use Rattle.travelling.specs.Travelling.{FlightHasPlace, flight_begun_at, flight_placed_at, standing_at, standing_kept, travels_by};
+ghost use Rattle.travelling.specs.Travelling.{FlightHasPlace, flight_begun_at, flight_placed_at, standing_at, traveller_standing_kept, travels_by};
 
 use crate::standing::Standing;
 use five_tuple::Header;
@@ -29,14 +29,14 @@ pub struct StoredFlight {
 const _: () = prove!(size_of::<StoredFlight>() <= 104);
 
 impl Model for StoredFlight {
-    ghost use Rattle.tunnel.specs.Tunnel.{IsOnRoute};
+    ghost use Rattle.tunnel.specs.Tunnel.{IsTunnelPlaceOnRoute};
     ghost use Rattle.travelling.specs.Travelling.{Flight, flight_kept};
 
     ghost Value = { Flight };
 
     ghost view = { flight_kept };
 
-    ghost invariant = { λ k. IsOnRoute k.route k.place };
+    ghost invariant = { λ k. IsTunnelPlaceOnRoute k.route k.place };
 }
 
 impl StoredFlight {
@@ -44,7 +44,7 @@ impl StoredFlight {
     /// the set of links stay shared, and it allocates nothing.
     pub fn begin(at: Standing, leg: Leg, targets: Targets, route: SharedRoute) -> StoredFlight
         ensures { result
-            ≡ travels_by (flight_begun_at (standing_kept at) leg targets route) at.version at.rule }
+            ≡ travels_by (flight_begun_at (traveller_standing_kept at) leg targets route) at.version at.rule }
     {
         let _items = route.get().items();
         StoredFlight {
@@ -66,7 +66,7 @@ impl StoredFlight {
     /// # Errors
     /// Only out of memory.
     pub fn standing(&self, switch: u32) -> Result<Standing, AllocError>
-        ensures at { IfOk result (λ at. standing_kept at ≡ standing_at switch self.now) }
+        ensures at { IfOk result (λ at. traveller_standing_kept at ≡ standing_at switch self.now) }
         ensures version { IfOk result (λ at. at.version ≡ self.now.version) }
         ensures rule { IfOk result (λ at. at.rule ≡ self.now.rule) }
     {

@@ -5,7 +5,7 @@
 //! So a search for the packets at a switch reads no packet, and skips 262,144 of them by one mask
 //! if none is there.
 ghost use Rattle.std.specs.Prelude.{◌≡◌, ◌+◌, ◌*◌, ◌/◌, ◌<◌, ◌≤◌, ◌==◌, ◌&&◌, ℕ, [], false, true, length, max, slice_index_or, OnOk};
-ghost use Rattle.travelling.specs.SwitchIndex.{AreOfBlocks, IsLeastMarked, IsNextInBlock, IsNextMarked, mark_flipped_if, has_marks, is_marked};
+ghost use Rattle.travelling.specs.SwitchIndex.{AreTravellerBlockMarks, IsLeastTravellerMarked, IsNextTravellerInBlock, IsNextTravellerMarked, traveller_mark_flipped_if, has_traveller_marks, is_traveller_marked};
 ghost use Rattle.travelling.specs.Travelling.{stands_at};
 
 use crate::held_flight::HeldFlight;
@@ -25,13 +25,13 @@ pub struct SwitchIndex {
 
 impl Model for SwitchIndex {
     ghost use Rattle.std.specs.Prelude.{List, ℕ};
-    ghost use Rattle.travelling.specs.SwitchIndex.{AreMarkLevels};
+    ghost use Rattle.travelling.specs.SwitchIndex.{AreTravellerMarkLevels};
 
     ghost Value = { List ℕ };
 
     ghost view = { λ m. m.packets.items };
 
-    ghost invariant = { λ m. AreMarkLevels m.packets.items m.blocks.items m.groups.items };
+    ghost invariant = { λ m. AreTravellerMarkLevels m.packets.items m.blocks.items m.groups.items };
 }
 
 impl SwitchIndex {
@@ -66,8 +66,8 @@ impl SwitchIndex {
     pub fn mark_slot(&mut self, number: usize, slot: &Option<HeldFlight>)
         requires { number + 64 ≤ length self.old }
         ensures room { length self.new ≡ length self.old }
-        ensures marks { (i s : ℕ) → s < 64 → is_marked self.new i s
-            ≡ mark_flipped_if (i == number && stands_at s slot.now) (is_marked self.old i s) }
+        ensures marks { (i s : ℕ) → s < 64 → is_traveller_marked self.new i s
+            ≡ traveller_mark_flipped_if (i == number && stands_at s slot.now) (is_traveller_marked self.old i s) }
         ensures below { (s : ℕ) → 64 ≤ s → stands_at s slot.now ≡ false }
     {
         if let Some(held) = slot {
@@ -80,8 +80,8 @@ impl SwitchIndex {
         requires room { number + 64 ≤ length self.old }
         requires switch { switch < 64 }
         ensures room { length self.new ≡ length self.old }
-        ensures marks { (i s : ℕ) → s < 64 → is_marked self.new i s
-            ≡ mark_flipped_if (i == number && switch == s) (is_marked self.old i s) }
+        ensures marks { (i s : ℕ) → s < 64 → is_traveller_marked self.new i s
+            ≡ traveller_mark_flipped_if (i == number && switch == s) (is_traveller_marked self.old i s) }
     {
         if !turn(&mut self.packets, number, switch) {
             return;
@@ -95,7 +95,7 @@ impl SwitchIndex {
     /// The least number, `from` or above, of a packet that is marked at the switch, if any.
     pub fn next(&self, from: usize, switch: u32) -> Option<usize>
         requires { switch < 64 }
-        ensures { IsNextMarked self.now switch from result }
+        ensures { IsNextTravellerMarked self.now switch from result }
     {
         if let Some(packet) = next_mark_in_block(&self.packets, from, switch) {
             return Some(packet);
@@ -128,11 +128,11 @@ fn turn(masks: &mut Vec<u64>, number: usize, switch: u32) -> bool
     requires room { number + 64 ≤ length masks.old.items }
     requires switch { switch < 64 }
     ensures room { length masks.new.items ≡ length masks.old.items }
-    ensures marks { (i s : ℕ) → s < 64 → is_marked masks.new.items i s
-        ≡ mark_flipped_if (i == number && switch == s) (is_marked masks.old.items i s) }
-    ensures blocks { (block s : ℕ) → s < 64 → has_marks masks.new.items block s
-        ≡ mark_flipped_if (result && (block == number / 64 && switch == s))
-        (has_marks masks.old.items block s) }
+    ensures marks { (i s : ℕ) → s < 64 → is_traveller_marked masks.new.items i s
+        ≡ traveller_mark_flipped_if (i == number && switch == s) (is_traveller_marked masks.old.items i s) }
+    ensures blocks { (block s : ℕ) → s < 64 → has_traveller_marks masks.new.items block s
+        ≡ traveller_mark_flipped_if (result && (block == number / 64 && switch == s))
+        (has_traveller_marks masks.old.items block s) }
 {
     let place = number / 64 * 64 + switch as usize;
     let old = masks[place];
@@ -145,9 +145,9 @@ fn turn(masks: &mut Vec<u64>, number: usize, switch: u32) -> bool
 // The least number at or above `from` that is marked at the switch, if there is one, by the marks
 // of the blocks. It looks at those of 64 blocks at once.
 fn next_mark_by_blocks(masks: &[u64], blocks: &[u64], from: usize, switch: u32) -> Option<usize>
-    requires blocks { AreOfBlocks masks.now blocks.now }
+    requires blocks { AreTravellerBlockMarks masks.now blocks.now }
     requires switch { switch < 64 }
-    ensures { IsNextMarked masks.now switch from result }
+    ensures { IsNextTravellerMarked masks.now switch from result }
 {
     if let Some(number) = next_mark_in_block(masks, from, switch) {
         return Some(number);
@@ -162,7 +162,7 @@ fn next_mark_by_blocks(masks: &[u64], blocks: &[u64], from: usize, switch: u32) 
 // 64 at once.
 fn next_mark(masks: &[u64], from: usize, switch: u32) -> Option<usize>
     requires { switch < 64 }
-    ensures { IsNextMarked masks.now switch from result }
+    ensures { IsNextTravellerMarked masks.now switch from result }
 {
     let mut next = from;
     while next / 64 * 64 + (switch as usize) < masks.len() {
@@ -177,7 +177,7 @@ fn next_mark(masks: &[u64], from: usize, switch: u32) -> Option<usize>
 // The same, if that number is in the block of `from`; otherwise `None`.
 fn next_mark_in_block(masks: &[u64], from: usize, switch: u32) -> Option<usize>
     requires { switch < 64 }
-    ensures { IsNextInBlock masks.now switch from result }
+    ensures { IsNextTravellerInBlock masks.now switch from result }
 {
     let place = from / 64 * 64 + switch as usize;
     if place >= masks.len() {
@@ -193,8 +193,8 @@ fn next_mark_in_block(masks: &[u64], from: usize, switch: u32) -> Option<usize>
 // The least number of the block that is marked at the switch.
 fn first_mark_of_block(masks: &[u64], block: usize, switch: u32) -> usize
     requires switch { switch < 64 }
-    requires some { has_marks masks.now block switch ≡ true }
-    ensures { IsLeastMarked masks.now switch (block * 64) result }
+    requires some { has_traveller_marks masks.now block switch ≡ true }
+    ensures { IsLeastTravellerMarked masks.now switch (block * 64) result }
 {
     block * 64 + masks[block * 64 + switch as usize].trailing_zeros() as usize
 }

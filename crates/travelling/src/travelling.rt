@@ -9,7 +9,7 @@
 //! No slot is freed before the end, as in a journal.
 ghost use Rattle.std.specs.Prelude.{◌≡◌, ◌+◌, ◌<◌, ◌≤◌, ℕ, max, [], Some, None, is_some, option_map, length, slice_set, IfOk, IsSome, OnOk};
 ghost use Rattle.std.specs.Option.{IsSomeAnd, option_copied};
-ghost use Rattle.travelling.specs.Travelling.{AreMarked, FlightHasPlace, IsNextAt, IsNextFrom, TravellingStandBelow, TravellingWithOne, flight_placed_at, flight, standing_kept};
+ghost use Rattle.travelling.specs.Travelling.{AreTravellersMarked, FlightHasPlace, IsNextTravellerAt, IsNextTravellerFrom, TravellingStandBelow, TravellingWithOne, flight_placed_at, flight, traveller_standing_kept};
 
 use crate::held_flight::HeldFlight;
 use crate::no_links::NoLinks;
@@ -121,7 +121,7 @@ impl Travelling {
     /// # Errors
     /// Only out of memory.
     pub fn links_of(&mut self, alloc: Global, at: Standing) -> Result<SharedLinks, AllocError>
-        ensures links { IfOk result (λ links. links ≡ (standing_kept at).down) }
+        ensures links { IfOk result (λ links. links ≡ (traveller_standing_kept at).down) }
         ensures same { self.new ≡ self.old }
     {
         match at.down {
@@ -132,7 +132,7 @@ impl Travelling {
 
     /// The least number at or above `from` of a packet that travels; `None` if there is none.
     pub fn next(&self, from: u32) -> Option<u32>
-        ensures { IsNextFrom self.now from result }
+        ensures { IsNextTravellerFrom self.now from result }
     {
         let number = first_held_packet(&self.slots, self.first.max(from as usize));
         if number < self.slots.len() {
@@ -144,7 +144,7 @@ impl Travelling {
 
     /// The least number at or above `from` of a packet at the switch; `None` if there is none.
     pub fn next_at(&self, from: usize, switch: u32) -> Option<u32>
-        ensures { IsNextAt self.now switch from result }
+        ensures { IsNextTravellerAt self.now switch from result }
     {
         let by_switch = &self.by_switch;
         if switch >= 64 {
@@ -194,11 +194,11 @@ fn set_packet_slot(
 )
     requires within { number < length slots.old.items }
     requires room { number + 64 ≤ length by_switch.old }
-    requires marked { AreMarked slots.old.items by_switch.old }
+    requires marked { AreTravellersMarked slots.old.items by_switch.old }
     requires below { TravellingStandBelow slots.old.items }
     ensures slots { slots.new.items ≡ slice_set slots.old.items number slot }
     ensures room { length by_switch.new ≡ length by_switch.old }
-    ensures marked { AreMarked slots.new.items by_switch.new }
+    ensures marked { AreTravellersMarked slots.new.items by_switch.new }
     ensures below { TravellingStandBelow slots.new.items }
 {
     by_switch.mark_slot(number, &slots[number]);
@@ -215,12 +215,12 @@ fn move_packet_slot(
 )
     requires held { IsSomeAnd (flight slots.old.items number) (FlightHasPlace place) }
     requires room { number + 64 ≤ length by_switch.old }
-    requires marked { AreMarked slots.old.items by_switch.old }
+    requires marked { AreTravellersMarked slots.old.items by_switch.old }
     requires below { TravellingStandBelow slots.old.items }
     ensures slots { slots.new.items ≡ slice_set slots.old.items number
         (option_map (flight_placed_at place) (flight slots.old.items number)) }
     ensures room { length by_switch.new ≡ length by_switch.old }
-    ensures marked { AreMarked slots.new.items by_switch.new }
+    ensures marked { AreTravellersMarked slots.new.items by_switch.new }
     ensures below { TravellingStandBelow slots.new.items }
 {
     by_switch.mark_slot(number, &slots[number]);

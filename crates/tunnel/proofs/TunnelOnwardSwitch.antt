@@ -4,7 +4,7 @@ use Rattle.std.proofs.lemmas.Bool.{cases_lt}
 use Rattle.std.proofs.lemmas.Bool.Decides.{nat_tests}
 use Rattle.std.proofs.lemmas.Map.Keys.{apart_from_distinct}
 use Rattle.std.proofs.lemmas.Option.{slice_get-get_or, slice_get_past}
-use Rattle.tunnel.specs.Exports.{IsOnRoute}
+use Rattle.tunnel.specs.Exports.{IsTunnelPlaceOnRoute}
 
 next_cases : (route : List ℕ) (place : ℕ) →
     ((place + 1 < length route) × (slice_get route (place + 1) ≡ Some (get_or route (place + 1) 0)))
@@ -26,7 +26,7 @@ next_is_some route place next e = elim (next_cases route place) [
 apart : (x y : ℕ) → (x == y) ≡ false → y ≢ x
 apart x y h = grind (arith, nat_tests)
 
-pub next_is_other : (route : List ℕ) (place : ℕ) (next : Option ℕ) → IsOnRoute route place →
+pub next_is_other : (route : List ℕ) (place : ℕ) (next : Option ℕ) → IsTunnelPlaceOnRoute route place →
     next ≡ slice_get route (place + 1) →
     IfSome next (λ other. (other ≢ get_or route place 0) × (other < 64))
 next_is_other route place next on e = elim (next_cases route place) [

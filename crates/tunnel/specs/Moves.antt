@@ -36,8 +36,8 @@ abbrev pub tunnel_marked_down : TunnelValue → ℕ → TunnelValue
 tunnel_marked_down t other = record t { down = with_link t.down (here t) other }
 
 -- its route from here by the links that are known here, except those found down
-abbrev pub route_from_here : TunnelValue → List (Option Advert) → ℕ → Option (List ℕ)
-route_from_here t adverts near = route_of adverts (here t) t.targets near t.down
+abbrev pub tunnel_route_from_here : TunnelValue → List (Option Advert) → ℕ → Option (List ℕ)
+tunnel_route_from_here t adverts near = route_of adverts (here t) t.targets near t.down
 
 -- it is at the beginning of this route
 abbrev pub on_route : TunnelValue → List ℕ → TunnelValue

@@ -9,6 +9,6 @@ abbrev pub TunnelValue : Type 0
 TunnelValue = Inside
 
 -- the place is on the route
-pub record IsOnRoute (route : List ℕ) (place : ℕ) : Type 0 where
+pub record IsTunnelPlaceOnRoute (route : List ℕ) (place : ℕ) : Type 0 where
   pub within : place < length route
   pub list : IsRouteList route

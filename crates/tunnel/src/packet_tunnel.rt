@@ -1,5 +1,5 @@
 ghost use Rattle.std.specs.Prelude.{◌≡◌, ◌≢◌, ◌<◌, ◌+◌, ◌↔◌, length, is_some, slice_get, IfSome, IsSome};
-ghost use Rattle.tunnel.specs.Moves.{tunnel_begun, here, next, advanced_tunnel, tunnel_marked_down, route_from_here, put_on_route};
+ghost use Rattle.tunnel.specs.Moves.{tunnel_begun, here, next, advanced_tunnel, tunnel_marked_down, tunnel_route_from_here, put_on_route};
 
 use failover::{Database, DownSet, Route};
 use five_tuple::Header;
@@ -27,19 +27,19 @@ pub struct Tunnel {
 const _: () = prove!(size_of::<Tunnel>() < 900);
 
 impl Model for Tunnel {
-    ghost use Rattle.tunnel.specs.Tunnel.{TunnelValue, IsOnRoute};
+    ghost use Rattle.tunnel.specs.Tunnel.{TunnelValue, IsTunnelPlaceOnRoute};
 
     ghost Value = { TunnelValue };
 
     ghost view = { λ t. t };
 
-    ghost invariant = { λ t. IsOnRoute t.route t.place };
+    ghost invariant = { λ t. IsTunnelPlaceOnRoute t.route t.place };
 
     ghost inverse = { λ t. t };
 }
 
 impl Tunnel {
-    ghost use Rattle.tunnel.specs.Tunnel.{IsOnRoute};
+    ghost use Rattle.tunnel.specs.Tunnel.{IsTunnelPlaceOnRoute};
 
     /// A packet at the beginning of its route.
     pub fn begin(
@@ -71,7 +71,7 @@ impl Tunnel {
     pub fn here(&self) -> u32
         ensures here { result ≡ here self.now }
         ensures switch { result < 64 }
-        ensures on_route { IsOnRoute self.now.route self.now.place }
+        ensures on_route { IsTunnelPlaceOnRoute self.now.route self.now.place }
     {
         self.route.items()[self.place as usize]
     }
@@ -107,8 +107,8 @@ impl Tunnel {
     /// a path of known links, without those found down, reaches. Returns false exactly if there is
     /// none; then nothing changes.
     pub fn reroute(&mut self, base: &Database, near: u64) -> bool
-        ensures found { result ≡ is_some (route_from_here self.old base.now near) }
-        ensures after { self.new ≡ put_on_route self.old (route_from_here self.old base.now near) }
+        ensures found { result ≡ is_some (tunnel_route_from_here self.old base.now near) }
+        ensures after { self.new ≡ put_on_route self.old (tunnel_route_from_here self.old base.now near) }
     {
         match base.route(self.here(), &self.targets, near, &self.down) {
             None => false,

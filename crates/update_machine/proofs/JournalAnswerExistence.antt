@@ -1,6 +1,6 @@
 -- There is an answer exactly if each event has its steps.
 use Rattle.std.proofs.Common.{[], ◌++◌, ◌+◌, ◌<◌, ◌↔◌, ◌∙◌, ◌∷◌, ◌≡◌, List, None, Option, Some, ap, append-nil, append_assoc, arith, length, map, refl, subst, suc, sym, zero, ℕ}
-use Rattle.update_machine.specs.Exports.{Answers, AreAllEventSteps, AreAnswered, AreSteps, AreStepsOf, Event, HaveSteps, Item, One, Setting, Step, StepOfRow, journal_after_steps, piece}
+use Rattle.update_machine.specs.Exports.{Answers, AreAllMachineEventSteps, AreAnsweredByJournal, AreMachineSteps, AreMachineStepsOf, Event, HaveMachineSteps, Item, One, Setting, Step, StepOfRow, journal_after_steps, piece}
 use Rattle.update_machine.proofs.JournalFirstSteps.{one_answer}
 
 -- steps after others write after what those wrote
@@ -13,9 +13,9 @@ after_append setting before (next ∷ steps) more =
 
 steps_go_on : (setting : Setting) (row last : ℕ) (events : List Event) (event : Event)
     (before : List Item) (steps mine : List StepOfRow) → last ≡ length events + row
-    → AreSteps setting row events before steps
-    → AreStepsOf setting last event (journal_after_steps setting before steps) mine
-    → AreSteps setting row (events ++ event ∷ []) before (steps ++ mine)
+    → AreMachineSteps setting row events before steps
+    → AreMachineStepsOf setting last event (journal_after_steps setting before steps) mine
+    → AreMachineSteps setting row (events ++ event ∷ []) before (steps ++ mine)
 steps_go_on setting row last [] event before steps mine same all more = (
   mine,
   [],
@@ -23,9 +23,9 @@ steps_go_on setting row last [] event before steps mine same all more = (
   own,
   refl,
 ) where
-  own : AreStepsOf setting row event before mine
-  own = subst (λ n. AreStepsOf setting n event before mine) (same ∙ omega arith)
-      (subst (λ these. AreStepsOf setting last event (journal_after_steps setting before these) mine) all
+  own : AreMachineStepsOf setting row event before mine
+  own = subst (λ n. AreMachineStepsOf setting n event before mine) (same ∙ omega arith)
+      (subst (λ these. AreMachineStepsOf setting last event (journal_after_steps setting before these) mine) all
       more)
 steps_go_on setting row last (first ∷ events) event before steps mine same all more = (
   all.0,
@@ -35,15 +35,15 @@ steps_go_on setting row last (first ∷ events) event before steps mine same all
   steps_go_on setting (row + 1) last events event (journal_after_steps setting before all.0) all.1 mine
       (same ∙ omega arith) all.4 rest,
 ) where
-  rest : AreStepsOf setting last event
+  rest : AreMachineStepsOf setting last event
       (journal_after_steps setting (journal_after_steps setting before all.0) all.1) mine
-  rest = subst (λ js. AreStepsOf setting last event js mine)
+  rest = subst (λ js. AreMachineStepsOf setting last event js mine)
       (ap (journal_after_steps setting before) all.2.split ∙ after_append setting before all.0 all.1) more
 
 -- an answer goes on by one more event that has its steps
 pub answer_goes_on : (setting : Setting) (events : List Event) (event : Event)
     (journal : List Item) (mine : List StepOfRow) → Answers setting events journal
-    → AreStepsOf setting (length events + 1) event journal mine
+    → AreMachineStepsOf setting (length events + 1) event journal mine
     → Answers setting (events ++ event ∷ []) (journal_after_steps setting journal mine)
 answer_goes_on setting events event journal mine answers more = record {
   steps = answers.steps ++ mine;
@@ -56,7 +56,7 @@ pub none_answered : (setting : Setting) → Answers setting [] []
 none_answered setting = record { steps = []; allowed = refl; written = refl }
 
 answered_from : (setting : Setting) (all first others : List Event) → all ≡ first ++ others
-    → HaveSteps setting all → AreAnswered setting first → AreAnswered setting all
+    → HaveMachineSteps setting all → AreAnsweredByJournal setting first → AreAnsweredByJournal setting all
 answered_from setting all first [] same have answered = rw (same ∙ append-nil first) answered
 answered_from setting all first (event ∷ others) same have answered =
     let mine = have first event others answered.0 same answered.1 in
@@ -66,8 +66,8 @@ answered_from setting all first (event ∷ others) same have answered =
       answer_goes_on setting first event answered.0 mine.0 answered.1 mine.1,
     )
 
-pub answer_exists : (setting : Setting) (events : List Event) → HaveSteps setting events
-    → AreAnswered setting events
+pub answer_exists : (setting : Setting) (events : List Event) → HaveMachineSteps setting events
+    → AreAnsweredByJournal setting events
 answer_exists setting events have =
     answered_from setting events [] events refl have ([], none_answered setting)
 
@@ -77,19 +77,19 @@ answer_exists setting events have =
 record Parts (setting : Setting) (row : ℕ) (first : List Event) (event : Event)
     (before : List Item) : Type 0 where
   steps : List StepOfRow
-  allowed : AreSteps setting row first before steps
+  allowed : AreMachineSteps setting row first before steps
   mine : List StepOfRow
-  own : AreStepsOf setting (length first + row) event (journal_after_steps setting before steps) mine
+  own : AreMachineStepsOf setting (length first + row) event (journal_after_steps setting before steps) mine
 
 steps_part : (setting : Setting) (row : ℕ) (first : List Event) (event : Event)
     (others : List Event) (before : List Item) (steps : List StepOfRow)
-    → AreSteps setting row (first ++ event ∷ others) before steps
+    → AreMachineSteps setting row (first ++ event ∷ others) before steps
     → Parts setting row first event before
 steps_part setting row [] event others before steps all = record {
   steps = [];
   allowed = refl;
   mine = all.0;
-  own = subst (λ n. AreStepsOf setting n event before all.0) (omega arith) all.3;
+  own = subst (λ n. AreMachineStepsOf setting n event before all.0) (omega arith) all.3;
 }
 steps_part setting row (one ∷ first) event others before steps all =
     let rest : Parts setting (row + 1) first event (journal_after_steps setting before all.0) =
@@ -98,38 +98,38 @@ steps_part setting row (one ∷ first) event others before steps all =
       steps = all.0 ++ rest.steps;
       allowed = (all.0, rest.steps, record { split = refl }, all.3, rest.allowed);
       mine = rest.mine;
-      own = subst (λ js. AreStepsOf setting (length (one ∷ first) + row) event js rest.mine)
-          (sym (after_append setting before all.0 rest.steps)) (subst (λ n. AreStepsOf setting n
+      own = subst (λ js. AreMachineStepsOf setting (length (one ∷ first) + row) event js rest.mine)
+          (sym (after_append setting before all.0 rest.steps)) (subst (λ n. AreMachineStepsOf setting n
           event (journal_after_steps setting (journal_after_steps setting before all.0) rest.steps) rest.mine)
           (omega arith) rest.own);
     }
 
-pub answer_has_steps : (setting : Setting) (events : List Event) → AreAnswered setting events
-    → HaveSteps setting events
+pub answer_has_steps : (setting : Setting) (events : List Event) → AreAnsweredByJournal setting events
+    → HaveMachineSteps setting events
 answer_has_steps setting events answered first event others journal same answers =
     let parts = steps_part setting 1 first event others [] answered.1.steps
-    (subst (λ all. AreSteps setting 1 all [] answered.1.steps) same answered.1.allowed) in
+    (subst (λ all. AreMachineSteps setting 1 all [] answered.1.steps) same answered.1.allowed) in
     let written : journal_after_steps setting [] parts.steps ≡ journal =
     one_answer setting first (journal_after_steps setting [] parts.steps) journal
     (record { steps = parts.steps; allowed = parts.allowed; written = refl }) answers in (
       parts.mine,
-      subst (λ js. AreStepsOf setting (length first + 1) event js parts.mine) written parts.own,
+      subst (λ js. AreMachineStepsOf setting (length first + 1) event js parts.mine) written parts.own,
     )
 
 pub answered_where : (setting : Setting) (events : List Event)
-    → AreAnswered setting events ↔ HaveSteps setting events
+    → AreAnsweredByJournal setting events ↔ HaveMachineSteps setting events
 answered_where setting events = (answer_has_steps setting events, answer_exists setting events)
 
 -- ---- single steps
 
-pub steps_answered : (setting : Setting) (steps : List Step) → AreAnswered setting (map One steps)
+pub steps_answered : (setting : Setting) (steps : List Step) → AreAnsweredByJournal setting (map One steps)
 steps_answered setting steps = from setting [] steps ([], none_answered setting) where
-  from : (at : Setting) (first : List Event) (others : List Step) → AreAnswered at first
-      → AreAnswered at (first ++ map One others)
-  from at first [] answered = subst (AreAnswered at) (sym (append-nil first)) answered
+  from : (at : Setting) (first : List Event) (others : List Step) → AreAnsweredByJournal at first
+      → AreAnsweredByJournal at (first ++ map One others)
+  from at first [] answered = subst (AreAnsweredByJournal at) (sym (append-nil first)) answered
   from at first (step ∷ others) answered =
       let mine : List StepOfRow = record { row = length first + 1; step = step } ∷ [] in
-      subst (AreAnswered at) (append_assoc first (One step ∷ []) (map One others))
+      subst (AreAnsweredByJournal at) (append_assoc first (One step ∷ []) (map One others))
       (from at (first ++ One step ∷ []) others (
         journal_after_steps at answered.0 mine,
         answer_goes_on at first (One step) answered.0 mine answered.1 refl,
@@ -148,7 +148,7 @@ pub record Nears (setting : Setting) (next : List Item → Option Step) (row : �
 
 -- so it ends
 abbrev pub HasEnd : Setting → (List Item → Option Step) → ℕ → List Item → Type 0
-HasEnd setting next row before = (steps : List StepOfRow) × AreAllEventSteps setting next row before steps
+HasEnd setting next row before = (steps : List StepOfRow) × AreAllMachineEventSteps setting next row before steps
 
 -- by one step it comes nearer to its end, if it hasn't come to it
 by_step : (setting : Setting) (next : List Item → Option Step) (row : ℕ)

@@ -1,6 +1,6 @@
 -- Answers, computed: what a drain and a flush stand for, and how often switches were called.
 use Rattle.std.proofs.Common.{[], ◌∷◌, ◌≡◌, List, refl}
-use Rattle.update_machine.specs.Exports.{Answers, Drain, Event, Flush, Item, One, Step, StepOfRow, handled_count}
+use Rattle.update_machine.specs.Exports.{Answers, Drain, Event, Flush, Item, One, Step, StepOfRow, journal_handled_count}
 use Rattle.update_machine.proofs.JournalExampleNetworks.{at, left_by, one, shielded}
 
 -- a packet enters and is drained; then the cache rule that it brought is delivered
@@ -44,6 +44,6 @@ answers_rows = record {
 }
 
 -- a took the packet in and moved it on; b received it
-pub handled_counts : (handled_count journal 0 ≡ 2) × (handled_count journal 1 ≡ 2)
+pub handled_counts : (journal_handled_count journal 0 ≡ 2) × (journal_handled_count journal 1 ≡ 2)
 unfolding left_by
 handled_counts = (refl, refl)

@@ -1,9 +1,9 @@
 -- What caches and lookups are said to be, on journals of few items.
 use Rattle.std.proofs.Common.{[], ◌++◌, ◌∷◌, ◌≡◌, List, None, Ok, Some, codes, false, refl, ℕ}
-use Rattle.update_machine.specs.Exports.{Add, Body, CacheEntry, CacheRule, Change, Drop, Header, How, Is, Item, Net, Out, Redirect, Row, Rule, Setting, Stamp, Step, Whole, boot_of, cache_of, file_of, heard, is_up, lookup_at, message_of, plan_at, policy_in, raised_from, stamp_of, touched_by}
+use Rattle.update_machine.specs.Exports.{Add, Body, CacheEntry, CacheRule, Change, Drop, Header, How, Is, Item, Net, Out, Redirect, Row, Rule, Setting, Stamp, Step, Whole, journal_boot_of, journal_cache_of, file_of, heard, is_up, lookup_at, message_of, journal_plan_at, policy_in, raised_from, journal_stamp_of, touched_by}
 use Rattle.five_tuple.specs.Exports.{cover_of, header_of}
 use Rattle.policy_rules.specs.Exports.{word_of_row}
-use Rattle.switch_table.specs.Exports.{all_touched, same_key}
+use Rattle.switch_table.specs.Exports.{cache_all_touched, same_key}
 use Rattle.switch_table.specs.declared.search.Found.TheVariants.{Authority, Cached}
 use Rattle.ternary.specs.Exports.{WordValue, holds, meets}
 use Rattle.update_machine.proofs.JournalExampleNetworks.{advert, all_dropped, all_to, answered, any_word, cached as apart, at, by_action, delivered, denied, leaving, left_by, link, on, one, out_or_drop, plan_p, rule, switch, tables_of, to, two_switches, web}
@@ -24,7 +24,7 @@ cached number version word =
 
 abbrev stamped : ℕ → ℕ → List Item
 stamped number version =
-    Item.Sent number (to 0 (Stamp 1 version all_touched)) ∷ Item.Delivered number ∷ []
+    Item.Sent number (to 0 (Stamp 1 version cache_all_touched)) ∷ Item.Delivered number ∷ []
 
 abbrev entry : ℕ → ℕ → WordValue → CacheEntry
 entry number version word = record {
@@ -38,16 +38,16 @@ entry number version word = record {
 -- ---- the cache of a
 
 -- two versions of one word are beside each other; the same version once more changes nothing
-pub by_version_and_word : (cache_of moved (cached 1 1 web ++ cached 2 2 web ++ cached 3 1 web)
+pub by_version_and_word : (journal_cache_of moved (cached 1 1 web ++ cached 2 2 web ++ cached 3 1 web)
     0).entries ≡ entry 1 1 web ∷ entry 2 2 web ∷ []
-unfolding cache_of stamp_of heard is_up boot_of message_of same_key
+unfolding journal_cache_of journal_stamp_of heard is_up journal_boot_of message_of same_key
 by_version_and_word = refl
 
 -- a stamp removes what is of a lower version, and no more of it is taken in
-pub below_the_stamp : (cache_of moved
+pub below_the_stamp : (journal_cache_of moved
     (cached 1 1 web ++ cached 2 2 web ++ stamped 3 2 ++ cached 4 1 any_word) 0).entries
     ≡ entry 2 2 web ∷ []
-unfolding cache_of touched_by file_of policy_in meets stamp_of heard is_up boot_of message_of same_key
+unfolding journal_cache_of touched_by file_of policy_in meets journal_stamp_of heard is_up journal_boot_of message_of same_key
 below_the_stamp = refl
 
 -- an equal or a lower stamp, which comes late, doesn't rise and removes nothing
@@ -60,28 +60,28 @@ pub a_rise : raised_from 1 2 (record { entries = entry 1 1 web ∷ []; capacity 
 a_rise = refl
 
 -- of two entries the one at the place goes
-pub second_expires : (cache_of moved
+pub second_expires : (journal_cache_of moved
     (cached 1 1 web ++ cached 2 1 any_word ++ Item.Expired 0 1 2 ∷ []) 0).entries
     ≡ entry 1 1 web ∷ []
-unfolding cache_of stamp_of heard is_up boot_of message_of same_key
+unfolding journal_cache_of journal_stamp_of heard is_up journal_boot_of message_of same_key
 second_expires = refl
 
 -- it has room for four
-pub first_goes : (cache_of moved (cached 1 1 web ++ cached 2 1 any_word ++ cached 3 2 web
+pub first_goes : (journal_cache_of moved (cached 1 1 web ++ cached 2 1 any_word ++ cached 3 2 web
     ++ cached 4 2 any_word ++ cached 5 3 web) 0).entries
     ≡ entry 2 1 any_word ∷ entry 3 2 web ∷ entry 4 2 any_word ∷ entry 5 3 web ∷ []
-unfolding cache_of stamp_of heard is_up boot_of message_of same_key
+unfolding journal_cache_of journal_stamp_of heard is_up journal_boot_of message_of same_key
 first_goes = refl
 
 -- a crash empties it
 pub empty_after_crash :
-    (cache_of moved (cached 1 1 web ++ Item.Down 0 ∷ Item.Booted 0 2 ∷ []) 0).entries ≡ []
-unfolding cache_of stamp_of heard is_up boot_of message_of same_key
+    (journal_cache_of moved (cached 1 1 web ++ Item.Down 0 ∷ Item.Booted 0 2 ∷ []) 0).entries ≡ []
+unfolding journal_cache_of journal_stamp_of heard is_up journal_boot_of message_of same_key
 empty_after_crash = refl
 
 -- another switch's cache is its own
-pub empty_at_b : (cache_of moved (cached 1 1 web) 1).entries ≡ []
-unfolding cache_of stamp_of heard is_up boot_of message_of same_key
+pub empty_at_b : (journal_cache_of moved (cached 1 1 web) 1).entries ≡ []
+unfolding journal_cache_of journal_stamp_of heard is_up journal_boot_of message_of same_key
 empty_at_b = refl
 
 -- ---- a change: the second file adds `200,any,10.1.0.0/16,any,80,tcp,drop`
@@ -103,49 +103,49 @@ touches_its_row = refl
 
 -- what the stamp of its version leaves of these entries
 abbrev left_of : List Item → List CacheEntry
-left_of entries = (cache_of amended (entries ++ Item.Submitted 2 2
+left_of entries = (journal_cache_of amended (entries ++ Item.Submitted 2 2
     ∷ Item.Sent 4 (to 0 (Stamp 1 2 (web ∷ []))) ∷ Item.Delivered 4 ∷ []) 0).entries
 
 -- what meets the row goes, what doesn't goes over, and the earlier one of its word before it
 pub goes_over_alone : left_of (cached 1 1 web ++ cached 2 1 apart) ≡ entry 2 2 apart ∷ []
-unfolding cache_of touched_by policy_in file_of cover_of word_of_row meets stamp_of heard is_up boot_of message_of same_key
+unfolding journal_cache_of touched_by policy_in file_of cover_of word_of_row meets journal_stamp_of heard is_up journal_boot_of message_of same_key
 goes_over_alone = refl
 
 pub stays_before_it : left_of (cached 1 1 apart ++ cached 2 2 apart ++ cached 3 2 web)
     ≡ entry 2 2 apart ∷ entry 3 2 web ∷ []
-unfolding cache_of touched_by policy_in file_of cover_of word_of_row meets stamp_of heard is_up boot_of message_of same_key
+unfolding journal_cache_of touched_by policy_in file_of cover_of word_of_row meets journal_stamp_of heard is_up journal_boot_of message_of same_key
 stays_before_it = refl
 
 -- ---- what a says of a header
 
 -- a version that was submitted says nothing before its stamp
 pub by_the_stamp : lookup_at moved (Item.Submitted 2 2 ∷ []) 0 one ≡ Redirect 0 (1 ∷ [])
-unfolding lookup_at plan_at cache_of stamp_of heard is_up boot_of message_of file_of policy_in holds
+unfolding lookup_at journal_plan_at journal_cache_of journal_stamp_of heard is_up journal_boot_of message_of file_of policy_in holds
 by_the_stamp = refl
 
 pub by_the_next_stamp : lookup_at moved (Item.Submitted 2 2 ∷ stamped 1 2) 0 one ≡ Authority 0 0
-unfolding lookup_at plan_at cache_of touched_by meets stamp_of heard is_up boot_of message_of file_of policy_in holds
+unfolding lookup_at journal_plan_at journal_cache_of touched_by meets journal_stamp_of heard is_up journal_boot_of message_of file_of policy_in holds
 by_the_next_stamp = refl
 
 -- nor do entries of another version than the stamp
 pub no_entry_of_the_stamp :
     lookup_at moved (Item.Submitted 2 2 ∷ cached 1 2 any_word) 0 one ≡ Redirect 0 (1 ∷ [])
-unfolding lookup_at plan_at cache_of stamp_of heard is_up boot_of message_of file_of policy_in holds same_key
+unfolding lookup_at journal_plan_at journal_cache_of journal_stamp_of heard is_up journal_boot_of message_of file_of policy_in holds same_key
 no_entry_of_the_stamp = refl
 
 pub entry_of_the_stamp : lookup_at moved (Item.Submitted 2 2 ∷ cached 1 2 any_word ++ stamped 2 2) 0
     one ≡ Cached (entry 1 2 any_word)
-unfolding lookup_at plan_at cache_of touched_by meets stamp_of heard is_up boot_of message_of file_of policy_in holds same_key
+unfolding lookup_at journal_plan_at journal_cache_of touched_by meets journal_stamp_of heard is_up journal_boot_of message_of file_of policy_in holds same_key
 entry_of_the_stamp = refl
 
 -- of two entries that hold a header the first one, and none where none holds it
 pub first_entry_first :
     lookup_at moved (cached 1 1 web ++ cached 2 1 any_word) 0 denied ≡ Cached (entry 1 1 web)
-unfolding lookup_at plan_at cache_of stamp_of heard is_up boot_of message_of file_of policy_in holds same_key
+unfolding lookup_at journal_plan_at journal_cache_of journal_stamp_of heard is_up journal_boot_of message_of file_of policy_in holds same_key
 first_entry_first = refl
 
 pub entry_without_it : lookup_at moved (cached 1 1 web) 0 one ≡ Redirect 0 (1 ∷ [])
-unfolding lookup_at plan_at cache_of stamp_of heard is_up boot_of message_of file_of policy_in holds same_key
+unfolding lookup_at journal_plan_at journal_cache_of journal_stamp_of heard is_up journal_boot_of message_of file_of policy_in holds same_key
 entry_without_it = refl
 
 -- ---- a whole day of a small campus, computed: cache rules, a link that fails, an update
@@ -262,9 +262,9 @@ pub campus_rows : left_by campus
     ++ answered 11 15 19 (Body.Installed 0 1 2) ++ answered 11 16 20 (Body.Installed 1 1 2)
     ++ answered 11 17 21 (Body.Installed 2 1 2) ++ answered 11 18 22 (Body.Installed 3 1 2)
     ++ delivered 11 19 ++ delivered 11 20 ++ delivered 11 21 ++ delivered 11 22 ++ Item.Current 2
-    ∷ Item.Sent 23 (to 0 (Body.Stamp 1 2 all_touched)) ∷ Item.Sent 24
-    (to 1 (Body.Stamp 1 2 all_touched)) ∷ Item.Sent 25 (to 2 (Body.Stamp 1 2 all_touched))
-    ∷ Item.Sent 26 (to 3 (Body.Stamp 1 2 all_touched)) ∷ answered 11 23 27 (Body.Stamped 0 1 2)
+    ∷ Item.Sent 23 (to 0 (Body.Stamp 1 2 cache_all_touched)) ∷ Item.Sent 24
+    (to 1 (Body.Stamp 1 2 cache_all_touched)) ∷ Item.Sent 25 (to 2 (Body.Stamp 1 2 cache_all_touched))
+    ∷ Item.Sent 26 (to 3 (Body.Stamp 1 2 cache_all_touched)) ∷ answered 11 23 27 (Body.Stamped 0 1 2)
     ++ answered 11 24 28 (Body.Stamped 1 1 2) ++ answered 11 25 29 (Body.Stamped 2 1 2)
     ++ answered 11 26 30 (Body.Stamped 3 1 2) ++ delivered 11 27 ++ delivered 11 28
     ++ delivered 11 29 ++ delivered 11 30 ++ Item.Retired 1 ∷ Item.Sent 31 (to 0 (Body.Collect 1 1))

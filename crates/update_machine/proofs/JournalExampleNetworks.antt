@@ -1,11 +1,11 @@
 -- Small networks, policies and messages on which the definitions are tried.
 use Rattle.std.proofs.Common.{[], ◌++◌, ◌-◌, ◌^◌, ◌∙◌, ◌∷◌, ◌≡◌, Bool, Err, IsTrue, List, None, Ok, Option, Result, Some, ap, arith, codes, false, inl, inr, leb-true, nat_le, refl, replicate, subst, sym, take, true, unwrap_or, ℕ}
-use Rattle.update_machine.specs.Exports.{Action, Advertise, Any, AreTargets, Body, Cause, Drop, HasCause, HasPlan, HaveCauses, Header, Hello, Install, Installed, IsPlanOf, Item, Leads, Leaving, Leg, LinkRow, Message, Net, NoneConcern, OpenAt, Out, Place, PolicyFile, Row, Rule, Setting, Step, StepOfRow, SwitchRow, Whole, acked_stamp, adverts_known, journal_after_steps, arrive_items, authority_items, boot_of, cache_items, cache_of, claim_of, concerns_policies, confirm_items, controller_heard, controller_items, crash_items, current_items, current_mark, decision_of, deliver_items, delivery_items, end_items, expire_items, file_of, forget_items, found_down, handled_count, has_acked, header_in, heard, held_adverts, holds_version, hop_items, ingress_of, installs_to, installs_to_all, is_cut_off, is_deliverable, is_forgotten, is_link_up, is_member, is_open, is_over, is_up, known_boot, leg_items, leg_of, link_changes, link_items, lookup_at, lookup_items, lose_items, message_of, move_items, near, next_current, next_message, next_packet, next_policy, next_retired, next_switch, next_travelling, next_waiting, open_items, opened_at, own_advert, own_seq, packet_items, piece, plan_at, policy_at, policy_in, present_step, reroute_items, resend_items, resent_by_controller, restart_items, retired_items, retired_mark, route_from, route_in, route_place, sendings, sent_from, serves, settling, stamp_of, standing, steps_in, switch_items, touched_by, travels, update_items, version_count, was_delivered}
-use Rattle.policy_rules.specs.Exports.{NoPlan, TooManyLeaves, applied}
-use Rattle.base.specs.Exports.{has, least_in, mask_of, mask_where, switches}
-use Rattle.failover.specs.Exports.{adverts_after_hearing, ball, first_adverts, first_route, grown_ball, has_link, is_isolated, is_link, is_news, known_links, least_neighbour_in, ball_links_away, named_links, names_neighbour, no_links, route_path_after, route_of, route_to, with_link}
-use Rattle.ternary.specs.Exports.{WordValue, covers_of, free_of, holds, is_fixed_of, meet_of, meets}
-use Rattle.cache_maker.specs.Independent.{is_word_apart, is_independent, widen, widening_of}
+use Rattle.update_machine.specs.Exports.{Action, Advertise, Any, AreMachineLegTargets, Body, Cause, Drop, HasCause, SettingHasPlan, JournalItemsHaveCauses, Header, Hello, Install, Installed, IsSettingPlanOf, Item, Leads, Leaving, Leg, LinkRow, Message, Net, NoneConcern, OpenAt, Out, Place, PolicyFile, Row, Rule, Setting, Step, StepOfRow, SwitchRow, Whole, acked_stamp, journal_adverts_known, journal_after_steps, machine_arrive_items, machine_authority_items, journal_boot_of, journal_cache_items, journal_cache_of, journal_claim_of, item_concerns_policies, confirm_items, controller_heard, controller_items, journal_crash_items, current_items, journal_current_mark, journal_decision_of, deliver_items, machine_delivery_items, end_items, machine_expire_items, file_of, forget_items, journal_found_down, journal_handled_count, has_acked, journal_packet_header, heard, journal_held_adverts, holds_version, machine_hop_items, journal_ingress_of, machine_installs_to, machine_installs_to_all, is_cut_off_in_journal, is_deliverable, is_forgotten_in_journal, is_link_up_in_journal, is_member, is_open, is_over, is_up, journal_known_boot, machine_leg_items, journal_leg_of, journal_link_changes, machine_link_items, lookup_at, lookup_items, lose_items, message_of, move_items, near, journal_next_current, journal_next_message, journal_next_packet, journal_next_policy, journal_next_retired, next_switch, next_travelling, next_waiting, machine_open_items, opened_at, own_advert, journal_own_seq, packet_items, piece, journal_plan_at, policy_at, policy_in, journal_present_step, reroute_items, resend_items, journal_resent_by_controller, restart_items, retired_items, journal_retired_mark, journal_route_from, journal_route_in, route_place, sendings, machine_sent_items_from, serves, settling, journal_stamp_of, standing, journal_steps_in, journal_switch_items, touched_by, travels, update_items, journal_version_count, was_delivered}
+use Rattle.policy_rules.specs.Exports.{NoPolicyPlan, TooManyLeaves, applied}
+use Rattle.base.specs.Exports.{has, least_in, small_number_mask, number_set_where, switches}
+use Rattle.failover.specs.Exports.{adverts_after_hearing, ball, first_adverts, first_route, grown_ball, has_link, is_isolated, is_link, is_news, known_links, least_neighbour_in, ball_links_away, neighbours_by_adverts, names_neighbour, no_links, route_path_after, route_of, route_to, with_link}
+use Rattle.ternary.specs.Exports.{WordValue, word_covers_of, free_of, holds, is_fixed_of, meet_of, meets}
+use Rattle.cache_maker.specs.Independent.{is_cache_word_apart, is_independent, widen, widening_of}
 use Rattle.switch_table.specs.Exports.{same_key}
 use Rattle.five_tuple.specs.Exports.{header_of}
 use Rattle.partition.specs.Plan.{Hosted}
@@ -20,22 +20,22 @@ use Rattle.base.proofs.Exports.{⊤, All-from_recursion, cases_eq, nat_tests}
 
 -- what these steps leave of a journal without items; a proof that unfolds it computes
 unfoldable pub left_by : Setting → List StepOfRow → List Item
-unfolding own_seq own_advert adverts_known held_adverts route_from is_cut_off boot_of is_up
-    serves heard cache_of lookup_at link_changes switch_items controller_items delivery_items
-    handled_count is_link_up near controller_heard known_boot is_over opened_at is_member
-    has_acked acked_stamp current_mark retired_mark next_current next_retired next_message
-    message_of is_forgotten was_delivered is_deliverable next_waiting sent_from leg_items
-    end_items cache_items authority_items lookup_items arrive_items reroute_items move_items
-    next_packet header_in ingress_of standing travels next_travelling decision_of leg_of route_in
-    route_place next_switch found_down packet_items hop_items lose_items deliver_items
-    forget_items expire_items update_items link_items crash_items restart_items confirm_items
-    resend_items piece sendings current_items open_items retired_items settling installs_to
-    installs_to_all resent_by_controller steps_in present_step version_count file_of policy_in touched_by next_policy applied plan_at
-    stamp_of holds_version has mask_where mask_of switches least_in is_news adverts_after_hearing first_adverts
-    names_neighbour named_links is_link known_links is_isolated grown_ball ball least_neighbour_in
+unfolding journal_own_seq own_advert journal_adverts_known journal_held_adverts journal_route_from is_cut_off_in_journal journal_boot_of is_up
+    serves heard journal_cache_of lookup_at journal_link_changes journal_switch_items controller_items machine_delivery_items
+    journal_handled_count is_link_up_in_journal near controller_heard journal_known_boot is_over opened_at is_member
+    has_acked acked_stamp journal_current_mark journal_retired_mark journal_next_current journal_next_retired journal_next_message
+    message_of is_forgotten_in_journal was_delivered is_deliverable next_waiting machine_sent_items_from machine_leg_items
+    end_items journal_cache_items machine_authority_items lookup_items machine_arrive_items reroute_items move_items
+    journal_next_packet journal_packet_header journal_ingress_of standing travels next_travelling journal_decision_of journal_leg_of journal_route_in
+    route_place next_switch journal_found_down packet_items machine_hop_items lose_items deliver_items
+    forget_items machine_expire_items update_items machine_link_items journal_crash_items restart_items confirm_items
+    resend_items piece sendings current_items machine_open_items retired_items settling machine_installs_to
+    machine_installs_to_all journal_resent_by_controller journal_steps_in journal_present_step journal_version_count file_of policy_in touched_by journal_next_policy applied journal_plan_at
+    journal_stamp_of holds_version has number_set_where small_number_mask switches least_in is_news adverts_after_hearing first_adverts
+    names_neighbour neighbours_by_adverts is_link known_links is_isolated grown_ball ball least_neighbour_in
     route_path_after ball_links_away route_to
-    first_route route_of has_link with_link holds meets meet_of covers_of is_fixed_of free_of
-    is_word_apart is_independent widen widening_of same_key lib.Count.count_trailing_zeros
+    first_route route_of has_link with_link holds meets meet_of word_covers_of is_fixed_of free_of
+    is_cache_word_apart is_independent widen widening_of same_key lib.Count.count_trailing_zeros
 left_by setting steps = journal_after_steps setting [] steps
 
 -- ---- example networks
@@ -99,8 +99,8 @@ abbrev pub out_or_drop : List PolicyFile
 out_or_drop = Whole (all_to (Out 2) ∷ []) ∷ Whole (all_to Drop ∷ []) ∷ []
 
 -- the plan of the policy that lets out, and of the one that drops
-abbrev pub by_action : Result (List Hosted) NoPlan → Result (List Hosted) NoPlan → List Row
-    → Result (List Hosted) NoPlan
+abbrev pub by_action : Result (List Hosted) NoPolicyPlan → Result (List Hosted) NoPolicyPlan → List Row
+    → Result (List Hosted) NoPolicyPlan
 by_action outs drops [] = Err TooManyLeaves
 by_action outs drops (row ∷ rows) = elim row.action [ Drop ↦ drops | Out port ↦ outs ]
 
@@ -256,19 +256,19 @@ pub first_policy : (journal : List Item) → policy_at open_net journal 1 ≡ al
 unfolding policy_at
 first_policy journal = ap (λ o. unwrap_or o []) (first_rows journal)
 
-pub first_plan : (journal : List Item) → plan_at open_net journal 1 ≡ plan_p
-unfolding plan_at
+pub first_plan : (journal : List Item) → journal_plan_at open_net journal 1 ≡ plan_p
+unfolding journal_plan_at
 first_plan journal = cc (first_rows journal)
 
-pub first_planned : (journal : List Item) → HasPlan open_net journal 1
-unfolding policy_at plan_at policy_in file_of
+pub first_planned : (journal : List Item) → SettingHasPlan open_net journal 1
+unfolding policy_at journal_plan_at policy_in file_of
 first_planned journal = record { policy = refl; plan = refl }
 
-pub of_first : (journal : List Item) → IsPlanOf open_net journal 1 plan_p
+pub of_first : (journal : List Item) → IsSettingPlanOf open_net journal 1 plan_p
 of_first journal = (all_to (Out 2) ∷ [], first_rows journal, refl)
 
 -- it has no other plan
-pub first_alone : (journal : List Item) (plan : List Hosted) → IsPlanOf open_net journal 1 plan
+pub first_alone : (journal : List Item) (plan : List Hosted) → IsSettingPlanOf open_net journal 1 plan
     → plan ≡ plan_p
 first_alone journal plan (rows, policy, planned) =
     let own : rows ≡ all_to (Out 2) ∷ [] = cc (sym policy ∙ first_rows journal) in
@@ -276,29 +276,29 @@ first_alone journal plan (rows, policy, planned) =
 
 -- ---- the second one, behind items that submit nothing
 
-second_file : (before items : List Item) → NoneConcern concerns_policies [] before
+second_file : (before items : List Item) → NoneConcern item_concerns_policies [] before
     → file_of (before ++ Item.Submitted 2 2 ∷ items) 2 ≡ Some 2
 unfolding file_of
 second_file before items none =
     cc (file_append before (Item.Submitted 2 2 ∷ items) 2, (policies_keep [] before none).file 2)
 
-second_rows : (before items : List Item) → NoneConcern concerns_policies [] before
+second_rows : (before items : List Item) → NoneConcern item_concerns_policies [] before
     → policy_in open_net (before ++ Item.Submitted 2 2 ∷ items) 2 ≡ Some (all_to Drop ∷ [])
 unfolding policy_in
 second_rows before items none = cc (second_file before items none)
 
-pub second_policy : (before items : List Item) → NoneConcern concerns_policies [] before
+pub second_policy : (before items : List Item) → NoneConcern item_concerns_policies [] before
     → policy_at open_net (before ++ Item.Submitted 2 2 ∷ items) 2 ≡ all_to Drop ∷ []
 unfolding policy_at
 second_policy before items none = ap (λ o. unwrap_or o []) (second_rows before items none)
 
-pub second_plan : (before items : List Item) → NoneConcern concerns_policies [] before
-    → plan_at open_net (before ++ Item.Submitted 2 2 ∷ items) 2 ≡ plan_q
-unfolding plan_at
+pub second_plan : (before items : List Item) → NoneConcern item_concerns_policies [] before
+    → journal_plan_at open_net (before ++ Item.Submitted 2 2 ∷ items) 2 ≡ plan_q
+unfolding journal_plan_at
 second_plan before items none = cc (second_rows before items none)
 
-pub second_planned : (before items : List Item) → NoneConcern concerns_policies [] before
-    → HasPlan open_net (before ++ Item.Submitted 2 2 ∷ items) 2
+pub second_planned : (before items : List Item) → NoneConcern item_concerns_policies [] before
+    → SettingHasPlan open_net (before ++ Item.Submitted 2 2 ∷ items) 2
 second_planned before items none =
     let policy = second_policy before items none in
     let plan = second_plan before items none in record {
@@ -306,12 +306,12 @@ second_planned before items none =
       plan = ap open_net.plan policy ∙ ap Ok (sym plan);
     }
 
-pub of_second : (before items : List Item) → NoneConcern concerns_policies [] before
-    → IsPlanOf open_net (before ++ Item.Submitted 2 2 ∷ items) 2 plan_q
+pub of_second : (before items : List Item) → NoneConcern item_concerns_policies [] before
+    → IsSettingPlanOf open_net (before ++ Item.Submitted 2 2 ∷ items) 2 plan_q
 of_second before items none = (all_to Drop ∷ [], second_rows before items none, refl)
 
 -- a version of a file that isn't there has no plan
-pub none_of_7 : (items : List Item) → HasPlan open_net (Item.Submitted 7 2 ∷ items) 2 → ⊥
+pub none_of_7 : (items : List Item) → SettingHasPlan open_net (Item.Submitted 7 2 ∷ items) 2 → ⊥
 unfolding policy_at policy_in file_of
 none_of_7 items has = cc has.policy
 
@@ -330,11 +330,11 @@ is_left one two = is_open ring behind 1 0 one two
 
 -- a link that is left to it from a leads to b alone, and from b back to a
 from_a : (two : ℕ) → IsTrue (is_left 0 two) → two ≡ 1
-unfolding serves is_link_up
+unfolding serves is_link_up_in_journal
 from_a two is = grind (arith, nat_tests)
 
 from_b : (two : ℕ) → IsTrue (is_left 1 two) → two ≡ 0
-unfolding serves is_link_up claim_of message_of
+unfolding serves is_link_up_in_journal journal_claim_of message_of
 from_b two is = grind (arith, nat_tests)
 
 keeps_to : (one two : ℕ) → IsTrue (nat_le one 1) → IsTrue (is_left one two) → IsTrue (nat_le two 1)
@@ -352,8 +352,8 @@ no_path_left path leads =
     let within : false ≡ true = ends_within is_left (λ n. nat_le n 1) keeps_to 0 path 3 refl leads
     in absurd cc
 
-own_leg_there : AreTargets ring behind 1 (Leg.Seek 1 0) (3 ∷ [])
-unfolding header_in holds decision_of policy_in file_of
+own_leg_there : AreMachineLegTargets ring behind 1 (Leg.Seek 1 0) (3 ∷ [])
+unfolding journal_packet_header holds journal_decision_of policy_in file_of
 own_leg_there = (
   refl,
   one,
@@ -367,8 +367,8 @@ own_leg_there = (
   refl,
 )
 
-pub stuck_has_cause : HaveCauses (HasCause ring) [] round
-unfolding standing serves is_link_up present_step
+pub stuck_has_cause : JournalItemsHaveCauses (HasCause ring) [] round
+unfolding standing serves is_link_up_in_journal journal_present_step
 stuck_has_cause = free (free (free (free (
   inl refl,
   free (free (free (free (free (
@@ -393,10 +393,10 @@ stuck_has_cause = free (free (free (free (
 ))))
 
 -- one packet is lost by its row, and another one with its switch
-pub lost_has_cause : HaveCauses (HasCause open_net) []
+pub lost_has_cause : JournalItemsHaveCauses (HasCause open_net) []
     (Item.Entered 1 0 one ∷ Item.Entered 2 0 one ∷ Item.Row 3 (Step.Lose 1) ∷ Item.Lost 1
     ∷ Item.Row 4 (Step.Crash 0) ∷ Item.Down 0 ∷ Item.Lost 2 ∷ [])
-unfolding standing present_step
+unfolding standing journal_present_step
 lost_has_cause = free (free (free (
   inl refl,
   free (refl, (inr (record { switch = 0; crashes = refl; stands = refl }), tt)),

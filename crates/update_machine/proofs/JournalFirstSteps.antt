@@ -1,7 +1,7 @@
 -- Of two lists of first steps of the same events, one begins the other.
 use Rattle.std.proofs.Common.{[], ◌++◌, ◌+◌, ◌∙◌, ◌∷◌, ◌≡◌, ◌⊎◌, List, None, Option, Some, ap, append-nil, append_assoc, arith, inl, inr, length, length-append, refl, subst, sym, ℕ}
 use Rattle.base.proofs.Exports.{same_Some}
-use Rattle.update_machine.specs.Exports.{Answers, AnswersSoFar, AreAllEventSteps, AreFirstSteps, AreFirstStepsOf, AreFirstEventSteps, AreSteps, AreStepsOf, Drain, Event, Flush, Item, One, Setting, Step, StepOfRow, journal_after_steps, next_delivery, next_hop, piece}
+use Rattle.update_machine.specs.Exports.{Answers, JournalAnswersSoFar, AreAllMachineEventSteps, AreJournalFirstSteps, AreFirstStepsOf, AreFirstMachineEventSteps, AreMachineSteps, AreMachineStepsOf, Drain, Event, Flush, Item, One, Setting, Step, StepOfRow, journal_after_steps, journal_next_delivery, journal_next_hop, piece}
 
 -- ---- there is one answer to the events of a schedule
 
@@ -23,7 +23,7 @@ same_onward setting before Onward x y same =
 -- a flush, or a drain, has one list of steps
 all_same : (setting : Setting) (next : List Item → Option Step) (row : ℕ) (before : List Item)
     (one other : List StepOfRow) →
-    AreAllEventSteps setting next row before one → AreAllEventSteps setting next row before other → one ≡ other
+    AreAllMachineEventSteps setting next row before one → AreAllMachineEventSteps setting next row before other → one ≡ other
 all_same setting next row before [] [] first second = refl
 all_same setting next row before [] (y ∷ other) first second =
     let clash : None ≡ Some y.step = sym first ∙ second.1 in cc
@@ -33,25 +33,25 @@ all_same setting next row before (x ∷ one) (y ∷ other) first second =
     let same : x ≡ y = same_next (next before) row x y first.0 second.0 first.1 second.1 in
     ap (λ z. z ∷ one) same ∙ ap (λ zs. y ∷ zs)
     (all_same setting next row (before ++ piece setting before x.row x.step) one other first.2
-    (same_onward setting before (λ js. AreAllEventSteps setting next row js other) x y same second.2))
+    (same_onward setting before (λ js. AreAllMachineEventSteps setting next row js other) x y same second.2))
 
 pub event_same : (setting : Setting) (row : ℕ) (event : Event) (before : List Item)
-    (one other : List StepOfRow) → AreStepsOf setting row event before one
-    → AreStepsOf setting row event before other → one ≡ other
+    (one other : List StepOfRow) → AreMachineStepsOf setting row event before one
+    → AreMachineStepsOf setting row event before other → one ≡ other
 event_same setting row (One step) before one other first second = first ∙ sym second
-event_same setting row Flush before one other first second = all_same setting next_delivery row
+event_same setting row Flush before one other first second = all_same setting journal_next_delivery row
     before one other first second
-event_same setting row Drain before one other first second = all_same setting next_hop row before
+event_same setting row Drain before one other first second = all_same setting journal_next_hop row before
     one other first second
 
 pub one_list_of_steps : (setting : Setting) (row : ℕ) (events : List Event) (before : List Item)
     (one other : List StepOfRow) →
-    AreSteps setting row events before one → AreSteps setting row events before other → one ≡ other
+    AreMachineSteps setting row events before one → AreMachineSteps setting row events before other → one ≡ other
 one_list_of_steps setting row [] before one other first second = first ∙ sym second
 one_list_of_steps setting row (event ∷ events) before one other first second =
     let mine = event_same setting row event before first.0 second.0 first.3 second.3 in
     let rest : first.1 ≡ second.1 = one_list_of_steps setting (row + 1) events
-    (journal_after_steps setting before first.0) first.1 second.1 first.4 (subst (λ steps. AreSteps setting
+    (journal_after_steps setting before first.0) first.1 second.1 first.4 (subst (λ steps. AreMachineSteps setting
     (row + 1) events (journal_after_steps setting before steps) second.1) (sym mine) second.4) in
     first.2.split ∙ ap (λ steps. steps ++ first.1) mine ∙ ap (λ steps. second.0 ++ steps) rest
     ∙ sym second.2.split
@@ -101,7 +101,7 @@ begins_along xs ys us vs first second begins = record {
 -- first steps of a flush, or of a drain, begin all of its steps
 some_of_all : (setting : Setting) (next : List Item → Option Step) (row : ℕ) (before : List Item)
     (one all : List StepOfRow) →
-    AreFirstEventSteps setting next row before one → AreAllEventSteps setting next row before all → Begins one all
+    AreFirstMachineEventSteps setting next row before one → AreAllMachineEventSteps setting next row before all → Begins one all
 some_of_all setting next row before [] all first second = begins_nil all
 some_of_all setting next row before (x ∷ one) [] first second =
     let clash : None ≡ Some x.step = sym second ∙ first.1 in cc
@@ -109,7 +109,7 @@ some_of_all setting next row before (x ∷ one) (y ∷ all) first second =
     let same : x ≡ y = same_next (next before) row x y first.0 second.0 first.1 second.1 in
     begins_cons x y one all same
     (some_of_all setting next row (before ++ piece setting before x.row x.step) one all first.2
-    (same_onward setting before (λ js. AreAllEventSteps setting next row js all) x y same second.2))
+    (same_onward setting before (λ js. AreAllMachineEventSteps setting next row js all) x y same second.2))
 
 -- of two lists of its first steps, one begins the other
 either_cons : (x y : StepOfRow) (xs ys : List StepOfRow) → x ≡ y → Begins xs ys ⊎ Begins ys xs
@@ -118,15 +118,15 @@ either_cons x y xs ys same (inl begins) = inl (begins_cons x y xs ys same begins
 either_cons x y xs ys same (inr begins) = inr (begins_cons y x ys xs (sym same) begins)
 
 some_either : (setting : Setting) (next : List Item → Option Step) (row : ℕ) (before : List Item)
-    (one other : List StepOfRow) → AreFirstEventSteps setting next row before one
-    → AreFirstEventSteps setting next row before other → Begins one other ⊎ Begins other one
+    (one other : List StepOfRow) → AreFirstMachineEventSteps setting next row before one
+    → AreFirstMachineEventSteps setting next row before other → Begins one other ⊎ Begins other one
 some_either setting next row before [] other first second = inl (begins_nil other)
 some_either setting next row before (x ∷ one) [] first second = inr (begins_nil (x ∷ one))
 some_either setting next row before (x ∷ one) (y ∷ other) first second =
     let same : x ≡ y = same_next (next before) row x y first.0 second.0 first.1 second.1 in
     either_cons x y one other same
     (some_either setting next row (before ++ piece setting before x.row x.step) one other first.2
-    (same_onward setting before (λ js. AreFirstEventSteps setting next row js other) x y same second.2))
+    (same_onward setting before (λ js. AreFirstMachineEventSteps setting next row js other) x y same second.2))
 
 one_step : (step : StepOfRow) (one all : List StepOfRow) → (one ≡ []) ⊎ (one ≡ step ∷ [])
     → all ≡ step ∷ [] → Begins one all
@@ -141,12 +141,12 @@ one_step_either step one other first (inl none) =
 
 event_begins : (setting : Setting) (row : ℕ) (event : Event) (before : List Item)
     (one all : List StepOfRow) → AreFirstStepsOf setting row event before one
-    → AreStepsOf setting row event before all → Begins one all
+    → AreMachineStepsOf setting row event before all → Begins one all
 event_begins setting row (One step) before one all first second =
     one_step (record { row = row; step = step }) one all first second
-event_begins setting row Flush before one all first second = some_of_all setting next_delivery row
+event_begins setting row Flush before one all first second = some_of_all setting journal_next_delivery row
     before one all first second
-event_begins setting row Drain before one all first second = some_of_all setting next_hop row before
+event_begins setting row Drain before one all first second = some_of_all setting journal_next_hop row before
     one all first second
 
 event_either : (setting : Setting) (row : ℕ) (event : Event) (before : List Item)
@@ -154,9 +154,9 @@ event_either : (setting : Setting) (row : ℕ) (event : Event) (before : List It
     → AreFirstStepsOf setting row event before other → Begins one other ⊎ Begins other one
 event_either setting row (One step) before one other first second =
     one_step_either (record { row = row; step = step }) one other first second
-event_either setting row Flush before one other first second = some_either setting next_delivery row
+event_either setting row Flush before one other first second = some_either setting journal_next_delivery row
     before one other first second
-event_either setting row Drain before one other first second = some_either setting next_hop row
+event_either setting row Drain before one other first second = some_either setting journal_next_hop row
     before one other first second
 
 either_behind : (ws vs xs ys one other : List StepOfRow) → ws ≡ vs → one ≡ ws ++ xs
@@ -169,8 +169,8 @@ either_behind ws vs xs ys one other same first second (inr begins) =
     first (begins_behind ws ys xs begins))
 
 pub first_steps_either : (setting : Setting) (row : ℕ) (events : List Event) (before : List Item)
-    (one other : List StepOfRow) → AreFirstSteps setting row events before one
-    → AreFirstSteps setting row events before other → Begins one other ⊎ Begins other one
+    (one other : List StepOfRow) → AreJournalFirstSteps setting row events before one
+    → AreJournalFirstSteps setting row events before other → Begins one other ⊎ Begins other one
 first_steps_either setting row [] before one other first second =
     inl (begins_itself one other (second ∙ sym first))
 first_steps_either setting row (event ∷ events) before one other (inl first) (inl second) =
@@ -189,8 +189,8 @@ first_steps_either setting row (event ∷ events) before one other (inr first) (
 
 -- and first steps begin all steps
 pub first_begin_all : (setting : Setting) (row : ℕ) (events : List Event) (before : List Item)
-    (one all : List StepOfRow) → AreFirstSteps setting row events before one
-    → AreSteps setting row events before all → Begins one all
+    (one all : List StepOfRow) → AreJournalFirstSteps setting row events before one
+    → AreMachineSteps setting row events before all → Begins one all
 first_begin_all setting row [] before one all first whole =
     record { rest = []; is = whole ∙ ap (λ steps. steps ++ []) (sym first) }
 first_begin_all setting row (event ∷ events) before one all (inl first) whole = begins_along one
@@ -213,7 +213,7 @@ as_long xs ys same begins = sym (begins.is ∙ ap (λ rest. xs ++ rest) (no_rest
 
 -- so there is one answer by so many steps
 pub one_by_steps : (setting : Setting) (events : List Event) (one other : List Item)
-    (first : AnswersSoFar setting events one) (second : AnswersSoFar setting events other) →
+    (first : JournalAnswersSoFar setting events one) (second : JournalAnswersSoFar setting events other) →
     length first.steps ≡ length second.steps → one ≡ other
 one_by_steps setting events one other first second same =
     first.written ∙ ap (journal_after_steps setting []) (by_either (first_steps_either setting 1 events []

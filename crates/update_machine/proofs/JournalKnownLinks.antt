@@ -1,10 +1,10 @@
 -- What a switch knows of the network's links, by the laws of adverts and routes.
 use Rattle.std.proofs.Common.{[], ◌&&◌, ◌++◌, ◌<◌, ◌==◌, ◌^◌, ◌||◌, ◌↔◌, ◌∙◌, ◌∷◌, ◌≡◌, ◌≢◌, ◌≤◌, ◌⊎◌, Bool, Contains, Err, IsFalse, IsTrue, List, None, Ok, Option, Result, Some, ap, arith, bit_or, false, filter, get_or, get_or-set_other, get_or-set_same, if◌then◌else◌, inl, inr, length, length-set, map, max, min, nat_lt, option_to_list, refl, rules, set, set-set, slice_index, slice_set, subst, sym, true, unwrap_or, ℕ}
 use Rattle.base.proofs.Exports.{AllByRecursion, any_filtered, any_weaker, cases_eq, cases_lt, false_from_ne_true, get_or-map-range_with_len, has-or, has-pow_other, has_mask, list_any, map-set, nat_tests, option_map_or, or-false, or_left, or_right, set-get_or, set_past}
-use Rattle.failover.specs.Exports.{AreByOrigin, IsIsolated, IsNewestAdvert, IsPath, IsReachable, IsRoute, LinksLeadTo, adverts_after_hearing, after_hearing_all, first_advert, first_adverts, first_of, has_link, held_advert, is_link, known_links, links_at, named_links, neighbours_named, no_adverts, no_links, with_link}
+use Rattle.failover.specs.Exports.{AreAdvertsByOrigin, IsIsolated, IsNewestAdvert, IsPath, IsReachable, IsRoute, LinksLeadTo, adverts_after_hearing, after_hearing_all, first_advert, first_adverts, first_of, has_link, held_advert, is_link, known_links, route_links_at, neighbours_by_adverts, neighbours_named, no_adverts, no_links, with_link}
 use Rattle.failover.proofs.FailoverHeldAdverts.{by_origin-first, by_origin-hearing, by_origin-none, held-first}
-use Rattle.update_machine.specs.Exports.{Advert, Exit, Header, IsPlanOf, Item, KnownLinkLaws, LinkRow, MessageStarts, Out, PacketStarts, Row, Setting, StartLaws, acked_stamp, advert_known, adverts_begun, adverts_heard, adverts_known, adverts_of_others, boot_of, cache_of, can_use, changes_found, controller_heard, current_mark, decision_of, end_items, file_of, finds_down, folded_from, found_down, handled_count, has_acked, header_in, heard, holds_version, hosted_in_version, ingress_of, is_cut_off, is_deliverable, is_forgotten, is_in_first_boot, is_link_up, is_member, is_over, is_up, is_usable, known_boot, leaving_item, leg_items, leg_of, links_known, lookup_at, message_of, near, next_message, next_packet, next_switch, next_travelling, next_waiting, no_switch, opened_at, own_advert, own_if_sent, own_seq, owner, plan_at, policy_in, present_step, retired_mark, route_from, route_in, route_place, sendings, serves, stamp_of, standing, steps_in, stuck_on_leg_items, switches_of, tables_at, takes_route, travels, usable_links, version_count, was_delivered}
-use Rattle.net_file.specs.Exports.{are_linked, joins, links_of, owner_of}
+use Rattle.update_machine.specs.Exports.{Advert, Exit, Header, IsSettingPlanOf, Item, JournalKnownLinkLaws, LinkRow, JournalMessageStarts, Out, JournalPacketStarts, Row, Setting, StartLaws, acked_stamp, journal_advert_known, journal_adverts_begun, journal_adverts_heard, journal_adverts_known, journal_adverts_of_others, journal_boot_of, journal_cache_of, journal_can_use, item_changes_found, controller_heard, journal_current_mark, journal_decision_of, end_items, file_of, finds_down, folded_journal_from, journal_found_down, journal_handled_count, has_acked, journal_packet_header, heard, holds_version, setting_hosted_or_none, journal_ingress_of, is_cut_off_in_journal, is_deliverable, is_forgotten_in_journal, is_first_boot_in_journal, is_link_up_in_journal, is_member, is_over, is_up, is_usable_in_journal, journal_known_boot, journal_leaving_item, machine_leg_items, journal_leg_of, journal_links_known, lookup_at, message_of, near, journal_next_message, journal_next_packet, next_switch, next_travelling, next_waiting, no_switch, opened_at, own_advert, journal_own_advert_sent, journal_own_seq, owner, journal_plan_at, policy_in, journal_present_step, journal_retired_mark, journal_route_from, journal_route_in, route_place, sendings, serves, journal_stamp_of, standing, journal_steps_in, stuck_on_leg_items, switches_of, journal_tables_at, takes_route, travels, usable_links, journal_version_count, was_delivered}
+use Rattle.net_file.specs.Exports.{are_linked, joins, links_of, net_port_owner}
 use Rattle.switch_table.specs.Exports.{table_lookup}
 use Rattle.failover.proofs.FailoverNewestAdvert.{held_newest}
 use Rattle.failover.proofs.FailoverKnownLinks.{has_known, isolated_tells}
@@ -13,12 +13,12 @@ use Rattle.base.specs.Exports.{has, switches}
 use Rattle.failover.proofs.RouteLinkBalls.{or_cases}
 use Rattle.failover.proofs.FailoverLinkSets.{has_link-none}
 use Rattle.partition.specs.Plan.{Hosted}
-use Rattle.policy_rules.specs.Exports.{NoPlan}
+use Rattle.policy_rules.specs.Exports.{NoPolicyPlan}
 
 -- ---- what a journal without items says
 
-all_usable : (links : List LinkRow) → filter (is_usable []) links ≡ links
-unfolding is_link_up serves
+all_usable : (links : List LinkRow) → filter (is_usable_in_journal []) links ≡ links
+unfolding is_link_up_in_journal serves
 all_usable [] = refl
 all_usable (link ∷ links) = ap (λ rest. link ∷ rest) (all_usable links)
 
@@ -26,33 +26,33 @@ near_start : (setting : Setting) (s : ℕ) → near setting [] s ≡ links_of se
 unfolding near
 near_start setting s = ap (λ links. links_of links s) (all_usable setting.net.links)
 
-seq_start : (setting : Setting) (s : ℕ) → own_seq setting [] s ≡ 1
-unfolding own_seq boot_of is_up steps_in
+seq_start : (setting : Setting) (s : ℕ) → journal_own_seq setting [] s ≡ 1
+unfolding journal_own_seq journal_boot_of is_up journal_steps_in
 seq_start setting s = refl
 
 advert_start : (setting : Setting) (s : ℕ) → own_advert setting [] s ≡ first_advert s
     (links_of setting.net.links s)
-unfolding own_advert own_seq boot_of is_up steps_in
+unfolding own_advert journal_own_seq journal_boot_of is_up journal_steps_in
 advert_start setting s = ap (first_advert s) (near_start setting s)
 
 acked_start : (s v : ℕ) → has_acked [] s v ≡ (v == 1)
-unfolding has_acked known_boot controller_heard
+unfolding has_acked journal_known_boot controller_heard
 acked_start s v = or-false (v == 1)
 
 versions_start : (s v : ℕ) → holds_version [] s v ≡ (v == 1)
-unfolding holds_version heard is_up boot_of
+unfolding holds_version heard is_up journal_boot_of
 versions_start s v = by_test (v == 1) where
   by_test : (b : Bool) → ((b && true) && true) ≡ b
   by_test true = refl
   by_test false = refl
 
-packet_starts : (i : ℕ) → PacketStarts i
-unfolding header_in ingress_of standing travels decision_of leg_of route_in route_place next_switch
-    found_down
+packet_starts : (i : ℕ) → JournalPacketStarts i
+unfolding journal_packet_header journal_ingress_of standing travels journal_decision_of journal_leg_of journal_route_in route_place next_switch
+    journal_found_down
 packet_starts i = search rules
 
-message_starts : (n : ℕ) → MessageStarts n
-unfolding message_of was_delivered is_forgotten is_deliverable
+message_starts : (n : ℕ) → JournalMessageStarts n
+unfolding message_of was_delivered is_forgotten_in_journal is_deliverable
 message_starts n = search rules
 
 -- the own advert is the one that the switch began with
@@ -66,9 +66,9 @@ own_first setting s there =
     rw (below, own) refl
 
 adverts_start : (setting : Setting) (s : ℕ) → s < length setting.net.switches
-    → length setting.net.switches ≤ 64 → adverts_known setting [] s ≡ first_adverts
+    → length setting.net.switches ≤ 64 → journal_adverts_known setting [] s ≡ first_adverts
     (map (links_of setting.net.links) (switches_of setting)) (length setting.net.switches)
-unfolding adverts_known heard is_up boot_of
+unfolding journal_adverts_known heard is_up journal_boot_of
 adverts_start setting s there few =
     let near = map (links_of setting.net.links) (switches_of setting) in
     let count : ℕ = length setting.net.switches in
@@ -77,15 +77,15 @@ adverts_start setting s there few =
     ∙ set-get_or (first_adverts near count) s None)
 
 lookup_start : (setting : Setting) (s : ℕ) (header : Header) → lookup_at setting [] s header
-    ≡ table_lookup (tables_at setting [] 1 s) header
-unfolding lookup_at cache_of stamp_of heard is_up boot_of
+    ≡ table_lookup (journal_tables_at setting [] 1 s) header
+unfolding lookup_at journal_cache_of journal_stamp_of heard is_up journal_boot_of
 lookup_start setting s header = refl
 
 pub start_laws : StartLaws
-unfolding boot_of is_up serves heard stamp_of version_count file_of known_boot is_over is_member
-    opened_at controller_heard acked_stamp current_mark retired_mark is_link_up cache_of
-    handled_count steps_in next_packet next_travelling next_message next_waiting sendings
-    present_step
+unfolding journal_boot_of is_up serves heard journal_stamp_of journal_version_count file_of journal_known_boot is_over is_member
+    opened_at controller_heard acked_stamp journal_current_mark journal_retired_mark is_link_up_in_journal journal_cache_of
+    journal_handled_count journal_steps_in journal_next_packet next_travelling journal_next_message next_waiting sendings
+    journal_present_step
 start_laws = search (
   rules,
   versions_start,
@@ -102,77 +102,77 @@ start_laws = search (
 -- ---- journal known links
 
 begun_by_origin : (setting : Setting) (journal : List Item) (s : ℕ)
-    → AreByOrigin (adverts_begun setting journal s)
-begun_by_origin setting journal s = by_test (is_in_first_boot journal s) where
-  by_test : (b : Bool) → AreByOrigin (if b then first_adverts (map (links_of setting.net.links)
+    → AreAdvertsByOrigin (journal_adverts_begun setting journal s)
+begun_by_origin setting journal s = by_test (is_first_boot_in_journal journal s) where
+  by_test : (b : Bool) → AreAdvertsByOrigin (if b then first_adverts (map (links_of setting.net.links)
       (switches_of setting)) (length setting.net.switches) else no_adverts)
   by_test true = by_origin-first (map (links_of setting.net.links) (switches_of setting))
       (length setting.net.switches)
   by_test false = by_origin-none
 
-all_by_origin : (adverts : List (Option Advert)) (heard : List Advert) → AreByOrigin adverts
-    → AreByOrigin (after_hearing_all adverts heard)
+all_by_origin : (adverts : List (Option Advert)) (heard : List Advert) → AreAdvertsByOrigin adverts
+    → AreAdvertsByOrigin (after_hearing_all adverts heard)
 all_by_origin adverts [] sound = sound
 all_by_origin adverts (advert ∷ heard) sound = all_by_origin (adverts_after_hearing adverts advert) heard
     (by_origin-hearing adverts advert sound)
 
 pub heard_by_origin : (setting : Setting) (journal : List Item) (s : ℕ)
-    → AreByOrigin (adverts_of_others setting journal s)
-heard_by_origin setting journal s = all_by_origin (adverts_begun setting journal s)
-    (adverts_heard journal s) (begun_by_origin setting journal s)
+    → AreAdvertsByOrigin (journal_adverts_of_others setting journal s)
+heard_by_origin setting journal s = all_by_origin (journal_adverts_begun setting journal s)
+    (journal_adverts_heard journal s) (begun_by_origin setting journal s)
 
 pub known_places : (setting : Setting) (journal : List Item) (s : ℕ)
-    → length (adverts_known setting journal s) ≡ 64
-unfolding adverts_known
+    → length (journal_adverts_known setting journal s) ≡ 64
+unfolding journal_adverts_known
 known_places setting journal s =
-    length-set (adverts_of_others setting journal s) s (own_if_sent (own_advert setting journal s))
+    length-set (journal_adverts_of_others setting journal s) s (journal_own_advert_sent (own_advert setting journal s))
     ∙ (heard_by_origin setting journal s).places
 
 newest_known : (setting : Setting) (journal : List Item) (s origin : ℕ) → origin ≢ s → origin < 64
-    → IsNewestAdvert origin (option_to_list (held_advert (adverts_begun setting journal s) origin)
-    ++ adverts_heard journal s) (advert_known setting journal s origin)
-unfolding adverts_known
+    → IsNewestAdvert origin (option_to_list (held_advert (journal_adverts_begun setting journal s) origin)
+    ++ journal_adverts_heard journal s) (journal_advert_known setting journal s origin)
+unfolding journal_adverts_known
 newest_known setting journal s origin other small =
-    rw (get_or-set_other (adverts_of_others setting journal s) s origin
-    (own_if_sent (own_advert setting journal s)) None other)
-    (held_newest (adverts_begun setting journal s) (adverts_heard journal s) origin
+    rw (get_or-set_other (journal_adverts_of_others setting journal s) s origin
+    (journal_own_advert_sent (own_advert setting journal s)) None other)
+    (held_newest (journal_adverts_begun setting journal s) (journal_adverts_heard journal s) origin
     (begun_by_origin setting journal s) small)
 
 own_known : (setting : Setting) (journal : List Item) (s : ℕ) → s < 64
-    → advert_known setting journal s s ≡ own_if_sent (own_advert setting journal s)
-unfolding adverts_known
-own_known setting journal s small = get_or-set_same (adverts_of_others setting journal s) s
-    (own_if_sent (own_advert setting journal s)) None
+    → journal_advert_known setting journal s s ≡ journal_own_advert_sent (own_advert setting journal s)
+unfolding journal_adverts_known
+own_known setting journal s small = get_or-set_same (journal_adverts_of_others setting journal s) s
+    (journal_own_advert_sent (own_advert setting journal s)) None
     (subst (λ n. s < n) (sym (heard_by_origin setting journal s).places) small)
 
 -- ---- its own advert says nothing of its own links
 
 links_are : (setting : Setting) (journal : List Item) (s : ℕ) (down : List ℕ)
-    → links_known setting journal s down
-    ≡ known_links (adverts_known setting journal s) s (near setting journal s) down
-unfolding adverts_known known_links named_links
+    → journal_links_known setting journal s down
+    ≡ known_links (journal_adverts_known setting journal s) s (near setting journal s) down
+unfolding journal_adverts_known known_links neighbours_by_adverts
 links_are setting journal s down =
-    let others : List (Option Advert) = adverts_of_others setting journal s in
-    let own : Option Advert = own_if_sent (own_advert setting journal s) in
-    ap (λ rows. map (links_at rows down) switches)
+    let others : List (Option Advert) = journal_adverts_of_others setting journal s in
+    let own : Option Advert = journal_own_advert_sent (own_advert setting journal s) in
+    ap (λ rows. map (route_links_at rows down) switches)
     (sym (set-set (map neighbours_named others) s (neighbours_named own) (near setting journal s))
     ∙ ap (λ rows. set rows s (near setting journal s)) (sym (map-set neighbours_named others s own)))
 
 pub has_known_link : (setting : Setting) (journal : List Item) (s : ℕ) (down : List ℕ)
     (one other : ℕ) → one < 64 → other < 64
-    → has (slice_index (links_known setting journal s down) one) other ≡ is_link
-    (named_links (adverts_known setting journal s) s (near setting journal s)) down one other
+    → has (slice_index (journal_links_known setting journal s down) one) other ≡ is_link
+    (neighbours_by_adverts (journal_adverts_known setting journal s) s (near setting journal s)) down one other
 has_known_link setting journal s down one other one_small other_small =
     ap (λ links. has (slice_index links one) other) (links_are setting journal s down)
-    ∙ has_known (adverts_known setting journal s) s (near setting journal s) down one other
+    ∙ has_known (journal_adverts_known setting journal s) s (near setting journal s) down one other
     one_small other_small
 
 route_known : (setting : Setting) (journal : List Item) (s : ℕ) (targets down : List ℕ)
-    → IsRoute (links_known setting journal s down) s targets
-    (route_from setting journal s targets down)
-unfolding route_from
+    → IsRoute (journal_links_known setting journal s down) s targets
+    (journal_route_from setting journal s targets down)
+unfolding journal_route_from
 route_known setting journal s targets down = rw (links_are setting journal s down)
-    (known_route_is_route (adverts_known setting journal s) s targets (near setting journal s) down)
+    (known_route_is_route (journal_adverts_known setting journal s) s targets (near setting journal s) down)
 
 none_reached : (links : List ℕ) (from : ℕ) (targets : List ℕ) → IsRoute links from targets None
     → AllByRecursion (λ target. ¬ IsReachable links from target) targets
@@ -184,17 +184,17 @@ none_reached links from (target ∷ targets) (inr rest) =
 
 -- where it has no route, no path leads to any target
 pub unreached : (setting : Setting) (journal : List Item) (s : ℕ) (targets down : List ℕ)
-    → route_from setting journal s targets down ≡ None
-    → AllByRecursion (λ target. ¬ IsReachable (links_known setting journal s down) s target) targets
-unreached setting journal s targets down none = none_reached (links_known setting journal s down) s
+    → journal_route_from setting journal s targets down ≡ None
+    → AllByRecursion (λ target. ¬ IsReachable (journal_links_known setting journal s down) s target) targets
+unreached setting journal s targets down none = none_reached (journal_links_known setting journal s down) s
     targets (rw none at (route_known setting journal s targets down))
 
 cut_off_known : (setting : Setting) (journal : List Item) (s target : ℕ) (down : List ℕ)
-    → IsTrue (is_cut_off setting journal s down target)
-    ↔ IsIsolated (links_known setting journal s down) s target
-unfolding is_cut_off
+    → IsTrue (is_cut_off_in_journal setting journal s down target)
+    ↔ IsIsolated (journal_links_known setting journal s down) s target
+unfolding is_cut_off_in_journal
 cut_off_known setting journal s target down = rw (links_are setting journal s down)
-    (isolated_tells (adverts_known setting journal s) s target (near setting journal s) down
+    (isolated_tells (journal_adverts_known setting journal s) s target (near setting journal s) down
     (known_places setting journal s))
 
 -- ---- ports that no switch has
@@ -221,26 +221,26 @@ no_route links from (Some path) (inl is) =
 no_route links from (Some path) (inr is) = is.1
 
 portless_stuck : (setting : Setting) (journal : List Item) (i s port : ℕ) → s < 64
-    → owner_of setting.net.switches port ≡ None
+    → net_port_owner setting.net.switches port ≡ None
     → end_items setting i s (Out port) journal ≡ stuck_on_leg_items setting journal i s (Exit port) ∷ []
-unfolding end_items leg_items
+unfolding end_items machine_leg_items
 portless_stuck setting journal i s port small none =
     let elsewhere : (owner setting port == s) ≡ false =
     ap (λ o. unwrap_or o no_switch == s) none ∙ (grind (arith, nat_tests)) in
     let stuck =
-    ap (λ o. route_from setting journal s (unwrap_or o no_switch ∷ []) (found_down journal i)) none
-    ∙ no_route (links_known setting journal s (found_down journal i)) s _
-    (route_known setting journal s (no_switch ∷ []) (found_down journal i)) in
+    ap (λ o. journal_route_from setting journal s (unwrap_or o no_switch ∷ []) (journal_found_down journal i)) none
+    ∙ no_route (journal_links_known setting journal s (journal_found_down journal i)) s _
+    (route_known setting journal s (no_switch ∷ []) (journal_found_down journal i)) in
     ap (λ b. elim b [
-      | true ↦ leaving_item journal i port ∷ []
-      | false ↦ leg_items setting journal i s (Exit port)
+      | true ↦ journal_leaving_item journal i port ∷ []
+      | false ↦ machine_leg_items setting journal i s (Exit port)
     ]) elsewhere
     ∙ ap (λ route. elim route [
       | None ↦ stuck_on_leg_items setting journal i s (Exit port) ∷ []
       | Some way ↦ takes_route i (Exit port) way ∷ []
     ]) stuck
 
-pub known_link_laws : KnownLinkLaws
+pub known_link_laws : JournalKnownLinkLaws
 known_link_laws = search (newest_known, own_known, route_known, cut_off_known, portless_stuck)
 
 -- ---- what switches can use and know of links, what packets found down, and the plans of versions,
@@ -250,17 +250,17 @@ known_link_laws = search (newest_known, own_known, route_known, cut_off_known, p
 
 -- a switch can use the links to those that are near, and no others
 pub near_usable : (setting : Setting) (journal : List Item) (one two : ℕ) → two < 64
-    → has (near setting journal one) two ≡ can_use setting journal one two
+    → has (near setting journal one) two ≡ journal_can_use setting journal one two
 unfolding near
 near_usable setting journal one two small =
     has_mask (are_linked (usable_links setting journal) one) two small
-    ∙ any_filtered (joins one two) (is_usable journal) setting.net.links
+    ∙ any_filtered (joins one two) (is_usable_in_journal journal) setting.net.links
 
 -- a usable link is of the network
 pub usable_linked : (setting : Setting) (journal : List Item) (one two : ℕ)
-    → IsTrue (can_use setting journal one two) → IsTrue (are_linked setting.net.links one two)
+    → IsTrue (journal_can_use setting journal one two) → IsTrue (are_linked setting.net.links one two)
 usable_linked setting journal one two is =
-    any_weaker (joins one two) (is_usable journal) setting.net.links is
+    any_weaker (joins one two) (is_usable_in_journal journal) setting.net.links is
 
 -- ---- links that packets found down
 
@@ -303,15 +303,15 @@ link_gained links one two x y is =
 
 -- each link that items add to a set was found down by one of them
 found_by : (i x y : ℕ) (before : List Item) (links : List ℕ) (items : List Item)
-    → IsTrue (has_link (folded_from (changes_found i) before links items) x y)
+    → IsTrue (has_link (folded_journal_from (item_changes_found i) before links items) x y)
     → (has_link links x y || list_any (finds_down i x y) items) ≡ true
 found_by i x y before links [] is = or_left _ _ is
 found_by i x y before links (Item.FoundDown packet one two ∷ items) is = by_packet (packet == i)
-    refl (found_by i x y (before ++ Item.FoundDown packet one two ∷ []) (changes_found i before
+    refl (found_by i x y (before ++ Item.FoundDown packet one two ∷ []) (item_changes_found i before
     links (Item.FoundDown packet one two)) items is)
   where
     by_packet : (b : Bool) → (packet == i) ≡ b
-        → (has_link (changes_found i before links (Item.FoundDown packet one two)) x y
+        → (has_link (item_changes_found i before links (Item.FoundDown packet one two)) x y
         || list_any (finds_down i x y) items) ≡ true → (has_link links x y
         || list_any (finds_down i x y) (Item.FoundDown packet one two ∷ items)) ≡ true
     by_packet false e rest = rw e (rw e at rest)
@@ -327,41 +327,41 @@ found_by i x y before links (next ∷ items) is = found_by i x y (before ++ next
 
 -- a link of the set was found down
 pub link_found : (journal : List Item) (i one two : ℕ)
-    → IsTrue (has_link (found_down journal i) one two)
+    → IsTrue (has_link (journal_found_down journal i) one two)
     → IsTrue (list_any (finds_down i one two) journal)
-unfolding found_down
+unfolding journal_found_down
 link_found journal i one two is =
     cc (has_link-none one two, found_by i one two [] no_links journal is)
 
 -- so what wasn't found down isn't in the set
 pub link_not_found : (journal : List Item) (i one two : ℕ)
     → IsFalse (list_any (finds_down i one two) journal)
-    → IsFalse (has_link (found_down journal i) one two)
-link_not_found journal i one two none = false_from_ne_true (has_link (found_down journal i) one two)
+    → IsFalse (has_link (journal_found_down journal i) one two)
+link_not_found journal i one two none = false_from_ne_true (has_link (journal_found_down journal i) one two)
     (λ is. let there = link_found journal i one two is in cc)
 
 -- ---- plans of versions
 
 -- a plan that has a partition is that of its version's policy
 pub plan_is : (setting : Setting) (journal : List Item) (version : ℕ) (hosted : Hosted)
-    → Contains (plan_at setting journal version) hosted
-    → IsPlanOf setting journal version (plan_at setting journal version)
-unfolding plan_at
+    → Contains (journal_plan_at setting journal version) hosted
+    → IsSettingPlanOf setting journal version (journal_plan_at setting journal version)
+unfolding journal_plan_at
 plan_is setting journal version hosted there =
     by_policy (policy_in setting journal version) refl there
   where
     plan_by : Option (List Row) → List Hosted
-    plan_by policy = option_map_or (λ rows. hosted_in_version (setting.plan rows)) policy []
+    plan_by policy = option_map_or (λ rows. setting_hosted_or_none (setting.plan rows)) policy []
 
-    by_plan : (rows : List Row) (plan : Result (List Hosted) NoPlan)
+    by_plan : (rows : List Row) (plan : Result (List Hosted) NoPolicyPlan)
         → policy_in setting journal version ≡ Some rows → setting.plan rows ≡ plan
-        → Contains (hosted_in_version plan) hosted
-        → IsPlanOf setting journal version (hosted_in_version plan)
+        → Contains (setting_hosted_or_none plan) hosted
+        → IsSettingPlanOf setting journal version (setting_hosted_or_none plan)
     by_plan rows (Err why) policy is there = absurd (omega (arith, there.1))
     by_plan rows (Ok plan) policy is there = (rows, policy, is)
 
     by_policy : (policy : Option (List Row)) → policy_in setting journal version ≡ policy
         → Contains (plan_by policy) hosted
-        → IsPlanOf setting journal version (plan_by policy)
+        → IsSettingPlanOf setting journal version (plan_by policy)
     by_policy None is there = absurd (omega (arith, there.1))
     by_policy (Some rows) is there = by_plan rows (setting.plan rows) is refl there

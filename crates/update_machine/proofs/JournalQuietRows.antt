@@ -1,9 +1,9 @@
 -- Quiet networks and others, computed.
 use Rattle.std.proofs.Common.{[], ◌++◌, ◌<◌, ◌||◌, ◌∙◌, ◌∷◌, ◌≡◌, ◌≤◌, ◌⊎◌, All, Bool, IsFalse, IsTrue, List, Some, arith, false, inl, inr, map, not, refl, suc, sym, true, true≢false, zero, ℕ}
 use Rattle.base.proofs.Exports.{All-from_recursion, All-weaker, AllByRecursion, list_any}
-use Rattle.update_machine.specs.Exports.{AreMessagesReceived, AreSettled, Body, Drop, How, IsQuiet, Item, CurrentMayRise, Message, Step, Tables, acked_stamp, boot_of, can_use, claim_of, controller_heard, current_mark, finds_down, has_acked, is_joining, is_link_up, is_member, is_over, is_up, is_waited_for, known_boot, knows_link, message_of, next_current, next_retired, opened_at, retired_mark, serves, switches_of, version_count, was_delivered}
+use Rattle.update_machine.specs.Exports.{AreJournalMessagesReceived, AreMachineMarksSettled, Body, Drop, How, IsMachineQuiet, Item, MachineCurrentMayRise, Message, Step, Tables, acked_stamp, journal_boot_of, journal_can_use, journal_claim_of, controller_heard, journal_current_mark, finds_down, has_acked, is_joining, is_link_up_in_journal, is_member, is_over, is_up, is_waited_for, journal_known_boot, journal_knows_link, message_of, journal_next_current, journal_next_retired, opened_at, journal_retired_mark, serves, switches_of, journal_version_count, was_delivered}
 use Rattle.update_machine.proofs.JournalExampleNetworks.{advert, answered, any_word, at, delivered, left_by, one, open_net, plan_q, ring, round, tables_of, to, to_controller}
-use Rattle.switch_table.specs.Exports.{all_touched}
+use Rattle.switch_table.specs.Exports.{cache_all_touched}
 
 -- ---- what switches can use and know of failing links, computed
 
@@ -22,21 +22,21 @@ journals = [] ∷ round ∷ (round ++ Item.Delivered 1 ∷ []) ∷ again ∷ (ag
         Item.Sent number (to 0 (advert origin 1 seq up)) ∷ Item.Delivered number ∷ []
 
 -- of a link of others switch a goes by what it heard; of its own it sees its own end too
-pub known_rows : map (λ journal. knows_link ring journal 0 1 3) journals
+pub known_rows : map (λ journal. journal_knows_link ring journal 0 1 3) journals
     ≡ true ∷ true ∷ false ∷ false ∷ false ∷ true ∷ true ∷ []
-unfolding claim_of is_link_up message_of serves
+unfolding journal_claim_of is_link_up_in_journal message_of serves
 known_rows = refl
 
-pub own_known_rows : map (λ journal. knows_link ring journal 0 2 0) journals
+pub own_known_rows : map (λ journal. journal_knows_link ring journal 0 2 0) journals
     ≡ true ∷ false ∷ false ∷ false ∷ false ∷ false ∷ false ∷ []
-unfolding claim_of is_link_up message_of serves
+unfolding journal_claim_of is_link_up_in_journal message_of serves
 own_known_rows = refl
 
 -- it can use a link that is up, between switches that serve, from either end
-pub usable_rows : can_use ring round 0 1 ∷ can_use ring round 1 0 ∷ can_use ring round 2 0
-    ∷ can_use ring round 0 3 ∷ can_use ring (round ++ Item.Down 1 ∷ []) 0 1 ∷ []
+pub usable_rows : journal_can_use ring round 0 1 ∷ journal_can_use ring round 1 0 ∷ journal_can_use ring round 2 0
+    ∷ journal_can_use ring round 0 3 ∷ journal_can_use ring (round ++ Item.Down 1 ∷ []) 0 1 ∷ []
     ≡ true ∷ true ∷ false ∷ false ∷ false ∷ []
-unfolding is_link_up serves
+unfolding is_link_up_in_journal serves
 usable_rows = refl
 
 -- the packet found two links down, whichever end is named first
@@ -51,9 +51,9 @@ found_rows = refl
 none_joins : (journal : List Item)
     → AllByRecursion (λ s. is_joining journal s ≡ false) (switches_of open_net)
     → All (λ s. IsTrue (is_joining journal s)
-    → IsFalse (has_acked journal s (current_mark journal))) (switches_of open_net)
+    → IsFalse (has_acked journal s (journal_current_mark journal))) (switches_of open_net)
 none_joins journal none = All-weaker (λ s. is_joining journal s ≡ false)
-    (λ s. IsTrue (is_joining journal s) → IsFalse (has_acked journal s (current_mark journal)))
+    (λ s. IsTrue (is_joining journal s) → IsFalse (has_acked journal s (journal_current_mark journal)))
     (λ s not_joining joins. absurd (true≢false (sym joins ∙ not_joining))) (switches_of open_net)
     (All-from_recursion (λ s. is_joining journal s ≡ false) (switches_of open_net) none)
 
@@ -68,9 +68,9 @@ installing = Item.Submitted 2 2 ∷ Item.Sent 1 (to 0 (Body.Install 1 (tables_of
     ∷ Item.Sent 4 (to_controller (Body.Installed 1 1 2)) ∷ Item.Delivered 3 ∷ []
 
 -- current waits
-pub settled_before : AreSettled open_net installing
-unfolding known_boot controller_heard is_over opened_at is_member has_acked acked_stamp
-    current_mark retired_mark next_current next_retired version_count message_of
+pub settled_before : AreMachineMarksSettled open_net installing
+unfolding journal_known_boot controller_heard is_over opened_at is_member has_acked acked_stamp
+    journal_current_mark journal_retired_mark journal_next_current journal_next_retired journal_version_count message_of
 settled_before = record {
   current = inr refl;
   joining = none_joins installing (refl, (refl, tt));
@@ -81,9 +81,9 @@ settled_before = record {
 abbrev acknowledged : List Item
 acknowledged = installing ++ Item.Delivered 4 ∷ []
 
-pub may_rise : CurrentMayRise open_net acknowledged 2
-unfolding known_boot controller_heard is_over opened_at is_member has_acked acked_stamp
-    current_mark retired_mark next_current next_retired version_count message_of
+pub may_rise : MachineCurrentMayRise open_net acknowledged 2
+unfolding journal_known_boot controller_heard is_over opened_at is_member has_acked acked_stamp
+    journal_current_mark journal_retired_mark journal_next_current journal_next_retired journal_version_count message_of
 may_rise = record {
   rises = omega arith;
   there = omega arith;
@@ -91,18 +91,18 @@ may_rise = record {
 }
 
 -- before that nothing is settled
-pub not_settled : AreSettled open_net acknowledged → ⊥
-unfolding known_boot controller_heard is_over opened_at is_member has_acked acked_stamp
-    current_mark retired_mark next_current next_retired version_count message_of
+pub not_settled : AreMachineMarksSettled open_net acknowledged → ⊥
+unfolding journal_known_boot controller_heard is_over opened_at is_member has_acked acked_stamp
+    journal_current_mark journal_retired_mark journal_next_current journal_next_retired journal_version_count message_of
 not_settled settled = elim settled.current [
   | inl last ↦ absurd (omega (arith, last))
   | inr waits ↦ true≢false waits
 ]
 
 -- it does, and is settled
-pub settled_behind : AreSettled open_net (acknowledged ++ Item.Current 2 ∷ [])
-unfolding known_boot controller_heard is_over opened_at is_member has_acked acked_stamp
-    current_mark retired_mark next_current next_retired version_count message_of
+pub settled_behind : AreMachineMarksSettled open_net (acknowledged ++ Item.Current 2 ∷ [])
+unfolding journal_known_boot controller_heard is_over opened_at is_member has_acked acked_stamp
+    journal_current_mark journal_retired_mark journal_next_current journal_next_retired journal_version_count message_of
 settled_behind = record {
   current = inl refl;
   joining = none_joins (acknowledged ++ Item.Current 2 ∷ []) (refl, (refl, tt));
@@ -114,14 +114,14 @@ abbrev stamped : List Item
 stamped = acknowledged ++ Item.Current 2 ∷ Item.Sent 5 (to_controller (Body.Stamped 0 1 2))
     ∷ Item.Sent 6 (to_controller (Body.Stamped 1 1 2)) ∷ Item.Delivered 5 ∷ []
 
-pub retires_none : next_retired open_net stamped ≡ 0
-unfolding known_boot controller_heard is_over opened_at is_member has_acked acked_stamp
-    current_mark retired_mark next_current next_retired version_count message_of
+pub retires_none : journal_next_retired open_net stamped ≡ 0
+unfolding journal_known_boot controller_heard is_over opened_at is_member has_acked acked_stamp
+    journal_current_mark journal_retired_mark journal_next_current journal_next_retired journal_version_count message_of
 retires_none = refl
 
-pub retires_first : next_retired open_net (stamped ++ Item.Delivered 6 ∷ []) ≡ 1
-unfolding known_boot controller_heard is_over opened_at is_member has_acked acked_stamp
-    current_mark retired_mark next_current next_retired version_count message_of
+pub retires_first : journal_next_retired open_net (stamped ++ Item.Delivered 6 ∷ []) ≡ 1
+unfolding journal_known_boot controller_heard is_over opened_at is_member has_acked acked_stamp
+    journal_current_mark journal_retired_mark journal_next_current journal_next_retired journal_version_count message_of
 retires_first = refl
 
 -- ---- an update, computed
@@ -134,8 +134,8 @@ updated =
     ∷ Item.Sent 1 (to 0 (Body.Install 1 (tables_of plan_q 2 0)))
     ∷ Item.Sent 2 (to 1 (Body.Install 1 (tables_of plan_q 2 1)))
     ∷ answered 3 1 3 (Body.Installed 0 1 2) ++ answered 3 2 4 (Body.Installed 1 1 2)
-    ++ delivered 3 3 ++ delivered 3 4 ++ Item.Current 2 ∷ Item.Sent 5 (to 0 (Body.Stamp 1 2 all_touched))
-    ∷ Item.Sent 6 (to 1 (Body.Stamp 1 2 all_touched)) ∷ answered 3 5 7 (Body.Stamped 0 1 2)
+    ++ delivered 3 3 ++ delivered 3 4 ++ Item.Current 2 ∷ Item.Sent 5 (to 0 (Body.Stamp 1 2 cache_all_touched))
+    ∷ Item.Sent 6 (to 1 (Body.Stamp 1 2 cache_all_touched)) ∷ answered 3 5 7 (Body.Stamped 0 1 2)
     ++ answered 3 6 8 (Body.Stamped 1 1 2) ++ delivered 3 7 ++ delivered 3 8 ++ Item.Retired 1
     ∷ Item.Sent 9 (to 0 (Body.Collect 1 1)) ∷ Item.Sent 10 (to 1 (Body.Collect 1 1)) ∷ delivered 3 9
     ++ delivered 3 10 ++ Item.Row 4 (Step.Hop 1) ∷ Item.Hopped 1 1 ∷ Item.Row 4 (Step.Hop 1)
@@ -155,7 +155,7 @@ update_rows = refl
 
 by_parts : (journal : List Item)
     → AllByRecursion (λ s. IsTrue (is_up journal s || not (is_waited_for journal s)))
-    (switches_of open_net) → AreMessagesReceived open_net journal journal → IsQuiet open_net journal
+    (switches_of open_net) → AreJournalMessagesReceived open_net journal journal → IsMachineQuiet open_net journal
 by_parts journal switches messages = record {
   switches = All-from_recursion (λ s. IsTrue (is_up journal s || not (is_waited_for journal s)))
       (switches_of open_net) switches;
@@ -181,35 +181,35 @@ unmet delivered (inr none) lacks = absurd none
 
 -- ---- switches
 
-pub quiet_at_first : IsQuiet open_net []
-unfolding was_delivered is_up boot_of current_mark
+pub quiet_at_first : IsMachineQuiet open_net []
+unfolding was_delivered is_up journal_boot_of journal_current_mark
 quiet_at_first = by_parts _ (refl, (refl, tt)) tt
 
 -- a is down, and waited for until it is confirmed
-pub waits_for_a : IsQuiet open_net (Item.Row 1 (Step.Crash 0) ∷ Item.Down 0 ∷ []) → ⊥
-unfolding was_delivered is_up boot_of current_mark
+pub waits_for_a : IsMachineQuiet open_net (Item.Row 1 (Step.Crash 0) ∷ Item.Down 0 ∷ []) → ⊥
+unfolding was_delivered is_up journal_boot_of journal_current_mark
 waits_for_a quiet = true≢false (sym (quiet.switches 0 0 (omega arith)))
 
-pub quiet_without_a : IsQuiet open_net
+pub quiet_without_a : IsMachineQuiet open_net
     (Item.Row 1 (Step.Crash 0) ∷ Item.Down 0 ∷ Item.Row 2 (Step.Confirm 0) ∷ Item.OverNow 0 ∷ [])
-unfolding was_delivered is_up boot_of current_mark
+unfolding was_delivered is_up journal_boot_of journal_current_mark
 quiet_without_a = by_parts _ (refl, (refl, tt)) tt
 
 -- ---- messages
 
 -- nothing of an update was delivered
-pub update_waits : IsQuiet open_net (Item.Row 1 (Step.Update 2) ∷ Item.Submitted 2 2
+pub update_waits : IsMachineQuiet open_net (Item.Row 1 (Step.Update 2) ∷ Item.Submitted 2 2
     ∷ Item.Sent 1 (to 0 (Body.Install 1 (tables_of plan_q 2 0)))
     ∷ Item.Sent 2 (to 1 (Body.Install 1 (tables_of plan_q 2 1))) ∷ []) → ⊥
-unfolding was_delivered is_up boot_of current_mark
+unfolding was_delivered is_up journal_boot_of journal_current_mark
 update_waits quiet = elim (quiet.messages.0 0 (omega arith) refl) [
   | inl delivered ↦ true≢false (sym delivered)
   | inr replaced ↦ elim replaced [ inl other ↦ true≢false (sym other.1) | inr none ↦ absurd none ]
 ]
 
 -- all but a cache rule was, which doesn't matter
-pub quiet_once_updated : IsQuiet open_net updated
-unfolding was_delivered is_up boot_of current_mark
+pub quiet_once_updated : IsMachineQuiet open_net updated
+unfolding was_delivered is_up journal_boot_of journal_current_mark
 quiet_once_updated = by_parts _ (refl, (refl, tt)) (
   λ s there m. inl refl,
   (
@@ -245,8 +245,8 @@ restarted = Item.Row 1 (Step.Resend 0) ∷ Item.Sent 1 (to 0 (advert 1 1 1 1))
     ∷ Item.Row 4 (Step.Deliver 3) ∷ Item.Delivered 3 ∷ Item.Sent 4 (to 0 (Body.Stamp 1 1 []))
     ∷ Item.Sent 5 (to_controller (Body.Stamped 0 1 1)) ∷ []
 
-pub quiet_in_boot_2 : IsQuiet open_net restarted
-unfolding was_delivered is_up boot_of current_mark
+pub quiet_in_boot_2 : IsMachineQuiet open_net restarted
+unfolding was_delivered is_up journal_boot_of journal_current_mark
 quiet_in_boot_2 = by_parts _ (refl, (refl, tt)) (
   neither _ _ refl refl,
   (
@@ -256,20 +256,20 @@ quiet_in_boot_2 = by_parts _ (refl, (refl, tt)) (
 )
 
 -- an advert that was sent since does matter
-pub advert_waits : IsQuiet open_net (restarted ++ Item.Sent 6 (to 0 (advert 1 1 2 1)) ∷ []) → ⊥
-unfolding was_delivered is_up boot_of current_mark
+pub advert_waits : IsMachineQuiet open_net (restarted ++ Item.Sent 6 (to 0 (advert 1 1 2 1)) ∷ []) → ⊥
+unfolding was_delivered is_up journal_boot_of journal_current_mark
 advert_waits quiet = unmet _ (quiet.messages.1.1.1.1.1.0 0 (omega arith) refl) refl
 
 -- nor does what was sent before a boot began that has the number of the one before
-pub boot_begins : IsQuiet open_net (Item.Sent 1 (to 0 (Body.Stamp 1 1 [])) ∷ Item.Booted 0 1 ∷ [])
-unfolding was_delivered is_up boot_of current_mark
+pub boot_begins : IsMachineQuiet open_net (Item.Sent 1 (to 0 (Body.Stamp 1 1 [])) ∷ Item.Booted 0 1 ∷ [])
+unfolding was_delivered is_up journal_boot_of journal_current_mark
 boot_begins = by_parts _ (refl, (refl, tt)) (neither _ _ refl refl, tt)
 
 -- tables of a version below the current one, and their acknowledgement, don't matter
-pub quiet_without_old_tables : IsQuiet open_net
+pub quiet_without_old_tables : IsMachineQuiet open_net
     (Item.Sent 1 (to 0 (Body.Install 1 (tables_of plan_q 1 0)))
     ∷ Item.Sent 2 (to_controller (Body.Installed 0 1 1)) ∷ Item.Current 2 ∷ [])
-unfolding was_delivered is_up boot_of current_mark
+unfolding was_delivered is_up journal_boot_of journal_current_mark
 quiet_without_old_tables = by_parts _ (refl, (refl, tt)) (
   neither _ _ refl refl,
   (neither _ _ refl refl, tt),
@@ -277,19 +277,19 @@ quiet_without_old_tables = by_parts _ (refl, (refl, tt)) (
 
 -- a delivery before its sending delivers nothing
 pub delivered_too_early :
-    IsQuiet open_net (Item.Delivered 1 ∷ Item.Sent 1 (to_controller (Body.Hello 0 1)) ∷ []) → ⊥
-unfolding was_delivered is_up boot_of current_mark
+    IsMachineQuiet open_net (Item.Delivered 1 ∷ Item.Sent 1 (to_controller (Body.Hello 0 1)) ∷ []) → ⊥
+unfolding was_delivered is_up journal_boot_of journal_current_mark
 delivered_too_early quiet = unmet _ (quiet.messages.0 0 (omega arith) refl) refl
 
 -- ---- replaced messages
 
 -- a later equal message, a stamp of a greater version and a newer advert replace those before them
-pub quiet_by_later : IsQuiet open_net
+pub quiet_by_later : IsMachineQuiet open_net
     (Item.Sent 1 (to_controller (Body.Hello 1 1)) ∷ Item.Sent 2 (to 0 (Body.Stamp 1 2 []))
     ∷ Item.Sent 3 (to 0 (advert 1 1 1 1)) ∷ Item.Sent 4 (to_controller (Body.Hello 1 1))
     ∷ Item.Sent 5 (to 0 (Body.Stamp 1 3 [])) ∷ Item.Sent 6 (to 0 (advert 1 1 2 0))
     ∷ Item.Delivered 4 ∷ Item.Delivered 5 ∷ Item.Delivered 6 ∷ [])
-unfolding was_delivered is_up boot_of current_mark
+unfolding was_delivered is_up journal_boot_of journal_current_mark
 quiet_by_later = by_parts _ (refl, (refl, tt)) (
   λ s there m. inr (inr (inr (inl (record { receiver = refl; says = inl refl }, refl)))),
   (
@@ -308,15 +308,15 @@ hello = to_controller (Body.Hello 1 1)
 
 -- the earlier of two equal messages doesn't replace the later one
 pub later_waits :
-    IsQuiet open_net (Item.Sent 1 hello ∷ Item.Sent 2 hello ∷ Item.Delivered 1 ∷ []) → ⊥
-unfolding was_delivered is_up boot_of current_mark
+    IsMachineQuiet open_net (Item.Sent 1 hello ∷ Item.Sent 2 hello ∷ Item.Delivered 1 ∷ []) → ⊥
+unfolding was_delivered is_up journal_boot_of journal_current_mark
 later_waits quiet = unmet _ (quiet.messages.1.0 1 (omega arith) refl) refl
 
 -- other tables of the same version don't replace those before them
 pub other_tables_wait : (one other : Tables) → one.version ≡ 1 → (one ≡ other → ⊥)
-    → IsQuiet open_net (Item.Sent 1 (to 0 (Body.Install 1 one))
+    → IsMachineQuiet open_net (Item.Sent 1 (to 0 (Body.Install 1 one))
     ∷ Item.Sent 2 (to 0 (Body.Install 1 other)) ∷ Item.Delivered 2 ∷ []) → ⊥
-unfolding was_delivered is_up boot_of current_mark
+unfolding was_delivered is_up journal_boot_of journal_current_mark
 other_tables_wait one other version apart quiet =
     elim (quiet.messages.0 0 (omega arith) (rw version refl)) [
       | inl delivered ↦ true≢false (sym delivered)

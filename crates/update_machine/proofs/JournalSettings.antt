@@ -3,23 +3,23 @@
 use Rattle.std.proofs.Common.{[], ◌++◌, ◌+◌, ◌-◌, ◌==◌, ◌||◌, ◌∙◌, ◌∷◌, ◌≡◌, ◌≤◌, All, Bool, Err, IfSome, IsFalse, IsOk, IsTrue, List, None, Ok, Option, Result, Some, ap, arith, false, if◌then◌else◌, length, nat_lt, ne_eqb, option_and_then, refl, slice_get, subst, suc, sym, true, unwrap_or, zero, ℕ}
 use Rattle.base.proofs.Exports.{All-cons, All-nil, get_or_from_slice_get, list_any, nat_tests, result_ok, slice_get_within}
 use Rattle.net_file.specs.Exports.{IsNet}
-use Rattle.update_machine.specs.Exports.{Change, HasPlan, Header, Inapplicable, IsSetting, Item, NamesOwnPort, Net, PolicyFile, Row, Setting, VersionsAreNumbered, Whole, apply_code, setting_file_at, file_of, hosted_in_version, made_by, marks_code, next_policy, next_touched, plan_at, plan_code, policy_at, policy_by, policy_in, rows_code, setting_of, touched_by, touched_of, update_code, version_count}
-use Rattle.partition.specs.Plan.{Hosted, IsPartitionPlan, plan_of}
-use Rattle.partition.proofs.CallerLemmas.{plan_holds}
-use Rattle.policy_rules.specs.Exports.{PolicyFileGivesOnly, IsPolicy, IsPolicyFile, NoPlan, applied, scan, touched_words}
-use Rattle.policy_rules.proofs.CallerLemmas.{All-additions, All-applied, IsPolicy-applied, scan-apart}
+use Rattle.update_machine.specs.Exports.{Change, SettingHasPlan, Header, Inapplicable, IsSetting, Item, NamesSettingPort, Net, PolicyFile, Row, Setting, VersionsAreNumbered, Whole, machine_apply_code, setting_file_at, file_of, setting_hosted_or_none, made_by, machine_marks_code, journal_next_policy, journal_next_touched, journal_plan_at, machine_plan_code, policy_at, policy_by, policy_in, machine_rows_code, setting_of, touched_by, touched_of, machine_update_code, journal_version_count}
+use Rattle.partition.specs.Plan.{Hosted, IsPartitionPlan, partition_plan_of}
+use Rattle.partition.proofs.PartitionCallerLemmas.{plan_holds}
+use Rattle.policy_rules.specs.Exports.{PolicyRulesGiveOnly, IsPolicy, IsPolicyOrAmendment, NoPolicyPlan, applied, scan, touched_policy_words}
+use Rattle.policy_rules.proofs.PolicyRulesCallerLemmas.{All-additions, All-applied, IsPolicy-applied, scan-apart}
 use Rattle.update_machine.proofs.JournalVersionPolicies.{file_kept, first_is, next_file, of_its_policy, policy_in_stays}
 use Rattle.five_tuple.specs.Exports.{IsHeader, number_of}
-use Rattle.switch_table.specs.Exports.{all_touched, few_touched_words, meets_any_touched}
+use Rattle.switch_table.specs.Exports.{cache_all_touched, cache_few_touched, cache_word_meets_touched}
 use Rattle.switch_table.proofs.CacheCarryLemmas.{meets_all}
 use Rattle.ternary.specs.Exports.{WordValue, holds, meets}
 
 -- ---- the first policy
 
 pub setting_begun : (net : Net) (files : List PolicyFile) (first : List Row) (plan : List Hosted)
-    → IsNet net → slice_get files 0 ≡ Some (Whole first) → All IsPolicyFile files
-    → All (PolicyFileGivesOnly (λ row. NamesOwnPort (setting_of net files) row.action)) files
-    → plan_of first net ≡ Ok plan → IsSetting (setting_of net files)
+    → IsNet net → slice_get files 0 ≡ Some (Whole first) → All IsPolicyOrAmendment files
+    → All (PolicyRulesGiveOnly (λ row. NamesSettingPort (setting_of net files) row.action)) files
+    → partition_plan_of first net ≡ Ok plan → IsSetting (setting_of net files)
 setting_begun net files first plan sound whole given ports is = record {
   net = sound;
   made = refl;
@@ -32,16 +32,16 @@ setting_begun net files first plan sound whole given ports is = record {
 
 -- the first version has the first policy and its plan
 pub first_version_is : (net : Net) (files : List PolicyFile) (first : List Row) (plan : List Hosted)
-    → slice_get files 0 ≡ Some (Whole first) → plan_of first net ≡ Ok plan
-    → (policy_at (setting_of net files) [] 1 ≡ first) × (plan_at (setting_of net files) [] 1 ≡ plan)
+    → slice_get files 0 ≡ Some (Whole first) → partition_plan_of first net ≡ Ok plan
+    → (policy_at (setting_of net files) [] 1 ≡ first) × (journal_plan_at (setting_of net files) [] 1 ≡ plan)
 first_version_is net files first plan whole is =
-    let own = first_is (setting_of net files) [] first whole in (own.0, own.1 ∙ ap hosted_in_version is)
+    let own = first_is (setting_of net files) [] first whole in (own.0, own.1 ∙ ap setting_hosted_or_none is)
 
 -- in a sound setting it has a plan
 pub first_planned : (net : Net) (files : List PolicyFile) (first : List Row)
     → IsSetting (setting_of net files) → slice_get files 0 ≡ Some (Whole first)
-    → IsOk (plan_of first net)
-first_planned net files first is whole = subst (λ rows. IsOk (plan_of rows net)) same is.planned
+    → IsOk (partition_plan_of first net)
+first_planned net files first is whole = subst (λ rows. IsOk (partition_plan_of rows net)) same is.planned
   where
     rows_of : Option PolicyFile → List Row
     rows_of (Some (Whole rows)) = rows
@@ -53,7 +53,7 @@ first_planned net files first is whole = subst (λ rows. IsOk (plan_of rows net)
 -- ---- policies
 
 abbrev IsOwn : Setting → List Row → Type 0
-IsOwn setting rows = IsPolicy rows × All (λ row. NamesOwnPort setting row.action) rows
+IsOwn setting rows = IsPolicy rows × All (λ row. NamesSettingPort setting row.action) rows
 
 no_rows_own : (setting : Setting) → IsOwn setting []
 no_rows_own setting = (
@@ -63,8 +63,8 @@ no_rows_own setting = (
 
 -- what a file makes of such a policy, or of none, is one too
 own_by : (setting : Setting) (file : Option PolicyFile) (earlier : Option (List Row))
-    (rows : List Row) → IfSome file IsPolicyFile
-    → IfSome file (PolicyFileGivesOnly (λ row. NamesOwnPort setting row.action))
+    (rows : List Row) → IfSome file IsPolicyOrAmendment
+    → IfSome file (PolicyRulesGiveOnly (λ row. NamesSettingPort setting row.action))
     → IfSome earlier (IsOwn setting) → made_by file earlier ≡ Ok rows → IsOwn setting rows
 own_by setting None earlier rows sound ports own made = absurd cc
 own_by setting (Some (Whole given)) earlier rows sound ports own made =
@@ -72,28 +72,28 @@ own_by setting (Some (Whole given)) earlier rows sound ports own made =
 own_by setting (Some (Change edits)) None rows sound ports own made = absurd cc
 own_by setting (Some (Change edits)) (Some old) rows sound ports own made = (
   IsPolicy-applied old rows edits own.0 sound made,
-  All-applied (λ row. NamesOwnPort setting row.action) old rows edits own.1
-      (All-additions (λ row. NamesOwnPort setting row.action) edits ports) made,
+  All-applied (λ row. NamesSettingPort setting row.action) old rows edits own.1
+      (All-additions (λ row. NamesSettingPort setting row.action) edits ports) made,
 )
 
 -- a file of a sound setting
 pub file_is_sound : (setting : Setting) → IsSetting setting → (file : ℕ)
-    → IfSome (setting_file_at setting file) IsPolicyFile
-    × IfSome (setting_file_at setting file) (PolicyFileGivesOnly (λ row. NamesOwnPort setting row.action))
+    → IfSome (setting_file_at setting file) IsPolicyOrAmendment
+    × IfSome (setting_file_at setting file) (PolicyRulesGiveOnly (λ row. NamesSettingPort setting row.action))
 file_is_sound setting is file = by_number (file == 0) where
   at_place : (k : ℕ) (o : Option PolicyFile) → slice_get setting.files k ≡ o
-      → IfSome o IsPolicyFile × IfSome o (PolicyFileGivesOnly (λ row. NamesOwnPort setting row.action))
+      → IfSome o IsPolicyOrAmendment × IfSome o (PolicyRulesGiveOnly (λ row. NamesSettingPort setting row.action))
   at_place k None there = (tt, tt)
   at_place k (Some given) there =
       let within = slice_get_within setting.files k given there in
       let at = get_or_from_slice_get setting.files k given given there in (
-        subst IsPolicyFile at (is.sound k given within),
-        subst (PolicyFileGivesOnly (λ row. NamesOwnPort setting row.action)) at (is.ports k given within),
+        subst IsPolicyOrAmendment at (is.sound k given within),
+        subst (PolicyRulesGiveOnly (λ row. NamesSettingPort setting row.action)) at (is.ports k given within),
       )
 
   by_number : (zero : Bool) → IfSome (if zero then None else slice_get setting.files (file - 1))
-      IsPolicyFile × IfSome (if zero then None else slice_get setting.files (file - 1))
-      (PolicyFileGivesOnly (λ row. NamesOwnPort setting row.action))
+      IsPolicyOrAmendment × IfSome (if zero then None else slice_get setting.files (file - 1))
+      (PolicyRulesGiveOnly (λ row. NamesSettingPort setting row.action))
   by_number true = (tt, tt)
   by_number false = at_place (file - 1) (slice_get setting.files (file - 1)) refl
 
@@ -123,7 +123,7 @@ own_in setting journal is (suc version) =
 
 pub versions_own : (setting : Setting) (journal : List Item) (version : ℕ) → IsSetting setting
     → IsPolicy (policy_at setting journal version)
-    × All (λ row. NamesOwnPort setting row.action) (policy_at setting journal version)
+    × All (λ row. NamesSettingPort setting row.action) (policy_at setting journal version)
 unfolding policy_at
 versions_own setting journal version is =
     by_rows (policy_in setting journal version) (own_in setting journal is version)
@@ -134,69 +134,69 @@ versions_own setting journal version is =
 
 -- and its plan is one
 pub version_is_planned : (setting : Setting) (journal : List Item) (version : ℕ)
-    → IsSetting setting → HasPlan setting journal version
-    → IsPartitionPlan (policy_at setting journal version) setting.net (plan_at setting journal version)
+    → IsSetting setting → SettingHasPlan setting journal version
+    → IsPartitionPlan (policy_at setting journal version) setting.net (journal_plan_at setting journal version)
 version_is_planned setting journal version is has = plan_holds (policy_at setting journal version)
-    setting.net (plan_at setting journal version) (versions_own setting journal version is).0 is.net
+    setting.net (journal_plan_at setting journal version) (versions_own setting journal version is).0 is.net
     (sym (ap (λ (s : Setting). s.plan (policy_at setting journal version)) is.made) ∙ has.plan)
 
 -- ---- updates
 
 -- the next policy is what the file makes of that of the newest version
 pub next_by : (setting : Setting) (journal : List Item) (file : ℕ) (newest : List Row)
-    → 1 ≤ file → policy_in setting journal (version_count journal) ≡ Some newest
-    → next_policy setting journal file ≡ made_by (slice_get setting.files (file - 1)) (Some newest)
-unfolding next_policy
+    → 1 ≤ file → policy_in setting journal (journal_version_count journal) ≡ Some newest
+    → journal_next_policy setting journal file ≡ made_by (slice_get setting.files (file - 1)) (Some newest)
+unfolding journal_next_policy
 next_by setting journal file newest first is = cc (is, ne_eqb file 0 (λ none. omega arith))
 
 -- the code of an update whose next policy, or whose plan, this is
 abbrev made_code : Setting → List Item → Result (List Row) Inapplicable → Option ℕ
 made_code setting journal made = elim made [
-  | Err why ↦ Some (apply_code why)
-  | Ok rows ↦ rows_code setting journal rows
+  | Err why ↦ Some (machine_apply_code why)
+  | Ok rows ↦ machine_rows_code setting journal rows
 ]
 
-abbrev plan_coded : List Item → Result (List Hosted) NoPlan → Option ℕ
+abbrev plan_coded : List Item → Result (List Hosted) NoPolicyPlan → Option ℕ
 plan_coded journal plan = elim plan [
-  | Err why ↦ Some (plan_code why)
-  | Ok plan ↦ marks_code journal
+  | Err why ↦ Some (machine_plan_code why)
+  | Ok plan ↦ machine_marks_code journal
 ]
 
 -- an update whose file makes no policy of the newest one has the code of the cause
 pub unapplied_code : (setting : Setting) (journal : List Item) (file : ℕ) (why : Inapplicable)
-    → next_policy setting journal file ≡ Err why
-    → update_code setting journal file ≡ Some (apply_code why)
+    → journal_next_policy setting journal file ≡ Err why
+    → machine_update_code setting journal file ≡ Some (machine_apply_code why)
 unapplied_code setting journal file why made = ap (made_code setting journal) made
 
 -- and one without a plan that of the cause
 pub unplanned_code : (setting : Setting) (journal : List Item) (file : ℕ) (rows : List Row)
-    (why : NoPlan) → next_policy setting journal file ≡ Ok rows → setting.plan rows ≡ Err why
-    → update_code setting journal file ≡ Some (plan_code why)
+    (why : NoPolicyPlan) → journal_next_policy setting journal file ≡ Ok rows → setting.plan rows ≡ Err why
+    → machine_update_code setting journal file ≡ Some (machine_plan_code why)
 unplanned_code setting journal file rows why made is = cc (made, is)
 
 -- an update whose policy has a plan has the code of the marks, if they refuse it
 pub planned_code : (setting : Setting) (journal : List Item) (file : ℕ) (rows : List Row)
-    (plan : List Hosted) → next_policy setting journal file ≡ Ok rows
-    → setting.plan rows ≡ Ok plan → update_code setting journal file ≡ marks_code journal
+    (plan : List Hosted) → journal_next_policy setting journal file ≡ Ok rows
+    → setting.plan rows ≡ Ok plan → machine_update_code setting journal file ≡ machine_marks_code journal
 planned_code setting journal file rows plan made is = cc (made, is)
 
 -- an update that isn't refused has a policy and a plan, and the marks allow it
 pub record IsAllowed (setting : Setting) (journal : List Item) (file : ℕ) : Type 0 where
   pub rows : List Row
-  pub policy : next_policy setting journal file ≡ Ok rows
+  pub policy : journal_next_policy setting journal file ≡ Ok rows
   pub planned : IsOk (setting.plan rows)
-  pub marks : marks_code journal ≡ None
+  pub marks : machine_marks_code journal ≡ None
 
 pub allowed_next : (setting : Setting) (journal : List Item) (file : ℕ)
-    → update_code setting journal file ≡ None → IsAllowed setting journal file
-allowed_next setting journal file allowed = by_rows (next_policy setting journal file) refl allowed
+    → machine_update_code setting journal file ≡ None → IsAllowed setting journal file
+allowed_next setting journal file allowed = by_rows (journal_next_policy setting journal file) refl allowed
   where
-    by_plan : (plan : Result (List Hosted) NoPlan) → plan_coded journal plan ≡ None
-        → IsOk plan × (marks_code journal ≡ None)
+    by_plan : (plan : Result (List Hosted) NoPolicyPlan) → plan_coded journal plan ≡ None
+        → IsOk plan × (machine_marks_code journal ≡ None)
     by_plan (Err why) none = absurd cc
     by_plan (Ok plan) none = (refl, none)
 
-    by_rows : (made : Result (List Row) Inapplicable) → next_policy setting journal file ≡ made
+    by_rows : (made : Result (List Row) Inapplicable) → journal_next_policy setting journal file ≡ made
         → made_code setting journal made ≡ None → IsAllowed setting journal file
     by_rows (Err why) made none = absurd cc
     by_rows (Ok rows) made none = let of_plan = by_plan (setting.plan rows) none in
@@ -207,7 +207,7 @@ allowed_next setting journal file allowed = by_rows (next_policy setting journal
 
 -- where all versions before it are there
 pub touched_stays : (setting : Setting) (before items : List Item) (v : ℕ)
-    → VersionsAreNumbered before → v ≤ version_count before
+    → VersionsAreNumbered before → v ≤ journal_version_count before
     → touched_by setting (before ++ items) v ≡ touched_by setting before v
 unfolding touched_by
 touched_stays setting before items zero are below = refl
@@ -218,26 +218,26 @@ touched_stays setting before items (suc v) are below = ap (λ file. touched_of
     (policy_in_stays setting before items v are (omega (arith, below)))
 
 -- the first version has no policy before it
-none_before : (file : Option PolicyFile) → touched_of file None ≡ all_touched
+none_before : (file : Option PolicyFile) → touched_of file None ≡ cache_all_touched
 none_before (Some (Change edits)) = refl
 none_before (Some (Whole rows)) = refl
 none_before None = refl
 
 pub first_touched : (setting : Setting) (journal : List Item)
-    → touched_by setting journal 1 ≡ all_touched
+    → touched_by setting journal 1 ≡ cache_all_touched
 unfolding touched_by policy_in
 first_touched setting journal = none_before (option_and_then (setting_file_at setting) (file_of journal 1))
 
 -- the version that is submitted next touches what its file does
 pub next_touched_is : (setting : Setting) (journal : List Item) (file version : ℕ)
-    → VersionsAreNumbered journal → version ≡ version_count journal + 1
+    → VersionsAreNumbered journal → version ≡ journal_version_count journal + 1
     → touched_by setting (journal ++ Item.Submitted file version ∷ []) version
-    ≡ next_touched setting journal file
+    ≡ journal_next_touched setting journal file
 unfolding touched_by
 next_touched_is setting journal file zero are next = absurd (omega (arith, next))
 next_touched_is setting journal file (suc newest) are next =
     let after : List Item = journal ++ Item.Submitted file (suc newest) ∷ [] in
-    let same : newest ≡ version_count journal = omega (arith, next) in
+    let same : newest ≡ journal_version_count journal = omega (arith, next) in
     ap (λ o. touched_of (option_and_then (setting_file_at setting) o) (policy_in setting after newest))
     (next_file journal file (suc newest) are next)
     ∙ ap (touched_of (setting_file_at setting file))
@@ -246,16 +246,16 @@ next_touched_is setting journal file (suc newest) are next =
 
 -- ---- at most sixteen words
 
-few_len : (words : List WordValue) → length (few_touched_words words) ≤ 16
+few_len : (words : List WordValue) → length (cache_few_touched words) ≤ 16
 few_len words = by_test (nat_lt 16 (length words)) refl where
   by_test : (b : Bool) → nat_lt 16 (length words) ≡ b
-      → length (if b then all_touched else words) ≤ 16
+      → length (if b then cache_all_touched else words) ≤ 16
   by_test true is = omega arith
   by_test false is = grind (arith, nat_tests)
 
 of_few : (file : Option PolicyFile) (earlier : Option (List Row))
     → length (touched_of file earlier) ≤ 16
-of_few (Some (Change edits)) (Some rows) = few_len (touched_words rows edits)
+of_few (Some (Change edits)) (Some rows) = few_len (touched_policy_words rows edits)
 of_few (Some (Change edits)) None = omega arith
 of_few (Some (Whole rows)) earlier = omega arith
 of_few None earlier = omega arith
@@ -283,10 +283,10 @@ none_met (first ∷ words) word none = by_first (meets word first) refl none (no
     by_first false is none rest =
         All-cons (λ touched. IsFalse (meets word touched)) first words is (rest none)
 
-few_unmet : (words : List WordValue) (word : WordValue) → meets_any_touched (few_touched_words words) word ≡ false
+few_unmet : (words : List WordValue) (word : WordValue) → cache_word_meets_touched (cache_few_touched words) word ≡ false
     → All (λ touched. IsFalse (meets word touched)) words
 few_unmet words word apart = by_test (nat_lt 16 (length words)) apart where
-  by_test : (b : Bool) → meets_any_touched (if b then all_touched else words) word ≡ false
+  by_test : (b : Bool) → cache_word_meets_touched (if b then cache_all_touched else words) word ≡ false
       → All (λ touched. IsFalse (meets word touched)) words
   by_test true apart = let met = meets_all word in absurd cc
   by_test false apart = none_met words word apart
@@ -305,15 +305,15 @@ module _ (setting : Setting) (journal : List Item) (v : ℕ) (word : WordValue) 
   Same new = scan new header ≡ scan (policy_at setting journal v) header
 
   by_change : (file : Option PolicyFile) (earlier : Option (List Row)) (new : List Row)
-      → IfSome file IsPolicyFile → policy_in setting journal v ≡ earlier
+      → IfSome file IsPolicyOrAmendment → policy_in setting journal v ≡ earlier
       → result_ok (made_by file earlier) ≡ Some new
-      → meets_any_touched (touched_of file earlier) word ≡ false → Same new
+      → cache_word_meets_touched (touched_of file earlier) word ≡ false → Same new
   by_change (Some (Change edits)) (Some rows) new of before made apart =
       let own : policy_at setting journal v ≡ rows =
       (of_its_policy setting journal v rows before).0 in
       let policy = subst IsPolicy own (versions_own setting journal v is).0 in
       scan-apart rows new edits word header policy of sound
-      (made_ok (applied rows edits) new made) (few_unmet (touched_words rows edits) word apart) held
+      (made_ok (applied rows edits) new made) (few_unmet (touched_policy_words rows edits) word apart) held
       ∙ ap (λ these. scan these header) (sym own)
   by_change (Some (Change edits)) None new of before made apart =
       let met = meets_all word in absurd cc
@@ -323,7 +323,7 @@ module _ (setting : Setting) (journal : List Item) (v : ℕ) (word : WordValue) 
 
   by_file : (file : Option ℕ) (new : List Row)
       → option_and_then (λ f. result_ok (policy_by setting (policy_in setting journal v) f)) file
-      ≡ Some new → meets_any_touched (touched_of (option_and_then (setting_file_at setting) file)
+      ≡ Some new → cache_word_meets_touched (touched_of (option_and_then (setting_file_at setting) file)
       (policy_in setting journal v)) word ≡ false → Same new
   by_file None new made apart = absurd (cc made)
   by_file (Some file) new made apart = by_change (setting_file_at setting file)
@@ -332,7 +332,7 @@ module _ (setting : Setting) (journal : List Item) (v : ℕ) (word : WordValue) 
 pub touched_apart : (setting : Setting) (journal : List Item) (v : ℕ) (word : WordValue)
     (header : Header) → IsSetting setting
     → policy_in setting journal (suc v) ≡ Some (policy_at setting journal (suc v))
-    → meets_any_touched (touched_by setting journal (suc v)) word ≡ false → IsHeader header
+    → cache_word_meets_touched (touched_by setting journal (suc v)) word ≡ false → IsHeader header
     → IsTrue (holds word (number_of header))
     → scan (policy_at setting journal (suc v)) header ≡ scan (policy_at setting journal v) header
 unfolding touched_by policy_in

@@ -1,11 +1,11 @@
 -- Items that don't concern the controller leave what it knows as it is.
 use Rattle.std.proofs.Common.{[], ◌++◌, ◌+◌, ◌≡◌, IsFalse, List, None, ap, append-nil, arith, false, refl, ℕ}
-use Rattle.update_machine.specs.Exports.{Body, ControllerKeeps, Item, NoneConcern, OpenAt, acked_stamp, body_to_controller, changes_controller_heard, changes_over, concerns_controller, controller_heard, current_mark, gives_current, gives_retired, has_acked, is_member, is_message_to_controller, is_opening_body, is_over, is_submission, known_boot, open_version_in, open_sent, opened_at, retired_mark, version_count}
+use Rattle.update_machine.specs.Exports.{Body, JournalControllerKeeps, Item, NoneConcern, OpenAt, acked_stamp, journal_body_to_controller, changes_controller_heard, item_changes_over, concerns_controller, controller_heard, journal_current_mark, gives_current, item_gives_retired, has_acked, is_member, is_journal_controller_message, is_machine_opening_body, is_over, is_submission, journal_known_boot, machine_open_version_in, machine_open_sent, opened_at, journal_retired_mark, journal_version_count}
 use Rattle.update_machine.proofs.JournalSilentSteps.{Keeps, Silent, Stays, count_stays, folded_stays, given_stays, last_or_stays}
 
 -- a message for a switch says nothing to the controller
-told_nothing : (before : List Item) (number : ℕ) → IsFalse (is_message_to_controller before number)
-    → body_to_controller before number ≡ None
+told_nothing : (before : List Item) (number : ℕ) → IsFalse (is_journal_controller_message before number)
+    → journal_body_to_controller before number ≡ None
 told_nothing before number apart = grind arith
 
 told_silent : Keeps concerns_controller changes_controller_heard
@@ -13,26 +13,26 @@ told_silent before bodies (Item.Delivered number) apart = rw (told_nothing befor
     (append-nil bodies)
 told_silent before bodies _ apart = refl
 
-over_silent : (s : ℕ) → Keeps concerns_controller (changes_over s)
+over_silent : (s : ℕ) → Keeps concerns_controller (item_changes_over s)
 over_silent s before over (Item.Delivered number) apart = rw (told_nothing before number apart) refl
 over_silent s before over (Item.OverNow switch) apart = cc
 over_silent s before over _ apart = refl
 
 -- a body that opens no switch
-closed_body : (boot : ℕ) (body : Body) → IsFalse (is_opening_body body) → open_version_in boot body ≡ []
+closed_body : (boot : ℕ) (body : Body) → IsFalse (is_machine_opening_body body) → machine_open_version_in boot body ≡ []
 closed_body boot (OpenAt of version) apart = cc
 closed_body boot _ apart = refl
 
-open_silent : (s boot : ℕ) → Silent concerns_controller (open_sent s boot) []
+open_silent : (s boot : ℕ) → Silent concerns_controller (machine_open_sent s boot) []
 open_silent s boot before (Item.Sent number message) apart =
-    let none : open_version_in boot message.body ≡ [] = closed_body boot message.body apart in grind arith
+    let none : machine_open_version_in boot message.body ≡ [] = closed_body boot message.body apart in grind arith
 open_silent s boot before _ apart = refl
 
 current_silent : Silent concerns_controller gives_current None
 current_silent before (Item.Current version) apart = cc
 current_silent before _ apart = refl
 
-retired_silent : Silent concerns_controller gives_retired None
+retired_silent : Silent concerns_controller item_gives_retired None
 retired_silent before (Item.Retired version) apart = cc
 retired_silent before _ apart = refl
 
@@ -40,23 +40,23 @@ submission_silent : Silent concerns_controller is_submission false
 submission_silent before (Item.Submitted file version) apart = cc
 submission_silent before _ apart = refl
 
-known_stays : (s : ℕ) → Stays concerns_controller (λ js. known_boot js s)
-unfolding known_boot controller_heard
+known_stays : (s : ℕ) → Stays concerns_controller (λ js. journal_known_boot js s)
+unfolding journal_known_boot controller_heard
 known_stays s before items none = rw (folded_stays _ [] _ told_silent before items none) refl
 
 opened_stays : (s : ℕ) → Stays concerns_controller (λ js. opened_at js s)
 unfolding opened_at
 opened_stays s before items none =
-    let sent = given_stays _ _ (open_silent s (known_boot before s)) before items none in
+    let sent = given_stays _ _ (open_silent s (journal_known_boot before s)) before items none in
     rw ((known_stays s before items none), sent) refl
 
 pub controller_keeps : (before items : List Item) → NoneConcern concerns_controller before items
-    → ControllerKeeps before (before ++ items)
-unfolding controller_heard is_over is_member has_acked acked_stamp current_mark retired_mark
-    version_count
+    → JournalControllerKeeps before (before ++ items)
+unfolding controller_heard is_over is_member has_acked acked_stamp journal_current_mark journal_retired_mark
+    journal_version_count
 controller_keeps before items none =
     let told = folded_stays _ [] _ told_silent before items none in
-    let known : (s : ℕ) → known_boot (before ++ items) s ≡ known_boot before s =
+    let known : (s : ℕ) → journal_known_boot (before ++ items) s ≡ journal_known_boot before s =
     λ s. known_stays s before items none in
     let over : (s : ℕ) → is_over (before ++ items) s ≡ is_over before s =
     λ s. folded_stays _ false _ (over_silent s) before items none in

@@ -1,10 +1,10 @@
 -- Items that don't concern the links leave as they are the adverts that switches tell, and those
 -- that don't concern a switch either, what it knows of the network.
 use Rattle.std.proofs.Common.{[], ◌&&◌, ◌++◌, ◌+◌, ◌==◌, ◌∙◌, ◌∷◌, ◌≡◌, ◌≤◌, Bool, IsFalse, IsTrue, List, None, Some, ap, append_assoc, arith, count_by, eq-eqb, false, find, if◌then◌else◌, nat_lt, not, option_and_then, refl, suc, sym, true, unwrap_or, zero, ℕ}
-use Rattle.update_machine.specs.Exports.{Header, Item, KnownKeeps, Leads, LinksKeep, MessageKeeps, MessagesKeep, NoneConcern, PacketsKeep, PoliciesKeep, Setting, StepItems, adverts_known, boot_of, changes_sendings, concerns_known, concerns_links, concerns_lookups, concerns_message, concerns_messages, concerns_packets, concerns_policies, concerns_steps, concerns_switch, concerns_waiting, count_of, file_of, first_given, gives_boot, gives_file, gives_message, gives_step, gives_travelling, gives_up, gives_waited_for, has_change, heard, held_adverts, hosted_in_version, is_cut_off, is_deliverable, is_delivery, is_forgetting, is_forgotten, is_packet, is_sending, is_submission, is_up, is_waited_for, is_waiting, lookup_at, message_of, near, next_message, next_packet, next_policy, next_travelling, next_waiting, own_advert, own_seq, plan_at, policy_at, policy_by, policy_in, present_step, route_from, sendings, stamp_of, steps_in, touched_by, travels, version_count, was_delivered}
+use Rattle.update_machine.specs.Exports.{Header, Item, JournalKnownKeeps, Leads, MachineLinksKeep, MachineMessageKeeps, JournalMessagesKeep, NoneConcern, JournalPacketsKeep, JournalPoliciesKeep, Setting, StepItems, journal_adverts_known, journal_boot_of, item_changes_sendings, item_concerns_known, concerns_links, item_concerns_lookups, concerns_message, concerns_messages, item_concerns_packets, item_concerns_policies, concerns_steps, concerns_switch, item_concerns_waiting, count_of, file_of, journal_first_given, item_gives_boot, item_gives_file, item_gives_message, item_gives_step, item_gives_travelling, item_gives_switch_up, gives_waited_for, journal_step_changes_links, heard, journal_held_adverts, setting_hosted_or_none, is_cut_off_in_journal, is_deliverable, is_delivery_item, is_forgetting, is_forgotten_in_journal, is_packet, is_sending, is_submission, is_up, is_waited_for, is_waiting, lookup_at, message_of, near, journal_next_message, journal_next_packet, journal_next_policy, next_travelling, next_waiting, own_advert, journal_own_seq, journal_plan_at, policy_at, policy_by, policy_in, journal_present_step, journal_route_from, sendings, journal_stamp_of, journal_steps_in, touched_by, travels, journal_version_count, was_delivered}
 use Rattle.base.proofs.Exports.{option_map_or, range_with_len, result_ok}
 use Rattle.update_machine.proofs.JournalSilentSteps.{Keeps, Silent, Stays, count_stays, fewer, first_stays, folded_stays, last_or_stays, last_stays, link_stays, near_stays, neither_left, neither_right, stays, switch_keeps, weight_stays}
-use Rattle.policy_rules.proofs.CallerLemmas.{find_same}
+use Rattle.policy_rules.proofs.PolicyRulesCallerLemmas.{find_same}
 
 -- ---- a way keeps within switches that no link leads out of
 
@@ -20,22 +20,22 @@ ends_within joined within keeps at (next ∷ path) target here leads =
 
 -- ---- the number of the own advert
 
-boot_silent : (s : ℕ) → Silent concerns_links (gives_boot s) None
+boot_silent : (s : ℕ) → Silent concerns_links (item_gives_boot s) None
 boot_silent s before (Item.Booted switch boot) apart = cc
 boot_silent s before _ apart = refl
 
-up_silent : (s : ℕ) → Silent concerns_links (gives_up s) None
+up_silent : (s : ℕ) → Silent concerns_links (item_gives_switch_up s) None
 up_silent s before (Item.Booted switch boot) apart = cc
 up_silent s before (Item.Down switch) apart = cc
 up_silent s before _ apart = refl
 
-boot_stays : (s : ℕ) → Stays concerns_links (λ js. boot_of js s)
-unfolding boot_of
-boot_stays s = last_or_stays (gives_boot s) 1 concerns_links (boot_silent s)
+boot_stays : (s : ℕ) → Stays concerns_links (λ js. journal_boot_of js s)
+unfolding journal_boot_of
+boot_stays s = last_or_stays (item_gives_boot s) 1 concerns_links (boot_silent s)
 
 up_stays : (s : ℕ) → Stays concerns_links (λ js. is_up js s)
 unfolding is_up
-up_stays s = last_or_stays (gives_up s) true concerns_links (up_silent s)
+up_stays s = last_or_stays (item_gives_switch_up s) true concerns_links (up_silent s)
 
 abbrev once : Bool → ℕ
 once b = if b then 1 else 0
@@ -47,17 +47,17 @@ alone_same false c e = refl
 
 change_alone : (setting : Setting) (s boot : ℕ) (before : List Item) (item : Item)
     → near setting (before ++ item ∷ []) s ≡ near setting before s
-    → once (has_change setting s boot (record { before = before; items = item ∷ [] })) ≡ 0
+    → once (journal_step_changes_links setting s boot (record { before = before; items = item ∷ [] })) ≡ 0
 change_alone setting s boot before item same =
-    alone_same (boot_of before s == boot) _ (eq-eqb _ _ (sym same))
+    alone_same (journal_boot_of before s == boot) _ (eq-eqb _ _ (sym same))
 
 change_more : (setting : Setting) (s boot : ℕ) (before : List Item) (item : Item)
     → near setting (before ++ item ∷ []) s ≡ near setting before s
     → (newest : StepItems) → newest.before ++ newest.items ≡ before
-    → has_change setting s boot (record newest { items = newest.items ++ item ∷ [] })
-    ≡ has_change setting s boot newest
+    → journal_step_changes_links setting s boot (record newest { items = newest.items ++ item ∷ [] })
+    ≡ journal_step_changes_links setting s boot newest
 change_more setting s boot before item same newest ends =
-    ap (λ n. boot_of newest.before s == boot && not (near setting newest.before s == n)) (
+    ap (λ n. journal_boot_of newest.before s == boot && not (near setting newest.before s == n)) (
     ap (λ js. near setting js s)
     (sym (append_assoc newest.before newest.items (item ∷ [])) ∙ ap (λ js. js ++ item ∷ []) ends)
     ∙ same ∙ ap (λ js. near setting js s) (sym ends)
@@ -65,32 +65,32 @@ change_more setting s boot before item same newest ends =
 
 -- by whether the switch is up, the number of its advert has its boot and its count
 seq_by : (setting : Setting) (s : ℕ) (after before : List Item) (up : Bool)
-    → is_up after s ≡ up → is_up before s ≡ up → boot_of after s ≡ boot_of before s
-    → count_by (has_change setting s (boot_of before s)) (steps_in after)
-    ≡ count_by (has_change setting s (boot_of before s)) (steps_in before)
-    → own_seq setting after s ≡ own_seq setting before s
-unfolding own_seq
-seq_by setting s after before true now was boot count = rw (now, was, boot, count, own_seq) refl
-seq_by setting s after before false now was boot count = rw (now, was, own_seq) refl
+    → is_up after s ≡ up → is_up before s ≡ up → journal_boot_of after s ≡ journal_boot_of before s
+    → count_by (journal_step_changes_links setting s (journal_boot_of before s)) (journal_steps_in after)
+    ≡ count_by (journal_step_changes_links setting s (journal_boot_of before s)) (journal_steps_in before)
+    → journal_own_seq setting after s ≡ journal_own_seq setting before s
+unfolding journal_own_seq
+seq_by setting s after before true now was boot count = rw (now, was, boot, count, journal_own_seq) refl
+seq_by setting s after before false now was boot count = rw (now, was, journal_own_seq) refl
 
 seq_stay : (setting : Setting) (s : ℕ) (before : List Item) (item : Item)
     → IsFalse (concerns_links before item)
-    → own_seq setting (before ++ item ∷ []) s ≡ own_seq setting before s
+    → journal_own_seq setting (before ++ item ∷ []) s ≡ journal_own_seq setting before s
 seq_stay setting s before item apart =
     let one : NoneConcern concerns_links before (item ∷ []) = (apart, tt) in
     let same = near_stays setting s before (item ∷ []) one in
     seq_by setting s (before ++ item ∷ []) before (is_up before s)
     (up_stays s before (item ∷ []) one) refl (boot_stays s before (item ∷ []) one)
-    (weight_stays (λ step. once (has_change setting s (boot_of before s) step)) before item
+    (weight_stays (λ step. once (journal_step_changes_links setting s (journal_boot_of before s) step)) before item
     (record {
-      alone = change_alone setting s (boot_of before s) before item same;
+      alone = change_alone setting s (journal_boot_of before s) before item same;
       more = λ newest ends row_less. ap once
-          (change_more setting s (boot_of before s) before item same newest ends);
+          (change_more setting s (journal_boot_of before s) before item same newest ends);
     }))
 
-seq_stays : (setting : Setting) (s : ℕ) → Stays concerns_links (λ js. own_seq setting js s)
+seq_stays : (setting : Setting) (s : ℕ) → Stays concerns_links (λ js. journal_own_seq setting js s)
 seq_stays setting s before items none =
-    stays (λ js. own_seq setting js s) concerns_links (seq_stay setting s) before items none
+    stays (λ js. journal_own_seq setting js s) concerns_links (seq_stay setting s) before items none
 
 advert_stays : (setting : Setting) (s : ℕ) → Stays concerns_links (λ js. own_advert setting js s)
 unfolding own_advert
@@ -100,7 +100,7 @@ advert_stays setting s before items none =
     rw ((boot_stays s before items none), seq_stays setting s before items none, links) refl
 
 pub links_keep : (setting : Setting) (before items : List Item)
-    → NoneConcern concerns_links before items → LinksKeep setting before (before ++ items)
+    → NoneConcern concerns_links before items → MachineLinksKeep setting before (before ++ items)
 links_keep setting before items none = record {
   up = link_stays before items none;
   near = λ s. near_stays setting s before items none;
@@ -112,8 +112,8 @@ links_keep setting before items none = record {
 
 known_stays : (setting : Setting) (s : ℕ) (before items : List Item)
     → NoneConcern (concerns_switch s) before items → NoneConcern concerns_links before items
-    → adverts_known setting (before ++ items) s ≡ adverts_known setting before s
-unfolding adverts_known
+    → journal_adverts_known setting (before ++ items) s ≡ journal_adverts_known setting before s
+unfolding journal_adverts_known
 known_stays setting s before items none no_links =
     let switch = switch_keeps setting s before items none in
     let bodies : heard (before ++ items) s ≡ heard before s = switch.heard in
@@ -122,13 +122,13 @@ known_stays setting s before items none no_links =
     rw (switch.boot, switch.up, bodies, advert) refl
 
 pub known_keeps : (setting : Setting) (s : ℕ) (before items : List Item)
-    → NoneConcern (concerns_known s) before items → KnownKeeps setting s before (before ++ items)
-unfolding held_adverts route_from is_cut_off
+    → NoneConcern (item_concerns_known s) before items → JournalKnownKeeps setting s before (before ++ items)
+unfolding journal_held_adverts journal_route_from is_cut_off_in_journal
 known_keeps setting s before items none =
-    let own = fewer (concerns_switch s) (concerns_known s)
+    let own = fewer (concerns_switch s) (item_concerns_known s)
     (λ js item apart. neither_left (concerns_switch s js item) (concerns_links js item) apart)
     before items none in
-    let links = fewer concerns_links (concerns_known s)
+    let links = fewer concerns_links (item_concerns_known s)
     (λ js item apart. neither_right (concerns_switch s js item) (concerns_links js item) apart)
     before items none in
     let known = known_stays setting s before items own links in
@@ -143,21 +143,21 @@ known_keeps setting s before items none =
 
 -- ---- policies, and what a switch says of a header
 
-file_silent : (v : ℕ) → Silent concerns_policies (gives_file v) None
+file_silent : (v : ℕ) → Silent item_concerns_policies (item_gives_file v) None
 file_silent v before (Item.Submitted file version) apart = cc
 file_silent v before _ apart = refl
 
-count_silent : Silent concerns_policies is_submission false
+count_silent : Silent item_concerns_policies is_submission false
 count_silent before item apart = apart
 
-file_stays : (before items : List Item) → NoneConcern concerns_policies before items → (v : ℕ)
+file_stays : (before items : List Item) → NoneConcern item_concerns_policies before items → (v : ℕ)
     → file_of (before ++ items) v ≡ file_of before v
 unfolding file_of
 file_stays before items none v = by_test (v == 1) where
-  by_test : (b : Bool) → (if b then Some 1 else first_given (gives_file v) (before ++ items))
-      ≡ (if b then Some 1 else first_given (gives_file v) before)
+  by_test : (b : Bool) → (if b then Some 1 else journal_first_given (item_gives_file v) (before ++ items))
+      ≡ (if b then Some 1 else journal_first_given (item_gives_file v) before)
   by_test true = refl
-  by_test false = first_stays (gives_file v) concerns_policies (file_silent v) before items none
+  by_test false = first_stays (item_gives_file v) item_concerns_policies (file_silent v) before items none
 
 -- where the versions up to this one have the same files, it has the same policy
 pub policy_by_files : (setting : Setting) (one other : List Item) (v : ℕ)
@@ -171,18 +171,18 @@ policy_by_files setting one other (suc v) same =
     ∙ ap (option_and_then (λ file. result_ok (policy_by setting (policy_in setting other v) file)))
     (same (suc v) (omega arith) (omega arith))
 
-policy_count_stays : Stays concerns_policies version_count
-unfolding version_count
+policy_count_stays : Stays item_concerns_policies journal_version_count
+unfolding journal_version_count
 policy_count_stays before items none =
-    rw (count_stays is_submission concerns_policies count_silent before items none) refl
+    rw (count_stays is_submission item_concerns_policies count_silent before items none) refl
 
 policy_in_keeps : (setting : Setting) (before items : List Item)
-    → NoneConcern concerns_policies before items → (v : ℕ)
+    → NoneConcern item_concerns_policies before items → (v : ℕ)
     → policy_in setting (before ++ items) v ≡ policy_in setting before v
 policy_in_keeps setting before items none v = policy_by_files setting (before ++ items) before v
     (λ k first last. file_stays before items none k)
 
-touched_keeps : (before items : List Item) → NoneConcern concerns_policies before items
+touched_keeps : (before items : List Item) → NoneConcern item_concerns_policies before items
     → (setting : Setting) (v : ℕ)
     → touched_by setting (before ++ items) v ≡ touched_by setting before v
 unfolding touched_by
@@ -190,56 +190,56 @@ touched_keeps before items none setting zero = refl
 touched_keeps before items none setting (suc v) =
     cc (file_stays before items none (suc v), policy_in_keeps setting before items none v)
 
-pub policies_keep : (before items : List Item) → NoneConcern concerns_policies before items
-    → PoliciesKeep before (before ++ items)
-unfolding policy_at plan_at next_policy
+pub policies_keep : (before items : List Item) → NoneConcern item_concerns_policies before items
+    → JournalPoliciesKeep before (before ++ items)
+unfolding policy_at journal_plan_at journal_next_policy
 policies_keep before items none = record {
   count = policy_count_stays before items none;
   file = file_stays before items none;
   rows = λ setting v. policy_in_keeps setting before items none v;
   policy = λ setting v. ap (λ o. unwrap_or o []) (policy_in_keeps setting before items none v);
-  plan = λ setting v. ap (λ o. option_map_or (λ rows. hosted_in_version (setting.plan rows)) o [])
+  plan = λ setting v. ap (λ o. option_map_or (λ rows. setting_hosted_or_none (setting.plan rows)) o [])
       (policy_in_keeps setting before items none v);
   touched = touched_keeps before items none;
   next = λ setting file. ap (λ v. policy_by setting (policy_in setting (before ++ items) v) file)
       (policy_count_stays before items none) ∙ ap (λ o. policy_by setting o file)
-      (policy_in_keeps setting before items none (version_count before));
+      (policy_in_keeps setting before items none (journal_version_count before));
 }
 
 pub lookup_stays : (setting : Setting) (s : ℕ) (header : Header)
-    → Stays (concerns_lookups s) (λ js. lookup_at setting js s header)
-unfolding lookup_at plan_at
+    → Stays (item_concerns_lookups s) (λ js. lookup_at setting js s header)
+unfolding lookup_at journal_plan_at
 lookup_stays setting s header before items none =
-    let switch = switch_keeps setting s before items (fewer (concerns_switch s) (concerns_lookups s)
-    (λ js item apart. neither_left (concerns_switch s js item) (concerns_policies js item) apart)
+    let switch = switch_keeps setting s before items (fewer (concerns_switch s) (item_concerns_lookups s)
+    (λ js item apart. neither_left (concerns_switch s js item) (item_concerns_policies js item) apart)
     before items none) in
-    let policy : policy_in setting (before ++ items) (stamp_of before s)
-    ≡ policy_in setting before (stamp_of before s) =
-    policy_in_keeps setting before items (fewer concerns_policies (concerns_lookups s)
-    (λ js item apart. neither_right (concerns_switch s js item) (concerns_policies js item) apart)
-    before items none) (stamp_of before s) in
+    let policy : policy_in setting (before ++ items) (journal_stamp_of before s)
+    ≡ policy_in setting before (journal_stamp_of before s) =
+    policy_in_keeps setting before items (fewer item_concerns_policies (item_concerns_lookups s)
+    (λ js item apart. neither_right (concerns_switch s js item) (item_concerns_policies js item) apart)
+    before items none) (journal_stamp_of before s) in
     rw (switch.stamp, switch.cache, policy) refl
 
 -- ---- switches that are waited for
 
-waited_silent : (s : ℕ) → Silent (concerns_waiting s) (gives_waited_for s) None
+waited_silent : (s : ℕ) → Silent (item_concerns_waiting s) (gives_waited_for s) None
 waited_silent s before (Item.Down switch) apart = rw apart refl
 waited_silent s before (Item.OverNow switch) apart = rw apart refl
 waited_silent s before _ apart = refl
 
-pub waited_stays : (s : ℕ) → Stays (concerns_waiting s) (λ js. is_waited_for js s)
-waited_stays s = last_or_stays (gives_waited_for s) false (concerns_waiting s) (waited_silent s)
+pub waited_stays : (s : ℕ) → Stays (item_concerns_waiting s) (λ js. is_waited_for js s)
+waited_stays s = last_or_stays (gives_waited_for s) false (item_concerns_waiting s) (waited_silent s)
 
 -- ---- items that don't concern a message, all messages, all packets or the steps leave their facts
 -- as they are.
 
 -- ---- a message
 
-message_silent : (n : ℕ) → Silent (concerns_message n) (gives_message n) None
+message_silent : (n : ℕ) → Silent (concerns_message n) (item_gives_message n) None
 message_silent n before (Item.Sent number message) apart = rw apart refl
 message_silent n before _ apart = refl
 
-delivery_silent : (n : ℕ) → Silent (concerns_message n) (is_delivery n) false
+delivery_silent : (n : ℕ) → Silent (concerns_message n) (is_delivery_item n) false
 delivery_silent n before (Item.Delivered number) apart = apart
 delivery_silent n before _ apart = refl
 
@@ -248,8 +248,8 @@ forgetting_silent n before (Item.Forgotten number) apart = apart
 forgetting_silent n before _ apart = refl
 
 pub message_keeps : (n : ℕ) (before items : List Item)
-    → NoneConcern (concerns_message n) before items → MessageKeeps n before (before ++ items)
-unfolding message_of was_delivered is_forgotten is_deliverable
+    → NoneConcern (concerns_message n) before items → MachineMessageKeeps n before (before ++ items)
+unfolding message_of was_delivered is_forgotten_in_journal is_deliverable
 message_keeps n before items none =
     let message = last_stays _ _ (message_silent n) before items none in
     let forgotten = ap (nat_lt 0) (count_stays _ _ (forgetting_silent n) before items none) in
@@ -266,7 +266,7 @@ sending_silent : Silent concerns_messages is_sending false
 sending_silent before (Item.Sent number message) apart = apart
 sending_silent before _ apart = refl
 
-sendings_silent : Keeps concerns_messages changes_sendings
+sendings_silent : Keeps concerns_messages item_changes_sendings
 sendings_silent before sent (Item.Sent number message) apart = cc
 sendings_silent before sent _ apart = refl
 
@@ -296,8 +296,8 @@ waiting_same n before items none =
     rw (keeps.deliverable, keeps.delivered) refl
 
 pub messages_keep : (before items : List Item) → NoneConcern concerns_messages before items
-    → MessagesKeep before (before ++ items)
-unfolding next_message next_waiting sendings
+    → JournalMessagesKeep before (before ++ items)
+unfolding journal_next_message next_waiting sendings
 messages_keep before items none = record {
   next = ap (λ k. k + 1) (sent_count_stays before items none);
   waiting = first_stays_of _ is_waiting _ sent_count_stays waiting_same before items none;
@@ -306,12 +306,12 @@ messages_keep before items none = record {
 
 -- ---- all packets
 
-packet_silent : Silent concerns_packets is_packet false
+packet_silent : Silent item_concerns_packets is_packet false
 packet_silent before (Item.Entered packet switch header) apart = apart
 packet_silent before (Item.Closed packet switch) apart = apart
 packet_silent before _ apart = refl
 
-travel_silent : (i : ℕ) → Silent concerns_packets (gives_travelling i) None
+travel_silent : (i : ℕ) → Silent item_concerns_packets (item_gives_travelling i) None
 travel_silent i before (Item.Entered packet switch header) apart = cc
 travel_silent i before (Item.Dropped packet) apart = cc
 travel_silent i before (Item.Left packet port leaving) apart = cc
@@ -319,16 +319,16 @@ travel_silent i before (Item.Lost packet) apart = cc
 travel_silent i before (Item.Stuck packet switch cause leg down) apart = cc
 travel_silent i before _ apart = refl
 
-travels_stay : (i : ℕ) → Stays concerns_packets (λ js. travels js i)
+travels_stay : (i : ℕ) → Stays item_concerns_packets (λ js. travels js i)
 unfolding travels
-travels_stay i = last_or_stays (gives_travelling i) false concerns_packets (travel_silent i)
+travels_stay i = last_or_stays (item_gives_travelling i) false item_concerns_packets (travel_silent i)
 
-packet_count_stays : Stays concerns_packets (count_of is_packet)
-packet_count_stays = count_stays is_packet concerns_packets packet_silent
+packet_count_stays : Stays item_concerns_packets (count_of is_packet)
+packet_count_stays = count_stays is_packet item_concerns_packets packet_silent
 
-pub packets_keep : (before items : List Item) → NoneConcern concerns_packets before items
-    → PacketsKeep before (before ++ items)
-unfolding next_packet next_travelling
+pub packets_keep : (before items : List Item) → NoneConcern item_concerns_packets before items
+    → JournalPacketsKeep before (before ++ items)
+unfolding journal_next_packet next_travelling
 packets_keep before items none = record {
   next = ap (λ k. k + 1) (packet_count_stays before items none);
   travelling = first_stays_of _ travels _ packet_count_stays travels_stay before items none;
@@ -336,10 +336,10 @@ packets_keep before items none = record {
 
 -- ---- steps
 
-step_silent : Silent concerns_steps gives_step None
+step_silent : Silent concerns_steps item_gives_step None
 step_silent before (Item.Row row step) apart = cc
 step_silent before _ apart = refl
 
-pub step_stays : Stays concerns_steps present_step
-unfolding present_step
-step_stays = last_stays gives_step concerns_steps step_silent
+pub step_stays : Stays concerns_steps journal_present_step
+unfolding journal_present_step
+step_stays = last_stays item_gives_step concerns_steps step_silent

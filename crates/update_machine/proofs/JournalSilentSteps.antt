@@ -1,7 +1,7 @@
 -- What is counted over the steps of a journal stays as it is behind items that don't concern it.
 use Rattle.std.proofs.Common.{[], ◌++◌, ◌+◌, ◌||◌, ◌∙◌, ◌∷◌, ◌≡◌, Bool, IsFalse, List, None, Option, add-zero, ap, append-nil, append_assoc, arith, false, if◌then◌else◌, refl, subst, sum_by, sym, true, unwrap_or, ℕ}
 use Rattle.base.proofs.Exports.{⊤, filter_agree, list_any, option_or, option_or-none, sum_by-cons}
-use Rattle.update_machine.specs.Exports.{Hop, Item, LinkRow, NoneConcern, PacketKeeps, Setting, StepItems, SwitchKeeps, all_given, body_to_switch, boot_of, cache_of, changes_cache, changes_found, changes_heard, changes_hops, changes_leg, changes_steps, concerns_calls, concerns_links, concerns_packet, concerns_switch, count_of, decision_of, first_given, folded_from, folded_value, found_down, gives_boot, gives_decision, gives_header, gives_ingress, gives_link, gives_route, gives_serving, gives_standing, gives_travelling, gives_up, handled_count, header_in, heard, holds_version, hop_calls, ingress_of, is_entry_at, is_link_up, is_message_to, is_packet_move, is_up, is_usable, last_given, leg_of, near, next_switch, route_in, route_place, serves, stamp_of, standing, stays_on_way, steps_in, stuck_at_link, travels, travels_at, steps_with_item}
+use Rattle.update_machine.specs.Exports.{Hop, Item, LinkRow, NoneConcern, JournalPacketKeeps, Setting, StepItems, JournalSwitchKeeps, journal_all_given, journal_body_to_switch, journal_boot_of, journal_cache_of, changes_journal_cache, item_changes_found, changes_heard, changes_hops, changes_journal_leg, item_changes_steps, item_concerns_calls, concerns_links, concerns_packet, concerns_switch, count_of, journal_decision_of, journal_first_given, folded_journal_from, journal_folded_value, journal_found_down, item_gives_boot, item_gives_decision, item_gives_header, item_gives_ingress, gives_journal_link, item_gives_route, item_gives_serving, item_gives_standing, item_gives_travelling, item_gives_switch_up, journal_handled_count, journal_packet_header, heard, holds_version, journal_hop_calls, journal_ingress_of, is_machine_entry_at, is_link_up_in_journal, is_journal_message_to, is_packet_move, is_up, is_usable_in_journal, journal_last_given, journal_leg_of, near, next_switch, journal_route_in, route_place, serves, journal_stamp_of, standing, journal_stays_on_way, journal_steps_in, stuck_at_link, travels, journal_travels_at, steps_with_item}
 use Rattle.update_machine.proofs.JournalBlockNumbers.{all_given_append, count_of_append, first_given_append, folded_append, last_given_append}
 use Rattle.failover.specs.Exports.{no_links}
 
@@ -49,23 +49,23 @@ stays says concerns one before (item ∷ items) none =
     ∙ stays says concerns one (before ++ item ∷ []) items none.1 ∙ one before item none.0
 
 pub last_stays : {X : Type 0} (tells : Item → Option X) (concerns : List Item → Item → Bool)
-    → Silent concerns tells None → Stays concerns (last_given tells)
-last_stays tells concerns silent = stays (last_given tells) concerns
+    → Silent concerns tells None → Stays concerns (journal_last_given tells)
+last_stays tells concerns silent = stays (journal_last_given tells) concerns
     (λ js item apart. last_given_append tells js (item ∷ [])
-    ∙ ap (λ o. option_or o (last_given tells js)) (silent js item apart))
+    ∙ ap (λ o. option_or o (journal_last_given tells js)) (silent js item apart))
 
 pub last_or_stays : {X : Type 0} (tells : Item → Option X) (other : X)
     (concerns : List Item → Item → Bool) → Silent concerns tells None
-    → Stays concerns (λ js. unwrap_or (last_given tells js) other)
+    → Stays concerns (λ js. unwrap_or (journal_last_given tells js) other)
 last_or_stays tells other concerns silent before items none =
     ap (λ o. unwrap_or o other) (last_stays tells concerns silent before items none)
 
 pub first_stays : {X : Type 0} (tells : Item → Option X) (concerns : List Item → Item → Bool)
-    → Silent concerns tells None → Stays concerns (first_given tells)
-first_stays tells concerns silent = stays (first_given tells) concerns
+    → Silent concerns tells None → Stays concerns (journal_first_given tells)
+first_stays tells concerns silent = stays (journal_first_given tells) concerns
     (λ js item apart. first_given_append tells js (item ∷ [])
-    ∙ ap (λ o. option_or (first_given tells js) (option_or o None)) (silent js item apart)
-    ∙ option_or-none (first_given tells js))
+    ∙ ap (λ o. option_or (journal_first_given tells js) (option_or o None)) (silent js item apart)
+    ∙ option_or-none (journal_first_given tells js))
 
 pub count_stays : (test : Item → Bool) (concerns : List Item → Item → Bool)
     → Silent concerns test false → Stays concerns (count_of test)
@@ -76,17 +76,17 @@ count_stays test concerns silent = stays (count_of test) concerns
     ∙ add-zero (count_of test js))
 
 pub given_stays : {X : Type 0} (gives : Item → List X) (concerns : List Item → Item → Bool)
-    → Silent concerns gives [] → Stays concerns (all_given gives)
-given_stays gives concerns silent = stays (all_given gives) concerns
-    (λ js item apart. all_given_append gives js (item ∷ []) ∙ ap (λ xs. all_given gives js
-    ++ (xs ++ [])) (silent js item apart) ∙ append-nil (all_given gives js))
+    → Silent concerns gives [] → Stays concerns (journal_all_given gives)
+given_stays gives concerns silent = stays (journal_all_given gives) concerns
+    (λ js item apart. all_given_append gives js (item ∷ []) ∙ ap (λ xs. journal_all_given gives js
+    ++ (xs ++ [])) (silent js item apart) ∙ append-nil (journal_all_given gives js))
 
 pub folded_stays : {X : Type 0} (changes : List Item → X → Item → X) (start : X)
     (concerns : List Item → Item → Bool) → Keeps concerns changes
-    → Stays concerns (folded_value changes start)
-folded_stays changes start concerns silent = stays (folded_value changes start) concerns
+    → Stays concerns (journal_folded_value changes start)
+folded_stays changes start concerns silent = stays (journal_folded_value changes start) concerns
     (λ js item apart. folded_append changes start js (item ∷ [])
-    ∙ silent js (folded_value changes start js) item apart)
+    ∙ silent js (journal_folded_value changes start js) item apart)
 
 -- ---- silent steps
 
@@ -103,19 +103,19 @@ with_ends journal item (newest ∷ steps) ends =
     cc (append_assoc newest.before newest.items (item ∷ []), ends)
 
 more_ends : (journal : List Item) (item : Item) (steps : List StepItems) → EndsWith journal steps
-    → EndsWith (journal ++ item ∷ []) (changes_steps journal steps item)
+    → EndsWith (journal ++ item ∷ []) (item_changes_steps journal steps item)
 more_ends journal (Item.Row row step) steps ends = refl
 more_ends journal other steps ends = with_ends journal other steps ends
 
 all_end : (before items : List Item) (steps : List StepItems) → EndsWith before steps
-    → EndsWith (before ++ items) (folded_from changes_steps before steps items)
+    → EndsWith (before ++ items) (folded_journal_from item_changes_steps before steps items)
 all_end before [] steps ends = subst (λ js. EndsWith js steps) (sym (append-nil before)) ends
 all_end before (item ∷ items) steps ends = rw (append_assoc before (item ∷ []) items) at
-    (all_end (before ++ item ∷ []) items (changes_steps before steps item)
+    (all_end (before ++ item ∷ []) items (item_changes_steps before steps item)
     (more_ends before item steps ends))
 
-steps_end : (journal : List Item) → EndsWith journal (steps_in journal)
-unfolding steps_in
+steps_end : (journal : List Item) → EndsWith journal (journal_steps_in journal)
+unfolding journal_steps_in
 steps_end journal = all_end [] journal [] tt
 
 -- ---- a weight of steps
@@ -132,7 +132,7 @@ pub record LeavesWeight (weigh : StepItems → ℕ) (before : List Item) (item :
 
 weight_by : (weigh : StepItems → ℕ) (before : List Item) (item : Item) (steps : List StepItems)
     → EndsWith before steps → LeavesWeight weigh before item
-    → sum_by weigh (changes_steps before steps item) ≡ sum_by weigh steps
+    → sum_by weigh (item_changes_steps before steps item) ≡ sum_by weigh steps
 weight_by weigh before (Item.Row row step) steps ends leaves =
     sum_by-cons weigh (record { before = before; items = Item.Row row step ∷ [] }) steps
     ∙ ap (λ k. k + sum_by weigh steps) leaves.alone ∙ omega arith
@@ -144,11 +144,11 @@ weight_by weigh before other (newest ∷ steps) ends leaves =
 
 pub weight_stays : (weigh : StepItems → ℕ) (before : List Item) (item : Item)
     → LeavesWeight weigh before item
-    → sum_by weigh (steps_in (before ++ item ∷ [])) ≡ sum_by weigh (steps_in before)
-unfolding steps_in
+    → sum_by weigh (journal_steps_in (before ++ item ∷ [])) ≡ sum_by weigh (journal_steps_in before)
+unfolding journal_steps_in
 weight_stays weigh before item leaves =
-    ap (sum_by weigh) (folded_append changes_steps [] before (item ∷ []))
-    ∙ weight_by weigh before item (steps_in before) (steps_end before) leaves
+    ap (sum_by weigh) (folded_append item_changes_steps [] before (item ∷ []))
+    ∙ weight_by weigh before item (journal_steps_in before) (steps_end before) leaves
 
 -- ---- calls
 
@@ -185,72 +185,72 @@ stuck_more last still (first ∷ items) = stuck_more last still items
 
 calls_more : (s : ℕ) (newest : StepItems) (more : List Item) (last : Item) → is_still last ≡ true
     → is_row last ≡ false → (items : List Item)
-    → hop_calls s (record newest { items = more }) (items ++ last ∷ []) ≡ hop_calls s newest items
+    → journal_hop_calls s (record newest { items = more }) (items ++ last ∷ []) ≡ journal_hop_calls s newest items
 calls_more s newest more (Item.Row row step) still row_less [] = cc
 calls_more s newest more other still row_less [] = refl
 calls_more s newest more last still row_less (Item.Row row (Hop packet) ∷ items) =
-    ap (λ b. if travels_at newest.before s packet then (if b then 1 else 2) else 0) same
+    ap (λ b. if journal_travels_at newest.before s packet then (if b then 1 else 2) else 0) same
   where
-    same : stays_on_way (items ++ last ∷ []) ≡ stays_on_way items
+    same : journal_stays_on_way (items ++ last ∷ []) ≡ journal_stays_on_way items
     same = rw (move_more last still items, stuck_more last still items) refl
 calls_more s newest more last still row_less (first ∷ items) = refl
 
-calls_still : (s : ℕ) (before : List Item) (item : Item) → IsFalse (concerns_calls s before item)
+calls_still : (s : ℕ) (before : List Item) (item : Item) → IsFalse (item_concerns_calls s before item)
     → is_still item ≡ true
 calls_still s before (Item.Hopped packet switch) apart = cc
 calls_still s before (Item.Stuck packet switch cause leg down) apart = cc
 calls_still s before _ apart = refl
 
-calls_alone : (s : ℕ) (before : List Item) (item : Item) → IsFalse (concerns_calls s before item)
-    → hop_calls s (record { before = before; items = item ∷ [] }) (item ∷ []) ≡ 0
+calls_alone : (s : ℕ) (before : List Item) (item : Item) → IsFalse (item_concerns_calls s before item)
+    → journal_hop_calls s (record { before = before; items = item ∷ [] }) (item ∷ []) ≡ 0
 calls_alone s before (Item.Row row (Hop packet)) apart = rw apart refl
 calls_alone s before (Item.Row row other) apart = refl
 calls_alone s before _ apart = refl
 
-entry_silent : (s : ℕ) → Silent (concerns_calls s) (is_entry_at s) false
+entry_silent : (s : ℕ) → Silent (item_concerns_calls s) (is_machine_entry_at s) false
 entry_silent s before (Item.Entered packet switch header) apart = apart
 entry_silent s before (Item.Closed packet switch) apart = apart
 entry_silent s before _ apart = refl
 
-call_stays : (s : ℕ) (before : List Item) (item : Item) → IsFalse (concerns_calls s before item)
-    → handled_count (before ++ item ∷ []) s ≡ handled_count before s
-unfolding handled_count
+call_stays : (s : ℕ) (before : List Item) (item : Item) → IsFalse (item_concerns_calls s before item)
+    → journal_handled_count (before ++ item ∷ []) s ≡ journal_handled_count before s
+unfolding journal_handled_count
 call_stays s before item apart =
-    let entries = count_stays (is_entry_at s) (concerns_calls s) (entry_silent s) before
+    let entries = count_stays (is_machine_entry_at s) (item_concerns_calls s) (entry_silent s) before
     (item ∷ []) (apart, tt) in
-    let calls : sum_by (λ step. hop_calls s step step.items) (steps_in (before ++ item ∷ []))
-    ≡ sum_by (λ step. hop_calls s step step.items) (steps_in before) =
-    weight_stays (λ step. hop_calls s step step.items) before item (record {
+    let calls : sum_by (λ step. journal_hop_calls s step step.items) (journal_steps_in (before ++ item ∷ []))
+    ≡ sum_by (λ step. journal_hop_calls s step step.items) (journal_steps_in before) =
+    weight_stays (λ step. journal_hop_calls s step step.items) before item (record {
       alone = calls_alone s before item apart;
       more = λ newest ends row_less. calls_more s newest (newest.items ++ item ∷ []) item
           (calls_still s before item apart) row_less newest.items;
     }) in
     rw (entries, calls) refl
 
-pub calls_stay : (s : ℕ) → Stays (concerns_calls s) (λ js. handled_count js s)
+pub calls_stay : (s : ℕ) → Stays (item_concerns_calls s) (λ js. journal_handled_count js s)
 calls_stay s before items none =
-    stays (λ js. handled_count js s) (concerns_calls s) (call_stays s) before items none
+    stays (λ js. journal_handled_count js s) (item_concerns_calls s) (call_stays s) before items none
 
 -- ---- items that don't concern a switch, or the links, leave its facts as they are
 
-boot_silent : (s : ℕ) → Silent (concerns_switch s) (gives_boot s) None
+boot_silent : (s : ℕ) → Silent (concerns_switch s) (item_gives_boot s) None
 boot_silent s before (Item.Booted switch boot) apart = rw apart refl
 boot_silent s before _ apart = refl
 
-up_silent : (s : ℕ) → Silent (concerns_switch s) (gives_up s) None
+up_silent : (s : ℕ) → Silent (concerns_switch s) (item_gives_switch_up s) None
 up_silent s before (Item.Booted switch boot) apart = rw apart refl
 up_silent s before (Item.Down switch) apart = rw apart refl
 up_silent s before _ apart = refl
 
-serving_silent : (s : ℕ) → Silent (concerns_switch s) (gives_serving s) None
+serving_silent : (s : ℕ) → Silent (concerns_switch s) (item_gives_serving s) None
 serving_silent s before (Item.Booted switch boot) apart = rw apart refl
 serving_silent s before (Item.Down switch) apart = rw apart refl
 serving_silent s before (Item.Opened switch version) apart = rw apart refl
 serving_silent s before _ apart = refl
 
 -- a message for another receiver says nothing to the switch
-said_nothing : (before : List Item) (s number : ℕ) → IsFalse (is_message_to before s number)
-    → body_to_switch before s number ≡ None
+said_nothing : (before : List Item) (s number : ℕ) → IsFalse (is_journal_message_to before s number)
+    → journal_body_to_switch before s number ≡ None
 said_nothing before s number apart = grind arith
 
 heard_silent : (s : ℕ) → Keeps (concerns_switch s) (changes_heard s)
@@ -260,7 +260,7 @@ heard_silent s before bodies (Item.Delivered number) apart = rw (said_nothing be
     refl
 heard_silent s before bodies _ apart = refl
 
-cache_silent : (setting : Setting) (s : ℕ) → Keeps (concerns_switch s) (changes_cache setting s)
+cache_silent : (setting : Setting) (s : ℕ) → Keeps (concerns_switch s) (changes_journal_cache setting s)
 cache_silent setting s before cache (Item.Booted switch boot) apart = rw apart refl
 cache_silent setting s before cache (Item.Down switch) apart = rw apart refl
 cache_silent setting s before cache (Item.Expired switch place message) apart = rw apart refl
@@ -269,8 +269,8 @@ cache_silent setting s before cache (Item.Delivered number) apart = rw (said_not
 cache_silent setting s before cache _ apart = refl
 
 pub switch_keeps : (setting : Setting) (s : ℕ) (before items : List Item)
-    → NoneConcern (concerns_switch s) before items → SwitchKeeps setting s before (before ++ items)
-unfolding boot_of is_up serves heard stamp_of holds_version cache_of
+    → NoneConcern (concerns_switch s) before items → JournalSwitchKeeps setting s before (before ++ items)
+unfolding journal_boot_of is_up serves heard journal_stamp_of holds_version journal_cache_of
 switch_keeps setting s before items none =
     let boot = last_or_stays _ 1 _ (boot_silent s) before items none in
     let up = last_or_stays _ true _ (up_silent s) before items none in
@@ -286,13 +286,13 @@ switch_keeps setting s before items none =
 
 -- ---- links
 
-served_silent : (s : ℕ) → Silent concerns_links (gives_serving s) None
+served_silent : (s : ℕ) → Silent concerns_links (item_gives_serving s) None
 served_silent s before (Item.Booted switch boot) apart = cc
 served_silent s before (Item.Down switch) apart = cc
 served_silent s before (Item.Opened switch version) apart = cc
 served_silent s before _ apart = refl
 
-link_silent : (low high : ℕ) → Silent concerns_links (gives_link low high) None
+link_silent : (low high : ℕ) → Silent concerns_links (gives_journal_link low high) None
 link_silent low high before (Item.LinkIs one two up) apart = cc
 link_silent low high before _ apart = refl
 
@@ -302,24 +302,24 @@ unfolding serves
 served_stays before items none s = last_or_stays _ true _ (served_silent s) before items none
 
 pub link_stays : (before items : List Item) → NoneConcern concerns_links before items
-    → (one other : ℕ) → is_link_up (before ++ items) one other ≡ is_link_up before one other
-unfolding is_link_up
+    → (one other : ℕ) → is_link_up_in_journal (before ++ items) one other ≡ is_link_up_in_journal before one other
+unfolding is_link_up_in_journal
 link_stays before items none one other = last_or_stays _ true _ (link_silent _ _) before items none
 
 usable_same : (before after : List Item) → ((s : ℕ) → serves after s ≡ serves before s)
-    → ((one other : ℕ) → is_link_up after one other ≡ is_link_up before one other)
-    → (link : LinkRow) → is_usable after link ≡ is_usable before link
+    → ((one other : ℕ) → is_link_up_in_journal after one other ≡ is_link_up_in_journal before one other)
+    → (link : LinkRow) → is_usable_in_journal after link ≡ is_usable_in_journal before link
 usable_same before after serving up link =
-    let c : is_link_up after link.one link.two ≡ is_link_up before link.one link.two =
+    let c : is_link_up_in_journal after link.one link.two ≡ is_link_up_in_journal before link.one link.two =
     up link.one link.two in
     rw ((serving link.one), serving link.two, c) refl
 
 pub near_same : (setting : Setting) (before after : List Item)
     → ((s : ℕ) → serves after s ≡ serves before s)
-    → ((one other : ℕ) → is_link_up after one other ≡ is_link_up before one other)
+    → ((one other : ℕ) → is_link_up_in_journal after one other ≡ is_link_up_in_journal before one other)
     → (s : ℕ) → near setting after s ≡ near setting before s
 unfolding near
-near_same setting before after serving up s = cc (filter_agree (is_usable after) (is_usable before)
+near_same setting before after serving up s = cc (filter_agree (is_usable_in_journal after) (is_usable_in_journal before)
     (usable_same before after serving up) setting.net.links)
 
 pub near_stays : (setting : Setting) (s : ℕ) → Stays concerns_links (λ js. near setting js s)
@@ -328,20 +328,20 @@ near_stays setting s before items none = near_same setting before
 
 -- ---- items that don't concern a packet leave its facts as they are
 
-header_silent : (i : ℕ) → Silent (concerns_packet i) (gives_header i) None
+header_silent : (i : ℕ) → Silent (concerns_packet i) (item_gives_header i) None
 header_silent i before (Item.Entered packet switch header) apart = rw apart refl
 header_silent i before _ apart = refl
 
-ingress_silent : (i : ℕ) → Silent (concerns_packet i) (gives_ingress i) None
+ingress_silent : (i : ℕ) → Silent (concerns_packet i) (item_gives_ingress i) None
 ingress_silent i before (Item.Entered packet switch header) apart = rw apart refl
 ingress_silent i before _ apart = refl
 
-standing_silent : (i : ℕ) → Silent (concerns_packet i) (gives_standing i) None
+standing_silent : (i : ℕ) → Silent (concerns_packet i) (item_gives_standing i) None
 standing_silent i before (Item.Entered packet switch header) apart = rw apart refl
 standing_silent i before (Item.Hopped packet switch) apart = rw apart refl
 standing_silent i before _ apart = refl
 
-travel_silent : (i : ℕ) → Silent (concerns_packet i) (gives_travelling i) None
+travel_silent : (i : ℕ) → Silent (concerns_packet i) (item_gives_travelling i) None
 travel_silent i before (Item.Entered packet switch header) apart = rw apart refl
 travel_silent i before (Item.Dropped packet) apart = rw apart refl
 travel_silent i before (Item.Left packet port leaving) apart = rw apart refl
@@ -349,16 +349,16 @@ travel_silent i before (Item.Lost packet) apart = rw apart refl
 travel_silent i before (Item.Stuck packet switch cause leg down) apart = rw apart refl
 travel_silent i before _ apart = refl
 
-decision_silent : (i : ℕ) → Silent (concerns_packet i) (gives_decision i) None
+decision_silent : (i : ℕ) → Silent (concerns_packet i) (item_gives_decision i) None
 decision_silent i before (Item.Decided packet version rule action how) apart = rw apart refl
 decision_silent i before _ apart = refl
 
-leg_silent : (i : ℕ) → Keeps (concerns_packet i) (changes_leg i)
+leg_silent : (i : ℕ) → Keeps (concerns_packet i) (changes_journal_leg i)
 leg_silent i before leg (Item.Seeking packet version partition route) apart = rw apart refl
 leg_silent i before leg (Item.Exiting packet route) apart = rw apart refl
 leg_silent i before leg _ apart = refl
 
-route_silent : (i : ℕ) → Silent (concerns_packet i) (gives_route i) None
+route_silent : (i : ℕ) → Silent (concerns_packet i) (item_gives_route i) None
 route_silent i before (Item.Seeking packet version partition route) apart = rw apart refl
 route_silent i before (Item.Exiting packet route) apart = rw apart refl
 route_silent i before (Item.Rerouted packet route) apart = rw apart refl
@@ -371,14 +371,14 @@ hops_silent i before hops (Item.Rerouted packet route) apart = rw apart refl
 hops_silent i before hops (Item.Hopped packet switch) apart = rw apart refl
 hops_silent i before hops _ apart = refl
 
-found_silent : (i : ℕ) → Keeps (concerns_packet i) (changes_found i)
+found_silent : (i : ℕ) → Keeps (concerns_packet i) (item_changes_found i)
 found_silent i before links (Item.FoundDown packet one two) apart = rw apart refl
 found_silent i before links _ apart = refl
 
 pub packet_keeps : (i : ℕ) (before items : List Item) → NoneConcern (concerns_packet i) before items
-    → PacketKeeps i before (before ++ items)
-unfolding header_in ingress_of standing travels decision_of leg_of route_in route_place next_switch
-    found_down
+    → JournalPacketKeeps i before (before ++ items)
+unfolding journal_packet_header journal_ingress_of standing travels journal_decision_of journal_leg_of journal_route_in route_place next_switch
+    journal_found_down
 packet_keeps i before items none =
     let route = last_or_stays _ [] _ (route_silent i) before items none in
     let place = folded_stays _ 0 _ (hops_silent i) before items none in record {

@@ -1,16 +1,16 @@
 -- Where there is an answer there is a play: all of it, or the steps before the first one that would
 -- begin full.
 use Rattle.std.proofs.Common.{[], ◌++◌, ◌+◌, ◌↔◌, ◌∙◌, ◌∷◌, ◌≡◌, ◌≤◌, ◌⊎◌, All, List, None, Option, Some, ap, append_assoc, arith, inl, inr, length, option_map, refl, subst, suc, sym, take_all, ℕ}
-use Rattle.update_machine.specs.Exports.{Answers, AnswersSoFar, AnswersWithRoom, AreAllEventSteps, AreAnswered, AreFirstSteps, AreFirstStepsOf, AreFirstEventSteps, AreSteps, AreStepsOf, BeginsAnswer, Deliver, Drain, Event, Flush, HasPlay, HasRoom, JournalsHaveRoom, Hop, IsFull, IsPlay, Item, One, Setting, Step, StepOfRow, StopsFull, journal_after_steps, count_of, journal_full_at, is_sending, next_delivery, next_hop, next_message, next_travelling, next_waiting, piece}
+use Rattle.update_machine.specs.Exports.{Answers, JournalAnswersSoFar, JournalAnswersWithRoom, AreAllMachineEventSteps, AreAnsweredByJournal, AreJournalFirstSteps, AreFirstStepsOf, AreFirstMachineEventSteps, AreMachineSteps, AreMachineStepsOf, JournalBeginsAnswer, Deliver, Drain, Event, Flush, HasMachinePlay, HasRoom, MachineJournalsHaveRoom, Hop, IsJournalFull, IsMachinePlay, Item, One, Setting, Step, StepOfRow, JournalStopsFull, journal_after_steps, count_of, machine_journal_full_at, is_sending, journal_next_delivery, journal_next_hop, journal_next_message, next_travelling, next_waiting, piece}
 use Rattle.base.proofs.Exports.{⊤, AllByRecursion, cases_lt}
-use Rattle.policy_rules.proofs.CallerLemmas.{append_not_nil}
+use Rattle.policy_rules.proofs.PolicyRulesCallerLemmas.{append_not_nil}
 use Rattle.update_machine.proofs.JournalFirstSteps.{Begins, begins_cons, begins_nil, first_begin_all, first_steps_either, one_answer}
 
 -- ---- an answer answers as far as it goes, and begins itself
 
 pub all_are_first : (setting : Setting) (row : ℕ) (events : List Event) (before : List Item)
-    (steps : List StepOfRow) → AreSteps setting row events before steps
-    → AreFirstSteps setting row events before steps
+    (steps : List StepOfRow) → AreMachineSteps setting row events before steps
+    → AreJournalFirstSteps setting row events before steps
 all_are_first setting row [] before steps all = all
 all_are_first setting row (event ∷ events) before steps all = inr (
   all.0,
@@ -21,7 +21,7 @@ all_are_first setting row (event ∷ events) before steps all = inr (
 )
 
 pub answers_so_far : (setting : Setting) (events : List Event) (journal : List Item)
-    → Answers setting events journal → AnswersSoFar setting events journal
+    → Answers setting events journal → JournalAnswersSoFar setting events journal
 answers_so_far setting events journal answers = record {
   steps = answers.steps;
   allowed = all_are_first setting 1 events [] answers.steps answers.allowed;
@@ -29,7 +29,7 @@ answers_so_far setting events journal answers = record {
 }
 
 pub begins_itself : (setting : Setting) (events : List Event) (journal : List Item)
-    → AnswersSoFar setting events journal → BeginsAnswer setting events journal
+    → JournalAnswersSoFar setting events journal → JournalBeginsAnswer setting events journal
 begins_itself setting events journal answers = record {
   whole = journal;
   answers = answers;
@@ -67,15 +67,15 @@ next_is : (Is : Step → Type 0) (make : ℕ → Step) → ((n : ℕ) → Is (ma
 next_is Is make all None step e = absurd cc
 next_is Is make all (Some n) step e = let same : make n ≡ step = cc in subst Is same (all n)
 
-hops : (Is : Step → Type 0) → HasNexts Is → IsNext Is next_hop
+hops : (Is : Step → Type 0) → HasNexts Is → IsNext Is journal_next_hop
 hops Is has before = next_is Is Hop has.hop (next_travelling before)
 
-deliveries : (Is : Step → Type 0) → HasNexts Is → IsNext Is next_delivery
+deliveries : (Is : Step → Type 0) → HasNexts Is → IsNext Is journal_next_delivery
 deliveries Is has before = next_is Is Deliver has.delivery (next_waiting before)
 
 some_are : (Is : Step → Type 0) (setting : Setting) (next : List Item → Option Step)
     → IsNext Is next → (row : ℕ) (before : List Item) (steps : List StepOfRow)
-    → AreFirstEventSteps setting next row before steps → AreOf Is steps
+    → AreFirstMachineEventSteps setting next row before steps → AreOf Is steps
 some_are Is setting next are row before [] some = tt
 some_are Is setting next are row before (first ∷ steps) some = (
   are before first.step some.1,
@@ -89,14 +89,14 @@ pub firsts_are : (Is : Step → Type 0) → HasNexts Is → (setting : Setting) 
 firsts_are Is has setting row (One step) before steps is (inl none) = subst (AreOf Is) (sym none) tt
 firsts_are Is has setting row (One step) before steps is (inr one) = rw one (is, tt)
 firsts_are Is has setting row Flush before steps is are =
-    some_are Is setting next_delivery (deliveries Is has) row before steps are
+    some_are Is setting journal_next_delivery (deliveries Is has) row before steps are
 firsts_are Is has setting row Drain before steps is are =
-    some_are Is setting next_hop (hops Is has) row before steps are
+    some_are Is setting journal_next_hop (hops Is has) row before steps are
 
 -- all steps are first ones
 all_some : (setting : Setting) (next : List Item → Option Step) (row : ℕ) (before : List Item)
-    (steps : List StepOfRow) → AreAllEventSteps setting next row before steps
-    → AreFirstEventSteps setting next row before steps
+    (steps : List StepOfRow) → AreAllMachineEventSteps setting next row before steps
+    → AreFirstMachineEventSteps setting next row before steps
 all_some setting next row before [] all = tt
 all_some setting next row before (first ∷ steps) all = (
   all.0,
@@ -105,22 +105,22 @@ all_some setting next row before (first ∷ steps) all = (
 )
 
 pub all_first : (setting : Setting) (row : ℕ) (event : Event) (before : List Item)
-    (steps : List StepOfRow) → AreStepsOf setting row event before steps
+    (steps : List StepOfRow) → AreMachineStepsOf setting row event before steps
     → AreFirstStepsOf setting row event before steps
 all_first setting row (One step) before steps all = inr all
-all_first setting row Flush before steps all = all_some setting next_delivery row before steps all
-all_first setting row Drain before steps all = all_some setting next_hop row before steps all
+all_first setting row Flush before steps all = all_some setting journal_next_delivery row before steps all
+all_first setting row Drain before steps all = all_some setting journal_next_hop row before steps all
 
 pub event_steps_are : (Is : Step → Type 0) → HasNexts Is → (setting : Setting) (row : ℕ)
     (event : Event) (before : List Item) (steps : List StepOfRow) → IsEventOf Is event
-    → AreStepsOf setting row event before steps → AreOf Is steps
+    → AreMachineStepsOf setting row event before steps → AreOf Is steps
 event_steps_are Is has setting row event before steps is all = firsts_are Is has setting row event
     before steps is (all_first setting row event before steps all)
 
 -- and so are the first steps of events
 pub first_steps_are : (Is : Step → Type 0) → HasNexts Is → (setting : Setting) (row : ℕ)
     (events : List Event) (before : List Item) (steps : List StepOfRow)
-    → All (IsEventOf Is) events → AreFirstSteps setting row events before steps → AreOf Is steps
+    → All (IsEventOf Is) events → AreJournalFirstSteps setting row events before steps → AreOf Is steps
 first_steps_are Is has setting row [] before steps is are = subst (AreOf Is) (sym are) tt
 first_steps_are Is has setting row (event ∷ events) before steps is (inl are) =
     firsts_are Is has setting row event before steps (is 0 event (omega arith)) are
@@ -131,22 +131,22 @@ first_steps_are Is has setting row (event ∷ events) before steps is (inr are) 
 
 -- ---- there is one play of the events of a schedule
 
-pub full_by_count : (journal : List Item) → IsFull journal ↔ journal_full_at ≤ count_of is_sending journal
-unfolding next_message
+pub full_by_count : (journal : List Item) → IsJournalFull journal ↔ machine_journal_full_at ≤ count_of is_sending journal
+unfolding journal_next_message
 full_by_count journal = (λ full. omega (arith, full), λ many. omega (arith, many))
 
 -- ---- room
 
 pub rooms_append : (setting : Setting) (before : List Item) (xs ys : List StepOfRow)
-    → JournalsHaveRoom setting before xs → JournalsHaveRoom setting (journal_after_steps setting before xs) ys
-    → JournalsHaveRoom setting before (xs ++ ys)
+    → MachineJournalsHaveRoom setting before xs → MachineJournalsHaveRoom setting (journal_after_steps setting before xs) ys
+    → MachineJournalsHaveRoom setting before (xs ++ ys)
 rooms_append setting before [] ys room more = more
 rooms_append setting before (x ∷ xs) ys room more =
     (room.0, rooms_append setting (before ++ piece setting before x.row x.step) xs ys room.1 more)
 
 -- each of the steps began with room
 room_before : (setting : Setting) (before : List Item) (xs : List StepOfRow) (y : StepOfRow)
-    (zs : List StepOfRow) → JournalsHaveRoom setting before (xs ++ y ∷ zs)
+    (zs : List StepOfRow) → MachineJournalsHaveRoom setting before (xs ++ y ∷ zs)
     → HasRoom (journal_after_steps setting before xs)
 room_before setting before [] y zs room = room.0
 room_before setting before (x ∷ xs) y zs room =
@@ -154,11 +154,11 @@ room_before setting before (x ∷ xs) y zs room =
 
 -- so none of them is where a play stops
 none_stops : {X : Type 0} (setting : Setting) (xs : List StepOfRow) (x : StepOfRow)
-    (ys : List StepOfRow) → IsFull (journal_after_steps setting [] xs) → JournalsHaveRoom setting [] ys
+    (ys : List StepOfRow) → IsJournalFull (journal_after_steps setting [] xs) → MachineJournalsHaveRoom setting [] ys
     → Begins (xs ++ x ∷ []) ys → X
 none_stops setting xs x ys full room begins =
     let there : HasRoom (journal_after_steps setting [] xs) = room_before setting [] xs x begins.rest
-    (subst (JournalsHaveRoom setting []) (begins.is ∙ append_assoc xs (x ∷ []) begins.rest) room) in
+    (subst (MachineJournalsHaveRoom setting []) (begins.is ∙ append_assoc xs (x ∷ []) begins.rest) room) in
     absurd (omega (arith, full, there))
 
 -- ---- lists with a last element
@@ -194,14 +194,14 @@ whole_or_front (x ∷ xs) (z ∷ ys) y begins =
 
 -- two stops, of which the first one's steps begin the other's
 stops_same : (setting : Setting) (events : List Event) (one other : List Item) (row last : ℕ)
-    (first : StopsFull setting events one row) (second : StopsFull setting events other last)
+    (first : JournalStopsFull setting events one row) (second : JournalStopsFull setting events other last)
     → Begins (first.steps ++ first.next ∷ []) (second.steps ++ second.next ∷ [])
     → (one ≡ other) × (row ≡ last)
 stops_same setting events one other row last first second begins =
     by (whole_or_front (first.steps ++ first.next ∷ []) second.steps second.next begins)
   where
-    full : IsFull (journal_after_steps setting [] first.steps)
-    full = subst IsFull first.written first.full
+    full : IsJournalFull (journal_after_steps setting [] first.steps)
+    full = subst IsJournalFull first.written first.full
 
     by : (first.steps ++ first.next ∷ [] ≡ second.steps ++ second.next ∷ [])
         ⊎ Begins (first.steps ++ first.next ∷ []) second.steps → (one ≡ other) × (row ≡ last)
@@ -213,7 +213,7 @@ stops_same setting events one other row last first second begins =
     by (inr front) = none_stops setting first.steps first.next second.steps full second.room front
 
 one_stop : (setting : Setting) (events : List Event) (one other : List Item) (row last : ℕ)
-    → StopsFull setting events one row → StopsFull setting events other last
+    → JournalStopsFull setting events one row → JournalStopsFull setting events other last
     → (one ≡ other) × (row ≡ last)
 one_stop setting events one other row last first second =
     by (first_steps_either setting 1 events [] (first.steps ++ first.next ∷ [])
@@ -229,13 +229,13 @@ one_stop setting events one other row last first second =
 
 -- a play that stops has no whole one beside it
 not_both : {X : Type 0} (setting : Setting) (events : List Event) (one other : List Item) (row : ℕ)
-    → AnswersWithRoom setting events one → StopsFull setting events other row → X
+    → JournalAnswersWithRoom setting events one → JournalStopsFull setting events other row → X
 not_both setting events one other row whole stop = none_stops setting stop.steps stop.next
-    whole.answers.steps (subst IsFull stop.written stop.full) whole.room (first_begin_all setting 1
+    whole.answers.steps (subst IsJournalFull stop.written stop.full) whole.room (first_begin_all setting 1
     events [] (stop.steps ++ stop.next ∷ []) whole.answers.steps stop.allowed whole.answers.allowed)
 
 pub one_play : (setting : Setting) (events : List Event) (one other : List Item)
-    (stop halt : Option ℕ) → IsPlay setting events one stop → IsPlay setting events other halt
+    (stop halt : Option ℕ) → IsMachinePlay setting events one stop → IsMachinePlay setting events other halt
     → (one ≡ other) × (stop ≡ halt)
 one_play setting events one other None None first second =
     (one_answer setting events one other first.answers second.answers, refl)
@@ -252,8 +252,8 @@ one_play setting events one other (Some row) (Some last) first second =
 -- ---- first steps of first steps
 
 some_front : (setting : Setting) (next : List Item → Option Step) (row : ℕ) (before : List Item)
-    (xs ys : List StepOfRow) → AreFirstEventSteps setting next row before (xs ++ ys)
-    → AreFirstEventSteps setting next row before xs
+    (xs ys : List StepOfRow) → AreFirstMachineEventSteps setting next row before (xs ++ ys)
+    → AreFirstMachineEventSteps setting next row before xs
 some_front setting next row before [] ys some = tt
 some_front setting next row before (x ∷ xs) ys some = (
   some.0,
@@ -274,9 +274,9 @@ event_front : (setting : Setting) (row : ℕ) (event : Event) (before : List Ite
 event_front setting row (One step) before xs ys first =
     one_front (record { row = row; step = step }) xs ys first
 event_front setting row Flush before xs ys first =
-    some_front setting next_delivery row before xs ys first
+    some_front setting journal_next_delivery row before xs ys first
 event_front setting row Drain before xs ys first =
-    some_front setting next_hop row before xs ys first
+    some_front setting journal_next_hop row before xs ys first
 
 -- the steps go past these ones, by more of them
 record GoPast (xs ys mine rest : List StepOfRow) : Type 0 where
@@ -301,8 +301,8 @@ front_or_past (x ∷ xs) ys (m ∷ mine) rest is =
     })
 
 pub first_front : (setting : Setting) (row : ℕ) (events : List Event) (before : List Item)
-    (xs ys : List StepOfRow) → AreFirstSteps setting row events before (xs ++ ys)
-    → AreFirstSteps setting row events before xs
+    (xs ys : List StepOfRow) → AreJournalFirstSteps setting row events before (xs ++ ys)
+    → AreJournalFirstSteps setting row events before xs
 first_front setting row [] before xs ys none = nil_front xs ys (sym none)
 first_front setting row (event ∷ events) before xs ys (inl first) =
     inl (event_front setting row event before xs ys first)
@@ -310,11 +310,11 @@ first_front setting row (event ∷ events) before xs ys (inr first) =
     by (first_front setting (row + 1) events (journal_after_steps setting before first.0))
     (front_or_past xs ys first.0 first.1 first.2.split)
   where
-    by : ((front back : List StepOfRow) → AreFirstSteps setting (row + 1) events
-        (journal_after_steps setting before first.0) (front ++ back) → AreFirstSteps setting
+    by : ((front back : List StepOfRow) → AreJournalFirstSteps setting (row + 1) events
+        (journal_after_steps setting before first.0) (front ++ back) → AreJournalFirstSteps setting
         (row + 1) events (journal_after_steps setting before first.0) front)
         → Begins xs first.0 ⊎ GoPast xs ys first.0 first.1
-        → AreFirstSteps setting row (event ∷ events) before xs
+        → AreJournalFirstSteps setting row (event ∷ events) before xs
     by onward (inl begins) = inl (event_front setting row event before xs begins.rest
         (rw begins.is at (all_first setting row event before first.0 first.3)))
     by onward (inr past) = inr (
@@ -328,7 +328,7 @@ first_front setting row (event ∷ events) before xs ys (inr first) =
 -- ---- plays
 
 pub stop_so_far : (setting : Setting) (events : List Event) (journal : List Item) (row : ℕ)
-    → StopsFull setting events journal row → AnswersSoFar setting events journal
+    → JournalStopsFull setting events journal row → JournalAnswersSoFar setting events journal
 stop_so_far setting events journal row stop = record {
   steps = stop.steps;
   allowed = first_front setting 1 events [] stop.steps (stop.next ∷ []) stop.allowed;
@@ -336,7 +336,7 @@ stop_so_far setting events journal row stop = record {
 }
 
 pub stop_begins : (setting : Setting) (events : List Event) (journal : List Item) (row : ℕ)
-    → StopsFull setting events journal row → BeginsAnswer setting events journal
+    → JournalStopsFull setting events journal row → JournalBeginsAnswer setting events journal
 stop_begins setting events journal row stop =
     begins_itself setting events journal (stop_so_far setting events journal row stop)
 
@@ -346,13 +346,13 @@ record FirstFull (setting : Setting) (before : List Item) (steps : List StepOfRo
   next : StepOfRow
   rest : List StepOfRow
   split : steps ≡ done ++ next ∷ rest
-  room : JournalsHaveRoom setting before done
-  full : IsFull (journal_after_steps setting before done)
+  room : MachineJournalsHaveRoom setting before done
+  full : IsJournalFull (journal_after_steps setting before done)
 
 room_or_full : (setting : Setting) (before : List Item) (steps : List StepOfRow)
-    → JournalsHaveRoom setting before steps ⊎ FirstFull setting before steps
+    → MachineJournalsHaveRoom setting before steps ⊎ FirstFull setting before steps
 room_or_full setting before [] = inl tt
-room_or_full setting before (step ∷ steps) = elim (cases_lt journal_full_at (next_message before)) [
+room_or_full setting before (step ∷ steps) = elim (cases_lt machine_journal_full_at (journal_next_message before)) [
   | inl full ↦ inr (record {
     done = [];
     next = step;
@@ -375,11 +375,11 @@ room_or_full setting before (step ∷ steps) = elim (cases_lt journal_full_at (n
       ]
 ]
 
-pub play_exists : (setting : Setting) (events : List Event) → AreAnswered setting events
-    → HasPlay setting events
+pub play_exists : (setting : Setting) (events : List Event) → AreAnsweredByJournal setting events
+    → HasMachinePlay setting events
 play_exists setting events answered = by (room_or_full setting [] answered.1.steps) where
-  by : JournalsHaveRoom setting [] answered.1.steps ⊎ FirstFull setting [] answered.1.steps
-      → HasPlay setting events
+  by : MachineJournalsHaveRoom setting [] answered.1.steps ⊎ FirstFull setting [] answered.1.steps
+      → HasMachinePlay setting events
   by (inl room) = (answered.0, None, record { answers = answered.1; room = room })
   by (inr stop) = (
     journal_after_steps setting [] stop.done,

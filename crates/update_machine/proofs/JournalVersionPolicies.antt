@@ -2,8 +2,8 @@
 use Rattle.std.proofs.Common.{[], ◌++◌, ◌+◌, ◌-◌, ◌<◌, ◌==◌, ◌↔◌, ◌∙◌, ◌∷◌, ◌≡◌, ◌≢◌, ◌≤◌, ◌⊎◌, Bool, Err, IsFalse, IsOk, IsTrue, List, None, Ok, Option, Result, Some, ap, arith, eq-eqb, false, if◌then◌else◌, inl, inr, is_some, length, length-append, option_and_then, option_to_list, refl, slice_get, subst, suc, sym, true, unwrap_or, zero, ℕ}
 use Rattle.base.proofs.Exports.{cases_eq, nat_tests, option_map_or, option_or, result_ok}
 use Rattle.partition.specs.Plan.{Hosted}
-use Rattle.policy_rules.specs.Exports.{NoPlan}
-use Rattle.update_machine.specs.Exports.{HasPlan, IsSetting, Item, Machine, PoliciesKeep, Row, Setting, Takes, VersionsAreNumbered, Whole, setting_file_at, file_of, first_given, first_machine, gives_file, hosted_in_version, is_submission, is_version, made_by, next_policy, plan_at, policy_at, policy_by, policy_in, submitted_policy, version_count}
+use Rattle.policy_rules.specs.Exports.{NoPolicyPlan}
+use Rattle.update_machine.specs.Exports.{SettingHasPlan, IsSetting, Item, Machine, JournalPoliciesKeep, Row, Setting, Takes, VersionsAreNumbered, Whole, setting_file_at, file_of, journal_first_given, first_machine, item_gives_file, setting_hosted_or_none, is_submission, is_version, made_by, journal_next_policy, journal_plan_at, policy_at, policy_by, policy_in, submitted_policy, journal_version_count}
 use Rattle.update_machine.proofs.JournalBlockNumbers.{count_of_append, first_given_append}
 use Rattle.update_machine.proofs.JournalSilentLinks.{policies_keep, policy_by_files}
 
@@ -14,11 +14,11 @@ pub file_append : (before items : List Item) (v : ℕ)
     → file_of (before ++ items) v ≡ option_or (file_of before v) (file_of items v)
 unfolding file_of
 file_append before items v = by_test (v == 1) where
-  by_test : (b : Bool) → (if b then Some 1 else first_given (gives_file v) (before ++ items))
-      ≡ option_or (if b then Some 1 else first_given (gives_file v) before)
-      (if b then Some 1 else first_given (gives_file v) items)
+  by_test : (b : Bool) → (if b then Some 1 else journal_first_given (item_gives_file v) (before ++ items))
+      ≡ option_or (if b then Some 1 else journal_first_given (item_gives_file v) before)
+      (if b then Some 1 else journal_first_given (item_gives_file v) items)
   by_test true = refl
-  by_test false = first_given_append (gives_file v) before items
+  by_test false = first_given_append (item_gives_file v) before items
 
 pub file_kept : (before items : List Item) (v : ℕ) → IsTrue (is_version before v)
     → file_of (before ++ items) v ≡ file_of before v
@@ -37,51 +37,51 @@ version_kept before items v there = ap is_some (file_kept before items v there) 
 
 -- the versions up to the count keep their policies, where all of them are there
 pub policy_in_stays : (setting : Setting) (before items : List Item) (v : ℕ)
-    → VersionsAreNumbered before → v ≤ version_count before
+    → VersionsAreNumbered before → v ≤ journal_version_count before
     → policy_in setting (before ++ items) v ≡ policy_in setting before v
 policy_in_stays setting before items v are below = policy_by_files setting (before ++ items) before
     v (λ k first last. file_kept before items k ((are k).1 (first, omega (arith, last, below))))
 
 pub policy_stays : (setting : Setting) (before items : List Item) (v : ℕ)
-    → VersionsAreNumbered before → v ≤ version_count before
+    → VersionsAreNumbered before → v ≤ journal_version_count before
     → policy_at setting (before ++ items) v ≡ policy_at setting before v
 unfolding policy_at
 policy_stays setting before items v are below =
     ap (λ o. unwrap_or o []) (policy_in_stays setting before items v are below)
 
 pub plan_stays : (setting : Setting) (before items : List Item) (v : ℕ) → VersionsAreNumbered before
-    → v ≤ version_count before → plan_at setting (before ++ items) v ≡ plan_at setting before v
-unfolding plan_at
+    → v ≤ journal_version_count before → journal_plan_at setting (before ++ items) v ≡ journal_plan_at setting before v
+unfolding journal_plan_at
 plan_stays setting before items v are below = cc (policy_in_stays setting before items v are below)
 
 pub of_its_policy : (setting : Setting) (journal : List Item) (v : ℕ) (rows : List Row)
     → policy_in setting journal v ≡ Some rows → (policy_at setting journal v ≡ rows)
-    × (plan_at setting journal v ≡ hosted_in_version (setting.plan rows))
-unfolding policy_at plan_at
+    × (journal_plan_at setting journal v ≡ setting_hosted_or_none (setting.plan rows))
+unfolding policy_at journal_plan_at
 of_its_policy setting journal v rows is = (
   ap (λ o. unwrap_or o []) is,
-  ap (λ o. option_map_or (λ these. hosted_in_version (setting.plan these)) o []) is,
+  ap (λ o. option_map_or (λ these. setting_hosted_or_none (setting.plan these)) o []) is,
 )
 
 -- ---- numbers
 
 pub count_submitted : (journal : List Item) (file version : ℕ)
-    → version_count (journal ++ Item.Submitted file version ∷ []) ≡ version_count journal + 1
-unfolding version_count
+    → journal_version_count (journal ++ Item.Submitted file version ∷ []) ≡ journal_version_count journal + 1
+unfolding journal_version_count
 count_submitted journal file version =
     rw (count_of_append is_submission journal (Item.Submitted file version ∷ [])) (omega arith)
 
 -- the next version is there, and no other is new
 pub submitted_more : (journal : List Item) (file version : ℕ)
-    → version ≡ version_count journal + 1 → VersionsAreNumbered journal
+    → version ≡ journal_version_count journal + 1 → VersionsAreNumbered journal
     → VersionsAreNumbered (journal ++ Item.Submitted file version ∷ [])
 unfolding file_of
 submitted_more journal file version next are v = rw (file_append, count_submitted)
     (by (file_of journal v) (are v))
   where
-    by : (o : Option ℕ) → (IsTrue (is_some o) ↔ ((1 ≤ v) × (v ≤ version_count journal)))
+    by : (o : Option ℕ) → (IsTrue (is_some o) ↔ ((1 ≤ v) × (v ≤ journal_version_count journal)))
         → IsTrue (is_some (option_or o (file_of (Item.Submitted file version ∷ []) v))) ↔
-        ((1 ≤ v) × (v ≤ version_count journal + 1))
+        ((1 ≤ v) × (v ≤ journal_version_count journal + 1))
     by (Some earlier) known = let low = known.0 refl in
         (λ there. (omega (arith, low), omega (arith, low)), λ within. refl)
     by None known = (λ there. grind (arith, nat_tests), λ within. grind (arith, nat_tests))
@@ -92,40 +92,40 @@ other_more journal item apart are v =
     let keep = policies_keep journal (item ∷ []) (apart, tt) in rw (keep.file v, keep.count) (are v)
 
 pub numbered_at_first : VersionsAreNumbered []
-unfolding file_of version_count
+unfolding file_of journal_version_count
 numbered_at_first v = grind (arith, nat_tests)
 
 -- ---- what has a plan
 
 has_plan : (setting : Setting) (journal : List Item) (v : ℕ) (rows : List Row)
     (plan : List Hosted) → policy_in setting journal v ≡ Some rows → setting.plan rows ≡ Ok plan
-    → HasPlan setting journal v
+    → SettingHasPlan setting journal v
 has_plan setting journal v rows plan policy planned =
     let own = of_its_policy setting journal v rows policy in record {
       policy = policy ∙ ap Some (sym own.0);
-      plan = ap setting.plan own.0 ∙ planned ∙ ap Ok (sym (own.1 ∙ ap hosted_in_version planned));
+      plan = ap setting.plan own.0 ∙ planned ∙ ap Ok (sym (own.1 ∙ ap setting_hosted_or_none planned));
     }
 
 -- a policy that has some plan
 planned_of : (setting : Setting) (journal : List Item) (v : ℕ) (rows : List Row)
-    → policy_in setting journal v ≡ Some rows → IsOk (setting.plan rows) → HasPlan setting journal v
+    → policy_in setting journal v ≡ Some rows → IsOk (setting.plan rows) → SettingHasPlan setting journal v
 planned_of setting journal v rows policy = by_plan (setting.plan rows) refl where
-  by_plan : (plan : Result (List Hosted) NoPlan) → setting.plan rows ≡ plan → IsOk plan
-      → HasPlan setting journal v
+  by_plan : (plan : Result (List Hosted) NoPolicyPlan) → setting.plan rows ≡ plan → IsOk plan
+      → SettingHasPlan setting journal v
   by_plan (Err why) is ok = absurd cc
   by_plan (Ok plan) is ok = has_plan setting journal v rows plan policy is
 
 pub has_plan_stays : (setting : Setting) (before items : List Item) (v : ℕ)
-    → VersionsAreNumbered before → v ≤ version_count before
-    → HasPlan setting before v → HasPlan setting (before ++ items) v
+    → VersionsAreNumbered before → v ≤ journal_version_count before
+    → SettingHasPlan setting before v → SettingHasPlan setting (before ++ items) v
 has_plan_stays setting before items v are below has =
-    has_plan setting (before ++ items) v (policy_at setting before v) (plan_at setting before v)
+    has_plan setting (before ++ items) v (policy_at setting before v) (journal_plan_at setting before v)
     (policy_in_stays setting before items v are below ∙ has.policy) has.plan
 
 -- ---- the first version
 
-first_counted : 1 ≤ version_count []
-unfolding version_count
+first_counted : 1 ≤ journal_version_count []
+unfolding journal_version_count
 first_counted = omega arith
 
 -- the first version has one policy and one plan in all journals
@@ -135,11 +135,11 @@ first_policy_stays setting journal =
     policy_stays setting [] journal 1 numbered_at_first first_counted
 
 pub first_plan_stays : (setting : Setting) (journal : List Item)
-    → plan_at setting journal 1 ≡ plan_at setting [] 1
+    → journal_plan_at setting journal 1 ≡ journal_plan_at setting [] 1
 first_plan_stays setting journal = plan_stays setting [] journal 1 numbered_at_first first_counted
 
-pub first_has_plan : (setting : Setting) (journal : List Item) → HasPlan setting [] 1
-    → HasPlan setting journal 1
+pub first_has_plan : (setting : Setting) (journal : List Item) → SettingHasPlan setting [] 1
+    → SettingHasPlan setting journal 1
 first_has_plan setting journal has =
     has_plan_stays setting [] journal 1 numbered_at_first first_counted has
 
@@ -151,11 +151,11 @@ first_in setting journal rows whole = ap (λ file. result_ok (made_by file None)
 
 pub first_is : (setting : Setting) (journal : List Item) (rows : List Row)
     → setting_file_at setting 1 ≡ Some (Whole rows) → (policy_at setting journal 1 ≡ rows)
-    × (plan_at setting journal 1 ≡ hosted_in_version (setting.plan rows))
+    × (journal_plan_at setting journal 1 ≡ setting_hosted_or_none (setting.plan rows))
 first_is setting journal rows whole =
     of_its_policy setting journal 1 rows (first_in setting journal rows whole)
 
-pub begins_planned : (setting : Setting) → IsSetting setting → HasPlan setting [] 1
+pub begins_planned : (setting : Setting) → IsSetting setting → SettingHasPlan setting [] 1
 begins_planned setting is =
     planned_of setting [] 1 is.first (first_in setting [] is.first is.whole) is.planned
 
@@ -171,11 +171,11 @@ first_there : (journal : List Item) → IsTrue (is_version journal 1)
 unfolding file_of
 first_there journal = refl
 
-pub count_above : (journal : List Item) → VersionsAreNumbered journal → 1 ≤ version_count journal
+pub count_above : (journal : List Item) → VersionsAreNumbered journal → 1 ≤ journal_version_count journal
 count_above journal are = ((are 1).0 (first_there journal)).1
 
 pub next_file : (journal : List Item) (file version : ℕ) → VersionsAreNumbered journal
-    → version ≡ version_count journal + 1
+    → version ≡ journal_version_count journal + 1
     → file_of (journal ++ Item.Submitted file version ∷ []) version ≡ Some file
 next_file journal file version are next =
     file_append journal (Item.Submitted file version ∷ []) version
@@ -191,14 +191,14 @@ next_file journal file version are next =
 
 -- what its file makes of the policy of the newest version
 pub next_made : (setting : Setting) (journal : List Item) (file version : ℕ)
-    → VersionsAreNumbered journal → version ≡ version_count journal + 1
+    → VersionsAreNumbered journal → version ≡ journal_version_count journal + 1
     → policy_in setting (journal ++ Item.Submitted file version ∷ []) version
-    ≡ result_ok (next_policy setting journal file)
-unfolding policy_in next_policy
+    ≡ result_ok (journal_next_policy setting journal file)
+unfolding policy_in journal_next_policy
 next_made setting journal file zero are next = absurd (omega (arith, next))
 next_made setting journal file (suc newest) are next =
     let after : List Item = journal ++ Item.Submitted file (suc newest) ∷ [] in
-    let same : newest ≡ version_count journal = omega (arith, next) in
+    let same : newest ≡ journal_version_count journal = omega (arith, next) in
     ap (option_and_then (λ f. result_ok (policy_by setting (policy_in setting after newest) f)))
     (next_file journal file (suc newest) are next)
     ∙ ap (λ o. result_ok (policy_by setting o file))
@@ -206,8 +206,8 @@ next_made setting journal file (suc newest) are next =
     (omega (arith, same)) ∙ ap (policy_in setting journal) same)
 
 pub next_policy_in : (setting : Setting) (journal : List Item) (file version : ℕ)
-    (rows : List Row) → VersionsAreNumbered journal → version ≡ version_count journal + 1
-    → next_policy setting journal file ≡ Ok rows
+    (rows : List Row) → VersionsAreNumbered journal → version ≡ journal_version_count journal + 1
+    → journal_next_policy setting journal file ≡ Ok rows
     → policy_in setting (journal ++ Item.Submitted file version ∷ []) version ≡ Some rows
 next_policy_in setting journal file version rows are next policy =
     next_made setting journal file version are next ∙ ap result_ok policy
@@ -215,17 +215,17 @@ next_policy_in setting journal file version rows are next policy =
 -- it has the next policy, and its plan
 pub next_is : (setting : Setting) (journal : List Item) (file version : ℕ) (rows : List Row)
     → VersionsAreNumbered journal
-    → version ≡ version_count journal + 1 → next_policy setting journal file ≡ Ok rows
-    → (policy_at setting (journal ++ Item.Submitted file version ∷ []) version ≡ rows) × (plan_at
-    setting (journal ++ Item.Submitted file version ∷ []) version ≡ hosted_in_version (setting.plan rows))
+    → version ≡ journal_version_count journal + 1 → journal_next_policy setting journal file ≡ Ok rows
+    → (policy_at setting (journal ++ Item.Submitted file version ∷ []) version ≡ rows) × (journal_plan_at
+    setting (journal ++ Item.Submitted file version ∷ []) version ≡ setting_hosted_or_none (setting.plan rows))
 next_is setting journal file version rows are next policy =
     of_its_policy setting (journal ++ Item.Submitted file version ∷ []) version rows
     (next_policy_in setting journal file version rows are next policy)
 
 pub next_has_plan : (setting : Setting) (journal : List Item) (file version : ℕ) (rows : List Row)
-    → VersionsAreNumbered journal → version ≡ version_count journal + 1
-    → next_policy setting journal file ≡ Ok rows → IsOk (setting.plan rows)
-    → HasPlan setting (journal ++ Item.Submitted file version ∷ []) version
+    → VersionsAreNumbered journal → version ≡ journal_version_count journal + 1
+    → journal_next_policy setting journal file ≡ Ok rows → IsOk (setting.plan rows)
+    → SettingHasPlan setting (journal ++ Item.Submitted file version ∷ []) version
 next_has_plan setting journal file version rows are next policy planned =
     planned_of setting (journal ++ Item.Submitted file version ∷ []) version rows
     (next_policy_in setting journal file version rows are next policy) planned
@@ -234,15 +234,15 @@ next_has_plan setting journal file version rows are next policy planned =
 
 -- a version with a partition is there
 pub part_there : (setting : Setting) (journal : List Item) (version partition : ℕ)
-    (hosted : Hosted) → slice_get (plan_at setting journal version) partition ≡ Some hosted
+    (hosted : Hosted) → slice_get (journal_plan_at setting journal version) partition ≡ Some hosted
     → IsTrue (is_version journal version)
-unfolding plan_at policy_in
+unfolding journal_plan_at policy_in
 part_there setting journal zero partition hosted is = absurd cc
 part_there setting journal (suc version) partition hosted is =
     by_file (file_of journal (suc version)) is
   where
     by_file : (o : Option ℕ)
-        → slice_get (option_map_or (λ rows. hosted_in_version (setting.plan rows)) (option_and_then (λ file.
+        → slice_get (option_map_or (λ rows. setting_hosted_or_none (setting.plan rows)) (option_and_then (λ file.
         result_ok (policy_by setting (policy_in setting journal version) file)) o) []) partition
         ≡ Some hosted → IsTrue (is_some o)
     by_file None is = absurd cc
@@ -253,14 +253,14 @@ part_there setting journal (suc version) partition hosted is =
 -- as many as there are versions, and of each its own
 pub record ArePolicies (setting : Setting) (policies : List (List Row)) (journal : List Item)
     : Type 0 where
-  pub count : length policies ≡ version_count journal
-  pub each : (v : ℕ) → 1 ≤ v → v ≤ version_count journal
+  pub count : length policies ≡ journal_version_count journal
+  pub each : (v : ℕ) → 1 ≤ v → v ≤ journal_version_count journal
       → slice_get policies (v - 1) ≡ policy_in setting journal v
 
 -- the machine begins with the first one
 pub policies_begin : (setting : Setting) → IsSetting setting
     → ArePolicies setting (first_machine setting).policies []
-unfolding version_count
+unfolding journal_version_count
 policies_begin setting is = subst (λ policies. ArePolicies setting policies []) (sym begun) (record {
   count = refl;
   each = λ v above below. let first : v ≡ 1 = omega (arith, above, below) in
@@ -272,7 +272,7 @@ policies_begin setting is = subst (λ policies. ArePolicies setting policies [])
     begun = ap (λ file. option_to_list (result_ok (made_by file None))) is.whole
 
 pub policies_stay : (setting : Setting) (policies : List (List Row)) (before after : List Item)
-    → PoliciesKeep before after → ArePolicies setting policies before
+    → JournalPoliciesKeep before after → ArePolicies setting policies before
     → ArePolicies setting policies after
 policies_stay setting policies before after keep are = record {
   count = are.count ∙ sym keep.count;
@@ -281,7 +281,7 @@ policies_stay setting policies before after keep are = record {
 
 -- each version has its policy there
 pub policy_there : (setting : Setting) (policies : List (List Row)) (journal : List Item)
-    (v : ℕ) → ArePolicies setting policies journal → 1 ≤ v → v ≤ version_count journal
+    (v : ℕ) → ArePolicies setting policies journal → 1 ≤ v → v ≤ journal_version_count journal
     → slice_get policies (v - 1) ≡ Some (policy_at setting journal v)
 unfolding policy_at
 policy_there setting policies journal v are above below = some_there policies (v - 1)
@@ -308,11 +308,11 @@ snoc_new (y ∷ xs) x = snoc_new xs x
 
 -- the newest one is that of the newest version
 newest_is : (setting : Setting) (machine : Machine) (journal : List Item)
-    → ArePolicies setting machine.policies journal → 1 ≤ version_count journal
+    → ArePolicies setting machine.policies journal → 1 ≤ journal_version_count journal
     → submitted_policy machine (length machine.policies)
-    ≡ policy_in setting journal (version_count journal)
+    ≡ policy_in setting journal (journal_version_count journal)
 newest_is setting machine journal are some =
-    cc (are.count, are.each (version_count journal) some (omega arith))
+    cc (are.count, are.each (journal_version_count journal) some (omega arith))
 
 -- the machine takes a submission, and gains the policy of the next version
 pub record TakesVersion (setting : Setting) (machine : Machine) (journal : List Item)
@@ -324,10 +324,10 @@ pub record TakesVersion (setting : Setting) (machine : Machine) (journal : List 
 
 pub takes_version : (setting : Setting) (machine : Machine) (journal : List Item)
     (file version : ℕ) (rows : List Row) → VersionsAreNumbered journal
-    → ArePolicies setting machine.policies journal → version ≡ version_count journal + 1
-    → next_policy setting journal file ≡ Ok rows
+    → ArePolicies setting machine.policies journal → version ≡ journal_version_count journal + 1
+    → journal_next_policy setting journal file ≡ Ok rows
     → TakesVersion setting machine journal file version rows
-unfolding next_policy
+unfolding journal_next_policy
 takes_version setting machine journal file version rows numbers are next made = record {
   takes = record {
     policy = rows;
@@ -343,7 +343,7 @@ takes_version setting machine journal file version rows numbers are next made = 
   after : List Item
   after = journal ++ Item.Submitted file version ∷ []
 
-  by_version : (v : ℕ) → 1 ≤ v → v ≤ version_count after → (v ≡ version) ⊎ (v ≢ version)
+  by_version : (v : ℕ) → 1 ≤ v → v ≤ journal_version_count after → (v ≡ version) ⊎ (v ≢ version)
       → slice_get (machine.policies ++ rows ∷ []) (v - 1) ≡ policy_in setting after v
   by_version v above below (inl same) =
       let place : v - 1 ≡ length machine.policies = omega (arith, same, next, are.count) in
@@ -351,7 +351,7 @@ takes_version setting machine journal file version rows numbers are next made = 
       ∙ sym (next_policy_in setting journal file version rows numbers next made)
       ∙ ap (λ n. policy_in setting after n) (sym same)
   by_version v above below (inr apart) =
-      let old : v ≤ version_count journal = omega (arith, count_submitted) in
+      let old : v ≤ journal_version_count journal = omega (arith, count_submitted) in
       snoc_old machine.policies rows (v - 1) (omega (arith, above, old, are.count))
       ∙ are.each v above old
       ∙ sym (policy_in_stays setting journal (Item.Submitted file version ∷ []) v numbers old)

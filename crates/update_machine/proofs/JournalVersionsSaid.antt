@@ -2,7 +2,7 @@
 use Rattle.std.proofs.Common.{[], ◌∙◌, ◌∷◌, ◌≡◌, ◌≤◌, Err, List, None, Ok, Some, ap, arith, length, refl, slice_get, sym, true}
 use Rattle.base.proofs.Exports.{All-from_recursion, option_map_or, result_ok, same_Some}
 use Rattle.policy_rules.specs.Exports.{IsFirstMatch, NoRoom, applied}
-use Rattle.update_machine.specs.Exports.{Absent, Action, Add, Change, Decides, Drop, HasPlan, How, IsReached, IsRun, Item, Machine, Out, Remove, Row, Setting, Step, StepOfRow, MachineSubmits, Taken, Takes, VersionsAreNumbered, Whole, setting_file_at, file_of, first_machine, forget_items, is_deliverable, is_version, message_of, next_policy, piece, plan_at, policy_at, policy_by, policy_in, retired_mark, submitted_policy, update_code, version_count}
+use Rattle.update_machine.specs.Exports.{Absent, Action, Add, Change, Decides, Drop, SettingHasPlan, How, IsJournalReached, IsRun, Item, Machine, Out, Remove, Row, Setting, Step, StepOfRow, MachineSubmits, Taken, Takes, VersionsAreNumbered, Whole, setting_file_at, file_of, first_machine, forget_items, is_deliverable, is_version, message_of, journal_next_policy, piece, journal_plan_at, policy_at, policy_by, policy_in, journal_retired_mark, submitted_policy, machine_update_code, journal_version_count}
 use Rattle.update_machine.specs.Machine.{Packet}
 use Rattle.update_machine.proofs.JournalExampleNetworks.{all_to, at, by_action, leaving, one, open_net, out_or_drop, plan_p, plan_q, two_switches, versions}
 use Rattle.steps.specs.Exports.{IsStep}
@@ -167,18 +167,18 @@ brought_later = refl
 -- ---- updates
 
 -- an update is of the newest version, whichever is current
-pub next_of_newest : next_policy changed (Item.Submitted 2 2 ∷ []) 3 ≡ Ok (drop ∷ [])
-unfolding next_policy policy_in file_of version_count applied
+pub next_of_newest : journal_next_policy changed (Item.Submitted 2 2 ∷ []) 3 ≡ Ok (drop ∷ [])
+unfolding journal_next_policy policy_in file_of journal_version_count applied
 next_of_newest = refl
 
-pub taken : next_policy changed (Item.Submitted 2 2 ∷ []) 2 ≡ Err Taken
-unfolding next_policy policy_in file_of version_count applied
+pub taken : journal_next_policy changed (Item.Submitted 2 2 ∷ []) 2 ≡ Err Taken
+unfolding journal_next_policy policy_in file_of journal_version_count applied
 taken = refl
 
-pub codes : (update_code changed (Item.Submitted 2 2 ∷ []) 2 ≡ Some 25)
-    × (update_code changed (Item.Submitted 2 2 ∷ Item.Submitted 3 3 ∷ []) 3 ≡ Some 24)
-    × (update_code changed (Item.Submitted 2 2 ∷ []) 3 ≡ None)
-unfolding next_policy policy_in file_of version_count retired_mark applied
+pub codes : (machine_update_code changed (Item.Submitted 2 2 ∷ []) 2 ≡ Some 25)
+    × (machine_update_code changed (Item.Submitted 2 2 ∷ Item.Submitted 3 3 ∷ []) 3 ≡ Some 24)
+    × (machine_update_code changed (Item.Submitted 2 2 ∷ []) 3 ≡ None)
+unfolding journal_next_policy policy_in file_of journal_version_count journal_retired_mark applied
 codes = (refl, refl, refl)
 
 -- ---- the machine
@@ -235,8 +235,8 @@ pub policy_of_3 : policy_at open_net submitted 3 ≡ all_to (Out 2) ∷ []
 unfolding policy_at policy_in file_of
 policy_of_3 = refl
 
-pub plan_of_3 : plan_at open_net submitted 3 ≡ plan_p
-unfolding plan_at policy_in file_of
+pub plan_of_3 : journal_plan_at open_net submitted 3 ≡ plan_p
+unfolding journal_plan_at policy_in file_of
 plan_of_3 = refl
 
 -- and none where its file isn't there, or the version
@@ -244,8 +244,8 @@ pub no_policy_of_2 : policy_at open_net submitted 2 ≡ []
 unfolding policy_at policy_in file_of
 no_policy_of_2 = refl
 
-pub no_plan_of_4 : plan_at open_net submitted 4 ≡ []
-unfolding plan_at policy_in file_of
+pub no_plan_of_4 : journal_plan_at open_net submitted 4 ≡ []
+unfolding journal_plan_at policy_in file_of
 no_plan_of_4 = refl
 
 -- of two items of one version the first gives the file
@@ -259,25 +259,25 @@ unfolding file_of
 numbered = (refl, refl)
 
 pub not_numbered : VersionsAreNumbered (Item.Submitted 1 3 ∷ []) → ⊥
-unfolding file_of version_count
+unfolding file_of journal_version_count
 not_numbered are = cc ((are 2).1 (omega arith, omega arith))
 
 -- of them those have a plan that are there, and whose file is
-pub planned_3 : HasPlan open_net submitted 3
-unfolding policy_at plan_at policy_in file_of
+pub planned_3 : SettingHasPlan open_net submitted 3
+unfolding policy_at journal_plan_at policy_in file_of
 planned_3 = record { policy = refl; plan = refl }
 
-pub not_planned_4 : HasPlan open_net submitted 4 → ⊥
+pub not_planned_4 : SettingHasPlan open_net submitted 4 → ⊥
 unfolding policy_at policy_in file_of
 not_planned_4 has = cc has.policy
 
 -- the next version has the policy that its file has, or makes of the newest one's
-pub next_of_2 : next_policy open_net submitted 2 ≡ Ok (all_to Drop ∷ [])
-unfolding next_policy
+pub next_of_2 : journal_next_policy open_net submitted 2 ≡ Ok (all_to Drop ∷ [])
+unfolding journal_next_policy
 next_of_2 = refl
 
-pub next_of_3 : next_policy open_net submitted 3 ≡ Err Absent
-unfolding next_policy
+pub next_of_3 : journal_next_policy open_net submitted 3 ≡ Err Absent
+unfolding journal_next_policy
 next_of_3 = refl
 
 -- the machine takes no policy of a file that isn't there
@@ -295,33 +295,33 @@ too_large = record {
   plan = by_action (Ok plan_p) (Err (NoRoom 0));
 }
 
-pub taken_in : update_code too_large [] 1 ≡ None
-unfolding version_count retired_mark next_policy
+pub taken_in : machine_update_code too_large [] 1 ≡ None
+unfolding journal_version_count journal_retired_mark journal_next_policy
 taken_in = refl
 
-pub without_plan : update_code too_large [] 2 ≡ Some 15
-unfolding version_count retired_mark next_policy
+pub without_plan : machine_update_code too_large [] 2 ≡ Some 15
+unfolding journal_version_count journal_retired_mark journal_next_policy
 without_plan = refl
 
-pub without_file : (update_code too_large [] 3 ≡ Some 24) × (update_code too_large [] 0 ≡ Some 24)
-unfolding version_count retired_mark next_policy
+pub without_file : (machine_update_code too_large [] 3 ≡ Some 24) × (machine_update_code too_large [] 0 ≡ Some 24)
+unfolding journal_version_count journal_retired_mark journal_next_policy
 without_file = (refl, refl)
 
-pub eight_live : update_code open_net (versions 8 0) 1 ≡ Some 16
-unfolding version_count retired_mark next_policy
+pub eight_live : machine_update_code open_net (versions 8 0) 1 ≡ Some 16
+unfolding journal_version_count journal_retired_mark journal_next_policy
 eight_live = refl
 
-pub seven_live : update_code open_net (versions 8 1) 1 ≡ None
-unfolding version_count retired_mark next_policy
+pub seven_live : machine_update_code open_net (versions 8 1) 1 ≡ None
+unfolding journal_version_count journal_retired_mark journal_next_policy
 seven_live = refl
 
-pub all_there : update_code open_net (versions 64 60) 1 ≡ Some 17
-unfolding version_count retired_mark next_policy
+pub all_there : machine_update_code open_net (versions 64 60) 1 ≡ Some 17
+unfolding journal_version_count journal_retired_mark journal_next_policy
 all_there = refl
 
 -- ---- steps of the network
 
-pub reached : IsReached open_net (Item.Row 1 (Step.Forget 1) ∷ Item.Nothing ∷ [])
+pub reached : IsJournalReached open_net (Item.Row 1 (Step.Forget 1) ∷ Item.Nothing ∷ [])
 unfolding piece forget_items is_deliverable message_of
 reached = record {
   steps = at 1 (Step.Forget 1) ∷ [];

@@ -20,5 +20,5 @@ mod JournalSilentSteps
 mod JournalSilentController
 mod JournalKnownLinks
 mod JournalSomePlay
-pub mod CallerLemmas
+pub mod UpdateMachineCallerLemmas
 pub mod Exports

@@ -24,7 +24,7 @@ journal_after_steps setting before (next ∷ steps) =
     journal_after_steps setting (before ++ piece setting before next.row next.step) steps
 
 -- the journal is the pieces of any steps of the network, one after another
-pub record IsReached (setting : Setting) (journal : List Item) : Type 0 where
+pub record IsJournalReached (setting : Setting) (journal : List Item) : Type 0 where
   pub steps : List StepOfRow
   pub own : All (λ next. IsStep setting.net (length setting.files) next.step) steps
   pub written : journal ≡ journal_after_steps setting [] steps
@@ -32,62 +32,62 @@ pub record IsReached (setting : Setting) (journal : List Item) : Type 0 where
 -- ---- flush and drain
 
 -- the delivery of the least waiting message; the hop of the least travelling packet
-abbrev pub next_delivery : List Item → Option Step
-next_delivery journal = option_map Deliver (next_waiting journal)
+abbrev pub journal_next_delivery : List Item → Option Step
+journal_next_delivery journal = option_map Deliver (next_waiting journal)
 
-abbrev pub next_hop : List Item → Option Step
-next_hop journal = option_map Hop (next_travelling journal)
+abbrev pub journal_next_hop : List Item → Option Step
+journal_next_hop journal = option_map Hop (next_travelling journal)
 
 -- after this journal, these are steps of the row, each the next one; and then there is none
-abbrev pub AreAllEventSteps : Setting → (List Item → Option Step) → ℕ → List Item → List StepOfRow → Type 0
-AreAllEventSteps setting next row before [] = next before ≡ None
-AreAllEventSteps setting next row before (first ∷ steps) =
+abbrev pub AreAllMachineEventSteps : Setting → (List Item → Option Step) → ℕ → List Item → List StepOfRow → Type 0
+AreAllMachineEventSteps setting next row before [] = next before ≡ None
+AreAllMachineEventSteps setting next row before (first ∷ steps) =
     (first.row ≡ row) × (next before ≡ Some first.step)
-    × AreAllEventSteps setting next row (before ++ piece setting before first.row first.step) steps
+    × AreAllMachineEventSteps setting next row (before ++ piece setting before first.row first.step) steps
 
 -- after this journal, these are first steps of the row, each the next one; others may follow
-abbrev pub AreFirstEventSteps : Setting → (List Item → Option Step) → ℕ → List Item → List StepOfRow → Type 0
-AreFirstEventSteps setting next row before [] = ⊤
-AreFirstEventSteps setting next row before (first ∷ steps) =
+abbrev pub AreFirstMachineEventSteps : Setting → (List Item → Option Step) → ℕ → List Item → List StepOfRow → Type 0
+AreFirstMachineEventSteps setting next row before [] = ⊤
+AreFirstMachineEventSteps setting next row before (first ∷ steps) =
     (first.row ≡ row) × (next before ≡ Some first.step)
-    × AreFirstEventSteps setting next row (before ++ piece setting before first.row first.step) steps
+    × AreFirstMachineEventSteps setting next row (before ++ piece setting before first.row first.step) steps
 
 -- ---- the steps of events
 
 -- after this journal, these are all steps of the event of the row
-abbrev pub AreStepsOf : Setting → ℕ → Event → List Item → List StepOfRow → Type 0
-AreStepsOf setting row (One step) before steps = steps ≡ record { row = row; step = step } ∷ []
-AreStepsOf setting row Flush before steps = AreAllEventSteps setting next_delivery row before steps
-AreStepsOf setting row Drain before steps = AreAllEventSteps setting next_hop row before steps
+abbrev pub AreMachineStepsOf : Setting → ℕ → Event → List Item → List StepOfRow → Type 0
+AreMachineStepsOf setting row (One step) before steps = steps ≡ record { row = row; step = step } ∷ []
+AreMachineStepsOf setting row Flush before steps = AreAllMachineEventSteps setting journal_next_delivery row before steps
+AreMachineStepsOf setting row Drain before steps = AreAllMachineEventSteps setting journal_next_hop row before steps
 
 -- after this journal, these are first steps of the event of the row
 abbrev pub AreFirstStepsOf : Setting → ℕ → Event → List Item → List StepOfRow → Type 0
 AreFirstStepsOf setting row (One step) before steps =
     (steps ≡ []) ⊎ (steps ≡ record { row = row; step = step } ∷ [])
-AreFirstStepsOf setting row Flush before steps = AreFirstEventSteps setting next_delivery row before steps
-AreFirstStepsOf setting row Drain before steps = AreFirstEventSteps setting next_hop row before steps
+AreFirstStepsOf setting row Flush before steps = AreFirstMachineEventSteps setting journal_next_delivery row before steps
+AreFirstStepsOf setting row Drain before steps = AreFirstMachineEventSteps setting journal_next_hop row before steps
 
 -- the steps are these of one event and then those of others
-pub record EventStepsSplit (mine rest steps : List StepOfRow) : Type 0 where
+pub record MachineEventStepsSplit (mine rest steps : List StepOfRow) : Type 0 where
   pub split : steps ≡ mine ++ rest
 
 -- after this journal, these are all steps of the events, the first of which has this row
-abbrev pub AreSteps : Setting → ℕ → List Event → List Item → List StepOfRow → Type 0
-AreSteps setting row [] before steps = steps ≡ []
-AreSteps setting row (event ∷ events) before steps =
-    (mine : List StepOfRow) × (rest : List StepOfRow) × EventStepsSplit mine rest steps
-    × AreStepsOf setting row event before mine
-    × AreSteps setting (row + 1) events (journal_after_steps setting before mine) rest
+abbrev pub AreMachineSteps : Setting → ℕ → List Event → List Item → List StepOfRow → Type 0
+AreMachineSteps setting row [] before steps = steps ≡ []
+AreMachineSteps setting row (event ∷ events) before steps =
+    (mine : List StepOfRow) × (rest : List StepOfRow) × MachineEventStepsSplit mine rest steps
+    × AreMachineStepsOf setting row event before mine
+    × AreMachineSteps setting (row + 1) events (journal_after_steps setting before mine) rest
 
 -- after this journal, these are first steps of the events: first ones of the first event, or all of
 -- its steps and then first ones of the others
-abbrev pub AreFirstSteps : Setting → ℕ → List Event → List Item → List StepOfRow → Type 0
-AreFirstSteps setting row [] before steps = steps ≡ []
-AreFirstSteps setting row (event ∷ events) before steps =
+abbrev pub AreJournalFirstSteps : Setting → ℕ → List Event → List Item → List StepOfRow → Type 0
+AreJournalFirstSteps setting row [] before steps = steps ≡ []
+AreJournalFirstSteps setting row (event ∷ events) before steps =
     AreFirstStepsOf setting row event before steps
-    ⊎ ((mine : List StepOfRow) × (rest : List StepOfRow) × EventStepsSplit mine rest steps
-    × AreStepsOf setting row event before mine
-    × AreFirstSteps setting (row + 1) events (journal_after_steps setting before mine) rest)
+    ⊎ ((mine : List StepOfRow) × (rest : List StepOfRow) × MachineEventStepsSplit mine rest steps
+    × AreMachineStepsOf setting row event before mine
+    × AreJournalFirstSteps setting (row + 1) events (journal_after_steps setting before mine) rest)
 
 -- ---- answers
 
@@ -95,38 +95,38 @@ AreFirstSteps setting row (event ∷ events) before steps =
 -- is row k
 pub record Answers (setting : Setting) (events : List Event) (journal : List Item) : Type 0 where
   pub steps : List StepOfRow
-  pub allowed : AreSteps setting 1 events [] steps
+  pub allowed : AreMachineSteps setting 1 events [] steps
   pub written : journal ≡ journal_after_steps setting [] steps
 
 -- the journal answers the events up to its end: it is the pieces of their first steps
-pub record AnswersSoFar (setting : Setting) (events : List Event) (journal : List Item)
+pub record JournalAnswersSoFar (setting : Setting) (events : List Event) (journal : List Item)
     : Type 0 where
   pub steps : List StepOfRow
-  pub allowed : AreFirstSteps setting 1 events [] steps
+  pub allowed : AreJournalFirstSteps setting 1 events [] steps
   pub written : journal ≡ journal_after_steps setting [] steps
 
 -- the journal begins an answer to the events: items of the last of its steps may be missing
-pub record BeginsAnswer (setting : Setting) (events : List Event) (journal : List Item)
+pub record JournalBeginsAnswer (setting : Setting) (events : List Event) (journal : List Item)
     : Type 0 where
   pub whole : List Item
-  pub answers : AnswersSoFar setting events whole
+  pub answers : JournalAnswersSoFar setting events whole
   pub length : ℕ
   pub written : journal ≡ take length whole
 
 -- ---- whether there is an answer
 
 -- some journal answers the events
-abbrev pub AreAnswered : Setting → List Event → Type 0
-AreAnswered setting events = (journal : List Item) × Answers setting events journal
+abbrev pub AreAnsweredByJournal : Setting → List Event → Type 0
+AreAnsweredByJournal setting events = (journal : List Item) × Answers setting events journal
 
 -- after this journal the event has all its steps: if it is a flush or a drain, it ends
-abbrev pub HasSteps : Setting → ℕ → Event → List Item → Type 0
-HasSteps setting row event before =
-    (steps : List StepOfRow) × AreStepsOf setting row event before steps
+abbrev pub HasMachineSteps : Setting → ℕ → Event → List Item → Type 0
+HasMachineSteps setting row event before =
+    (steps : List StepOfRow) × AreMachineStepsOf setting row event before steps
 
 -- each of the events has all its steps, after an answer to those before it
-abbrev pub HaveSteps : Setting → List Event → Type 0
-HaveSteps setting events =
+abbrev pub HaveMachineSteps : Setting → List Event → Type 0
+HaveMachineSteps setting events =
     (first : List Event) (event : Event) (others : List Event) (journal : List Item)
     → events ≡ first ++ event ∷ others → Answers setting first journal
-    → HasSteps setting (length first + 1) event journal
+    → HasMachineSteps setting (length first + 1) event journal

@@ -2,8 +2,8 @@
 use Rattle.std.specs.Prelude.{[], ◌&&◌, ◌++◌, ◌==◌, ◌||◌, ◌∷◌, ◌≡◌, ◌⊎◌, All, Bool, Contains, IsFalse, IsTrue, List, None, Option, Some, false, not, option_to_list, true, ℕ, ⊤}
 use Rattle.base.specs.Exports.{list_any}
 use Rattle.five_tuple.specs.declared.header.Header.{Header}
-use Rattle.net_file.specs.Exports.{are_linked, owner_of}
-use Rattle.policy_rules.specs.Exports.{Hosted, is_in}
+use Rattle.net_file.specs.Exports.{are_linked, net_port_owner}
+use Rattle.policy_rules.specs.Exports.{Hosted, is_in_policy_partition}
 use Rattle.policy_rules.specs.declared.packet.Leaving.{Leaving}
 use Rattle.policy_rules.specs.declared.packet.Leg.{Leg}
 use Rattle.policy_rules.specs.declared.packet.Leg.TheVariants.{Seek, Exit}
@@ -12,44 +12,44 @@ use Rattle.journal.specs.declared.item.Item.{Item}
 use Rattle.journal.specs.declared.item.Item.TheVariants as item
 use Rattle.steps.specs.declared.step.Step.TheVariants.{Crash, LinkDown, LinkUp, Lose, Restart, Update}
 use Rattle.steps.specs.declared.step.Step.{Step}
-use Rattle.update_machine.specs.Folds.{last_given}
-use Rattle.update_machine.specs.Links.{can_use, knows_link, serves}
-use Rattle.update_machine.specs.Packets.{Decision, decision_of, header_in, standing}
-use Rattle.update_machine.specs.Setting.{Setting, IsPlanOf}
+use Rattle.update_machine.specs.Folds.{journal_last_given}
+use Rattle.update_machine.specs.Links.{journal_can_use, journal_knows_link, serves}
+use Rattle.update_machine.specs.Packets.{Decision, journal_decision_of, journal_packet_header, standing}
+use Rattle.update_machine.specs.Setting.{Setting, IsSettingPlanOf}
 
-abbrev pub gives_step : Item → Option Step
-gives_step (item.Row row step) = Some step
-gives_step _ = None
+abbrev pub item_gives_step : Item → Option Step
+item_gives_step (item.Row row step) = Some step
+item_gives_step _ = None
 
 -- the step that is being taken
-unfoldable pub present_step : List Item → Option Step
-present_step journal = last_given gives_step journal
+unfoldable pub journal_present_step : List Item → Option Step
+journal_present_step journal = journal_last_given item_gives_step journal
 
 -- a packet leaves where it is, by a port of that switch, with its own header, version and rule
-pub record LeavesRightly (setting : Setting) (before : List Item) (packet port : ℕ)
+pub record MachineLeavesRightly (setting : Setting) (before : List Item) (packet port : ℕ)
     (leaving : Leaving) : Type 0 where
   pub switch : ℕ
   pub stands : standing before packet ≡ Some switch
-  pub has_port : owner_of setting.net.switches port ≡ Some switch
+  pub has_port : net_port_owner setting.net.switches port ≡ Some switch
   pub number : leaving.packet ≡ packet
-  pub header : header_in before packet ≡ Some leaving.header
-  pub decided : decision_of before packet
+  pub header : journal_packet_header before packet ≡ Some leaving.header
+  pub decided : journal_decision_of before packet
       ≡ Some (record { version = leaving.version; rule = leaving.rule; action = Out port })
 
 -- a packet is lost by its own row, or with the switch where it is
-pub record IsLostWith (before : List Item) (packet : ℕ) : Type 0 where
+pub record IsLostWithMachineSwitch (before : List Item) (packet : ℕ) : Type 0 where
   pub switch : ℕ
-  pub crashes : present_step before ≡ Some (Crash switch)
+  pub crashes : journal_present_step before ≡ Some (Crash switch)
   pub stands : standing before packet ≡ Some switch
 
-abbrev pub IsLostRightly : List Item → ℕ → Type 0
-IsLostRightly before packet = (present_step before ≡ Some (Lose packet)) ⊎ IsLostWith before packet
+abbrev pub IsRightMachineLoss : List Item → ℕ → Type 0
+IsRightMachineLoss before packet = (journal_present_step before ≡ Some (Lose packet)) ⊎ IsLostWithMachineSwitch before packet
 
 -- a packet finds a link of the network down, from where it is: that switch can't use it
-pub record FindsDown (setting : Setting) (before : List Item) (packet one two : ℕ) : Type 0 where
+pub record MachineFindsDown (setting : Setting) (before : List Item) (packet one two : ℕ) : Type 0 where
   pub stands : standing before packet ≡ Some one
   pub linked : IsTrue (are_linked setting.net.links one two)
-  pub unusable : IsFalse (can_use setting before one two)
+  pub unusable : IsFalse (journal_can_use setting before one two)
 
 -- the item says that this packet found the link of these switches down
 abbrev pub finds_down : ℕ → ℕ → ℕ → Item → Bool
@@ -60,7 +60,7 @@ finds_down i one two _ = false
 -- a switch knows the link, and the packet didn't find it down
 abbrev pub is_open : Setting → List Item → ℕ → ℕ → ℕ → ℕ → Bool
 is_open setting before packet s one two =
-    knows_link setting before s one two && not (list_any (finds_down packet one two) before)
+    journal_knows_link setting before s one two && not (list_any (finds_down packet one two) before)
 
 -- the switches after the first one are each joined to the one before it, and end at the target
 abbrev pub Leads : (ℕ → ℕ → Bool) → ℕ → List ℕ → ℕ → Type 0
@@ -69,49 +69,49 @@ Leads joined at (next ∷ rest) target = IsTrue (joined at next) × Leads joined
 
 -- these are the targets of the packet's leg: while it is undecided those of the partition that has
 -- its header, in the plan of the leg's version; then the switch of the port of its decision
-abbrev pub AreTargets : Setting → List Item → ℕ → Leg → List ℕ → Type 0
-AreTargets setting before packet (Seek version partition) targets =
-    (decision_of before packet ≡ None) × (header : Header) × (header_in before packet ≡ Some header)
-    × (plan : List Hosted) × IsPlanOf setting before version plan
-    × (hosted : Hosted) × Contains plan hosted × IsTrue (is_in header hosted.0)
+abbrev pub AreMachineLegTargets : Setting → List Item → ℕ → Leg → List ℕ → Type 0
+AreMachineLegTargets setting before packet (Seek version partition) targets =
+    (journal_decision_of before packet ≡ None) × (header : Header) × (journal_packet_header before packet ≡ Some header)
+    × (plan : List Hosted) × IsSettingPlanOf setting before version plan
+    × (hosted : Hosted) × Contains plan hosted × IsTrue (is_in_policy_partition header hosted.0)
     × (hosted.0.number ≡ partition) × (hosted.1 ≡ targets)
-AreTargets setting before packet (Exit port) targets =
-    (decision : Decision) × (decision_of before packet ≡ Some decision)
-    × (decision.action ≡ Out port) × (option_to_list (owner_of setting.net.switches port) ≡ targets)
+AreMachineLegTargets setting before packet (Exit port) targets =
+    (decision : Decision) × (journal_decision_of before packet ≡ Some decision)
+    × (decision.action ≡ Out port) × (option_to_list (net_port_owner setting.net.switches port) ≡ targets)
 
 -- a packet is stuck where it is, at a switch that serves: over the links that the switch knows,
 -- except those that the packet found down, no walk leads to any target of its leg
-pub record IsStuckRightly (setting : Setting) (before : List Item) (packet switch : ℕ) (leg : Leg)
+pub record IsRightMachineStuck (setting : Setting) (before : List Item) (packet switch : ℕ) (leg : Leg)
     : Type 0 where
   pub stands : standing before packet ≡ Some switch
   pub serving : IsTrue (serves before switch)
   pub targets : List ℕ
-  pub own_leg : AreTargets setting before packet leg targets
+  pub own_leg : AreMachineLegTargets setting before packet leg targets
   pub no_path : All (λ target. (path : List ℕ)
       → ¬ Leads (is_open setting before packet switch) switch path target) targets
 
 -- a link comes back or fails by its own row, which names its ends in either order
-abbrev pub IsLinkStep : Option Step → ℕ → ℕ → Bool → Type 0
-IsLinkStep step one two true = (step ≡ Some (LinkUp one two)) ⊎ (step ≡ Some (LinkUp two one))
-IsLinkStep step one two false = (step ≡ Some (LinkDown one two)) ⊎ (step ≡ Some (LinkDown two one))
+abbrev pub IsMachineLinkStep : Option Step → ℕ → ℕ → Bool → Type 0
+IsMachineLinkStep step one two true = (step ≡ Some (LinkUp one two)) ⊎ (step ≡ Some (LinkUp two one))
+IsMachineLinkStep step one two false = (step ≡ Some (LinkDown one two)) ⊎ (step ≡ Some (LinkDown two one))
 
 -- ends, links found down, failures, boots and submitted versions have their causes before them
 abbrev pub HasCause : Setting → List Item → Item → Type 0
 HasCause setting before (item.Left packet port leaving) =
-    LeavesRightly setting before packet port leaving
-HasCause setting before (item.Lost packet) = IsLostRightly before packet
-HasCause setting before (item.FoundDown packet one two) = FindsDown setting before packet one two
+    MachineLeavesRightly setting before packet port leaving
+HasCause setting before (item.Lost packet) = IsRightMachineLoss before packet
+HasCause setting before (item.FoundDown packet one two) = MachineFindsDown setting before packet one two
 HasCause setting before (item.Stuck packet switch cause leg down) =
-    IsStuckRightly setting before packet switch leg
-HasCause setting before (item.Down switch) = present_step before ≡ Some (Crash switch)
+    IsRightMachineStuck setting before packet switch leg
+HasCause setting before (item.Down switch) = journal_present_step before ≡ Some (Crash switch)
 HasCause setting before (item.Booted switch boot) =
-    (present_step before ≡ Some (Restart switch)) × IsFalse (serves before switch)
-HasCause setting before (item.LinkIs one two up) = IsLinkStep (present_step before) one two up
-HasCause setting before (item.Submitted file version) = present_step before ≡ Some (Update file)
+    (journal_present_step before ≡ Some (Restart switch)) × IsFalse (serves before switch)
+HasCause setting before (item.LinkIs one two up) = IsMachineLinkStep (journal_present_step before) one two up
+HasCause setting before (item.Submitted file version) = journal_present_step before ≡ Some (Update file)
 HasCause setting before _ = ⊤
 
 -- after this journal, each item has its cause in what comes before it: for any table of causes
-abbrev pub HaveCauses : (List Item → Item → Type 0) → List Item → List Item → Type 0
-HaveCauses cause before [] = ⊤
-HaveCauses cause before (item ∷ items) =
-    cause before item × HaveCauses cause (before ++ item ∷ []) items
+abbrev pub JournalItemsHaveCauses : (List Item → Item → Type 0) → List Item → List Item → Type 0
+JournalItemsHaveCauses cause before [] = ⊤
+JournalItemsHaveCauses cause before (item ∷ items) =
+    cause before item × JournalItemsHaveCauses cause (before ++ item ∷ []) items

@@ -7,22 +7,22 @@ use Rattle.ctrl_msg.specs.declared.message.Body.TheVariants.{OpenAt}
 use Rattle.journal.specs.declared.item.Item.{Item}
 use Rattle.journal.specs.declared.item.Item.TheVariants as item
 use Rattle.steps.specs.declared.step.Step.TheVariants.{Hop}
-use Rattle.update_machine.specs.Causes.{HaveCauses}
+use Rattle.update_machine.specs.Causes.{JournalItemsHaveCauses}
 use Rattle.update_machine.specs.Messages.{is_to_controller}
-use Rattle.update_machine.specs.Travels.{travels_at}
+use Rattle.update_machine.specs.Travels.{journal_travels_at}
 use Rattle.update_machine.specs.Versions.{is_submission}
-use Rattle.update_machine.specs.Boots.{is_to_switch}
+use Rattle.update_machine.specs.Boots.{is_journal_receiver_switch}
 use Rattle.update_machine.specs.Links.{message_of}
 
 -- none of these items, after this journal, is one that concerns it
 abbrev pub NoneConcern : (List Item → Item → Bool) → List Item → List Item → Type 0
 NoneConcern concerns before items =
-    HaveCauses (λ journal item. IsFalse (concerns journal item)) before items
+    JournalItemsHaveCauses (λ journal item. IsFalse (concerns journal item)) before items
 
 -- the message of this number is for switch s
-abbrev pub is_message_to : List Item → ℕ → ℕ → Bool
-is_message_to before s number =
-    option_map_or (λ message. is_to_switch s message.to) (message_of before number) false
+abbrev pub is_journal_message_to : List Item → ℕ → ℕ → Bool
+is_journal_message_to before s number =
+    option_map_or (λ message. is_journal_receiver_switch s message.to) (message_of before number) false
 
 -- its boots, its openings, its expired entries and what is delivered to it
 abbrev pub concerns_switch : ℕ → List Item → Item → Bool
@@ -30,7 +30,7 @@ concerns_switch s before (item.Down switch) = switch == s
 concerns_switch s before (item.Booted switch boot) = switch == s
 concerns_switch s before (item.Opened switch version) = switch == s
 concerns_switch s before (item.Expired switch place message) = switch == s
-concerns_switch s before (item.Delivered number) = is_message_to before s number
+concerns_switch s before (item.Delivered number) = is_journal_message_to before s number
 concerns_switch s before _ = false
 
 -- all items that name the packet, except `Closed`
@@ -56,20 +56,20 @@ concerns_links before (item.Opened switch version) = true
 concerns_links before (item.LinkIs one two up) = true
 concerns_links before _ = false
 
-abbrev pub is_message_to_controller : List Item → ℕ → Bool
-is_message_to_controller before number =
+abbrev pub is_journal_controller_message : List Item → ℕ → Bool
+is_journal_controller_message before number =
     option_map_or (λ message. is_to_controller message.to) (message_of before number) false
 
 -- a body after which a switch may serve
-abbrev pub is_opening_body : Body → Bool
-is_opening_body (OpenAt boot version) = true
-is_opening_body _ = false
+abbrev pub is_machine_opening_body : Body → Bool
+is_machine_opening_body (OpenAt boot version) = true
+is_machine_opening_body _ = false
 
 -- what is delivered to the controller, messages by which it opens switches, confirmations,
 -- submissions and marks
 abbrev pub concerns_controller : List Item → Item → Bool
-concerns_controller before (item.Delivered number) = is_message_to_controller before number
-concerns_controller before (item.Sent number message) = is_opening_body message.body
+concerns_controller before (item.Delivered number) = is_journal_controller_message before number
+concerns_controller before (item.Sent number message) = is_machine_opening_body message.body
 concerns_controller before (item.OverNow switch) = true
 concerns_controller before (item.Submitted file version) = true
 concerns_controller before (item.Current version) = true
@@ -79,43 +79,43 @@ concerns_controller before _ = false
 -- ---- what depends on several
 
 -- whether the switch hears of links or sees its own: what it knows about the network
-abbrev pub concerns_known : ℕ → List Item → Item → Bool
-concerns_known s before item = concerns_switch s before item || concerns_links before item
+abbrev pub item_concerns_known : ℕ → List Item → Item → Bool
+item_concerns_known s before item = concerns_switch s before item || concerns_links before item
 
 -- a policy becomes a version
-abbrev pub concerns_policies : List Item → Item → Bool
-concerns_policies before item = is_submission item
+abbrev pub item_concerns_policies : List Item → Item → Bool
+item_concerns_policies before item = is_submission item
 
 -- what the switch has, and by which policy: what it says about a header
-abbrev pub concerns_lookups : ℕ → List Item → Item → Bool
-concerns_lookups s before item = concerns_switch s before item || concerns_policies before item
+abbrev pub item_concerns_lookups : ℕ → List Item → Item → Bool
+item_concerns_lookups s before item = concerns_switch s before item || item_concerns_policies before item
 
 -- it went down, or the controller no longer waits for it
-abbrev pub concerns_waiting : ℕ → List Item → Item → Bool
-concerns_waiting s before (item.Down switch) = switch == s
-concerns_waiting s before (item.OverNow switch) = switch == s
-concerns_waiting s before _ = false
+abbrev pub item_concerns_waiting : ℕ → List Item → Item → Bool
+item_concerns_waiting s before (item.Down switch) = switch == s
+item_concerns_waiting s before (item.OverNow switch) = switch == s
+item_concerns_waiting s before _ = false
 
 -- the calls of a switch: packets that enter there, hops of those there, and how a hop ends
-abbrev pub concerns_calls : ℕ → List Item → Item → Bool
-concerns_calls s before (item.Entered packet switch header) = switch == s
-concerns_calls s before (item.Closed packet switch) = switch == s
-concerns_calls s before (item.Row row (Hop packet)) = travels_at before s packet
-concerns_calls s before (item.Hopped packet switch) = true
-concerns_calls s before (item.Stuck packet switch cause leg down) = true
-concerns_calls s before _ = false
+abbrev pub item_concerns_calls : ℕ → List Item → Item → Bool
+item_concerns_calls s before (item.Entered packet switch header) = switch == s
+item_concerns_calls s before (item.Closed packet switch) = switch == s
+item_concerns_calls s before (item.Row row (Hop packet)) = journal_travels_at before s packet
+item_concerns_calls s before (item.Hopped packet switch) = true
+item_concerns_calls s before (item.Stuck packet switch cause leg down) = true
+item_concerns_calls s before _ = false
 
 -- ---- packets, messages and steps as wholes
 
 -- a packet enters, is closed or ends
-abbrev pub concerns_packets : List Item → Item → Bool
-concerns_packets before (item.Entered packet switch header) = true
-concerns_packets before (item.Closed packet switch) = true
-concerns_packets before (item.Left packet port leaving) = true
-concerns_packets before (item.Dropped packet) = true
-concerns_packets before (item.Lost packet) = true
-concerns_packets before (item.Stuck packet switch cause leg down) = true
-concerns_packets before _ = false
+abbrev pub item_concerns_packets : List Item → Item → Bool
+item_concerns_packets before (item.Entered packet switch header) = true
+item_concerns_packets before (item.Closed packet switch) = true
+item_concerns_packets before (item.Left packet port leaving) = true
+item_concerns_packets before (item.Dropped packet) = true
+item_concerns_packets before (item.Lost packet) = true
+item_concerns_packets before (item.Stuck packet switch cause leg down) = true
+item_concerns_packets before _ = false
 
 -- the message of this number is sent, delivered or forgotten
 abbrev pub concerns_message : ℕ → List Item → Item → Bool

@@ -2,39 +2,39 @@
 use Rattle.std.specs.Prelude.{◌≡◌, All, IsFalse, List, Some, find, option_map, ℕ}
 use Rattle.failover.specs.Exports.{IsReachable}
 use Rattle.base.specs.Exports.{has}
-use Rattle.policy_rules.specs.Exports.{is_in}
+use Rattle.policy_rules.specs.Exports.{is_in_policy_partition}
 use Rattle.policy_rules.specs.declared.packet.Leg.{Leg}
 use Rattle.policy_rules.specs.declared.packet.Leg.TheVariants.{Seek, Exit}
 use Rattle.policy_rules.specs.declared.policy.Action.TheVariants.{Out}
 use Rattle.five_tuple.specs.declared.header.Header.{Header}
 use Rattle.journal.specs.declared.item.Item.{Item}
-use Rattle.update_machine.specs.LinkMasks.{near, links_known}
-use Rattle.update_machine.specs.Packets.{Decision, decision_of, header_in, standing}
+use Rattle.update_machine.specs.LinkMasks.{near, journal_links_known}
+use Rattle.update_machine.specs.Packets.{Decision, journal_decision_of, journal_packet_header, standing}
 use Rattle.update_machine.specs.Setting.{Setting}
-use Rattle.update_machine.specs.Versions.{plan_at}
-use Rattle.update_machine.specs.PacketRoutes.{found_down, next_switch, targets_of}
+use Rattle.update_machine.specs.Versions.{journal_plan_at}
+use Rattle.update_machine.specs.PacketRoutes.{journal_found_down, next_switch, targets_of}
 
 -- the link from where the packet is to the next switch of its route exists, and isn't usable
-pub record FindsNextDown (setting : Setting) (before : List Item) (packet one two : ℕ) : Type 0 where
+pub record MachineFindsNextDown (setting : Setting) (before : List Item) (packet one two : ℕ) : Type 0 where
   pub stands : standing before packet ≡ Some one
   pub next : next_switch before packet ≡ Some two
   pub unusable : IsFalse (has (near setting before one) two)
 
 -- the leg is to the partition that holds the packet's header, or to the port of its decision
-abbrev pub SeeksOwn : Setting → List Item → ℕ → Leg → Type 0
-SeeksOwn setting before packet (Seek version partition) =
-    (header : Header) × (header_in before packet ≡ Some header)
+abbrev pub SeeksOwnInJournal : Setting → List Item → ℕ → Leg → Type 0
+SeeksOwnInJournal setting before packet (Seek version partition) =
+    (header : Header) × (journal_packet_header before packet ≡ Some header)
     × (option_map (λ hosted. hosted.0.number)
-    (find (λ hosted. is_in header hosted.0) (plan_at setting before version)) ≡ Some partition)
-SeeksOwn setting before packet (Exit port) =
-    (decision : Decision) × (decision_of before packet ≡ Some decision)
+    (find (λ hosted. is_in_policy_partition header hosted.0) (journal_plan_at setting before version)) ≡ Some partition)
+SeeksOwnInJournal setting before packet (Exit port) =
+    (decision : Decision) × (journal_decision_of before packet ≡ Some decision)
     × (decision.action ≡ Out port)
 
 -- a packet is stuck where it is: over the links that its switch knows, except those that the
 -- packet found down, no path leads to any target of its leg
-pub record FindsNoPath (setting : Setting) (before : List Item) (packet switch : ℕ) (leg : Leg)
+pub record MachineFindsNoPath (setting : Setting) (before : List Item) (packet switch : ℕ) (leg : Leg)
     : Type 0 where
   pub stands : standing before packet ≡ Some switch
-  pub own_leg : SeeksOwn setting before packet leg
-  pub no_path : (let links = links_known setting before switch (found_down before packet) in
+  pub own_leg : SeeksOwnInJournal setting before packet leg
+  pub no_path : (let links = journal_links_known setting before switch (journal_found_down before packet) in
       All (λ target. ¬ IsReachable links switch target) (targets_of setting before leg))

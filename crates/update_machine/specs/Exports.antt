@@ -1,57 +1,57 @@
 -- The definitions that clauses of this crate and of those above use for journals, passed on from
 -- the files that define them.
-pub use Rattle.update_machine.specs.Adverts.{advert_known, has_change, own_if_sent}
-unfoldable pub use Rattle.update_machine.specs.Adverts.{adverts_known, held_adverts, is_cut_off, own_advert, own_seq, route_from}
-pub use Rattle.update_machine.specs.Answers.{Answers, AnswersSoFar, AreAllEventSteps, AreAnswered, AreFirstSteps, AreFirstStepsOf, AreFirstEventSteps, AreSteps, AreStepsOf, BeginsAnswer, HaveSteps, IsReached, StepOfRow, journal_after_steps, next_delivery, next_hop}
-pub use Rattle.update_machine.specs.Boots.{body_to_switch, changes_heard, gives_boot, gives_up, is_for_boot, is_in_first_boot, is_to_switch}
-unfoldable pub use Rattle.update_machine.specs.Boots.{boot_of, heard, is_up}
-pub use Rattle.update_machine.specs.Caches.{cache_after, cache_carried_from, changes_cache, raised_from}
-unfoldable pub use Rattle.update_machine.specs.Caches.{cache_of, lookup_at}
-pub use Rattle.update_machine.specs.Causes.{AreTargets, FindsDown, HasCause, HaveCauses, IsLinkStep, IsLostRightly, IsStuckRightly, Leads, LeavesRightly, finds_down, gives_step, is_open}
-unfoldable pub use Rattle.update_machine.specs.Causes.{present_step}
-pub use Rattle.update_machine.specs.Concerns.{NoneConcern, concerns_calls, concerns_controller, concerns_known, concerns_links, concerns_lookups, concerns_message, concerns_messages, concerns_packet, concerns_packets, concerns_policies, concerns_steps, concerns_switch, concerns_waiting, is_message_to, is_message_to_controller, is_opening_body}
-pub use Rattle.update_machine.specs.Deliveries.{advert_to, after_hello, usable_links_changed, is_new_boot, is_news_to, messages_of, messages_over_link, advert_passed_on, received_items, switches_in}
-unfoldable pub use Rattle.update_machine.specs.Deliveries.{controller_items, delivery_items, link_changes, switch_items}
-pub use Rattle.update_machine.specs.ExactCauses.{FindsNextDown, FindsNoPath, SeeksOwn}
-pub use Rattle.update_machine.specs.Folds.{all_given, count_of, folded_from, folded_value, last_given}
-pub use Rattle.update_machine.specs.Full.{AnswersWithRoom, HasPlay, HasRoom, JournalsHaveRoom, IsFull, IsPlay, StopsFull, journal_full_at}
-pub use Rattle.update_machine.specs.Handled.{hop_calls, is_entry_at, is_packet_move, most_handled, stays_on_way, stuck_at_link}
-unfoldable pub use Rattle.update_machine.specs.Handled.{handled_count}
-pub use Rattle.update_machine.specs.Laws.{ConcernLaws, ControllerKeeps, KnownKeeps, KnownLinkLaws, LinksKeep, MessageKeeps, MessageStarts, MessagesKeep, PacketKeeps, PacketStarts, PacketsKeep, PoliciesKeep, StartLaws, SwitchKeeps}
-pub use Rattle.update_machine.specs.LinkMasks.{adverts_begun, adverts_heard, adverts_of_others, links_known, other_advert, usable_links}
+pub use Rattle.update_machine.specs.Adverts.{journal_advert_known, journal_step_changes_links, journal_own_advert_sent}
+unfoldable pub use Rattle.update_machine.specs.Adverts.{journal_adverts_known, journal_held_adverts, is_cut_off_in_journal, own_advert, journal_own_seq, journal_route_from}
+pub use Rattle.update_machine.specs.Answers.{Answers, JournalAnswersSoFar, AreAllMachineEventSteps, AreAnsweredByJournal, AreJournalFirstSteps, AreFirstStepsOf, AreFirstMachineEventSteps, AreMachineSteps, AreMachineStepsOf, JournalBeginsAnswer, HaveMachineSteps, IsJournalReached, StepOfRow, journal_after_steps, journal_next_delivery, journal_next_hop}
+pub use Rattle.update_machine.specs.Boots.{journal_body_to_switch, changes_heard, item_gives_boot, item_gives_switch_up, journal_body_for_boot, is_first_boot_in_journal, is_journal_receiver_switch}
+unfoldable pub use Rattle.update_machine.specs.Boots.{journal_boot_of, heard, is_up}
+pub use Rattle.update_machine.specs.Caches.{machine_cache_after, machine_cache_carried_from, changes_journal_cache, raised_from}
+unfoldable pub use Rattle.update_machine.specs.Caches.{journal_cache_of, lookup_at}
+pub use Rattle.update_machine.specs.Causes.{AreMachineLegTargets, MachineFindsDown, HasCause, JournalItemsHaveCauses, IsMachineLinkStep, IsRightMachineLoss, IsRightMachineStuck, Leads, MachineLeavesRightly, finds_down, item_gives_step, is_open}
+unfoldable pub use Rattle.update_machine.specs.Causes.{journal_present_step}
+pub use Rattle.update_machine.specs.Concerns.{NoneConcern, item_concerns_calls, concerns_controller, item_concerns_known, concerns_links, item_concerns_lookups, concerns_message, concerns_messages, concerns_packet, item_concerns_packets, item_concerns_policies, concerns_steps, concerns_switch, item_concerns_waiting, is_journal_message_to, is_journal_controller_message, is_machine_opening_body}
+pub use Rattle.update_machine.specs.Deliveries.{advert_to, after_hello, journal_usable_links_changed, is_new_boot_in_journal, is_journal_news_to, machine_messages_of, machine_messages_over_link, machine_advert_passed_on, machine_received_items, setting_switches_in}
+unfoldable pub use Rattle.update_machine.specs.Deliveries.{controller_items, machine_delivery_items, journal_link_changes, journal_switch_items}
+pub use Rattle.update_machine.specs.ExactCauses.{MachineFindsNextDown, MachineFindsNoPath, SeeksOwnInJournal}
+pub use Rattle.update_machine.specs.Folds.{journal_all_given, count_of, folded_journal_from, journal_folded_value, journal_last_given}
+pub use Rattle.update_machine.specs.Full.{JournalAnswersWithRoom, HasMachinePlay, HasRoom, MachineJournalsHaveRoom, IsJournalFull, IsMachinePlay, JournalStopsFull, machine_journal_full_at}
+pub use Rattle.update_machine.specs.Handled.{journal_hop_calls, is_machine_entry_at, is_packet_move, most_journal_handled, journal_stays_on_way, stuck_at_link}
+unfoldable pub use Rattle.update_machine.specs.Handled.{journal_handled_count}
+pub use Rattle.update_machine.specs.Laws.{JournalConcernLaws, JournalControllerKeeps, JournalKnownKeeps, JournalKnownLinkLaws, MachineLinksKeep, MachineMessageKeeps, JournalMessageStarts, JournalMessagesKeep, JournalPacketKeeps, JournalPacketStarts, JournalPacketsKeep, JournalPoliciesKeep, StartLaws, JournalSwitchKeeps}
+pub use Rattle.update_machine.specs.LinkMasks.{journal_adverts_begun, journal_adverts_heard, journal_adverts_of_others, journal_links_known, journal_other_advert, usable_links}
 unfoldable pub use Rattle.update_machine.specs.LinkMasks.{near}
-pub use Rattle.update_machine.specs.Links.{Claim, can_use, changes_claim, claim_by, claim_in, first_claim, gives_link, gives_message, gives_serving, is_end, is_usable, knows_link, newer_claim_of}
-unfoldable pub use Rattle.update_machine.specs.Links.{claim_of, is_link_up, message_of, serves}
-pub use Rattle.update_machine.specs.Machine.{Decides, Dropped, End, Ends, MachineEnters, IsRun, LeftBy, Lost, Machine, PacketMayEnd, MachineRetires, Runs, Stuck, MachineSubmits, Takes, first_machine, submitted_policy, with_packet}
-pub use Rattle.update_machine.specs.Marks.{AreSettled, CurrentMayRise, all_acked, body_to_controller, changes_controller_heard, changes_over, first_open_number, gives_current, gives_retired, hello_boot, installed_version_in, is_joining, least_number, members, most_live, most_versions, open_version_in, open_sent, open_version, raises_known, stamped_version_in}
-unfoldable pub use Rattle.update_machine.specs.Marks.{acked_stamp, controller_heard, current_mark, has_acked, is_member, is_over, known_boot, next_current, next_retired, opened_at, retired_mark}
-pub use Rattle.update_machine.specs.Messages.{is_delivery, is_forgetting, is_sending, is_to_controller, is_waiting, send_items}
-unfoldable pub use Rattle.update_machine.specs.Messages.{is_deliverable, is_forgotten, next_message, next_waiting, sent_from, was_delivered}
-pub use Rattle.update_machine.specs.Moves.{AuthorityRule, arrive_by_leg_items, authority_rule, cache_rule, stuck_cause_at, first_place, found_items, go_on, packet_header_at, in_turn, journal_items_then, leaving_item, reroute_by, packet_route_for, stuck_on_leg_items, takes_route}
-unfoldable pub use Rattle.update_machine.specs.Moves.{arrive_items, authority_items, cache_items, end_items, leg_items, lookup_items, move_items, reroute_items}
-pub use Rattle.update_machine.specs.Numbers.{AreNumbered, TakesNextNumber, VersionsAreNumbered, message_number, packet_number}
-pub use Rattle.update_machine.specs.PacketRoutes.{changes_found, changes_hops, gives_route, no_switch, owner, targets_in, targets_of}
-unfoldable pub use Rattle.update_machine.specs.PacketRoutes.{found_down, next_switch, route_in, route_place}
-pub use Rattle.update_machine.specs.Packets.{Decision, gives_decision, gives_header, gives_standing, is_packet}
-unfoldable pub use Rattle.update_machine.specs.Packets.{decision_of, header_in, next_packet, standing}
-pub use Rattle.update_machine.specs.Pieces.{apply_code, hello_of, marks_code, nothing, plan_code, resent_by_switch, rows_code, sends_or_nothing, step_items, update_code}
-unfoldable pub use Rattle.update_machine.specs.Pieces.{confirm_items, crash_items, deliver_items, expire_items, forget_items, hop_items, link_items, lose_items, packet_items, piece, resend_items, restart_items, update_items}
-pub use Rattle.update_machine.specs.Quiet.{AreMessagesReceived, IsQuiet, IsMessageReceived, IsMessageReplaced, MessageReplaces, are_old_tables, begins_boot, carries_boot, gives_waited_for, is_advert, is_later_body, is_of_boot, is_old_ack_in_journal, is_waited_for, matters, speaking_in_body}
-pub use Rattle.update_machine.specs.Sendings.{Sending, receiver_boot_at, changes_sendings}
+pub use Rattle.update_machine.specs.Links.{JournalClaim, journal_can_use, changes_journal_claim, journal_claim_by, journal_claim_in_message, setting_first_claim, gives_journal_link, item_gives_message, item_gives_serving, is_end, is_usable_in_journal, journal_knows_link, newer_journal_claim_of}
+unfoldable pub use Rattle.update_machine.specs.Links.{journal_claim_of, is_link_up_in_journal, message_of, serves}
+pub use Rattle.update_machine.specs.Machine.{Decides, Dropped, End, Ends, MachineEnters, IsRun, LeftBy, Lost, Machine, MachinePacketMayEnd, MachineRetires, Runs, Stuck, MachineSubmits, Takes, first_machine, submitted_policy, machine_with_packet}
+pub use Rattle.update_machine.specs.Marks.{AreMachineMarksSettled, MachineCurrentMayRise, all_acked, journal_body_to_controller, changes_controller_heard, item_changes_over, machine_first_open, gives_current, item_gives_retired, journal_hello_boot, journal_installed_in_body, is_joining, machine_least_number, members, most_live_journal_versions, most_journal_versions, machine_open_version_in, machine_open_sent, open_version, journal_raises_known_boot, machine_stamped_version_in}
+unfoldable pub use Rattle.update_machine.specs.Marks.{acked_stamp, controller_heard, journal_current_mark, has_acked, is_member, is_over, journal_known_boot, journal_next_current, journal_next_retired, opened_at, journal_retired_mark}
+pub use Rattle.update_machine.specs.Messages.{is_delivery_item, is_forgetting, is_sending, is_to_controller, is_waiting, send_items}
+unfoldable pub use Rattle.update_machine.specs.Messages.{is_deliverable, is_forgotten_in_journal, journal_next_message, next_waiting, machine_sent_items_from, was_delivered}
+pub use Rattle.update_machine.specs.Moves.{AuthorityRule, journal_leg_arrival_items, journal_authority_rule, cache_rule, journal_stuck_cause_at, first_place, found_items, go_on, journal_packet_header_at, in_turn, journal_items_then, journal_leaving_item, journal_reroute_by, journal_packet_route, stuck_on_leg_items, takes_route}
+unfoldable pub use Rattle.update_machine.specs.Moves.{machine_arrive_items, machine_authority_items, journal_cache_items, end_items, machine_leg_items, lookup_items, move_items, reroute_items}
+pub use Rattle.update_machine.specs.Numbers.{AreNumbered, MachineTakesNextNumber, VersionsAreNumbered, item_message_number, machine_packet_number}
+pub use Rattle.update_machine.specs.PacketRoutes.{item_changes_found, changes_hops, item_gives_route, no_switch, owner, setting_targets_in, targets_of}
+unfoldable pub use Rattle.update_machine.specs.PacketRoutes.{journal_found_down, next_switch, journal_route_in, route_place}
+pub use Rattle.update_machine.specs.Packets.{Decision, item_gives_decision, item_gives_header, item_gives_standing, is_packet}
+unfoldable pub use Rattle.update_machine.specs.Packets.{journal_decision_of, journal_packet_header, journal_next_packet, standing}
+pub use Rattle.update_machine.specs.Pieces.{machine_apply_code, machine_hello_of, machine_marks_code, nothing, machine_plan_code, journal_resent_by_switch, machine_rows_code, machine_sends_or_nothing, step_items, machine_update_code}
+unfoldable pub use Rattle.update_machine.specs.Pieces.{confirm_items, journal_crash_items, deliver_items, machine_expire_items, forget_items, machine_hop_items, machine_link_items, lose_items, packet_items, piece, resend_items, restart_items, update_items}
+pub use Rattle.update_machine.specs.Quiet.{AreJournalMessagesReceived, IsMachineQuiet, IsJournalMessageReceived, IsJournalMessageReplaced, MachineMessageReplaces, are_old_tables, item_begins_boot, journal_body_carries_boot, gives_waited_for, is_advert, is_machine_later_body, is_of_boot, is_old_ack_in_journal, is_waited_for, matters, machine_speaking_in_body}
+pub use Rattle.update_machine.specs.Sendings.{Sending, journal_receiver_boot_at, item_changes_sendings}
 unfoldable pub use Rattle.update_machine.specs.Sendings.{sendings}
-pub use Rattle.update_machine.specs.Setting.{IsPlanOf, IsSetting, NamesOwnPort, Setting, setting_file_at, first_given, gives_file, made_by, policy_by, setting_of}
+pub use Rattle.update_machine.specs.Setting.{IsSettingPlanOf, IsSetting, NamesSettingPort, Setting, setting_file_at, journal_first_given, item_gives_file, made_by, policy_by, setting_of}
 unfoldable pub use Rattle.update_machine.specs.Setting.{file_of, policy_in}
-pub use Rattle.update_machine.specs.Settling.{collect_for, install_for, open_for, opening_switches, resent_to_member, stamp_for, submitted_items, to_switch, journal_unacked_installs, versions_from_current}
-unfoldable pub use Rattle.update_machine.specs.Settling.{current_items, installs_to, installs_to_all, open_items, resent_by_controller, retired_items, settling}
-pub use Rattle.update_machine.specs.Steps.{StepItems, changes_steps, steps_with_item}
-unfoldable pub use Rattle.update_machine.specs.Steps.{steps_in}
+pub use Rattle.update_machine.specs.Settling.{machine_collect_for, journal_install_for, journal_open_for, opening_switches, journal_resent_to_member, journal_stamp_for, submitted_items, machine_message_to_switch, journal_unacked_installs, journal_versions_from_current}
+unfoldable pub use Rattle.update_machine.specs.Settling.{current_items, machine_installs_to, machine_installs_to_all, machine_open_items, journal_resent_by_controller, retired_items, settling}
+pub use Rattle.update_machine.specs.Steps.{StepItems, item_changes_steps, steps_with_item}
+unfoldable pub use Rattle.update_machine.specs.Steps.{journal_steps_in}
 pub use Rattle.update_machine.specs.SwitchNumbers.{switches_of}
-pub use Rattle.update_machine.specs.Touched.{next_touched, touched_of}
+pub use Rattle.update_machine.specs.Touched.{journal_next_touched, touched_of}
 unfoldable pub use Rattle.update_machine.specs.Touched.{touched_by}
-pub use Rattle.update_machine.specs.Travels.{changes_leg, exit_port, gives_ingress, gives_travelling, is_at, packets_at, packets_in, port_of_action, travels_at}
-unfoldable pub use Rattle.update_machine.specs.Travels.{ingress_of, leg_of, next_travelling, travels}
-pub use Rattle.update_machine.specs.Versions.{HasPlan, collects_version, first_stamp, greatest_stamp_number, hosted_in_version, installs_version, is_submission, is_version, stamp_in, tables_at}
-unfoldable pub use Rattle.update_machine.specs.Versions.{holds_version, next_policy, plan_at, policy_at, stamp_of, version_count}
+pub use Rattle.update_machine.specs.Travels.{changes_journal_leg, journal_exit_port, item_gives_ingress, item_gives_travelling, is_at, journal_packets_at, journal_packets, machine_port_of_action, journal_travels_at}
+unfoldable pub use Rattle.update_machine.specs.Travels.{journal_ingress_of, journal_leg_of, next_travelling, travels}
+pub use Rattle.update_machine.specs.Versions.{SettingHasPlan, journal_collects_version, journal_first_stamp, machine_greatest_stamp_number, setting_hosted_or_none, installs_version, is_submission, is_version, journal_stamp_in_body, journal_tables_at}
+unfoldable pub use Rattle.update_machine.specs.Versions.{holds_version, journal_next_policy, journal_plan_at, policy_at, journal_stamp_of, journal_version_count}
 pub use Rattle.base.specs.declared.error.Failure.{Failure}
 pub use Rattle.base.specs.declared.error.Failure.TheVariants.{NoMemory, Refused}
 pub use Rattle.base.specs.declared.row.InRow.{InRow}

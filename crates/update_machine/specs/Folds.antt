@@ -6,24 +6,24 @@ use Rattle.base.specs.Exports.{option_or}
 use Rattle.journal.specs.declared.item.Item.{Item}
 
 -- what the last item that says something says
-abbrev pub last_given : {X : Type 0} → (Item → Option X) → List Item → Option X
-last_given tells [] = None
-last_given tells (item ∷ items) = option_or (last_given tells items) (tells item)
+abbrev pub journal_last_given : {X : Type 0} → (Item → Option X) → List Item → Option X
+journal_last_given tells [] = None
+journal_last_given tells (item ∷ items) = option_or (journal_last_given tells items) (tells item)
 
 -- how many items satisfy the test
 abbrev pub count_of : (Item → Bool) → List Item → ℕ
 count_of test journal = count_by test journal
 
 -- what the items give, in order
-abbrev pub all_given : {X : Type 0} → (Item → List X) → List Item → List X
-all_given gives journal = flat_map gives journal
+abbrev pub journal_all_given : {X : Type 0} → (Item → List X) → List Item → List X
+journal_all_given gives journal = flat_map gives journal
 
 -- what becomes of a value when each of these items changes it, after this journal
-abbrev pub folded_from : {X : Type 0} → (List Item → X → Item → X) → List Item → X → List Item → X
-folded_from changes before value [] = value
-folded_from changes before value (item ∷ items) =
-    folded_from changes (before ++ item ∷ []) (changes before value item) items
+abbrev pub folded_journal_from : {X : Type 0} → (List Item → X → Item → X) → List Item → X → List Item → X
+folded_journal_from changes before value [] = value
+folded_journal_from changes before value (item ∷ items) =
+    folded_journal_from changes (before ++ item ∷ []) (changes before value item) items
 
 -- what becomes of a value when each item of a journal changes it
-abbrev pub folded_value : {X : Type 0} → (List Item → X → Item → X) → X → List Item → X
-folded_value changes start journal = folded_from changes [] start journal
+abbrev pub journal_folded_value : {X : Type 0} → (List Item → X → Item → X) → X → List Item → X
+journal_folded_value changes start journal = folded_journal_from changes [] start journal

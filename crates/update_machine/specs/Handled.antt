@@ -6,14 +6,14 @@ use Rattle.journal.specs.declared.item.Item.{Item}
 use Rattle.journal.specs.declared.item.Item.TheVariants as item
 use Rattle.steps.specs.declared.step.Step.TheVariants.{Hop}
 use Rattle.update_machine.specs.Folds.{count_of}
-use Rattle.update_machine.specs.Travels.{travels_at}
-use Rattle.update_machine.specs.Steps.{StepItems, steps_in}
+use Rattle.update_machine.specs.Travels.{journal_travels_at}
+use Rattle.update_machine.specs.Steps.{StepItems, journal_steps_in}
 
 -- a packet entered, or is closed
-abbrev pub is_entry_at : ℕ → Item → Bool
-is_entry_at s (item.Entered packet switch header) = switch == s
-is_entry_at s (item.Closed packet switch) = switch == s
-is_entry_at s _ = false
+abbrev pub is_machine_entry_at : ℕ → Item → Bool
+is_machine_entry_at s (item.Entered packet switch header) = switch == s
+is_machine_entry_at s (item.Closed packet switch) = switch == s
+is_machine_entry_at s _ = false
 
 -- a packet moved on
 abbrev pub is_packet_move : Item → Bool
@@ -27,22 +27,22 @@ stuck_at_link (other ∷ items) = stuck_at_link items
 stuck_at_link [] = false
 
 -- the items of a hop that moved its packet on, or found it stuck before it arrived
-abbrev pub stays_on_way : List Item → Bool
-stays_on_way items = list_any is_packet_move items || stuck_at_link items
+abbrev pub journal_stays_on_way : List Item → Bool
+journal_stays_on_way items = list_any is_packet_move items || stuck_at_link items
 
 -- a hop of a packet that was at the switch is a call there, and another one if it arrives
-abbrev pub hop_calls : ℕ → StepItems → List Item → ℕ
-hop_calls s step (item.Row row (Hop packet) ∷ items) =
-    if travels_at step.before s packet then (if stays_on_way items then 1 else 2) else 0
-hop_calls s step _ = 0
+abbrev pub journal_hop_calls : ℕ → StepItems → List Item → ℕ
+journal_hop_calls s step (item.Row row (Hop packet) ∷ items) =
+    if journal_travels_at step.before s packet then (if journal_stays_on_way items then 1 else 2) else 0
+journal_hop_calls s step _ = 0
 
 -- the greatest number that is counted
-abbrev pub most_handled : ℕ
-most_handled = 2 ^ 64 - 1
+abbrev pub most_journal_handled : ℕ
+most_journal_handled = 2 ^ 64 - 1
 
 -- the entries at the switch and the calls of hops there
-unfoldable pub handled_count : List Item → ℕ → ℕ
-handled_count journal s =
-    min most_handled
-    (count_of (is_entry_at s) journal
-    + sum_by (λ step. hop_calls s step step.items) (steps_in journal))
+unfoldable pub journal_handled_count : List Item → ℕ → ℕ
+journal_handled_count journal s =
+    min most_journal_handled
+    (count_of (is_machine_entry_at s) journal
+    + sum_by (λ step. journal_hop_calls s step step.items) (journal_steps_in journal))

@@ -2,229 +2,229 @@
 use Rattle.std.specs.Prelude.{[], if◌then◌else◌, ◌++◌, ◌<◌, ◌==◌, ◌↔◌, ◌∷◌, ◌≡◌, ◌≢◌, ◌≤◌, IsTrue, List, None, Some, false, length, map, option_to_list, true, ℕ}
 use Rattle.failover.specs.Exports.{IsIsolated, IsNewestAdvert, IsRoute, first_advert, first_adverts, held_advert, no_links}
 use Rattle.five_tuple.specs.declared.header.Header.{Header}
-use Rattle.net_file.specs.Exports.{links_of, owner_of}
+use Rattle.net_file.specs.Exports.{links_of, net_port_owner}
 use Rattle.policy_rules.specs.declared.packet.Leg.TheVariants.{Exit}
 use Rattle.policy_rules.specs.declared.policy.Action.TheVariants.{Out}
 use Rattle.switch_table.specs.Exports.{table_lookup}
 use Rattle.journal.specs.declared.item.Item.{Item}
-use Rattle.update_machine.specs.Adverts.{advert_known, adverts_known, held_adverts, is_cut_off, own_advert, own_if_sent, own_seq, route_from}
-use Rattle.update_machine.specs.Boots.{boot_of, heard, is_up}
-use Rattle.update_machine.specs.Caches.{cache_of, lookup_at}
-use Rattle.update_machine.specs.Concerns.{NoneConcern, concerns_calls, concerns_controller, concerns_known, concerns_links, concerns_lookups, concerns_message, concerns_messages, concerns_packet, concerns_packets, concerns_policies, concerns_steps, concerns_switch, concerns_waiting}
-use Rattle.update_machine.specs.Handled.{handled_count}
-use Rattle.update_machine.specs.Links.{is_link_up, serves, message_of}
-use Rattle.update_machine.specs.Marks.{acked_stamp, controller_heard, current_mark, has_acked, is_member, is_over, known_boot, opened_at, retired_mark}
-use Rattle.update_machine.specs.Messages.{is_deliverable, is_forgotten, next_message, next_waiting, was_delivered}
+use Rattle.update_machine.specs.Adverts.{journal_advert_known, journal_adverts_known, journal_held_adverts, is_cut_off_in_journal, own_advert, journal_own_advert_sent, journal_own_seq, journal_route_from}
+use Rattle.update_machine.specs.Boots.{journal_boot_of, heard, is_up}
+use Rattle.update_machine.specs.Caches.{journal_cache_of, lookup_at}
+use Rattle.update_machine.specs.Concerns.{NoneConcern, item_concerns_calls, concerns_controller, item_concerns_known, concerns_links, item_concerns_lookups, concerns_message, concerns_messages, concerns_packet, item_concerns_packets, item_concerns_policies, concerns_steps, concerns_switch, item_concerns_waiting}
+use Rattle.update_machine.specs.Handled.{journal_handled_count}
+use Rattle.update_machine.specs.Links.{is_link_up_in_journal, serves, message_of}
+use Rattle.update_machine.specs.Marks.{acked_stamp, controller_heard, journal_current_mark, has_acked, is_member, is_over, journal_known_boot, opened_at, journal_retired_mark}
+use Rattle.update_machine.specs.Messages.{is_deliverable, is_forgotten_in_journal, journal_next_message, next_waiting, was_delivered}
 use Rattle.update_machine.specs.Moves.{end_items, stuck_on_leg_items}
-use Rattle.update_machine.specs.Packets.{decision_of, header_in, next_packet, standing}
+use Rattle.update_machine.specs.Packets.{journal_decision_of, journal_packet_header, journal_next_packet, standing}
 use Rattle.update_machine.specs.Quiet.{is_waited_for}
 use Rattle.update_machine.specs.Sendings.{sendings}
 use Rattle.update_machine.specs.Setting.{Setting, file_of, policy_in}
 use Rattle.update_machine.specs.SwitchNumbers.{switches_of}
-use Rattle.update_machine.specs.Causes.{present_step}
-use Rattle.update_machine.specs.Versions.{holds_version, policy_at, stamp_of, tables_at, version_count, next_policy, plan_at}
-use Rattle.update_machine.specs.Travels.{ingress_of, leg_of, next_travelling, travels}
-use Rattle.update_machine.specs.PacketRoutes.{found_down, next_switch, route_in, route_place}
-use Rattle.update_machine.specs.LinkMasks.{near, adverts_begun, adverts_heard, links_known}
+use Rattle.update_machine.specs.Causes.{journal_present_step}
+use Rattle.update_machine.specs.Versions.{holds_version, policy_at, journal_stamp_of, journal_tables_at, journal_version_count, journal_next_policy, journal_plan_at}
+use Rattle.update_machine.specs.Travels.{journal_ingress_of, journal_leg_of, next_travelling, travels}
+use Rattle.update_machine.specs.PacketRoutes.{journal_found_down, next_switch, journal_route_in, route_place}
+use Rattle.update_machine.specs.LinkMasks.{near, journal_adverts_begun, journal_adverts_heard, journal_links_known}
 use Rattle.update_machine.specs.Touched.{touched_by}
 
 -- a journal without items says nothing about the packet
-pub record PacketStarts (i : ℕ) : Type 0 where
-  pub header : header_in [] i ≡ None
-  pub ingress : ingress_of [] i ≡ None
+pub record JournalPacketStarts (i : ℕ) : Type 0 where
+  pub header : journal_packet_header [] i ≡ None
+  pub ingress : journal_ingress_of [] i ≡ None
   pub stands : standing [] i ≡ None
   pub travels : travels [] i ≡ false
-  pub decision : decision_of [] i ≡ None
-  pub leg : leg_of [] i ≡ None
-  pub route : route_in [] i ≡ []
+  pub decision : journal_decision_of [] i ≡ None
+  pub leg : journal_leg_of [] i ≡ None
+  pub route : journal_route_in [] i ≡ []
   pub route_place : route_place [] i ≡ 0
   pub next : next_switch [] i ≡ None
-  pub found : found_down [] i ≡ no_links
+  pub found : journal_found_down [] i ≡ no_links
 
 -- a journal without items says nothing about the message
-pub record MessageStarts (n : ℕ) : Type 0 where
+pub record JournalMessageStarts (n : ℕ) : Type 0 where
   pub message : message_of [] n ≡ None
   pub delivered : was_delivered [] n ≡ false
-  pub forgotten : is_forgotten [] n ≡ false
+  pub forgotten : is_forgotten_in_journal [] n ≡ false
   pub deliverable : is_deliverable [] n ≡ false
 
 -- what a journal without items says
 pub record StartLaws : Type 0 where
-  pub boot : (s : ℕ) → boot_of [] s ≡ 1
+  pub boot : (s : ℕ) → journal_boot_of [] s ≡ 1
   pub up : (s : ℕ) → is_up [] s ≡ true
   pub serving : (s : ℕ) → serves [] s ≡ true
   pub heard : (s : ℕ) → heard [] s ≡ []
-  pub stamp : (s : ℕ) → stamp_of [] s ≡ 1
+  pub stamp : (s : ℕ) → journal_stamp_of [] s ≡ 1
   pub versions : (s v : ℕ) → holds_version [] s v ≡ (v == 1)
-  pub count : version_count [] ≡ 1
+  pub count : journal_version_count [] ≡ 1
   pub file : (v : ℕ) → file_of [] v ≡ (if v == 1 then Some 1 else None)
-  pub known : (s : ℕ) → known_boot [] s ≡ 1
+  pub known : (s : ℕ) → journal_known_boot [] s ≡ 1
   pub over : (s : ℕ) → is_over [] s ≡ false
   pub member : (s : ℕ) → is_member [] s ≡ true
   pub acked : (s v : ℕ) → has_acked [] s v ≡ (v == 1)
   pub acked_stamp : (s : ℕ) → acked_stamp [] s ≡ 1
-  pub current : current_mark [] ≡ 1
-  pub retired : retired_mark [] ≡ 0
-  pub links : (one other : ℕ) → is_link_up [] one other ≡ true
+  pub current : journal_current_mark [] ≡ 1
+  pub retired : journal_retired_mark [] ≡ 0
+  pub links : (one other : ℕ) → is_link_up_in_journal [] one other ≡ true
   pub near : (setting : Setting) (s : ℕ) → near setting [] s ≡ links_of setting.net.links s
-  pub seq : (setting : Setting) (s : ℕ) → own_seq setting [] s ≡ 1
+  pub seq : (setting : Setting) (s : ℕ) → journal_own_seq setting [] s ≡ 1
   pub advert : (setting : Setting) (s : ℕ) →
       own_advert setting [] s ≡ first_advert s (links_of setting.net.links s)
   pub cache : (setting : Setting) (s : ℕ) →
-      cache_of setting [] s ≡ record { entries = []; capacity = setting.net.cache }
-  pub handled : (s : ℕ) → handled_count [] s ≡ 0
-  pub packets : next_packet [] ≡ 1
+      journal_cache_of setting [] s ≡ record { entries = []; capacity = setting.net.cache }
+  pub handled : (s : ℕ) → journal_handled_count [] s ≡ 0
+  pub packets : journal_next_packet [] ≡ 1
   pub travelling : next_travelling [] ≡ None
-  pub messages : next_message [] ≡ 1
+  pub messages : journal_next_message [] ≡ 1
   pub waiting : next_waiting [] ≡ None
   pub sent : sendings [] ≡ []
   pub waited_for : (s : ℕ) → is_waited_for [] s ≡ false
-  pub step : present_step [] ≡ None
-  pub packet : (i : ℕ) → PacketStarts i
-  pub message : (n : ℕ) → MessageStarts n
+  pub step : journal_present_step [] ≡ None
+  pub packet : (i : ℕ) → JournalPacketStarts i
+  pub message : (n : ℕ) → JournalMessageStarts n
   -- each switch knows the first advert of each one, its own included
   pub adverts : (setting : Setting) (s : ℕ) → s < length setting.net.switches →
-      length setting.net.switches ≤ 64 → adverts_known setting [] s
+      length setting.net.switches ≤ 64 → journal_adverts_known setting [] s
       ≡ first_adverts (map (links_of setting.net.links) (switches_of setting))
       (length setting.net.switches)
   -- about a header it says what the tables of the first version say
   pub lookup : (setting : Setting) (s : ℕ) (header : Header) →
-      lookup_at setting [] s header ≡ table_lookup (tables_at setting [] 1 s) header
+      lookup_at setting [] s header ≡ table_lookup (journal_tables_at setting [] 1 s) header
 
 -- items that don't concern a switch don't change what the journal says about it
-pub record SwitchKeeps (setting : Setting) (s : ℕ) (before after : List Item) : Type 0 where
-  pub boot : boot_of after s ≡ boot_of before s
+pub record JournalSwitchKeeps (setting : Setting) (s : ℕ) (before after : List Item) : Type 0 where
+  pub boot : journal_boot_of after s ≡ journal_boot_of before s
   pub up : is_up after s ≡ is_up before s
   pub serving : serves after s ≡ serves before s
   pub heard : heard after s ≡ heard before s
-  pub stamp : stamp_of after s ≡ stamp_of before s
+  pub stamp : journal_stamp_of after s ≡ journal_stamp_of before s
   pub versions : (v : ℕ) → holds_version after s v ≡ holds_version before s v
-  pub cache : cache_of setting after s ≡ cache_of setting before s
+  pub cache : journal_cache_of setting after s ≡ journal_cache_of setting before s
 
 -- those that don't concern a packet don't change what the journal says about it
-pub record PacketKeeps (i : ℕ) (before after : List Item) : Type 0 where
-  pub header : header_in after i ≡ header_in before i
-  pub ingress : ingress_of after i ≡ ingress_of before i
+pub record JournalPacketKeeps (i : ℕ) (before after : List Item) : Type 0 where
+  pub header : journal_packet_header after i ≡ journal_packet_header before i
+  pub ingress : journal_ingress_of after i ≡ journal_ingress_of before i
   pub stands : standing after i ≡ standing before i
   pub travels : travels after i ≡ travels before i
-  pub decision : decision_of after i ≡ decision_of before i
-  pub leg : leg_of after i ≡ leg_of before i
-  pub route : route_in after i ≡ route_in before i
+  pub decision : journal_decision_of after i ≡ journal_decision_of before i
+  pub leg : journal_leg_of after i ≡ journal_leg_of before i
+  pub route : journal_route_in after i ≡ journal_route_in before i
   pub route_place : route_place after i ≡ route_place before i
   pub next : next_switch after i ≡ next_switch before i
-  pub found : found_down after i ≡ found_down before i
+  pub found : journal_found_down after i ≡ journal_found_down before i
 
 -- those that don't concern the controller don't change what it knows
-pub record ControllerKeeps (before after : List Item) : Type 0 where
+pub record JournalControllerKeeps (before after : List Item) : Type 0 where
   pub heard : controller_heard after ≡ controller_heard before
-  pub known : (s : ℕ) → known_boot after s ≡ known_boot before s
+  pub known : (s : ℕ) → journal_known_boot after s ≡ journal_known_boot before s
   pub over : (s : ℕ) → is_over after s ≡ is_over before s
   pub opened : (s : ℕ) → opened_at after s ≡ opened_at before s
   pub member : (s : ℕ) → is_member after s ≡ is_member before s
   pub acked : (s v : ℕ) → has_acked after s v ≡ has_acked before s v
   pub stamp : (s : ℕ) → acked_stamp after s ≡ acked_stamp before s
-  pub current : current_mark after ≡ current_mark before
-  pub retired : retired_mark after ≡ retired_mark before
-  pub count : version_count after ≡ version_count before
+  pub current : journal_current_mark after ≡ journal_current_mark before
+  pub retired : journal_retired_mark after ≡ journal_retired_mark before
+  pub count : journal_version_count after ≡ journal_version_count before
 
 -- what doesn't concern links changes neither which of them are usable nor what switches say of them
-pub record LinksKeep (setting : Setting) (before after : List Item) : Type 0 where
-  pub up : (one other : ℕ) → is_link_up after one other ≡ is_link_up before one other
+pub record MachineLinksKeep (setting : Setting) (before after : List Item) : Type 0 where
+  pub up : (one other : ℕ) → is_link_up_in_journal after one other ≡ is_link_up_in_journal before one other
   pub near : (s : ℕ) → near setting after s ≡ near setting before s
-  pub seq : (s : ℕ) → own_seq setting after s ≡ own_seq setting before s
+  pub seq : (s : ℕ) → journal_own_seq setting after s ≡ journal_own_seq setting before s
   pub advert : (s : ℕ) → own_advert setting after s ≡ own_advert setting before s
 
 -- those that concern neither the links nor a switch don't change what it knows about the network
-pub record KnownKeeps (setting : Setting) (s : ℕ) (before after : List Item) : Type 0 where
-  pub known : adverts_known setting after s ≡ adverts_known setting before s
-  pub held : held_adverts setting after s ≡ held_adverts setting before s
-  pub links : (down : List ℕ) → links_known setting after s down ≡ links_known setting before s down
+pub record JournalKnownKeeps (setting : Setting) (s : ℕ) (before after : List Item) : Type 0 where
+  pub known : journal_adverts_known setting after s ≡ journal_adverts_known setting before s
+  pub held : journal_held_adverts setting after s ≡ journal_held_adverts setting before s
+  pub links : (down : List ℕ) → journal_links_known setting after s down ≡ journal_links_known setting before s down
   pub route : (targets down : List ℕ) →
-      route_from setting after s targets down ≡ route_from setting before s targets down
+      journal_route_from setting after s targets down ≡ journal_route_from setting before s targets down
   pub cut_off : (down : List ℕ) (target : ℕ) →
-      is_cut_off setting after s down target ≡ is_cut_off setting before s down target
+      is_cut_off_in_journal setting after s down target ≡ is_cut_off_in_journal setting before s down target
 
 -- those that don't concern a message don't change what the journal says about it
-pub record MessageKeeps (n : ℕ) (before after : List Item) : Type 0 where
+pub record MachineMessageKeeps (n : ℕ) (before after : List Item) : Type 0 where
   pub message : message_of after n ≡ message_of before n
   pub delivered : was_delivered after n ≡ was_delivered before n
-  pub forgotten : is_forgotten after n ≡ is_forgotten before n
+  pub forgotten : is_forgotten_in_journal after n ≡ is_forgotten_in_journal before n
   pub deliverable : is_deliverable after n ≡ is_deliverable before n
 
 -- those that concern no message don't change what the journal says about all messages
-pub record MessagesKeep (before after : List Item) : Type 0 where
-  pub next : next_message after ≡ next_message before
+pub record JournalMessagesKeep (before after : List Item) : Type 0 where
+  pub next : journal_next_message after ≡ journal_next_message before
   pub waiting : next_waiting after ≡ next_waiting before
   pub sent : sendings after ≡ sendings before
 
 -- those by which no packet enters or ends don't change what the journal says about all packets
-pub record PacketsKeep (before after : List Item) : Type 0 where
-  pub next : next_packet after ≡ next_packet before
+pub record JournalPacketsKeep (before after : List Item) : Type 0 where
+  pub next : journal_next_packet after ≡ journal_next_packet before
   pub travelling : next_travelling after ≡ next_travelling before
 
 -- those that submit no policy don't change the versions and their policies
-pub record PoliciesKeep (before after : List Item) : Type 0 where
-  pub count : version_count after ≡ version_count before
+pub record JournalPoliciesKeep (before after : List Item) : Type 0 where
+  pub count : journal_version_count after ≡ journal_version_count before
   pub file : (v : ℕ) → file_of after v ≡ file_of before v
   pub rows : (setting : Setting) (v : ℕ) → policy_in setting after v ≡ policy_in setting before v
   pub policy : (setting : Setting) (v : ℕ) → policy_at setting after v ≡ policy_at setting before v
-  pub plan : (setting : Setting) (v : ℕ) → plan_at setting after v ≡ plan_at setting before v
+  pub plan : (setting : Setting) (v : ℕ) → journal_plan_at setting after v ≡ journal_plan_at setting before v
   pub touched : (setting : Setting) (v : ℕ) →
       touched_by setting after v ≡ touched_by setting before v
   pub next : (setting : Setting) (file : ℕ) →
-      next_policy setting after file ≡ next_policy setting before file
+      journal_next_policy setting after file ≡ journal_next_policy setting before file
 
-pub record ConcernLaws : Type 0 where
+pub record JournalConcernLaws : Type 0 where
   pub switch : (setting : Setting) (s : ℕ) (before items : List Item) →
-      NoneConcern (concerns_switch s) before items → SwitchKeeps setting s before (before ++ items)
+      NoneConcern (concerns_switch s) before items → JournalSwitchKeeps setting s before (before ++ items)
   pub lookup : (setting : Setting) (s : ℕ) (header : Header) (before items : List Item) →
-      NoneConcern (concerns_lookups s) before items →
+      NoneConcern (item_concerns_lookups s) before items →
       lookup_at setting (before ++ items) s header ≡ lookup_at setting before s header
-  pub calls : (s : ℕ) (before items : List Item) → NoneConcern (concerns_calls s) before items →
-      handled_count (before ++ items) s ≡ handled_count before s
+  pub calls : (s : ℕ) (before items : List Item) → NoneConcern (item_concerns_calls s) before items →
+      journal_handled_count (before ++ items) s ≡ journal_handled_count before s
   pub waiting : (s : ℕ) (before items : List Item) →
-      NoneConcern (concerns_waiting s) before items →
+      NoneConcern (item_concerns_waiting s) before items →
       is_waited_for (before ++ items) s ≡ is_waited_for before s
   pub links : (setting : Setting) (before items : List Item) →
-      NoneConcern concerns_links before items → LinksKeep setting before (before ++ items)
+      NoneConcern concerns_links before items → MachineLinksKeep setting before (before ++ items)
   pub known : (setting : Setting) (s : ℕ) (before items : List Item) →
-      NoneConcern (concerns_known s) before items → KnownKeeps setting s before (before ++ items)
+      NoneConcern (item_concerns_known s) before items → JournalKnownKeeps setting s before (before ++ items)
   pub packet : (i : ℕ) (before items : List Item) →
-      NoneConcern (concerns_packet i) before items → PacketKeeps i before (before ++ items)
+      NoneConcern (concerns_packet i) before items → JournalPacketKeeps i before (before ++ items)
   pub packets : (before items : List Item) →
-      NoneConcern concerns_packets before items → PacketsKeep before (before ++ items)
+      NoneConcern item_concerns_packets before items → JournalPacketsKeep before (before ++ items)
   pub message : (n : ℕ) (before items : List Item) →
-      NoneConcern (concerns_message n) before items → MessageKeeps n before (before ++ items)
+      NoneConcern (concerns_message n) before items → MachineMessageKeeps n before (before ++ items)
   pub messages : (before items : List Item) →
-      NoneConcern concerns_messages before items → MessagesKeep before (before ++ items)
+      NoneConcern concerns_messages before items → JournalMessagesKeep before (before ++ items)
   pub policies : (before items : List Item) →
-      NoneConcern concerns_policies before items → PoliciesKeep before (before ++ items)
+      NoneConcern item_concerns_policies before items → JournalPoliciesKeep before (before ++ items)
   pub controller : (before items : List Item) →
-      NoneConcern concerns_controller before items → ControllerKeeps before (before ++ items)
+      NoneConcern concerns_controller before items → JournalControllerKeeps before (before ++ items)
   pub step : (before items : List Item) → NoneConcern concerns_steps before items →
-      present_step (before ++ items) ≡ present_step before
+      journal_present_step (before ++ items) ≡ journal_present_step before
 
 -- what a switch knows about the network's links
-pub record KnownLinkLaws : Type 0 where
+pub record JournalKnownLinkLaws : Type 0 where
   -- of another switch it knows the newest advert of those that it began with and heard
   pub newest : (setting : Setting) (journal : List Item) (s origin : ℕ) → origin ≢ s → origin < 64 →
       IsNewestAdvert origin
-      (option_to_list (held_advert (adverts_begun setting journal s) origin)
-      ++ adverts_heard journal s)
-      (advert_known setting journal s origin)
+      (option_to_list (held_advert (journal_adverts_begun setting journal s) origin)
+      ++ journal_adverts_heard journal s)
+      (journal_advert_known setting journal s origin)
   -- of itself what it sent last, if it sent something in its boot
   pub own : (setting : Setting) (journal : List Item) (s : ℕ) → s < 64 →
-      advert_known setting journal s s ≡ own_if_sent (own_advert setting journal s)
+      journal_advert_known setting journal s s ≡ journal_own_advert_sent (own_advert setting journal s)
   -- its route is a shortest one over the links that it knows, and of those the least, to the first
   -- target that it reaches; there is none exactly if it reaches no target
   pub route : (setting : Setting) (journal : List Item) (s : ℕ) (targets down : List ℕ) →
-      IsRoute (links_known setting journal s down) s targets
-      (route_from setting journal s targets down)
+      IsRoute (journal_links_known setting journal s down) s targets
+      (journal_route_from setting journal s targets down)
   -- a target is isolated exactly if it is another switch and no known link ends at it
   pub cut_off : (setting : Setting) (journal : List Item) (s target : ℕ) (down : List ℕ) →
-      IsTrue (is_cut_off setting journal s down target) ↔
-      IsIsolated (links_known setting journal s down) s target
+      IsTrue (is_cut_off_in_journal setting journal s down target) ↔
+      IsIsolated (journal_links_known setting journal s down) s target
   -- a packet that is to leave by a port that no switch has is stuck where it was decided
   pub portless : (setting : Setting) (journal : List Item) (i s port : ℕ) → s < 64 →
-      owner_of setting.net.switches port ≡ None →
+      net_port_owner setting.net.switches port ≡ None →
       end_items setting i s (Out port) journal ≡ stuck_on_leg_items setting journal i s (Exit port) ∷ []

@@ -13,98 +13,98 @@ use Rattle.net_file.specs.Exports.{are_linked, joins}
 use Rattle.net_file.specs.declared.net.LinkRow.{LinkRow}
 use Rattle.journal.specs.declared.item.Item.{Item}
 use Rattle.journal.specs.declared.item.Item.TheVariants as item
-use Rattle.update_machine.specs.Folds.{folded_value, last_given}
+use Rattle.update_machine.specs.Folds.{journal_folded_value, journal_last_given}
 use Rattle.update_machine.specs.Setting.{Setting}
 
-abbrev pub gives_serving : ℕ → Item → Option Bool
-gives_serving s (item.Down switch) = if switch == s then Some false else None
-gives_serving s (item.Booted switch boot) = if switch == s then Some false else None
-gives_serving s (item.Opened switch version) = if switch == s then Some true else None
-gives_serving s _ = None
+abbrev pub item_gives_serving : ℕ → Item → Option Bool
+item_gives_serving s (item.Down switch) = if switch == s then Some false else None
+item_gives_serving s (item.Booted switch boot) = if switch == s then Some false else None
+item_gives_serving s (item.Opened switch version) = if switch == s then Some true else None
+item_gives_serving s _ = None
 
 -- a switch serves at first, and after it opened in its boot
 unfoldable pub serves : List Item → ℕ → Bool
-serves journal s = unwrap_or (last_given (gives_serving s) journal) true
+serves journal s = unwrap_or (journal_last_given (item_gives_serving s) journal) true
 
 -- an item names a link by its lower switch first
-abbrev pub gives_link : ℕ → ℕ → Item → Option Bool
-gives_link low high (item.LinkIs one two up) = if one == low && two == high then Some up else None
-gives_link low high _ = None
+abbrev pub gives_journal_link : ℕ → ℕ → Item → Option Bool
+gives_journal_link low high (item.LinkIs one two up) = if one == low && two == high then Some up else None
+gives_journal_link low high _ = None
 
 -- the link of two switches is up at first, and if it last came back
-unfoldable pub is_link_up : List Item → ℕ → ℕ → Bool
-is_link_up journal one other =
-    unwrap_or (last_given (gives_link (min one other) (max one other)) journal) true
+unfoldable pub is_link_up_in_journal : List Item → ℕ → ℕ → Bool
+is_link_up_in_journal journal one other =
+    unwrap_or (journal_last_given (gives_journal_link (min one other) (max one other)) journal) true
 
 -- it is up, and both ends serve
-abbrev pub is_usable : List Item → LinkRow → Bool
-is_usable journal link =
-    is_link_up journal link.one link.two && serves journal link.one && serves journal link.two
+abbrev pub is_usable_in_journal : List Item → LinkRow → Bool
+is_usable_in_journal journal link =
+    is_link_up_in_journal journal link.one link.two && serves journal link.one && serves journal link.two
 
 -- a usable link joins these switches
-abbrev pub can_use : Setting → List Item → ℕ → ℕ → Bool
-can_use setting journal one two =
-    list_any (λ link. joins one two link && is_usable journal link) setting.net.links
+abbrev pub journal_can_use : Setting → List Item → ℕ → ℕ → Bool
+journal_can_use setting journal one two =
+    list_any (λ link. joins one two link && is_usable_in_journal journal link) setting.net.links
 
 -- ---- the links that a switch knows
 
-abbrev pub gives_message : ℕ → Item → Option Message
-gives_message n (item.Sent number message) = if number == n then Some message else None
-gives_message n _ = None
+abbrev pub item_gives_message : ℕ → Item → Option Message
+item_gives_message n (item.Sent number message) = if number == n then Some message else None
+item_gives_message n _ = None
 
 -- the message of a number, if it was sent
 unfoldable pub message_of : List Item → ℕ → Option Message
-message_of journal number = last_given (gives_message number) journal
+message_of journal number = journal_last_given (item_gives_message number) journal
 
 -- what an advert claims of its origin: its boot, the number of the advert in it, and to which
 -- switches it has links
-pub record Claim : Type 0 where
+pub record JournalClaim : Type 0 where
   pub boot : ℕ
   pub seq : ℕ
   pub links : ℕ → Bool
 
 -- what a message claims to switch s of switch one
-abbrev pub claim_by : ℕ → ℕ → Place → Body → Option Claim
-claim_by s one (receiver.Switch switch) (Advertise advert) =
+abbrev pub journal_claim_by : ℕ → ℕ → Place → Body → Option JournalClaim
+journal_claim_by s one (receiver.Switch switch) (Advertise advert) =
     if switch == s && advert.origin == one then Some (record {
       boot = advert.boot;
       seq = advert.seq;
       links = λ other. bit_at advert.up other == 1;
     }) else None
-claim_by s one _ _ = None
+journal_claim_by s one _ _ = None
 
-abbrev pub claim_in : ℕ → ℕ → Message → Option Claim
-claim_in s one message = claim_by s one message.to message.body
+abbrev pub journal_claim_in_message : ℕ → ℕ → Message → Option JournalClaim
+journal_claim_in_message s one message = journal_claim_by s one message.to message.body
 
 -- the newer of two claims, and of equally new ones the first
-abbrev pub newer_claim_of : Option Claim → Option Claim → Option Claim
-newer_claim_of held None = held
-newer_claim_of None heard = heard
-newer_claim_of (Some held) (Some heard) = if nat_lt held.boot heard.boot
+abbrev pub newer_journal_claim_of : Option JournalClaim → Option JournalClaim → Option JournalClaim
+newer_journal_claim_of held None = held
+newer_journal_claim_of None heard = heard
+newer_journal_claim_of (Some held) (Some heard) = if nat_lt held.boot heard.boot
     || (held.boot == heard.boot && nat_lt held.seq heard.seq) then Some heard else Some held
 
-abbrev pub changes_claim : ℕ → ℕ → List Item → Option Claim → Item → Option Claim
-changes_claim s one before claim (item.Down switch) = if switch == s then None else claim
-changes_claim s one before claim (item.Booted switch boot) = if switch == s then None else claim
-changes_claim s one before claim (item.Delivered number) =
-    newer_claim_of claim (option_and_then (claim_in s one) (message_of before number))
-changes_claim s one before claim _ = claim
+abbrev pub changes_journal_claim : ℕ → ℕ → List Item → Option JournalClaim → Item → Option JournalClaim
+changes_journal_claim s one before claim (item.Down switch) = if switch == s then None else claim
+changes_journal_claim s one before claim (item.Booted switch boot) = if switch == s then None else claim
+changes_journal_claim s one before claim (item.Delivered number) =
+    newer_journal_claim_of claim (option_and_then (journal_claim_in_message s one) (message_of before number))
+changes_journal_claim s one before claim _ = claim
 
 -- at the beginning each switch knows each one's links in the network
-abbrev pub first_claim : Setting → ℕ → Claim
-first_claim setting one = record { boot = 1; seq = 1; links = are_linked setting.net.links one }
+abbrev pub setting_first_claim : Setting → ℕ → JournalClaim
+setting_first_claim setting one = record { boot = 1; seq = 1; links = are_linked setting.net.links one }
 
 -- the newest claim of switch one that switch s, which is up, heard in its boot, or began with
-unfoldable pub claim_of : Setting → List Item → ℕ → ℕ → Option Claim
-claim_of setting journal s one =
-    folded_value (changes_claim s one) (Some (first_claim setting one)) journal
+unfoldable pub journal_claim_of : Setting → List Item → ℕ → ℕ → Option JournalClaim
+journal_claim_of setting journal s one =
+    journal_folded_value (changes_journal_claim s one) (Some (setting_first_claim setting one)) journal
 
 -- as switch s sees it, switch one has a link to two: it sees its own, and uses the claims of others
 abbrev pub is_end : Setting → List Item → ℕ → ℕ → ℕ → Bool
-is_end setting journal s one two = if one == s then can_use setting journal s two
-    else option_map_or (λ claim. claim.links two) (claim_of setting journal s one) false
+is_end setting journal s one two = if one == s then journal_can_use setting journal s two
+    else option_map_or (λ claim. claim.links two) (journal_claim_of setting journal s one) false
 
 -- switch s knows the link of two switches: each of them has one to the other
-abbrev pub knows_link : Setting → List Item → ℕ → ℕ → ℕ → Bool
-knows_link setting journal s one two = not (one == two)
+abbrev pub journal_knows_link : Setting → List Item → ℕ → ℕ → ℕ → Bool
+journal_knows_link setting journal s one two = not (one == two)
     && is_end setting journal s one two && is_end setting journal s two one

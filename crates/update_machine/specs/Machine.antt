@@ -47,8 +47,8 @@ abbrev pub submitted_policy : Machine → ℕ → Option (List Row)
 submitted_policy machine version = slice_get machine.policies (version - 1)
 
 -- the machine with this packet instead of what it knew of it
-abbrev pub with_packet : Machine → ℕ → Packet → Machine
-with_packet machine number packet = record machine {
+abbrev pub machine_with_packet : Machine → ℕ → Packet → Machine
+machine_with_packet machine number packet = record machine {
   packets = λ other. if other == number then Some packet else machine.packets other;
 }
 
@@ -70,7 +70,7 @@ pub record MachineRetires (old : Machine) (mark : ℕ) (new : Machine) : Type 0 
 -- a new packet enters under the present mark
 pub record MachineEnters (old : Machine) (number : ℕ) (header : Header) (new : Machine) : Type 0 where
   pub unknown : old.packets number ≡ None
-  pub after : new ≡ with_packet old number
+  pub after : new ≡ machine_with_packet old number
       (record { header = header; entry_mark = old.mark; decision = None; end = None })
 
 -- a packet gets, once, the first match of one whole version that wasn't retired when it entered
@@ -83,22 +83,22 @@ pub record Decides (old : Machine) (number version : ℕ) (hit : Hit) (new : Mac
   pub not_retired : packet.entry_mark < version
   pub submitted : submitted_policy old version ≡ Some policy
   pub first_match : IsFirstMatch policy packet.header hit
-  pub after : new ≡ with_packet old number (record packet { decision = Some hit })
+  pub after : new ≡ machine_with_packet old number (record packet { decision = Some hit })
 
 -- a packet is dropped or leaves only as its decision says; it may be lost or get stuck at any time
-abbrev pub PacketMayEnd : Packet → End → Type 0
-PacketMayEnd packet Dropped = option_map (λ hit. hit.action) packet.decision ≡ Some action.Drop
-PacketMayEnd packet (LeftBy port) =
+abbrev pub MachinePacketMayEnd : Packet → End → Type 0
+MachinePacketMayEnd packet Dropped = option_map (λ hit. hit.action) packet.decision ≡ Some action.Drop
+MachinePacketMayEnd packet (LeftBy port) =
     option_map (λ hit. hit.action) packet.decision ≡ Some (action.Out port)
-PacketMayEnd packet _ = ⊤
+MachinePacketMayEnd packet _ = ⊤
 
 -- a packet ends, and ends once
 pub record Ends (old : Machine) (number : ℕ) (end : End) (new : Machine) : Type 0 where
   pub packet : Packet
   pub entered : old.packets number ≡ Some packet
   pub not_ended : packet.end ≡ None
-  pub may : PacketMayEnd packet end
-  pub after : new ≡ with_packet old number (record packet { end = Some end })
+  pub may : MachinePacketMayEnd packet end
+  pub after : new ≡ machine_with_packet old number (record packet { end = Some end })
 
 -- what an item does to the machine: a move that the machine may make, or nothing
 abbrev pub Takes : Setting → Machine → Item → Machine → Type 0

@@ -15,27 +15,27 @@ is_sending (item.Sent number message) = true
 is_sending _ = false
 
 -- the number of the next message that is sent
-unfoldable pub next_message : List Item → ℕ
-next_message journal = count_of is_sending journal + 1
+unfoldable pub journal_next_message : List Item → ℕ
+journal_next_message journal = count_of is_sending journal + 1
 
 abbrev pub is_forgetting : ℕ → Item → Bool
 is_forgetting n (item.Forgotten number) = number == n
 is_forgetting n _ = false
 
-abbrev pub is_delivery : ℕ → Item → Bool
-is_delivery n (item.Delivered number) = number == n
-is_delivery n _ = false
+abbrev pub is_delivery_item : ℕ → Item → Bool
+is_delivery_item n (item.Delivered number) = number == n
+is_delivery_item n _ = false
 
-unfoldable pub is_forgotten : List Item → ℕ → Bool
-is_forgotten journal number = nat_lt 0 (count_of (is_forgetting number) journal)
+unfoldable pub is_forgotten_in_journal : List Item → ℕ → Bool
+is_forgotten_in_journal journal number = nat_lt 0 (count_of (is_forgetting number) journal)
 
 unfoldable pub was_delivered : List Item → ℕ → Bool
-was_delivered journal number = nat_lt 0 (count_of (is_delivery number) journal)
+was_delivered journal number = nat_lt 0 (count_of (is_delivery_item number) journal)
 
 -- it was sent and isn't forgotten, so it may be delivered, perhaps again
 unfoldable pub is_deliverable : List Item → ℕ → Bool
 is_deliverable journal number =
-    is_some (message_of journal number) && not (is_forgotten journal number)
+    is_some (message_of journal number) && not (is_forgotten_in_journal journal number)
 
 -- it was never delivered and isn't forgotten
 abbrev pub is_waiting : List Item → ℕ → Bool
@@ -50,10 +50,10 @@ is_to_controller (receiver.Switch switch) = false
 is_to_controller receiver.Controller = true
 
 -- the items that send messages, the first one under this number
-unfoldable pub sent_from : ℕ → List Message → List Item
-sent_from number [] = []
-sent_from number (message ∷ messages) = item.Sent number message ∷ sent_from (number + 1) messages
+unfoldable pub machine_sent_items_from : ℕ → List Message → List Item
+machine_sent_items_from number [] = []
+machine_sent_items_from number (message ∷ messages) = item.Sent number message ∷ machine_sent_items_from (number + 1) messages
 
 -- the items that send messages after a journal
 abbrev pub send_items : List Item → List Message → List Item
-send_items journal messages = sent_from (next_message journal) messages
+send_items journal messages = machine_sent_items_from (journal_next_message journal) messages

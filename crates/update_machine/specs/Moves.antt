@@ -24,15 +24,15 @@ use Rattle.switch_table.specs.declared.search.Found.{Found}
 use Rattle.switch_table.specs.declared.search.Found.TheVariants as found
 use Rattle.journal.specs.declared.item.Item.{Item}
 use Rattle.journal.specs.declared.item.Item.TheVariants as item
-use Rattle.update_machine.specs.Adverts.{is_cut_off, route_from}
+use Rattle.update_machine.specs.Adverts.{is_cut_off_in_journal, journal_route_from}
 use Rattle.update_machine.specs.Caches.{lookup_at}
 use Rattle.update_machine.specs.LinkMasks.{near}
 use Rattle.update_machine.specs.Messages.{send_items}
-use Rattle.update_machine.specs.Packets.{decision_of, header_in}
+use Rattle.update_machine.specs.Packets.{journal_decision_of, journal_packet_header}
 use Rattle.update_machine.specs.Setting.{Setting}
-use Rattle.update_machine.specs.Versions.{holds_version, stamp_of, plan_at}
-use Rattle.update_machine.specs.Travels.{ingress_of, is_at, leg_of}
-use Rattle.update_machine.specs.PacketRoutes.{found_down, next_switch, owner, targets_of}
+use Rattle.update_machine.specs.Versions.{holds_version, journal_stamp_of, journal_plan_at}
+use Rattle.update_machine.specs.Travels.{journal_ingress_of, is_at, journal_leg_of}
+use Rattle.update_machine.specs.PacketRoutes.{journal_found_down, next_switch, owner, targets_of}
 
 -- ---- blocks
 
@@ -49,31 +49,31 @@ in_turn (block ∷ blocks) journal = journal_items_then (block journal) (in_turn
 
 -- a packet that finds no route is stuck without an authority exactly if it seeks one and no
 -- known link ends at any target
-abbrev pub stuck_cause_at : Setting → List Item → ℕ → List ℕ → Leg → Cause
-stuck_cause_at setting journal s down (Seek version partition) =
-    if list_all (is_cut_off setting journal s down)
+abbrev pub journal_stuck_cause_at : Setting → List Item → ℕ → List ℕ → Leg → Cause
+journal_stuck_cause_at setting journal s down (Seek version partition) =
+    if list_all (is_cut_off_in_journal setting journal s down)
     (targets_of setting journal (Seek version partition))
     then NoAuthority else NoRoute
-stuck_cause_at setting journal s down (Exit port) = NoRoute
+journal_stuck_cause_at setting journal s down (Exit port) = NoRoute
 
 -- the packet is stuck at the switch on this leg
 abbrev pub stuck_on_leg_items : Setting → List Item → ℕ → ℕ → Leg → Item
 stuck_on_leg_items setting journal i s leg =
-    item.Stuck i s (stuck_cause_at setting journal s (found_down journal i) leg) leg
-    (found_down journal i)
+    item.Stuck i s (journal_stuck_cause_at setting journal s (journal_found_down journal i) leg) leg
+    (journal_found_down journal i)
 
 -- the route from the switch to the leg's targets, without the links that the packet found down
-abbrev pub packet_route_for : Setting → List Item → ℕ → ℕ → Leg → Option (List ℕ)
-packet_route_for setting journal i s leg =
-    route_from setting journal s (targets_of setting journal leg) (found_down journal i)
+abbrev pub journal_packet_route : Setting → List Item → ℕ → ℕ → Leg → Option (List ℕ)
+journal_packet_route setting journal i s leg =
+    journal_route_from setting journal s (targets_of setting journal leg) (journal_found_down journal i)
 
 abbrev pub takes_route : ℕ → Leg → List ℕ → Item
 takes_route i (Seek version partition) route = item.Seeking i version partition route
 takes_route i (Exit port) route = item.Exiting i route
 
 -- the packet takes a leg from the switch, or is stuck there
-unfoldable pub leg_items : Setting → List Item → ℕ → ℕ → Leg → List Item
-leg_items setting journal i s leg = elim (packet_route_for setting journal i s leg) [
+unfoldable pub machine_leg_items : Setting → List Item → ℕ → ℕ → Leg → List Item
+machine_leg_items setting journal i s leg = elim (journal_packet_route setting journal i s leg) [
   | None ↦ stuck_on_leg_items setting journal i s leg ∷ []
   | Some route ↦ takes_route i leg route ∷ []
 ]
@@ -81,26 +81,26 @@ leg_items setting journal i s leg = elim (packet_route_for setting journal i s l
 -- ---- decisions
 
 -- the packet's header
-abbrev pub packet_header_at : List Item → ℕ → Header
-packet_header_at journal i =
-    unwrap_or (header_in journal i)
+abbrev pub journal_packet_header_at : List Item → ℕ → Header
+journal_packet_header_at journal i =
+    unwrap_or (journal_packet_header journal i)
     (header_of (record { src = 0; dst = 0; sport = 0; dport = 0; proto = 0 }))
 
 -- the packet leaves with its header, version and rule
-abbrev pub leaving_item : List Item → ℕ → ℕ → Item
-leaving_item journal i port = item.Left i port (record {
+abbrev pub journal_leaving_item : List Item → ℕ → ℕ → Item
+journal_leaving_item journal i port = item.Left i port (record {
   packet = i;
-  header = packet_header_at journal i;
-  version = unwrap_or (option_map (λ decision. decision.version) (decision_of journal i)) 0;
-  rule = unwrap_or (option_map (λ decision. decision.rule) (decision_of journal i)) None;
+  header = journal_packet_header_at journal i;
+  version = unwrap_or (option_map (λ decision. decision.version) (journal_decision_of journal i)) 0;
+  rule = unwrap_or (option_map (λ decision. decision.rule) (journal_decision_of journal i)) None;
 })
 
 -- a packet with this action is dropped, leaves by a port of the switch, or is sent to another
 unfoldable pub end_items : Setting → ℕ → ℕ → Action → List Item → List Item
 end_items setting i s action.Drop journal = item.Dropped i ∷ []
 end_items setting i s (action.Out port) journal = elim (owner setting port == s) [
-  | true ↦ leaving_item journal i port ∷ []
-  | false ↦ leg_items setting journal i s (Exit port)
+  | true ↦ journal_leaving_item journal i port ∷ []
+  | false ↦ machine_leg_items setting journal i s (Exit port)
 ]
 
 -- a rule of a partition of some version, by its place among the partition's rules
@@ -111,9 +111,9 @@ pub record AuthorityRule : Type 0 where
   pub rule : Rule
 
 -- the rule at a place of a partition of the version's plan, if there is one
-abbrev pub authority_rule : Setting → List Item → ℕ → ℕ → ℕ → Option AuthorityRule
-authority_rule setting journal version partition place =
-    elim (slice_get (plan_at setting journal version) partition) [
+abbrev pub journal_authority_rule : Setting → List Item → ℕ → ℕ → ℕ → Option AuthorityRule
+journal_authority_rule setting journal version partition place =
+    elim (slice_get (journal_plan_at setting journal version) partition) [
       | None ↦ None
       | Some hosted ↦ option_map
           (λ rule. record { version = version; part = part_of hosted; place = place; rule = rule })
@@ -124,7 +124,7 @@ authority_rule setting journal version partition place =
 abbrev pub first_place : Setting → List Item → ℕ → ℕ → Header → ℕ
 first_place setting journal version partition header =
     unwrap_or (option_and_then (λ hosted. position (is_held (number_of header)) hosted.0.rules)
-    (slice_get (plan_at setting journal version) partition)) 0
+    (slice_get (journal_plan_at setting journal version) partition)) 0
 
 -- the cache rule by which the ingress decides headers as this rule does
 abbrev pub cache_rule : AuthorityRule → ℕ → Header → Message
@@ -136,21 +136,21 @@ cache_rule found ingress header = record {
 }
 
 -- the switch sends it to an ingress other than itself
-unfoldable pub cache_items : Setting → ℕ → ℕ → AuthorityRule → List Item → List Item
-cache_items setting i s found journal = elim (is_at s (ingress_of journal i)) [
+unfoldable pub journal_cache_items : Setting → ℕ → ℕ → AuthorityRule → List Item → List Item
+journal_cache_items setting i s found journal = elim (is_at s (journal_ingress_of journal i)) [
   | true ↦ []
   | false ↦ send_items journal
-      (cache_rule found (unwrap_or (ingress_of journal i) 0) (packet_header_at journal i) ∷ [])
+      (cache_rule found (unwrap_or (journal_ingress_of journal i) 0) (journal_packet_header_at journal i) ∷ [])
 ]
 
 -- an authority rule of the switch decides the packet
-unfoldable pub authority_items : Setting → ℕ → ℕ → Option AuthorityRule → List Item → List Item
-authority_items setting i s None journal = []
-authority_items setting i s (Some found) journal =
+unfoldable pub machine_authority_items : Setting → ℕ → ℕ → Option AuthorityRule → List Item → List Item
+machine_authority_items setting i s None journal = []
+machine_authority_items setting i s (Some found) journal =
     journal_items_then
     (item.Decided i found.version found.rule.rule found.rule.action
     (how.Authority s found.part.number) ∷ [])
-    (in_turn (cache_items setting i s found ∷ end_items setting i s found.rule.action ∷ [])) journal
+    (in_turn (journal_cache_items setting i s found ∷ end_items setting i s found.rule.action ∷ [])) journal
 
 -- what becomes of the packet by a lookup under the switch's stamp
 abbrev pub found_items : Setting → ℕ → ℕ → Found → List Item → List Item
@@ -159,55 +159,55 @@ found_items setting i s (found.Cached entry) journal =
     (item.Decided i entry.version entry.rule entry.action (how.Cached entry.message) ∷ [])
     (end_items setting i s entry.action) journal
 found_items setting i s (found.Authority partition place) journal =
-    authority_items setting i s
-    (authority_rule setting journal (stamp_of journal s) partition place) journal
+    machine_authority_items setting i s
+    (journal_authority_rule setting journal (journal_stamp_of journal s) partition place) journal
 found_items setting i s (found.Redirect partition targets) journal =
-    leg_items setting journal i s (Seek (stamp_of journal s) partition)
+    machine_leg_items setting journal i s (Seek (journal_stamp_of journal s) partition)
 
 unfoldable pub lookup_items : Setting → ℕ → ℕ → List Item → List Item
 lookup_items setting i s journal =
-    found_items setting i s (lookup_at setting journal s (packet_header_at journal i)) journal
+    found_items setting i s (lookup_at setting journal s (journal_packet_header_at journal i)) journal
 
 -- ---- on the way
 
 -- a packet that arrives by its leg: at its port, at an authority switch that has its version, or
 -- at one that doesn't have it and looks the packet up again
-abbrev pub arrive_by_leg_items : Setting → ℕ → ℕ → Option Leg → List Item → List Item
-arrive_by_leg_items setting i s None journal = []
-arrive_by_leg_items setting i s (Some (Exit port)) journal = leaving_item journal i port ∷ []
-arrive_by_leg_items setting i s (Some (Seek version partition)) journal =
+abbrev pub journal_leg_arrival_items : Setting → ℕ → ℕ → Option Leg → List Item → List Item
+journal_leg_arrival_items setting i s None journal = []
+journal_leg_arrival_items setting i s (Some (Exit port)) journal = journal_leaving_item journal i port ∷ []
+journal_leg_arrival_items setting i s (Some (Seek version partition)) journal =
     elim (holds_version journal s version) [
       | false ↦ lookup_items setting i s journal
-      | true ↦ let place = first_place setting journal version partition (packet_header_at journal i) in
-          authority_items setting i s (authority_rule setting journal version partition place)
+      | true ↦ let place = first_place setting journal version partition (journal_packet_header_at journal i) in
+          machine_authority_items setting i s (journal_authority_rule setting journal version partition place)
           journal
     ]
 
-unfoldable pub arrive_items : Setting → ℕ → ℕ → List Item → List Item
-arrive_items setting i s journal = arrive_by_leg_items setting i s (leg_of journal i) journal
+unfoldable pub machine_arrive_items : Setting → ℕ → ℕ → List Item → List Item
+machine_arrive_items setting i s journal = journal_leg_arrival_items setting i s (journal_leg_of journal i) journal
 
 -- it moves on along its new route, or arrives if that is only this switch
 abbrev pub go_on : Setting → ℕ → ℕ → List Item → List Item
 go_on setting i s journal = elim (next_switch journal i) [
-  | None ↦ arrive_items setting i s journal
+  | None ↦ machine_arrive_items setting i s journal
   | Some next ↦ item.Hopped i next ∷ []
 ]
 
 -- with one more link found down, it takes a new route from the switch, or is stuck there
-abbrev pub reroute_by : Setting → ℕ → ℕ → Option Leg → List Item → List Item
-reroute_by setting i s None journal = []
-reroute_by setting i s (Some leg) journal = elim (packet_route_for setting journal i s leg) [
+abbrev pub journal_reroute_by : Setting → ℕ → ℕ → Option Leg → List Item → List Item
+journal_reroute_by setting i s None journal = []
+journal_reroute_by setting i s (Some leg) journal = elim (journal_packet_route setting journal i s leg) [
   | None ↦ stuck_on_leg_items setting journal i s leg ∷ []
   | Some route ↦ journal_items_then (item.Rerouted i route ∷ []) (go_on setting i s) journal
 ]
 
 unfoldable pub reroute_items : Setting → ℕ → ℕ → List Item → List Item
-reroute_items setting i s journal = reroute_by setting i s (leg_of journal i) journal
+reroute_items setting i s journal = journal_reroute_by setting i s (journal_leg_of journal i) journal
 
 -- a packet at its route's end arrives; otherwise it moves over the next link, or finds it down
 unfoldable pub move_items : Setting → ℕ → ℕ → List Item → List Item
 move_items setting i s journal = elim (next_switch journal i) [
-  | None ↦ arrive_items setting i s journal
+  | None ↦ machine_arrive_items setting i s journal
   | Some next ↦ elim (has (near setting journal s) next) [
     | true ↦ item.Hopped i next ∷ []
     | false ↦ journal_items_then (item.FoundDown i s next ∷ []) (reroute_items setting i s) journal

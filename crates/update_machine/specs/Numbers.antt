@@ -4,36 +4,36 @@ use Rattle.std.specs.Prelude.{[], ◌+◌, ◌↔◌, ◌∷◌, ◌≡◌, ◌�
 use Rattle.base.specs.Exports.{range_with_len}
 use Rattle.journal.specs.declared.item.Item.{Item}
 use Rattle.journal.specs.declared.item.Item.TheVariants as item
-use Rattle.update_machine.specs.Folds.{all_given, count_of}
-use Rattle.update_machine.specs.Messages.{is_sending, next_message}
-use Rattle.update_machine.specs.Packets.{next_packet}
-use Rattle.update_machine.specs.Versions.{is_version, version_count}
-use Rattle.update_machine.specs.Travels.{packets_in}
+use Rattle.update_machine.specs.Folds.{journal_all_given, count_of}
+use Rattle.update_machine.specs.Messages.{is_sending, journal_next_message}
+use Rattle.update_machine.specs.Packets.{journal_next_packet}
+use Rattle.update_machine.specs.Versions.{is_version, journal_version_count}
+use Rattle.update_machine.specs.Travels.{journal_packets}
 
-abbrev pub packet_number : Item → List ℕ
-packet_number (item.Entered packet switch header) = packet ∷ []
-packet_number (item.Closed packet switch) = packet ∷ []
-packet_number _ = []
+abbrev pub machine_packet_number : Item → List ℕ
+machine_packet_number (item.Entered packet switch header) = packet ∷ []
+machine_packet_number (item.Closed packet switch) = packet ∷ []
+machine_packet_number _ = []
 
-abbrev pub message_number : Item → List ℕ
-message_number (item.Sent number message) = number ∷ []
-message_number _ = []
+abbrev pub item_message_number : Item → List ℕ
+item_message_number (item.Sent number message) = number ∷ []
+item_message_number _ = []
 
 -- the versions that exist are those from 1 to their count
 abbrev pub VersionsAreNumbered : List Item → Type 0
 VersionsAreNumbered journal = (v : ℕ) → IsTrue (is_version journal v)
-    ↔ ((1 ≤ v) × (v ≤ version_count journal))
+    ↔ ((1 ≤ v) × (v ≤ journal_version_count journal))
 
 -- the numbers are 1, 2 and so on, as many as there are packets, messages or versions
 pub record AreNumbered (journal : List Item) : Type 0 where
-  pub packets : all_given packet_number journal ≡ packets_in journal
-  pub messages : all_given message_number journal ≡ range_with_len 1 (count_of is_sending journal)
+  pub packets : journal_all_given machine_packet_number journal ≡ journal_packets journal
+  pub messages : journal_all_given item_message_number journal ≡ range_with_len 1 (count_of is_sending journal)
   pub versions : VersionsAreNumbered journal
 
 -- the cause of a number: it is the next one
-abbrev pub TakesNextNumber : List Item → Item → Type 0
-TakesNextNumber before (item.Sent number message) = number ≡ next_message before
-TakesNextNumber before (item.Entered packet switch header) = packet ≡ next_packet before
-TakesNextNumber before (item.Closed packet switch) = packet ≡ next_packet before
-TakesNextNumber before (item.Submitted file version) = version ≡ version_count before + 1
-TakesNextNumber before _ = ⊤
+abbrev pub MachineTakesNextNumber : List Item → Item → Type 0
+MachineTakesNextNumber before (item.Sent number message) = number ≡ journal_next_message before
+MachineTakesNextNumber before (item.Entered packet switch header) = packet ≡ journal_next_packet before
+MachineTakesNextNumber before (item.Closed packet switch) = packet ≡ journal_next_packet before
+MachineTakesNextNumber before (item.Submitted file version) = version ≡ journal_version_count before + 1
+MachineTakesNextNumber before _ = ⊤

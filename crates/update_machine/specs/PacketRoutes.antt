@@ -3,26 +3,26 @@
 -- as in Yu, Rexford, Freedman and Wang, "Scalable Flow-Based Networking with DIFANE", SIGCOMM 2010.
 use Rattle.std.specs.Prelude.{[], if◌then◌else◌, ◌+◌, ◌==◌, ◌∷◌, List, None, Option, Some, option_map, slice_get, unwrap_or, ℕ}
 use Rattle.failover.specs.Exports.{no_links, with_link}
-use Rattle.net_file.specs.Exports.{owner_of}
+use Rattle.net_file.specs.Exports.{net_port_owner}
 use Rattle.policy_rules.specs.declared.packet.Leg.{Leg}
 use Rattle.policy_rules.specs.declared.packet.Leg.TheVariants.{Seek, Exit}
 use Rattle.switch_table.specs.Exports.{Hosted}
 use Rattle.journal.specs.declared.item.Item.{Item}
-use Rattle.update_machine.specs.Folds.{folded_value, last_given}
+use Rattle.update_machine.specs.Folds.{journal_folded_value, journal_last_given}
 use Rattle.update_machine.specs.Setting.{Setting}
-use Rattle.update_machine.specs.Versions.{plan_at}
+use Rattle.update_machine.specs.Versions.{journal_plan_at}
 use Rattle.journal.specs.declared.item.Item.TheVariants as item
 
-abbrev pub gives_route : ℕ → Item → Option (List ℕ)
-gives_route i (item.Seeking packet version partition route) =
+abbrev pub item_gives_route : ℕ → Item → Option (List ℕ)
+item_gives_route i (item.Seeking packet version partition route) =
     if packet == i then Some route else None
-gives_route i (item.Exiting packet route) = if packet == i then Some route else None
-gives_route i (item.Rerouted packet route) = if packet == i then Some route else None
-gives_route i _ = None
+item_gives_route i (item.Exiting packet route) = if packet == i then Some route else None
+item_gives_route i (item.Rerouted packet route) = if packet == i then Some route else None
+item_gives_route i _ = None
 
 -- the route of its last `Seeking`, `Exiting` or `Rerouted`
-unfoldable pub route_in : List Item → ℕ → List ℕ
-route_in journal i = unwrap_or (last_given (gives_route i) journal) []
+unfoldable pub journal_route_in : List Item → ℕ → List ℕ
+journal_route_in journal i = unwrap_or (journal_last_given (item_gives_route i) journal) []
 
 abbrev pub changes_hops : ℕ → List Item → ℕ → Item → ℕ
 changes_hops i before hops (item.Seeking packet version partition route) =
@@ -34,24 +34,24 @@ changes_hops i before hops _ = hops
 
 -- its place on that route, from 0: the number of its `Hopped` since
 unfoldable pub route_place : List Item → ℕ → ℕ
-route_place journal i = folded_value (changes_hops i) 0 journal
+route_place journal i = journal_folded_value (changes_hops i) 0 journal
 
 -- the switch after that place, if the route continues
 unfoldable pub next_switch : List Item → ℕ → Option ℕ
-next_switch journal i = slice_get (route_in journal i) (route_place journal i + 1)
+next_switch journal i = slice_get (journal_route_in journal i) (route_place journal i + 1)
 
-abbrev pub changes_found : ℕ → List Item → List ℕ → Item → List ℕ
-changes_found i before links (item.FoundDown packet one two) =
+abbrev pub item_changes_found : ℕ → List Item → List ℕ → Item → List ℕ
+item_changes_found i before links (item.FoundDown packet one two) =
     if packet == i then with_link links one two else links
-changes_found i before links _ = links
+item_changes_found i before links _ = links
 
 -- the links that it found down on any leg, as a set
-unfoldable pub found_down : List Item → ℕ → List ℕ
-found_down journal i = folded_value (changes_found i) no_links journal
+unfoldable pub journal_found_down : List Item → ℕ → List ℕ
+journal_found_down journal i = journal_folded_value (item_changes_found i) no_links journal
 
 -- the targets of the partition at a place of a plan
-abbrev pub targets_in : List Hosted → ℕ → List ℕ
-targets_in plan partition =
+abbrev pub setting_targets_in : List Hosted → ℕ → List ℕ
+setting_targets_in plan partition =
     unwrap_or (option_map (λ hosted. hosted.1) (slice_get plan partition)) []
 
 -- a number that no switch has: they are below 64
@@ -60,10 +60,10 @@ no_switch = 64
 
 -- the switch that has the port; if none has, no switch, to which no route leads
 abbrev pub owner : Setting → ℕ → ℕ
-owner setting port = unwrap_or (owner_of setting.net.switches port) no_switch
+owner setting port = unwrap_or (net_port_owner setting.net.switches port) no_switch
 
 -- the targets of the partition, or the switch of the port
 abbrev pub targets_of : Setting → List Item → Leg → List ℕ
 targets_of setting journal (Seek version partition) =
-    targets_in (plan_at setting journal version) partition
+    setting_targets_in (journal_plan_at setting journal version) partition
 targets_of setting journal (Exit port) = owner setting port ∷ []

@@ -5,7 +5,7 @@ use Rattle.five_tuple.specs.declared.header.Header.{Header}
 use Rattle.policy_rules.specs.declared.policy.Action.{Action}
 use Rattle.journal.specs.declared.item.Item.{Item}
 use Rattle.journal.specs.declared.item.Item.TheVariants as item
-use Rattle.update_machine.specs.Folds.{count_of, last_given}
+use Rattle.update_machine.specs.Folds.{count_of, journal_last_given}
 
 -- ---- numbers
 
@@ -15,27 +15,27 @@ is_packet (item.Closed packet switch) = true
 is_packet _ = false
 
 -- the number of the next packet
-unfoldable pub next_packet : List Item → ℕ
-next_packet journal = count_of is_packet journal + 1
+unfoldable pub journal_next_packet : List Item → ℕ
+journal_next_packet journal = count_of is_packet journal + 1
 
 -- ---- where it is
 
-abbrev pub gives_header : ℕ → Item → Option Header
-gives_header i (item.Entered packet switch header) = if packet == i then Some header else None
-gives_header i _ = None
+abbrev pub item_gives_header : ℕ → Item → Option Header
+item_gives_header i (item.Entered packet switch header) = if packet == i then Some header else None
+item_gives_header i _ = None
 
 -- the header with which the packet entered
-unfoldable pub header_in : List Item → ℕ → Option Header
-header_in journal i = last_given (gives_header i) journal
+unfoldable pub journal_packet_header : List Item → ℕ → Option Header
+journal_packet_header journal i = journal_last_given (item_gives_header i) journal
 
-abbrev pub gives_standing : ℕ → Item → Option ℕ
-gives_standing i (item.Entered packet switch header) = if packet == i then Some switch else None
-gives_standing i (item.Hopped packet switch) = if packet == i then Some switch else None
-gives_standing i _ = None
+abbrev pub item_gives_standing : ℕ → Item → Option ℕ
+item_gives_standing i (item.Entered packet switch header) = if packet == i then Some switch else None
+item_gives_standing i (item.Hopped packet switch) = if packet == i then Some switch else None
+item_gives_standing i _ = None
 
 -- the switch where it is: that of its last `Entered` or `Hopped`
 unfoldable pub standing : List Item → ℕ → Option ℕ
-standing journal i = last_given (gives_standing i) journal
+standing journal i = journal_last_given (item_gives_standing i) journal
 
 -- ---- its decision
 
@@ -45,12 +45,12 @@ pub record Decision : Type 0 where
   pub rule : Option ℕ
   pub action : Action
 
-abbrev pub gives_decision : ℕ → Item → Option Decision
-gives_decision i (item.Decided packet version rule action how) =
+abbrev pub item_gives_decision : ℕ → Item → Option Decision
+item_gives_decision i (item.Decided packet version rule action how) =
     if packet == i
     then Some (record { version = version; rule = rule; action = action })
     else None
-gives_decision i _ = None
+item_gives_decision i _ = None
 
-unfoldable pub decision_of : List Item → ℕ → Option Decision
-decision_of journal i = last_given (gives_decision i) journal
+unfoldable pub journal_decision_of : List Item → ℕ → Option Decision
+journal_decision_of journal i = journal_last_given (item_gives_decision i) journal

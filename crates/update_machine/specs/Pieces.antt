@@ -9,24 +9,24 @@ use Rattle.five_tuple.specs.declared.header.Header.{Header}
 use Rattle.policy_rules.specs.declared.applying.Inapplicable.{Inapplicable}
 use Rattle.policy_rules.specs.declared.applying.Inapplicable.TheVariants.{Absent, Taken, TooManyRows}
 use Rattle.policy_rules.specs.declared.policy.Row.{Row}
-use Rattle.policy_rules.specs.Exports.{NoPlan, NoRoom, TooManyLeaves, TooManyWords}
+use Rattle.policy_rules.specs.Exports.{NoPolicyPlan, NoRoom, TooManyLeaves, TooManyWords}
 use Rattle.journal.specs.declared.item.Item.{Item}
 use Rattle.journal.specs.declared.item.Item.TheVariants as item
 use Rattle.steps.specs.declared.step.Step.{Step}
 use Rattle.steps.specs.declared.step.Step.TheVariants.{Packet, Hop, Lose, Deliver, Forget, Expire, Update, LinkDown, LinkUp, Crash, Restart, Confirm, Resend}
-use Rattle.update_machine.specs.Adverts.{held_adverts}
-use Rattle.update_machine.specs.Boots.{boot_of, is_up}
-use Rattle.update_machine.specs.Caches.{cache_of}
-use Rattle.update_machine.specs.Deliveries.{advert_to, delivery_items, link_changes, switches_in}
-use Rattle.update_machine.specs.Links.{is_link_up, serves}
-use Rattle.update_machine.specs.Marks.{most_live, most_versions, retired_mark}
+use Rattle.update_machine.specs.Adverts.{journal_held_adverts}
+use Rattle.update_machine.specs.Boots.{journal_boot_of, is_up}
+use Rattle.update_machine.specs.Caches.{journal_cache_of}
+use Rattle.update_machine.specs.Deliveries.{advert_to, machine_delivery_items, journal_link_changes, setting_switches_in}
+use Rattle.update_machine.specs.Links.{is_link_up_in_journal, serves}
+use Rattle.update_machine.specs.Marks.{most_live_journal_versions, most_journal_versions, journal_retired_mark}
 use Rattle.update_machine.specs.Messages.{is_deliverable, send_items}
 use Rattle.update_machine.specs.Moves.{lookup_items, move_items, journal_items_then}
-use Rattle.update_machine.specs.Packets.{next_packet, standing}
+use Rattle.update_machine.specs.Packets.{journal_next_packet, standing}
 use Rattle.update_machine.specs.Setting.{Setting}
-use Rattle.update_machine.specs.Settling.{resent_by_controller, settling, submitted_items}
-use Rattle.update_machine.specs.Versions.{next_policy, version_count}
-use Rattle.update_machine.specs.Travels.{packets_at, travels}
+use Rattle.update_machine.specs.Settling.{journal_resent_by_controller, settling, submitted_items}
+use Rattle.update_machine.specs.Versions.{journal_next_policy, journal_version_count}
+use Rattle.update_machine.specs.Travels.{journal_packets_at, travels}
 use Rattle.update_machine.specs.LinkMasks.{near}
 
 abbrev pub nothing : List Item
@@ -41,8 +41,8 @@ packet_items setting i s header journal = elim (serves journal s) [
   | true ↦ journal_items_then (item.Entered i s header ∷ []) (lookup_items setting i s) journal
 ]
 
-unfoldable pub hop_items : Setting → ℕ → List Item → List Item
-hop_items setting i journal = elim (travels journal i) [
+unfoldable pub machine_hop_items : Setting → ℕ → List Item → List Item
+machine_hop_items setting i journal = elim (travels journal i) [
   | false ↦ nothing
   | true ↦ move_items setting i (unwrap_or (standing journal i) 0) journal
 ]
@@ -58,7 +58,7 @@ lose_items i journal = elim (travels journal i) [
 unfoldable pub deliver_items : Setting → List Item → ℕ → List Item → List Item
 deliver_items setting before number journal = elim (is_deliverable before number) [
   | false ↦ nothing
-  | true ↦ journal_items_then (item.Delivered number ∷ []) (delivery_items setting before number) journal
+  | true ↦ journal_items_then (item.Delivered number ∷ []) (machine_delivery_items setting before number) journal
 ]
 
 unfoldable pub forget_items : ℕ → List Item → List Item
@@ -67,8 +67,8 @@ forget_items number journal = elim (is_deliverable journal number) [
   | true ↦ item.Forgotten number ∷ []
 ]
 
-unfoldable pub expire_items : Setting → ℕ → ℕ → List Item → List Item
-expire_items setting s place journal = elim (slice_get (cache_of setting journal s).entries place) [
+unfoldable pub machine_expire_items : Setting → ℕ → ℕ → List Item → List Item
+machine_expire_items setting s place journal = elim (slice_get (journal_cache_of setting journal s).entries place) [
   | None ↦ nothing
   | Some entry ↦ item.Expired s place entry.message ∷ []
 ]
@@ -76,41 +76,41 @@ expire_items setting s place journal = elim (slice_get (cache_of setting journal
 -- ---- policies
 
 -- the code of a change that the newest policy refuses
-abbrev pub apply_code : Inapplicable → ℕ
-apply_code Absent = 24
-apply_code Taken = 25
-apply_code (TooManyRows rows) = 26
+abbrev pub machine_apply_code : Inapplicable → ℕ
+machine_apply_code Absent = 24
+machine_apply_code Taken = 25
+machine_apply_code (TooManyRows rows) = 26
 
 -- the code of a policy that is refused: it has no plan, or no more versions may be unretired, or
 -- no more may exist in all
-abbrev pub plan_code : NoPlan → ℕ
-plan_code (TooManyWords words) = 12
-plan_code TooManyLeaves = 14
-plan_code (NoRoom partition) = 15
+abbrev pub machine_plan_code : NoPolicyPlan → ℕ
+machine_plan_code (TooManyWords words) = 12
+machine_plan_code TooManyLeaves = 14
+machine_plan_code (NoRoom partition) = 15
 
-abbrev pub marks_code : List Item → Option ℕ
-marks_code journal =
-    if version_count journal - retired_mark journal == most_live then Some 16
-    else if version_count journal == most_versions then Some 17
+abbrev pub machine_marks_code : List Item → Option ℕ
+machine_marks_code journal =
+    if journal_version_count journal - journal_retired_mark journal == most_live_journal_versions then Some 16
+    else if journal_version_count journal == most_journal_versions then Some 17
     else None
 
-abbrev pub rows_code : Setting → List Item → List Row → Option ℕ
-rows_code setting journal rows = elim (setting.plan rows) [
-  | Err why ↦ Some (plan_code why)
-  | Ok plan ↦ marks_code journal
+abbrev pub machine_rows_code : Setting → List Item → List Row → Option ℕ
+machine_rows_code setting journal rows = elim (setting.plan rows) [
+  | Err why ↦ Some (machine_plan_code why)
+  | Ok plan ↦ machine_marks_code journal
 ]
 
-abbrev pub update_code : Setting → List Item → ℕ → Option ℕ
-update_code setting journal file = elim (next_policy setting journal file) [
-  | Err why ↦ Some (apply_code why)
-  | Ok rows ↦ rows_code setting journal rows
+abbrev pub machine_update_code : Setting → List Item → ℕ → Option ℕ
+machine_update_code setting journal file = elim (journal_next_policy setting journal file) [
+  | Err why ↦ Some (machine_apply_code why)
+  | Ok rows ↦ machine_rows_code setting journal rows
 ]
 
 -- a policy that isn't refused is the newest version
 unfoldable pub update_items : Setting → ℕ → List Item → List Item
-update_items setting file journal = elim (update_code setting journal file) [
+update_items setting file journal = elim (machine_update_code setting journal file) [
   | Some code ↦ item.Refused file code ∷ []
-  | None ↦ journal_items_then (item.Submitted file (version_count journal + 1) ∷ [])
+  | None ↦ journal_items_then (item.Submitted file (journal_version_count journal + 1) ∷ [])
       (submitted_items setting)
       journal
 ]
@@ -118,31 +118,31 @@ update_items setting file journal = elim (update_code setting journal file) [
 -- ---- links and switches
 
 -- the link comes back or fails; nothing if it is in that state already
-unfoldable pub link_items : Setting → List Item → ℕ → ℕ → Bool → List Item → List Item
-link_items setting before one two up journal = elim (beq (is_link_up before one two) up) [
+unfoldable pub machine_link_items : Setting → List Item → ℕ → ℕ → Bool → List Item → List Item
+machine_link_items setting before one two up journal = elim (beq (is_link_up_in_journal before one two) up) [
   | true ↦ nothing
   | false ↦ journal_items_then (item.LinkIs (min one two) (max one two) up ∷ [])
-      (link_changes setting before)
+      (journal_link_changes setting before)
       journal
 ]
 
 -- the packets that are at a switch that was up are lost with it
-unfoldable pub crash_items : Setting → List Item → ℕ → List Item → List Item
-crash_items setting before s journal = elim (is_up before s) [
+unfoldable pub journal_crash_items : Setting → List Item → ℕ → List Item → List Item
+journal_crash_items setting before s journal = elim (is_up before s) [
   | false ↦ nothing
-  | true ↦ journal_items_then (item.Down s ∷ map item.Lost (packets_at before s))
-      (link_changes setting before) journal
+  | true ↦ journal_items_then (item.Down s ∷ map item.Lost (journal_packets_at before s))
+      (journal_link_changes setting before) journal
 ]
 
 -- a switch that was down begins its next boot, and sends it to the controller
-abbrev pub hello_of : List Item → ℕ → Message
-hello_of journal s = to_controller (Hello s (boot_of journal s))
+abbrev pub machine_hello_of : List Item → ℕ → Message
+machine_hello_of journal s = to_controller (Hello s (journal_boot_of journal s))
 
 unfoldable pub restart_items : ℕ → List Item → List Item
 restart_items s journal = elim (is_up journal s) [
   | true ↦ nothing
-  | false ↦ journal_items_then (item.Booted s (boot_of journal s + 1) ∷ [])
-      (λ booted. send_items booted (hello_of booted s ∷ [])) journal
+  | false ↦ journal_items_then (item.Booted s (journal_boot_of journal s + 1) ∷ [])
+      (λ booted. send_items booted (machine_hello_of booted s ∷ [])) journal
 ]
 
 -- the controller no longer waits for a switch that is down
@@ -153,39 +153,39 @@ confirm_items setting s journal = elim (is_up journal s) [
 ]
 
 -- a switch that is up sends its hello again, and to each neighbour every advert that it has
-abbrev pub resent_by_switch : Setting → List Item → ℕ → List Message
-resent_by_switch setting journal s = elim (is_up journal s) [
+abbrev pub journal_resent_by_switch : Setting → List Item → ℕ → List Message
+journal_resent_by_switch setting journal s = elim (is_up journal s) [
   | false ↦ []
-  | true ↦ hello_of journal s
-      ∷ flat_map (λ neighbour. map (advert_to neighbour) (held_adverts setting journal s))
-      (switches_in setting (near setting journal s))
+  | true ↦ machine_hello_of journal s
+      ∷ flat_map (λ neighbour. map (advert_to neighbour) (journal_held_adverts setting journal s))
+      (setting_switches_in setting (near setting journal s))
 ]
 
 -- these are sent, or nothing happens if there are none
-abbrev pub sends_or_nothing : List Item → List Message → List Item
-sends_or_nothing journal [] = nothing
-sends_or_nothing journal (message ∷ messages) = send_items journal (message ∷ messages)
+abbrev pub machine_sends_or_nothing : List Item → List Message → List Item
+machine_sends_or_nothing journal [] = nothing
+machine_sends_or_nothing journal (message ∷ messages) = send_items journal (message ∷ messages)
 
 unfoldable pub resend_items : Setting → ℕ → List Item → List Item
 resend_items setting s journal =
-    sends_or_nothing journal
-    (resent_by_switch setting journal s ++ resent_by_controller setting journal s)
+    machine_sends_or_nothing journal
+    (journal_resent_by_switch setting journal s ++ journal_resent_by_controller setting journal s)
 
 -- ---- a step
 
 -- what a step writes after its row, where `before` is the journal before the row
 abbrev pub step_items : Setting → List Item → Step → List Item → List Item
 step_items setting before (Packet switch header) =
-    packet_items setting (next_packet before) switch header
-step_items setting before (Hop packet) = hop_items setting packet
+    packet_items setting (journal_next_packet before) switch header
+step_items setting before (Hop packet) = machine_hop_items setting packet
 step_items setting before (Lose packet) = lose_items packet
 step_items setting before (Deliver message) = deliver_items setting before message
 step_items setting before (Forget message) = forget_items message
-step_items setting before (Expire switch place) = expire_items setting switch place
+step_items setting before (Expire switch place) = machine_expire_items setting switch place
 step_items setting before (Update file) = update_items setting file
-step_items setting before (LinkDown one two) = link_items setting before one two false
-step_items setting before (LinkUp one two) = link_items setting before one two true
-step_items setting before (Crash switch) = crash_items setting before switch
+step_items setting before (LinkDown one two) = machine_link_items setting before one two false
+step_items setting before (LinkUp one two) = machine_link_items setting before one two true
+step_items setting before (Crash switch) = journal_crash_items setting before switch
 step_items setting before (Restart switch) = restart_items switch
 step_items setting before (Confirm switch) = confirm_items setting switch
 step_items setting before (Resend switch) = resend_items setting switch

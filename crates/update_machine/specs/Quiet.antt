@@ -13,9 +13,9 @@ use Rattle.failover.specs.Exports.{is_newer}
 use Rattle.journal.specs.declared.item.Item.{Item}
 use Rattle.journal.specs.declared.item.Item.TheVariants as item
 use Rattle.steps.specs.Exports.{HasSwitch}
-use Rattle.update_machine.specs.Boots.{boot_of, is_up}
-use Rattle.update_machine.specs.Folds.{last_given}
-use Rattle.update_machine.specs.Marks.{current_mark}
+use Rattle.update_machine.specs.Boots.{journal_boot_of, is_up}
+use Rattle.update_machine.specs.Folds.{journal_last_given}
+use Rattle.update_machine.specs.Marks.{journal_current_mark}
 use Rattle.update_machine.specs.Messages.{was_delivered}
 use Rattle.update_machine.specs.Setting.{Setting}
 use Rattle.update_machine.specs.SwitchNumbers.{switches_of}
@@ -23,11 +23,11 @@ use Rattle.update_machine.specs.SwitchNumbers.{switches_of}
 -- ---- which messages matter
 
 -- the switch that speaks in a body to the controller, and its boot
-abbrev pub speaking_in_body : Body → Option (ℕ × ℕ)
-speaking_in_body (Hello s boot) = Some (s, boot)
-speaking_in_body (Installed s boot version) = Some (s, boot)
-speaking_in_body (Stamped s boot version) = Some (s, boot)
-speaking_in_body _ = None
+abbrev pub machine_speaking_in_body : Body → Option (ℕ × ℕ)
+machine_speaking_in_body (Hello s boot) = Some (s, boot)
+machine_speaking_in_body (Installed s boot version) = Some (s, boot)
+machine_speaking_in_body (Stamped s boot version) = Some (s, boot)
+machine_speaking_in_body _ = None
 
 abbrev pub is_of_boot : ℕ → ℕ → ℕ × ℕ → Bool
 is_of_boot s boot (switch, of) = switch == s && of == boot
@@ -37,8 +37,8 @@ is_advert (Advertise advert) = true
 is_advert _ = false
 
 -- the body carries this boot
-abbrev pub carries_boot : ℕ → Body → Bool
-carries_boot boot body = option_map_or (λ of. of == boot) (body_boot body) false
+abbrev pub journal_body_carries_boot : ℕ → Body → Bool
+journal_body_carries_boot boot body = option_map_or (λ of. of == boot) (body_boot body) false
 
 -- tables of a version below the current one
 abbrev pub are_old_tables : ℕ → Body → Bool
@@ -50,9 +50,9 @@ abbrev pub is_old_ack_in_journal : ℕ → Body → Bool
 is_old_ack_in_journal current (Installed s boot version) = nat_lt version current
 is_old_ack_in_journal current _ = false
 
-abbrev pub begins_boot : ℕ → Item → Bool
-begins_boot s (item.Booted switch boot) = switch == s
-begins_boot s _ = false
+abbrev pub item_begins_boot : ℕ → Item → Bool
+item_begins_boot s (item.Booted switch boot) = switch == s
+item_begins_boot s _ = false
 
 -- the message, with these items after it in the journal, matters to a switch that is up if the
 -- switch says it in its boot to the controller, and it is no old acknowledgement. It matters too if
@@ -61,52 +61,52 @@ abbrev pub matters : List Item → ℕ → Message → List Item → Bool
 matters journal s message after = elim message.to [
   | receiver.Controller ↦
       is_up journal s
-      && option_map_or (is_of_boot s (boot_of journal s)) (speaking_in_body message.body) false
-      && not (is_old_ack_in_journal (current_mark journal) message.body)
+      && option_map_or (is_of_boot s (journal_boot_of journal s)) (machine_speaking_in_body message.body) false
+      && not (is_old_ack_in_journal (journal_current_mark journal) message.body)
   | receiver.Switch to ↦
-      is_up journal s && to == s && not (list_any (begins_boot s) after)
-      && (is_advert message.body || carries_boot (boot_of journal s) message.body)
-      && not (are_old_tables (current_mark journal) message.body)
+      is_up journal s && to == s && not (list_any (item_begins_boot s) after)
+      && (is_advert message.body || journal_body_carries_boot (journal_boot_of journal s) message.body)
+      && not (are_old_tables (journal_current_mark journal) message.body)
 ]
 
 -- ---- which of them replace others
 
 -- the body says what the other one does, of a greater version or of a newer advert
-abbrev pub is_later_body : Body → Body → Bool
-is_later_body (Stamp boot version touched) (Stamp of earlier others) = boot == of && nat_lt earlier version
-is_later_body (Collect boot version) (Collect of earlier) = boot == of && nat_lt earlier version
-is_later_body (Stamped s boot version) (Stamped t of earlier) =
+abbrev pub is_machine_later_body : Body → Body → Bool
+is_machine_later_body (Stamp boot version touched) (Stamp of earlier others) = boot == of && nat_lt earlier version
+is_machine_later_body (Collect boot version) (Collect of earlier) = boot == of && nat_lt earlier version
+is_machine_later_body (Stamped s boot version) (Stamped t of earlier) =
     s == t && boot == of && nat_lt earlier version
-is_later_body (Advertise advert) (Advertise earlier) =
+is_machine_later_body (Advertise advert) (Advertise earlier) =
     advert.origin == earlier.origin && is_newer advert earlier
-is_later_body _ _ = false
+is_machine_later_body _ _ = false
 
 -- the later message is to the same receiver, and says the same, or something later
-pub record MessageReplaces (later earlier : Message) : Type 0 where
+pub record MachineMessageReplaces (later earlier : Message) : Type 0 where
   pub receiver : later.to ≡ earlier.to
-  pub says : (later.body ≡ earlier.body) ⊎ IsTrue (is_later_body later.body earlier.body)
+  pub says : (later.body ≡ earlier.body) ⊎ IsTrue (is_machine_later_body later.body earlier.body)
 
 -- ---- quiet
 
 -- one of these items sends a message that replaces this one, and that is delivered later
-abbrev pub IsMessageReplaced : Message → List Item → Type 0
-IsMessageReplaced message [] = ⊥
-IsMessageReplaced message (item.Sent number later ∷ after) =
-    (MessageReplaces later message × IsTrue (was_delivered after number)) ⊎ IsMessageReplaced message after
-IsMessageReplaced message (_ ∷ after) = IsMessageReplaced message after
+abbrev pub IsJournalMessageReplaced : Message → List Item → Type 0
+IsJournalMessageReplaced message [] = ⊥
+IsJournalMessageReplaced message (item.Sent number later ∷ after) =
+    (MachineMessageReplaces later message × IsTrue (was_delivered after number)) ⊎ IsJournalMessageReplaced message after
+IsJournalMessageReplaced message (_ ∷ after) = IsJournalMessageReplaced message after
 
 -- the message of this number, with these items after it, was delivered, or one that replaces it
-abbrev pub IsMessageReceived : ℕ → Message → List Item → Type 0
-IsMessageReceived number message after = IsTrue (was_delivered after number) ⊎ IsMessageReplaced message after
+abbrev pub IsJournalMessageReceived : ℕ → Message → List Item → Type 0
+IsJournalMessageReceived number message after = IsTrue (was_delivered after number) ⊎ IsJournalMessageReplaced message after
 
 -- the same is true of each message of these last items of the journal that matters to a switch of
 -- the network
-abbrev pub AreMessagesReceived : Setting → List Item → List Item → Type 0
-AreMessagesReceived setting journal [] = ⊤
-AreMessagesReceived setting journal (item.Sent number message ∷ after) =
+abbrev pub AreJournalMessagesReceived : Setting → List Item → List Item → Type 0
+AreJournalMessagesReceived setting journal [] = ⊤
+AreJournalMessagesReceived setting journal (item.Sent number message ∷ after) =
     ((s : ℕ) → HasSwitch setting.net s → IsTrue (matters journal s message after)
-    → IsMessageReceived number message after) × AreMessagesReceived setting journal after
-AreMessagesReceived setting journal (_ ∷ after) = AreMessagesReceived setting journal after
+    → IsJournalMessageReceived number message after) × AreJournalMessagesReceived setting journal after
+AreJournalMessagesReceived setting journal (_ ∷ after) = AreJournalMessagesReceived setting journal after
 
 abbrev pub gives_waited_for : ℕ → Item → Option Bool
 gives_waited_for s (item.Down switch) = if switch == s then Some true else None
@@ -115,9 +115,9 @@ gives_waited_for s _ = None
 
 -- the switch went down and there is no `OverNow` of it since
 abbrev pub is_waited_for : List Item → ℕ → Bool
-is_waited_for journal s = unwrap_or (last_given (gives_waited_for s) journal) false
+is_waited_for journal s = unwrap_or (journal_last_given (gives_waited_for s) journal) false
 
-pub record IsQuiet (setting : Setting) (journal : List Item) : Type 0 where
+pub record IsMachineQuiet (setting : Setting) (journal : List Item) : Type 0 where
   pub switches : All (λ s. IsTrue (is_up journal s || not (is_waited_for journal s)))
       (switches_of setting)
-  pub messages : AreMessagesReceived setting journal journal
+  pub messages : AreJournalMessagesReceived setting journal journal

@@ -5,8 +5,8 @@ use Rattle.ctrl_msg.specs.declared.message.Place.{Place}
 use Rattle.ctrl_msg.specs.declared.message.Place.TheVariants as receiver
 use Rattle.journal.specs.declared.item.Item.{Item}
 use Rattle.journal.specs.declared.item.Item.TheVariants as item
-use Rattle.update_machine.specs.Boots.{boot_of}
-use Rattle.update_machine.specs.Folds.{folded_value}
+use Rattle.update_machine.specs.Boots.{journal_boot_of}
+use Rattle.update_machine.specs.Folds.{journal_folded_value}
 
 -- a message, its number, and the boot of its receiver when it was sent: 0 for the controller
 pub record Sending : Type 0 where
@@ -14,18 +14,18 @@ pub record Sending : Type 0 where
   pub message : Message
   pub boot : ℕ
 
-abbrev pub receiver_boot_at : List Item → Place → ℕ
-receiver_boot_at before (receiver.Switch s) = boot_of before s
-receiver_boot_at before receiver.Controller = 0
+abbrev pub journal_receiver_boot_at : List Item → Place → ℕ
+journal_receiver_boot_at before (receiver.Switch s) = journal_boot_of before s
+journal_receiver_boot_at before receiver.Controller = 0
 
-abbrev pub changes_sendings : List Item → List Sending → Item → List Sending
-changes_sendings before sendings (item.Sent number message) = sendings ++ record {
+abbrev pub item_changes_sendings : List Item → List Sending → Item → List Sending
+item_changes_sendings before sendings (item.Sent number message) = sendings ++ record {
   number = number;
   message = message;
-  boot = receiver_boot_at before message.to;
+  boot = journal_receiver_boot_at before message.to;
 } ∷ []
-changes_sendings before sendings _ = sendings
+item_changes_sendings before sendings _ = sendings
 
 -- all that was sent, in order
 unfoldable pub sendings : List Item → List Sending
-sendings journal = folded_value changes_sendings [] journal
+sendings journal = journal_folded_value item_changes_sendings [] journal

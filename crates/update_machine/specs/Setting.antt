@@ -2,9 +2,9 @@
 use Rattle.std.specs.Prelude.{[], if◌then◌else◌, ◌-◌, ◌==◌, ◌∷◌, ◌≡◌, All, Err, IsOk, IsTrue, List, None, Ok, Option, Result, Some, is_some, option_and_then, slice_get, suc, zero, ℕ, ⊤}
 use Rattle.base.specs.Exports.{option_or, result_ok}
 use Rattle.net_file.specs.declared.net.Net.{Net}
-use Rattle.net_file.specs.Exports.{IsNet, owner_of}
-use Rattle.partition.specs.Plan.{Hosted, plan_of}
-use Rattle.policy_rules.specs.Exports.{PolicyFileGivesOnly, IsPolicyFile, NoPlan, applied}
+use Rattle.net_file.specs.Exports.{IsNet, net_port_owner}
+use Rattle.partition.specs.Plan.{Hosted, partition_plan_of}
+use Rattle.policy_rules.specs.Exports.{PolicyRulesGiveOnly, IsPolicyOrAmendment, NoPolicyPlan, applied}
 use Rattle.policy_rules.specs.declared.applying.Inapplicable.{Inapplicable}
 use Rattle.policy_rules.specs.declared.applying.Inapplicable.TheVariants.{Absent}
 use Rattle.policy_rules.specs.declared.file.PolicyFile.{PolicyFile}
@@ -20,14 +20,14 @@ use Rattle.journal.specs.declared.item.Item.TheVariants as item
 pub record Setting : Type 0 where
   pub net : Net
   pub files : List PolicyFile
-  pub plan : List Row → Result (List Hosted) NoPlan
+  pub plan : List Row → Result (List Hosted) NoPolicyPlan
 
 -- the setting of these files on this network
 abbrev pub setting_of : Net → List PolicyFile → Setting
 setting_of net files = record {
   net = net;
   files = files;
-  plan = λ rows. plan_of rows net;
+  plan = λ rows. partition_plan_of rows net;
 }
 
 -- files are numbered from 1
@@ -46,18 +46,18 @@ abbrev pub policy_by : Setting → Option (List Row) → ℕ → Result (List Ro
 policy_by setting earlier file = made_by (setting_file_at setting file) earlier
 
 -- what the first item that says something says: one more way, besides those of `Folds`
-abbrev pub first_given : {X : Type 0} → (Item → Option X) → List Item → Option X
-first_given tells [] = None
-first_given tells (item ∷ items) = option_or (tells item) (first_given tells items)
+abbrev pub journal_first_given : {X : Type 0} → (Item → Option X) → List Item → Option X
+journal_first_given tells [] = None
+journal_first_given tells (item ∷ items) = option_or (tells item) (journal_first_given tells items)
 
-abbrev pub gives_file : ℕ → Item → Option ℕ
-gives_file v (item.Submitted file version) = if version == v then Some file else None
-gives_file v _ = None
+abbrev pub item_gives_file : ℕ → Item → Option ℕ
+item_gives_file v (item.Submitted file version) = if version == v then Some file else None
+item_gives_file v _ = None
 
 -- the file of a version: the first file is that of version 1, and any other version has the one
 -- with which it was submitted
 unfoldable pub file_of : List Item → ℕ → Option ℕ
-file_of journal version = if version == 1 then Some 1 else first_given (gives_file version) journal
+file_of journal version = if version == 1 then Some 1 else journal_first_given (item_gives_file version) journal
 
 -- the policy of a version, if it has one: what its file makes of that of the version before
 unfoldable pub policy_in : Setting → List Item → ℕ → Option (List Row)
@@ -67,22 +67,22 @@ policy_in setting journal (suc version) =
     (file_of journal (suc version))
 
 -- the plan of a version is that of its policy
-abbrev pub IsPlanOf : Setting → List Item → ℕ → List Hosted → Type 0
-IsPlanOf setting journal version plan = (rows : List Row)
+abbrev pub IsSettingPlanOf : Setting → List Item → ℕ → List Hosted → Type 0
+IsSettingPlanOf setting journal version plan = (rows : List Row)
     × (policy_in setting journal version ≡ Some rows) × (setting.plan rows ≡ Ok plan)
 
 -- an action names a port that a switch has, if it names one
-abbrev pub NamesOwnPort : Setting → Action → Type 0
-NamesOwnPort setting action.Drop = ⊤
-NamesOwnPort setting (action.Out port) = IsTrue (is_some (owner_of setting.net.switches port))
+abbrev pub NamesSettingPort : Setting → Action → Type 0
+NamesSettingPort setting action.Drop = ⊤
+NamesSettingPort setting (action.Out port) = IsTrue (is_some (net_port_owner setting.net.switches port))
 
 -- a network, and files of policies and changes that name only its ports; the first one has a
 -- policy, with a plan
 pub record IsSetting (setting : Setting) : Type 0 where
   pub net : IsNet setting.net
   pub made : setting ≡ setting_of setting.net setting.files
-  pub sound : All IsPolicyFile setting.files
-  pub ports : All (PolicyFileGivesOnly (λ row. NamesOwnPort setting row.action)) setting.files
+  pub sound : All IsPolicyOrAmendment setting.files
+  pub ports : All (PolicyRulesGiveOnly (λ row. NamesSettingPort setting row.action)) setting.files
   pub first : List Row
   pub whole : setting_file_at setting 1 ≡ Some (Whole first)
   pub planned : IsOk (setting.plan first)

@@ -9,36 +9,36 @@ use Rattle.ctrl_msg.specs.declared.message.Message.{Message}
 use Rattle.ctrl_msg.specs.declared.message.Place.TheVariants as receiver
 use Rattle.journal.specs.declared.item.Item.{Item}
 use Rattle.journal.specs.declared.item.Item.TheVariants as item
-use Rattle.update_machine.specs.Marks.{acked_stamp, current_mark, has_acked, is_joining, is_member, is_over, known_boot, members, next_current, next_retired, open_version, retired_mark}
+use Rattle.update_machine.specs.Marks.{acked_stamp, journal_current_mark, has_acked, is_joining, is_member, is_over, journal_known_boot, members, journal_next_current, journal_next_retired, open_version, journal_retired_mark}
 use Rattle.update_machine.specs.Messages.{send_items}
 use Rattle.update_machine.specs.Moves.{in_turn, journal_items_then}
 use Rattle.update_machine.specs.Setting.{Setting}
 use Rattle.update_machine.specs.SwitchNumbers.{switches_of}
 use Rattle.update_machine.specs.Touched.{touched_by}
-use Rattle.update_machine.specs.Versions.{tables_at, version_count}
+use Rattle.update_machine.specs.Versions.{journal_tables_at, journal_version_count}
 
 -- ---- messages to a switch
 
-abbrev pub to_switch : ℕ → Body → Message
-to_switch s body = record { to = receiver.Switch s; body = body }
+abbrev pub machine_message_to_switch : ℕ → Body → Message
+machine_message_to_switch s body = record { to = receiver.Switch s; body = body }
 
 -- keep the tables of this version
-abbrev pub install_for : Setting → List Item → ℕ → ℕ → Message
-install_for setting journal version s =
-    to_switch s (Install (known_boot journal s) (tables_at setting journal version s))
+abbrev pub journal_install_for : Setting → List Item → ℕ → ℕ → Message
+journal_install_for setting journal version s =
+    machine_message_to_switch s (Install (journal_known_boot journal s) (journal_tables_at setting journal version s))
 
 -- serve from this version on
-abbrev pub open_for : List Item → ℕ → ℕ → Message
-open_for journal version s = to_switch s (OpenAt (known_boot journal s) version)
+abbrev pub journal_open_for : List Item → ℕ → ℕ → Message
+journal_open_for journal version s = machine_message_to_switch s (OpenAt (journal_known_boot journal s) version)
 
 -- stamp with this version, which was made by a change that touches these words
-abbrev pub stamp_for : Setting → List Item → ℕ → ℕ → Message
-stamp_for setting journal version s =
-    to_switch s (Stamp (known_boot journal s) version (touched_by setting journal version))
+abbrev pub journal_stamp_for : Setting → List Item → ℕ → ℕ → Message
+journal_stamp_for setting journal version s =
+    machine_message_to_switch s (Stamp (journal_known_boot journal s) version (touched_by setting journal version))
 
 -- drop the tables up to this version
-abbrev pub collect_for : List Item → ℕ → ℕ → Message
-collect_for journal version s = to_switch s (Collect (known_boot journal s) version)
+abbrev pub machine_collect_for : List Item → ℕ → ℕ → Message
+machine_collect_for journal version s = machine_message_to_switch s (Collect (journal_known_boot journal s) version)
 
 -- ---- settling
 
@@ -57,79 +57,79 @@ raised_items mark next says tells setting journal =
 -- current rises as far as the members' acknowledgements allow, and they are told to stamp with it
 unfoldable pub current_items : Setting → List Item → List Item
 current_items setting journal =
-    raised_items current_mark next_current item.Current (stamp_for setting) setting journal
+    raised_items journal_current_mark journal_next_current item.Current (journal_stamp_for setting) setting journal
 
 -- the joining switches that acknowledged the current version
 abbrev pub opening_switches : Setting → List Item → List ℕ
 opening_switches setting journal =
-    filter (λ s. is_joining journal s && has_acked journal s (current_mark journal))
+    filter (λ s. is_joining journal s && has_acked journal s (journal_current_mark journal))
     (switches_of setting)
 
 -- these switches are told to serve
-unfoldable pub open_items : Setting → List Item → List Item
-open_items setting journal =
-    send_items journal (map (open_for journal (current_mark journal))
+unfoldable pub machine_open_items : Setting → List Item → List Item
+machine_open_items setting journal =
+    send_items journal (map (journal_open_for journal (journal_current_mark journal))
     (opening_switches setting journal))
 
 -- retired rises as far as the members' stamps allow, and they are told to drop those tables
 unfoldable pub retired_items : Setting → List Item → List Item
 retired_items setting journal =
-    raised_items retired_mark next_retired item.Retired collect_for setting journal
+    raised_items journal_retired_mark journal_next_retired item.Retired machine_collect_for setting journal
 
 -- the three parts, one after another
 unfoldable pub settling : Setting → List Item → List Item
 settling setting journal =
-    in_turn (current_items setting ∷ open_items setting ∷ retired_items setting ∷ []) journal
+    in_turn (current_items setting ∷ machine_open_items setting ∷ retired_items setting ∷ []) journal
 
 -- ---- what else is sent
 
 -- the versions from the current one to the last, ascending
-abbrev pub versions_from_current : List Item → List ℕ
-versions_from_current journal =
-    range_with_len (current_mark journal) (version_count journal + 1 - current_mark journal)
+abbrev pub journal_versions_from_current : List Item → List ℕ
+journal_versions_from_current journal =
+    range_with_len (journal_current_mark journal) (journal_version_count journal + 1 - journal_current_mark journal)
 
 -- the tables of each version from the current one on are sent to a switch that began a boot
-unfoldable pub installs_to : Setting → ℕ → List Item → List Item
-installs_to setting s journal =
+unfoldable pub machine_installs_to : Setting → ℕ → List Item → List Item
+machine_installs_to setting s journal =
     send_items journal
-    (map (λ version. install_for setting journal version s) (versions_from_current journal))
+    (map (λ version. journal_install_for setting journal version s) (journal_versions_from_current journal))
 
 -- the tables of the newest version are sent to each switch that isn't over
-unfoldable pub installs_to_all : Setting → List Item → List Item
-installs_to_all setting journal =
+unfoldable pub machine_installs_to_all : Setting → List Item → List Item
+machine_installs_to_all setting journal =
     send_items journal
-    (map (install_for setting journal (version_count journal))
+    (map (journal_install_for setting journal (journal_version_count journal))
     (filter (λ s. not (is_over journal s)) (switches_of setting)))
 
 -- a new version is submitted
 abbrev pub submitted_items : Setting → List Item → List Item
-submitted_items setting journal = in_turn (installs_to_all setting ∷ settling setting ∷ []) journal
+submitted_items setting journal = in_turn (machine_installs_to_all setting ∷ settling setting ∷ []) journal
 
 -- ---- sending again
 
 -- of these versions, the tables of those that the switch didn't acknowledge
 abbrev pub journal_unacked_installs : Setting → List Item → ℕ → List ℕ → List Message
 journal_unacked_installs setting journal s versions =
-    map (λ version. install_for setting journal version s)
+    map (λ version. journal_install_for setting journal version s)
     (filter (λ version. not (has_acked journal s version)) versions)
 
 -- a member may have missed its opening, later tables, the current stamp and the retired mark
-abbrev pub resent_to_member : Setting → List Item → ℕ → List Message
-resent_to_member setting journal s =
-    open_for journal (open_version journal s) s
-    ∷ journal_unacked_installs setting journal s (range_with_len (current_mark journal + 1)
-    (version_count journal - current_mark journal))
-    ++ (if nat_lt (acked_stamp journal s) (current_mark journal)
-    then stamp_for setting journal (current_mark journal) s ∷ [] else [])
-    ++ (if retired_mark journal == 0
-    then [] else collect_for journal (retired_mark journal) s ∷ [])
+abbrev pub journal_resent_to_member : Setting → List Item → ℕ → List Message
+journal_resent_to_member setting journal s =
+    journal_open_for journal (open_version journal s) s
+    ∷ journal_unacked_installs setting journal s (range_with_len (journal_current_mark journal + 1)
+    (journal_version_count journal - journal_current_mark journal))
+    ++ (if nat_lt (acked_stamp journal s) (journal_current_mark journal)
+    then journal_stamp_for setting journal (journal_current_mark journal) s ∷ [] else [])
+    ++ (if journal_retired_mark journal == 0
+    then [] else machine_collect_for journal (journal_retired_mark journal) s ∷ [])
 
 -- what the controller sends again: only tables to a joining switch, nothing to one that is over
-unfoldable pub resent_by_controller : Setting → List Item → ℕ → List Message
-resent_by_controller setting journal s = elim (is_over journal s) [
+unfoldable pub journal_resent_by_controller : Setting → List Item → ℕ → List Message
+journal_resent_by_controller setting journal s = elim (is_over journal s) [
   | true ↦ []
   | false ↦ elim (is_member journal s) [
-    | true ↦ resent_to_member setting journal s
-    | false ↦ journal_unacked_installs setting journal s (versions_from_current journal)
+    | true ↦ journal_resent_to_member setting journal s
+    | false ↦ journal_unacked_installs setting journal s (journal_versions_from_current journal)
   ]
 ]

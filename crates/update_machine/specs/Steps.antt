@@ -2,7 +2,7 @@
 use Rattle.std.specs.Prelude.{[], ◌++◌, ◌∷◌, List}
 use Rattle.journal.specs.declared.item.Item.{Item}
 use Rattle.journal.specs.declared.item.Item.TheVariants as item
-use Rattle.update_machine.specs.Folds.{folded_value}
+use Rattle.update_machine.specs.Folds.{journal_folded_value}
 
 -- the items of a step, the row's first, and the journal before them
 pub record StepItems : Type 0 where
@@ -14,11 +14,11 @@ abbrev pub steps_with_item : List StepItems → Item → List StepItems
 steps_with_item [] item = []
 steps_with_item (newest ∷ steps) item = record newest { items = newest.items ++ item ∷ [] } ∷ steps
 
-abbrev pub changes_steps : List Item → List StepItems → Item → List StepItems
-changes_steps before steps (item.Row row step) =
+abbrev pub item_changes_steps : List Item → List StepItems → Item → List StepItems
+item_changes_steps before steps (item.Row row step) =
     record { before = before; items = item.Row row step ∷ [] } ∷ steps
-changes_steps before steps item = steps_with_item steps item
+item_changes_steps before steps item = steps_with_item steps item
 
 -- the steps of a journal, the newest first
-unfoldable pub steps_in : List Item → List StepItems
-steps_in journal = folded_value changes_steps [] journal
+unfoldable pub journal_steps_in : List Item → List StepItems
+journal_steps_in journal = journal_folded_value item_changes_steps [] journal

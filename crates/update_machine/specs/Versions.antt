@@ -8,12 +8,12 @@ use Rattle.ctrl_msg.specs.declared.message.Body.{Body}
 use Rattle.ctrl_msg.specs.declared.message.Body.TheVariants.{Install, OpenAt, Stamp, Collect}
 use Rattle.policy_rules.specs.declared.applying.Inapplicable.{Inapplicable}
 use Rattle.policy_rules.specs.declared.policy.Row.{Row}
-use Rattle.policy_rules.specs.Exports.{NoPlan}
+use Rattle.policy_rules.specs.Exports.{NoPolicyPlan}
 use Rattle.switch_table.specs.Exports.{tables_of}
 use Rattle.switch_table.specs.declared.tables.Tables.{Tables}
 use Rattle.journal.specs.declared.item.Item.{Item}
 use Rattle.journal.specs.declared.item.Item.TheVariants as item
-use Rattle.update_machine.specs.Boots.{heard, is_in_first_boot}
+use Rattle.update_machine.specs.Boots.{heard, is_first_boot_in_journal}
 use Rattle.update_machine.specs.Folds.{count_of}
 use Rattle.update_machine.specs.Setting.{Setting, file_of, policy_by, policy_in}
 use Rattle.partition.specs.Plan.{Hosted}
@@ -21,22 +21,22 @@ use Rattle.partition.specs.Plan.{Hosted}
 -- ---- policies and plans
 
 -- the partitions of a plan with their targets; none if there is no plan
-abbrev pub hosted_in_version : Result (List Hosted) NoPlan → List Hosted
-hosted_in_version (Ok plan) = plan
-hosted_in_version (Err why) = []
+abbrev pub setting_hosted_or_none : Result (List Hosted) NoPolicyPlan → List Hosted
+setting_hosted_or_none (Ok plan) = plan
+setting_hosted_or_none (Err why) = []
 
 -- the partitions of its plan with their targets; none if there is no policy or no plan
-unfoldable pub plan_at : Setting → List Item → ℕ → List Hosted
-plan_at setting journal version =
-    option_map_or (λ rows. hosted_in_version (setting.plan rows)) (policy_in setting journal version) []
+unfoldable pub journal_plan_at : Setting → List Item → ℕ → List Hosted
+journal_plan_at setting journal version =
+    option_map_or (λ rows. setting_hosted_or_none (setting.plan rows)) (policy_in setting journal version) []
 
 abbrev pub is_submission : Item → Bool
 is_submission (item.Submitted file version) = true
 is_submission _ = false
 
 -- how many versions there are: the first policy's, and one for each that was submitted
-unfoldable pub version_count : List Item → ℕ
-version_count journal = count_of is_submission journal + 1
+unfoldable pub journal_version_count : List Item → ℕ
+journal_version_count journal = count_of is_submission journal + 1
 
 -- the version exists: it is the first one, or was submitted
 abbrev pub is_version : List Item → ℕ → Bool
@@ -48,39 +48,39 @@ policy_at setting journal version = unwrap_or (policy_in setting journal version
 
 -- the policy of the next version, if this file is submitted: what the file makes of the policy of
 -- the newest one
-unfoldable pub next_policy : Setting → List Item → ℕ → Result (List Row) Inapplicable
-next_policy setting journal file =
-    policy_by setting (policy_in setting journal (version_count journal)) file
+unfoldable pub journal_next_policy : Setting → List Item → ℕ → Result (List Row) Inapplicable
+journal_next_policy setting journal file =
+    policy_by setting (policy_in setting journal (journal_version_count journal)) file
 
 -- the version has a policy, which has a plan
-pub record HasPlan (setting : Setting) (journal : List Item) (version : ℕ) : Type 0 where
+pub record SettingHasPlan (setting : Setting) (journal : List Item) (version : ℕ) : Type 0 where
   pub policy : policy_in setting journal version ≡ Some (policy_at setting journal version)
-  pub plan : setting.plan (policy_at setting journal version) ≡ Ok (plan_at setting journal version)
+  pub plan : setting.plan (policy_at setting journal version) ≡ Ok (journal_plan_at setting journal version)
 
 -- the tables of a version that its plan gives switch s
-abbrev pub tables_at : Setting → List Item → ℕ → ℕ → Tables
-tables_at setting journal version s = tables_of (plan_at setting journal version) version s
+abbrev pub journal_tables_at : Setting → List Item → ℕ → ℕ → Tables
+journal_tables_at setting journal version s = tables_of (journal_plan_at setting journal version) version s
 
 -- ---- stamps
 
 -- the greatest of numbers, and 0 if there is none
-abbrev pub greatest_stamp_number : List ℕ → ℕ
-greatest_stamp_number numbers = fold max 0 numbers
+abbrev pub machine_greatest_stamp_number : List ℕ → ℕ
+machine_greatest_stamp_number numbers = fold max 0 numbers
 
 -- the version with which a switch may stamp after a body
-abbrev pub stamp_in : Body → Option ℕ
-stamp_in (OpenAt boot version) = Some version
-stamp_in (Stamp boot version touched) = Some version
-stamp_in _ = None
+abbrev pub journal_stamp_in_body : Body → Option ℕ
+journal_stamp_in_body (OpenAt boot version) = Some version
+journal_stamp_in_body (Stamp boot version touched) = Some version
+journal_stamp_in_body _ = None
 
-abbrev pub first_stamp : List Item → ℕ → List ℕ
-first_stamp journal s = if is_in_first_boot journal s then 1 ∷ [] else []
+abbrev pub journal_first_stamp : List Item → ℕ → List ℕ
+journal_first_stamp journal s = if is_first_boot_in_journal journal s then 1 ∷ [] else []
 
 -- the greatest version with which the switch was told to stamp, or to open, in its boot; version 1
 -- counts in boot 1
-unfoldable pub stamp_of : List Item → ℕ → ℕ
-stamp_of journal s = greatest_stamp_number (first_stamp journal s
-    ++ filter_map stamp_in (heard journal s))
+unfoldable pub journal_stamp_of : List Item → ℕ → ℕ
+journal_stamp_of journal s = machine_greatest_stamp_number (journal_first_stamp journal s
+    ++ filter_map journal_stamp_in_body (heard journal s))
 
 -- ---- held versions
 
@@ -88,13 +88,13 @@ abbrev pub installs_version : ℕ → Body → Bool
 installs_version v (Install boot tables) = tables.version == v
 installs_version v _ = false
 
-abbrev pub collects_version : ℕ → Body → Bool
-collects_version v (Collect boot version) = nat_le v version
-collects_version v _ = false
+abbrev pub journal_collects_version : ℕ → Body → Bool
+journal_collects_version v (Collect boot version) = nat_le v version
+journal_collects_version v _ = false
 
 -- the version's tables were installed in this boot, or the switch began with them; and neither this
 -- version nor a greater one was collected
 unfoldable pub holds_version : List Item → ℕ → ℕ → Bool
 holds_version journal s v =
-    (list_any (installs_version v) (heard journal s) || (v == 1 && is_in_first_boot journal s))
-    && not (list_any (collects_version v) (heard journal s))
+    (list_any (installs_version v) (heard journal s) || (v == 1 && is_first_boot_in_journal journal s))
+    && not (list_any (journal_collects_version v) (heard journal s))

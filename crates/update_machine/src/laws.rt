@@ -6,27 +6,27 @@ ghost use Rattle.policy_rules.specs.declared.file.PolicyFile.TheVariants.{Whole}
 ghost use Rattle.policy_rules.specs.declared.policy.Row.{Row};
 ghost use Rattle.journal.specs.declared.item.Item.TheVariants.{Submitted};
 ghost use Rattle.steps.specs.declared.step.Event.TheVariants.{One};
-ghost use Rattle.update_machine.specs.Exports.{Answers, AnswersSoFar, AreAnswered, AreNumbered, AreStepsOf, BeginsAnswer, ConcernLaws, Event, HasPlay, HaveSteps, IsFull, IsPlay, IsSetting, Item, KnownLinkLaws, NamesOwnPort, Setting, StartLaws, Step, StepOfRow, StopsFull, VersionsAreNumbered, journal_after_steps, setting_file_at, journal_full_at, is_sending, is_version, hosted_in_version, next_policy, plan_at, policy_at, policy_in, version_count};
-ghost use Rattle.update_machine.specs.Folds.{all_given, count_of, folded_value, folded_from, last_given};
-ghost use Rattle.update_machine.specs.Setting.{first_given};
+ghost use Rattle.update_machine.specs.Exports.{Answers, JournalAnswersSoFar, AreAnsweredByJournal, AreNumbered, AreMachineStepsOf, JournalBeginsAnswer, JournalConcernLaws, Event, HasMachinePlay, HaveMachineSteps, IsJournalFull, IsMachinePlay, IsSetting, Item, JournalKnownLinkLaws, NamesSettingPort, Setting, StartLaws, Step, StepOfRow, JournalStopsFull, VersionsAreNumbered, journal_after_steps, setting_file_at, machine_journal_full_at, is_sending, is_version, setting_hosted_or_none, journal_next_policy, journal_plan_at, policy_at, policy_in, journal_version_count};
+ghost use Rattle.update_machine.specs.Folds.{journal_all_given, count_of, journal_folded_value, folded_journal_from, journal_last_given};
+ghost use Rattle.update_machine.specs.Setting.{journal_first_given};
 ghost use Rattle.update_machine.specs.declared.full.TheConstants.{FULL_AT};
 
 /// What a journal says after more items: a law for each of the folds, whatever an item says.
 #[tactic(auto, using(crate::proofs::JournalBlockNumbers::last_given_append, crate::proofs::JournalBlockNumbers::first_given_append, crate::proofs::JournalBlockNumbers::folded_append))]
 pub fn journals_grow<X>()
     ensures last { (tells : Item → Option X) (before items : List Item)
-        → last_given tells (before ++ items)
-        ≡ option_or (last_given tells items) (last_given tells before) }
+        → journal_last_given tells (before ++ items)
+        ≡ option_or (journal_last_given tells items) (journal_last_given tells before) }
     ensures first { (tells : Item → Option X) (before items : List Item)
-        → first_given tells (before ++ items)
-        ≡ option_or (first_given tells before) (first_given tells items) }
+        → journal_first_given tells (before ++ items)
+        ≡ option_or (journal_first_given tells before) (journal_first_given tells items) }
     ensures count { (test : Item → Bool) (before items : List Item)
         → count_of test (before ++ items) ≡ count_of test before + count_of test items }
     ensures given { (gives : Item → List X) (before items : List Item)
-        → all_given gives (before ++ items) ≡ all_given gives before ++ all_given gives items }
+        → journal_all_given gives (before ++ items) ≡ journal_all_given gives before ++ journal_all_given gives items }
     ensures fold { (changes : List Item → X → Item → X) (start : X) (before items : List Item)
-        → folded_value changes start (before ++ items)
-        ≡ folded_from changes before (folded_value changes start before) items }
+        → journal_folded_value changes start (before ++ items)
+        ≡ folded_journal_from changes before (journal_folded_value changes start before) items }
 {}
 
 /// A schedule has at most one answer, and for each number of steps at most one journal of its first
@@ -35,23 +35,23 @@ pub fn answers_are_one()
     ensures one { (setting : Setting) (events : List Event) (one other : List Item)
         → Answers setting events one → Answers setting events other → one ≡ other }
     ensures so_far { (setting : Setting) (events : List Event) (one other : List Item)
-        (first : AnswersSoFar setting events one) (second : AnswersSoFar setting events other)
+        (first : JournalAnswersSoFar setting events one) (second : JournalAnswersSoFar setting events other)
         → length first.steps ≡ length second.steps → one ≡ other }
     ensures whole { (setting : Setting) (events : List Event) (journal : List Item)
-        → Answers setting events journal → AnswersSoFar setting events journal }
+        → Answers setting events journal → JournalAnswersSoFar setting events journal }
     ensures begins { (setting : Setting) (events : List Event) (journal : List Item)
-        → AnswersSoFar setting events journal → BeginsAnswer setting events journal }
+        → JournalAnswersSoFar setting events journal → JournalBeginsAnswer setting events journal }
 {}
 
 /// A schedule has an answer exactly if each of its events has all its steps, so if its flushes and
 /// drains end. One of single steps always has one. The steps of one more event continue an answer.
 pub fn answers_exist()
     ensures exactly { (setting : Setting) (events : List Event)
-        → AreAnswered setting events ↔ HaveSteps setting events }
-    ensures single { (setting : Setting) (steps : List Step) → AreAnswered setting (map One steps) }
+        → AreAnsweredByJournal setting events ↔ HaveMachineSteps setting events }
+    ensures single { (setting : Setting) (steps : List Step) → AreAnsweredByJournal setting (map One steps) }
     ensures goes_on { (setting : Setting) (events : List Event) (event : Event)
         (journal : List Item) (steps : List StepOfRow) → Answers setting events journal
-        → AreStepsOf setting (length events + 1) event journal steps
+        → AreMachineStepsOf setting (length events + 1) event journal steps
         → Answers setting (events ++ event ∷ []) (journal_after_steps setting journal steps) }
 {}
 
@@ -61,23 +61,23 @@ pub fn answers_exist()
 /// sent messages.
 pub fn plays_are_one()
     ensures one { (setting : Setting) (events : List Event) (one other : List Item)
-        (stop halt : Option ℕ) → IsPlay setting events one stop → IsPlay setting events other halt
+        (stop halt : Option ℕ) → IsMachinePlay setting events one stop → IsMachinePlay setting events other halt
         → (one ≡ other) × (stop ≡ halt) }
     ensures some { (setting : Setting) (events : List Event)
-        → AreAnswered setting events → HasPlay setting events }
+        → AreAnsweredByJournal setting events → HasMachinePlay setting events }
     ensures so_far { (setting : Setting) (events : List Event) (journal : List Item) (row : ℕ)
-        → StopsFull setting events journal row → AnswersSoFar setting events journal }
+        → JournalStopsFull setting events journal row → JournalAnswersSoFar setting events journal }
     ensures begins { (setting : Setting) (events : List Event) (journal : List Item) (row : ℕ)
-        → StopsFull setting events journal row → BeginsAnswer setting events journal }
-    ensures full { (journal : List Item) → IsFull journal ↔ journal_full_at ≤ count_of is_sending journal }
-    ensures constant { FULL_AT ≡ journal_full_at }
+        → JournalStopsFull setting events journal row → JournalBeginsAnswer setting events journal }
+    ensures full { (journal : List Item) → IsJournalFull journal ↔ machine_journal_full_at ≤ count_of is_sending journal }
+    ensures constant { FULL_AT ≡ machine_journal_full_at }
 {}
 
 /// In an answer, and in each beginning of one, packets, messages and versions are numbered from 1
 /// without a gap.
 pub fn answers_are_numbered()
     ensures { (setting : Setting) (events : List Event) (journal : List Item)
-        → BeginsAnswer setting events journal → AreNumbered journal }
+        → JournalBeginsAnswer setting events journal → AreNumbered journal }
 {}
 
 /// A version that exists keeps its file whatever items follow, and it keeps its policy and its
@@ -90,27 +90,27 @@ pub fn versions_keep_policies()
     ensures there { (before items : List Item) (version : ℕ) → IsTrue (is_version before version)
         → IsTrue (is_version (before ++ items) version) }
     ensures policy { (setting : Setting) (before items : List Item) (version : ℕ)
-        → VersionsAreNumbered before → version ≤ version_count before
+        → VersionsAreNumbered before → version ≤ journal_version_count before
         → policy_at setting (before ++ items) version ≡ policy_at setting before version }
     ensures plan { (setting : Setting) (before items : List Item) (version : ℕ)
-        → VersionsAreNumbered before → version ≤ version_count before
-        → plan_at setting (before ++ items) version ≡ plan_at setting before version }
+        → VersionsAreNumbered before → version ≤ journal_version_count before
+        → journal_plan_at setting (before ++ items) version ≡ journal_plan_at setting before version }
     ensures of_policy { (setting : Setting) (journal : List Item) (version : ℕ) (rows : List Row)
         → policy_in setting journal version ≡ Some rows
         → (policy_at setting journal version ≡ rows)
-        × (plan_at setting journal version ≡ hosted_in_version (setting.plan rows)) }
+        × (journal_plan_at setting journal version ≡ setting_hosted_or_none (setting.plan rows)) }
     ensures first { (setting : Setting) (journal : List Item) (rows : List Row)
         → setting_file_at setting 1 ≡ Some (Whole rows) → (policy_at setting journal 1 ≡ rows)
-        × (plan_at setting journal 1 ≡ hosted_in_version (setting.plan rows)) }
+        × (journal_plan_at setting journal 1 ≡ setting_hosted_or_none (setting.plan rows)) }
     ensures next { (setting : Setting) (before : List Item) (file version : ℕ) (rows : List Row)
-        → VersionsAreNumbered before → version ≡ version_count before + 1
-        → next_policy setting before file ≡ Ok rows
+        → VersionsAreNumbered before → version ≡ journal_version_count before + 1
+        → journal_next_policy setting before file ≡ Ok rows
         → (policy_at setting (before ++ Submitted file version ∷ []) version ≡ rows)
-        × (plan_at setting (before ++ Submitted file version ∷ []) version
-        ≡ hosted_in_version (setting.plan rows)) }
+        × (journal_plan_at setting (before ++ Submitted file version ∷ []) version
+        ≡ setting_hosted_or_none (setting.plan rows)) }
     ensures own { (setting : Setting) (journal : List Item) (version : ℕ) → IsSetting setting
         → IsPolicy (policy_at setting journal version)
-        × All (λ row. NamesOwnPort setting row.action) (policy_at setting journal version) }
+        × All (λ row. NamesSettingPort setting row.action) (policy_at setting journal version) }
 {}
 
 /// What a journal without items says.
@@ -121,12 +121,12 @@ pub fn journals_start()
 /// Items that don't concern a switch, a packet, a message, the links, the policies or the
 /// controller don't change what a journal says of it.
 pub fn other_items_change_nothing()
-    ensures { ConcernLaws }
+    ensures { JournalConcernLaws }
 {}
 
 /// A switch knows the newest advert of each other switch, and routes by the least shortest path
 /// over the links that it knows. A target is isolated exactly if it is another switch and no known
 /// link ends at it. There is no route to a port that no switch has.
 pub fn switches_know_links()
-    ensures { KnownLinkLaws }
+    ensures { JournalKnownLinkLaws }
 {}

@@ -2,7 +2,7 @@
 use Rattle.std.proofs.Common.{◌&&◌, ◌-◌, ◌<◌, ◌^◌, ◌||◌, ◌∙◌, ◌≡◌, ◌≤◌, ◌⊎◌, Bool, IsTrue, ap, arith, bit_or, cond, eq-eqb, eqb, false, inl, inr, max, ne_eqb, sym, true, ℕ, rules}
 use Rattle.base.proofs.Exports.{bit_at, bit_at-lt, bit_at-pow_other, bit_at-pow_same, bit_at-zero, bit_at_above, bit_at_or, cases_eq}
 use Rattle.version_update.specs.declared.record.SwitchRecord.{SwitchRecord}
-use Rattle.version_update.specs.Exports.{IsSoundRecord, after_installed, first_record, has_acked, hello_recorded, takes_hello, takes_installed}
+use Rattle.version_update.specs.Exports.{IsSoundRecord, mark_after_installed, first_record, has_acked, update_hello_recorded, update_takes_hello, mark_takes_installed}
 
 pub first_acked : (version : ℕ) → 1 ≤ version → has_acked first_record version ≡ eqb version 1
 first_acked version low = elim (cases_eq version 1) [
@@ -11,8 +11,8 @@ first_acked version low = elim (cases_eq version 1) [
       ∙ sym (ne_eqb version 1 other)
 ]
 
-pub hello_acked : (boot version : ℕ) (known : SwitchRecord) → IsTrue (takes_hello boot known)
-    → has_acked (hello_recorded boot known) version ≡ false
+pub hello_acked : (boot version : ℕ) (known : SwitchRecord) → IsTrue (update_takes_hello boot known)
+    → has_acked (update_hello_recorded boot known) version ≡ false
 hello_acked boot version known taken = cc (taken, bit_at-zero (version - 1))
 
 or_false : (b : Bool) → b ≡ (b || false)
@@ -44,9 +44,9 @@ one_more acked version other low low' = by_version (cases_eq other version) wher
       ∙ ap (λ b. eqb (bit_at acked (other - 1)) 1 || b) (sym (ne_eqb other version apart))
 
 pub installed_acked : (boot version other : ℕ) (known : SwitchRecord) → 1 ≤ version → 1 ≤ other
-    → has_acked (after_installed boot version known) other
-    ≡ (has_acked known other || (takes_installed boot known && eqb other version))
-installed_acked boot version other known low low' = by_test (takes_installed boot known) where
+    → has_acked (mark_after_installed boot version known) other
+    ≡ (has_acked known other || (mark_takes_installed boot known && eqb other version))
+installed_acked boot version other known low low' = by_test (mark_takes_installed boot known) where
   by_test : (taken : Bool)
       → has_acked (cond taken (record known { acked = bit_or known.acked (2 ^ (version - 1)) })
       known) other ≡ (has_acked known other || (taken && eqb other version))

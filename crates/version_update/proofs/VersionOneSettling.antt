@@ -4,7 +4,7 @@ use Rattle.base.proofs.Exports.{All-cons, All-head, All-nil, All-tail, bit_at-ze
 use Rattle.version_update.specs.declared.record.Phase.TheVariants.{Member}
 use Rattle.version_update.specs.declared.record.SwitchRecord.{SwitchRecord}
 use Rattle.version_update.specs.declared.marks.Settled.{Settled}
-use Rattle.version_update.specs.Exports.{AreMarksSettled, IsLeast, MarksValue, Names, SettlingReports, CurrentRisesTo, Settles, least_of, no_mark_rose, opened_record, joining_opens_at, mark_rises_to}
+use Rattle.version_update.specs.Exports.{AreUpdateMarksSettled, IsLeastOfMarks, MarksValue, Names, UpdateSettlingReports, CurrentRisesTo, Settles, least_of_marks, update_no_mark_rose, opened_update_record, update_joining_opens_at, mark_rises_to}
 
 -- ---- one result
 
@@ -26,8 +26,8 @@ one_mask : (mask other : ℕ) (passes : SwitchRecord → Bool) (switches : List 
     → Names mask passes switches → Names other passes switches → mask ≡ other
 one_mask mask other passes switches one two = same_from_bits mask other (λ s. one s ∙ sym (two s))
 
-one_telling : (before after : MarksValue) (x y : Settled) → SettlingReports before after x
-    → SettlingReports before after y → x.taken ≡ y.taken → x ≡ y
+one_telling : (before after : MarksValue) (x y : Settled) → UpdateSettlingReports before after x
+    → UpdateSettlingReports before after y → x.taken ≡ y.taken → x ≡ y
 one_telling before after x y one two taken =
     let current : x.current ≡ y.current = one.current ∙ sym two.current in
     let stamps : x.stamps ≡ y.stamps = one_mask _ _ _ _ one.stamps two.stamps in
@@ -56,30 +56,30 @@ names_none : (n : ℕ) (passes : SwitchRecord → Bool) (switches : List SwitchR
 names_none n passes switches s = search (rules, bit_at-zero, le-ltb)
 
 all_stay : (current : ℕ) (switches : List SwitchRecord)
-    → All (λ known. IsFalse (joining_opens_at current known)) switches → switches ≡ map (opened_record current)
+    → All (λ known. IsFalse (update_joining_opens_at current known)) switches → switches ≡ map (opened_update_record current)
     switches
 all_stay current [] closed = refl
 all_stay current (known ∷ more) closed =
     let rest = all_stay current more
-    (All-tail (λ known. IsFalse (joining_opens_at current known)) known more closed) in
-    let same : known ≡ opened_record current known =
+    (All-tail (λ known. IsFalse (update_joining_opens_at current known)) known more closed) in
+    let same : known ≡ opened_update_record current known =
     ap (λ b. cond b (record known { phase = Member; open_version = current; acked_stamp = current })
-    known) (sym (All-head (λ known. IsFalse (joining_opens_at current known)) known more closed)) in
-    ap (λ l. known ∷ l) rest ∙ ap (λ (k : SwitchRecord). k ∷ map (opened_record current) more) same
+    known) (sym (All-head (λ known. IsFalse (update_joining_opens_at current known)) known more closed)) in
+    ap (λ l. known ∷ l) rest ∙ ap (λ (k : SwitchRecord). k ∷ map (opened_update_record current) more) same
 
 none_named : (current : ℕ) (switches : List SwitchRecord)
-    → All (λ known. IsFalse (joining_opens_at current known)) switches → Names 0 (joining_opens_at current) switches
+    → All (λ known. IsFalse (update_joining_opens_at current known)) switches → Names 0 (update_joining_opens_at current) switches
 none_named current switches closed s = bit_at-zero s ∙ at_place switches s closed where
-  at_place : (xs : List SwitchRecord) (k : ℕ) → All (λ known. IsFalse (joining_opens_at current known)) xs
-      → 0 ≡ from_bool (option_map_or (joining_opens_at current) (slice_get xs k) false)
+  at_place : (xs : List SwitchRecord) (k : ℕ) → All (λ known. IsFalse (update_joining_opens_at current known)) xs
+      → 0 ≡ from_bool (option_map_or (update_joining_opens_at current) (slice_get xs k) false)
   at_place [] k _ = refl
   at_place (known ∷ more) zero shut =
-      ap from_bool (sym (All-head (λ known. IsFalse (joining_opens_at current known)) known more shut))
+      ap from_bool (sym (All-head (λ known. IsFalse (update_joining_opens_at current known)) known more shut))
   at_place (known ∷ more) (suc k) shut =
-      at_place more k (All-tail (λ known. IsFalse (joining_opens_at current known)) known more shut)
+      at_place more k (All-tail (λ known. IsFalse (update_joining_opens_at current known)) known more shut)
 
-pub settled_stay : (marks : MarksValue) (taken : Bool) → AreMarksSettled marks
-    → Settles marks marks (no_mark_rose taken)
+pub settled_stay : (marks : MarksValue) (taken : Bool) → AreUpdateMarksSettled marks
+    → Settles marks marks (update_no_mark_rose taken)
 settled_stay marks taken settled = search (rules, all_stay, raised_none, names_none, none_named)
 
 -- ---- the least
@@ -103,8 +103,8 @@ least_below first (n ∷ more) = let h = least_first (min first n) more in
     All-cons (λ k. fold min (min first n) more ≤ k) n more (omega (arith, h))
     (least_below (min first n) more)
 
-pub least_of_numbers : (numbers : List ℕ) → MatchOption (least_of numbers) (numbers ≡ [])
-    (IsLeast numbers)
+pub least_of_numbers : (numbers : List ℕ) → MatchOption (least_of_marks numbers) (numbers ≡ [])
+    (IsLeastOfMarks numbers)
 least_of_numbers [] = refl
 least_of_numbers (first ∷ more) = (
   least_among first more,

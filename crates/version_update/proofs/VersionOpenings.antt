@@ -2,51 +2,51 @@
 use Rattle.std.proofs.Common.{[], ◌<◌, ◌∷◌, ◌≡◌, ◌≤◌, All, IsFalse, IsTrue, List, arith, length, map, refl, replicate, true, ℕ, rules}
 use Rattle.base.proofs.Exports.{All-map, All-replicate, length-map, length-replicate, or_lt, pow-lt}
 use Rattle.version_update.specs.declared.record.SwitchRecord.{SwitchRecord}
-use Rattle.version_update.specs.Exports.{AreMarksBounded, AreMarksSettled, IsSoundRecord, MarksValue, CurrentRisesTo, after_installed, all_have_acked, first_marks, first_record, is_member, opened_record, joining_opens_at, retired_of}
+use Rattle.version_update.specs.Exports.{AreUpdateMarksBounded, AreUpdateMarksSettled, IsSoundRecord, MarksValue, CurrentRisesTo, mark_after_installed, all_have_acked, first_marks, first_record, is_member, opened_update_record, update_joining_opens_at, retired_of}
 use Rattle.version_update.proofs.VersionLeastStamp.{least_acked_stamp-version}
 
 -- a member stays as it is
 member_stays : (current : ℕ) (known : SwitchRecord) → is_member known.phase ≡ true
-    → opened_record current known ≡ known
+    → opened_update_record current known ≡ known
 member_stays current known member = search rules
 
 -- no switch opens twice
 opens_once : (current : ℕ) (known : SwitchRecord)
-    → IsFalse (joining_opens_at current (opened_record current known))
+    → IsFalse (update_joining_opens_at current (opened_update_record current known))
 opens_once current known = search rules
 
 pub none_opens : (current : ℕ) (switches : List SwitchRecord)
-    → All (λ known. IsFalse (joining_opens_at current known)) (map (opened_record current) switches)
-none_opens current switches = All-map (λ known. IsFalse (joining_opens_at current known))
-    (opened_record current) switches (λ k d within. opens_once current _)
+    → All (λ known. IsFalse (update_joining_opens_at current known)) (map (opened_update_record current) switches)
+none_opens current switches = All-map (λ known. IsFalse (update_joining_opens_at current known))
+    (opened_update_record current) switches (λ k d within. opens_once current _)
 
 opened_at-sound : (count current : ℕ) (known : SwitchRecord) → 1 ≤ current → current ≤ count
-    → IsSoundRecord count known → IsSoundRecord count (opened_record current known)
+    → IsSoundRecord count known → IsSoundRecord count (opened_update_record current known)
 opened_at-sound count current known low high sound = search rules
 
 -- at the start
-pub first-bounded : (number : ℕ) → 1 ≤ number → number ≤ 64 → AreMarksBounded (first_marks number)
+pub first-bounded : (number : ℕ) → 1 ≤ number → number ≤ 64 → AreUpdateMarksBounded (first_marks number)
 first-bounded number some few = search (rules, length-replicate, All-replicate)
 
 -- bounds are kept
-pub opened-bounded : (marks : MarksValue) → AreMarksBounded marks
-    → AreMarksBounded (record marks { switches = map (opened_record marks.current) marks.switches })
+pub opened-bounded : (marks : MarksValue) → AreUpdateMarksBounded marks
+    → AreUpdateMarksBounded (record marks { switches = map (opened_update_record marks.current) marks.switches })
 opened-bounded marks bounds =
-    let len : length (map (opened_record marks.current) marks.switches) ≡ length marks.switches =
+    let len : length (map (opened_update_record marks.current) marks.switches) ≡ length marks.switches =
     simp length-map in record {
       first = bounds.first;
       last = bounds.last;
       versions = bounds.versions;
       some = omega (arith, len, bounds.some);
       switches = omega (arith, len, bounds.switches);
-      records = All-map (IsSoundRecord marks.count) (opened_record marks.current) marks.switches
+      records = All-map (IsSoundRecord marks.count) (opened_update_record marks.current) marks.switches
           (λ k d within. opened_at-sound marks.count marks.current _ bounds.first bounds.last
           (bounds.records k d within));
     }
 
 -- what each member acknowledged after the opening, each member did before it
 all_acked-opened : (version current : ℕ) (switches : List SwitchRecord)
-    → IsTrue (all_have_acked version (map (opened_record current) switches))
+    → IsTrue (all_have_acked version (map (opened_update_record current) switches))
     → IsTrue (all_have_acked version switches)
 all_acked-opened version current [] all = refl
 all_acked-opened version current (known ∷ more) all =
@@ -54,27 +54,27 @@ all_acked-opened version current (known ∷ more) all =
 
 pub stopped-opened : (version current : ℕ) (switches : List SwitchRecord)
     → IsFalse (all_have_acked version switches)
-    → IsFalse (all_have_acked version (map (opened_record current) switches))
+    → IsFalse (all_have_acked version (map (opened_update_record current) switches))
 stopped-opened version current switches lacks = search (rules, all_acked-opened)
 
 -- the marks after current rose, the joining switches opened and retired was set
 pub settled_by : (before mid last : MarksValue) (current retired : ℕ) → CurrentRisesTo before current
-    → mid ≡ record before { current = current; switches = map (opened_record current) before.switches }
+    → mid ≡ record before { current = current; switches = map (opened_update_record current) before.switches }
     → last ≡ mid → retired ≡ retired_of mid → retired < mid.count
-    → AreMarksBounded (record last { retired = retired })
-    → AreMarksSettled (record last { retired = retired })
+    → AreUpdateMarksBounded (record last { retired = retired })
+    → AreUpdateMarksSettled (record last { retired = retired })
 settled_by before mid last current retired rises opened same is_retired live bounds =
     search (rules, stopped-opened, none_opens)
 
 -- at the start
-pub first-settled : (number : ℕ) → 1 ≤ number → number ≤ 64 → AreMarksSettled (first_marks number)
+pub first-settled : (number : ℕ) → 1 ≤ number → number ≤ 64 → AreUpdateMarksSettled (first_marks number)
 first-settled number some few =
     let bounds = first-bounded number some few in
     let least = least_acked_stamp-version 1 1 (replicate number first_record) (omega arith) (omega arith)
     bounds.records in record {
       bounds = bounds;
       stopped = λ more. absurd (omega arith);
-      opened = All-replicate (λ known. IsFalse (joining_opens_at 1 known)) number first_record refl;
+      opened = All-replicate (λ known. IsFalse (update_joining_opens_at 1 known)) number first_record refl;
       retired = omega (arith, least.0, least.1);
       live = omega arith;
     }
@@ -82,5 +82,5 @@ first-settled number some few =
 -- one more version in the set
 pub installed-sound : (count boot version : ℕ) (known : SwitchRecord) → 1 ≤ version
     → version ≤ count → IsSoundRecord count known
-    → IsSoundRecord count (after_installed boot version known)
+    → IsSoundRecord count (mark_after_installed boot version known)
 installed-sound count boot version known low high sound = search (rules, or_lt, pow-lt)

@@ -1,5 +1,5 @@
 -- The definitions of this crate that others use, passed on from the files that define them.
-pub use Rattle.version_update.specs.Laws.{IsLeast, no_mark_rose}
-pub use Rattle.version_update.specs.Marks.{AreMarksBounded, AreMarksSettled, MarksValue, MarksStaySettled, acked_stamps, all_have_acked, at_switch, first_marks, least_of, member_records, record_of, retired_of, with_version}
-pub use Rattle.version_update.specs.Record.{IsSoundRecord, after_installed, after_over, after_stamped, first_record, has_acked, hello_recorded, is_joining, is_member, is_over, opened_record, joining_opens_at, takes_hello, takes_installed, takes_stamped, unknown_switch_record}
-pub use Rattle.version_update.specs.Settling.{Names, SettlingReports, CurrentRisesTo, Settles, mark_rises_to}
+pub use Rattle.version_update.specs.Laws.{IsLeastOfMarks, update_no_mark_rose}
+pub use Rattle.version_update.specs.Marks.{AreUpdateMarksBounded, AreUpdateMarksSettled, MarksValue, UpdateMarksStaySettled, acked_stamps, all_have_acked, at_switch, first_marks, least_of_marks, member_records, record_of, retired_of, with_version}
+pub use Rattle.version_update.specs.Record.{IsSoundRecord, mark_after_installed, after_over, update_after_stamped, first_record, has_acked, update_hello_recorded, is_joining, is_member, is_over, opened_update_record, update_joining_opens_at, update_takes_hello, mark_takes_installed, takes_stamped, unknown_switch_record}
+pub use Rattle.version_update.specs.Settling.{Names, UpdateSettlingReports, CurrentRisesTo, Settles, mark_rises_to}

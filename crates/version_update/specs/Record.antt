@@ -46,27 +46,27 @@ pub record IsSoundRecord (count : ℕ) (known : SwitchRecord) : Type 0 where
 -- ---- what the controller hears about it
 
 -- a hello of a greater boot: nothing is acknowledged in that one
-abbrev pub takes_hello : ℕ → SwitchRecord → Bool
-takes_hello boot known = nat_lt known.boot boot
+abbrev pub update_takes_hello : ℕ → SwitchRecord → Bool
+update_takes_hello boot known = nat_lt known.boot boot
 
-abbrev pub hello_recorded : ℕ → SwitchRecord → SwitchRecord
-hello_recorded boot known = if takes_hello boot known then
+abbrev pub update_hello_recorded : ℕ → SwitchRecord → SwitchRecord
+update_hello_recorded boot known = if update_takes_hello boot known then
     record { boot = boot; phase = Joining; acked = 0; open_version = 0; acked_stamp = 0 } else known
 
 -- a version is installed in the known boot of a switch that is not over
-abbrev pub takes_installed : ℕ → SwitchRecord → Bool
-takes_installed boot known = (known.boot == boot) && not (is_over known.phase)
+abbrev pub mark_takes_installed : ℕ → SwitchRecord → Bool
+mark_takes_installed boot known = (known.boot == boot) && not (is_over known.phase)
 
-abbrev pub after_installed : ℕ → ℕ → SwitchRecord → SwitchRecord
-after_installed boot version known = if takes_installed boot known then record known
+abbrev pub mark_after_installed : ℕ → ℕ → SwitchRecord → SwitchRecord
+mark_after_installed boot version known = if mark_takes_installed boot known then record known
     { acked = bit_or known.acked (2 ^ (version - 1)) } else known
 
 -- a member stamps new packets with this version, in its known boot
 abbrev pub takes_stamped : ℕ → SwitchRecord → Bool
 takes_stamped boot known = (known.boot == boot) && is_member known.phase
 
-abbrev pub after_stamped : ℕ → ℕ → SwitchRecord → SwitchRecord
-after_stamped boot version known = if takes_stamped boot known then record known
+abbrev pub update_after_stamped : ℕ → ℕ → SwitchRecord → SwitchRecord
+update_after_stamped boot version known = if takes_stamped boot known then record known
     { acked_stamp = max known.acked_stamp version } else known
 
 -- it is over
@@ -76,9 +76,9 @@ after_over known = record known { phase = Over }
 -- ---- opening
 
 -- a joining switch opens if it acknowledged the current version
-abbrev pub joining_opens_at : ℕ → SwitchRecord → Bool
-joining_opens_at current known = is_joining known.phase && has_acked known current
+abbrev pub update_joining_opens_at : ℕ → SwitchRecord → Bool
+update_joining_opens_at current known = is_joining known.phase && has_acked known current
 
-abbrev pub opened_record : ℕ → SwitchRecord → SwitchRecord
-opened_record current known = if joining_opens_at current known then record known
+abbrev pub opened_update_record : ℕ → SwitchRecord → SwitchRecord
+opened_update_record current known = if update_joining_opens_at current known then record known
     { phase = Member; open_version = current; acked_stamp = current } else known

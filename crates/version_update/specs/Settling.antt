@@ -3,7 +3,7 @@ use Rattle.std.specs.Prelude.{if◌then◌else◌, ◌&&◌, ◌+◌, ◌<◌, �
 use Rattle.base.specs.Exports.{bit_at, from_bool, option_map_or}
 use Rattle.version_update.specs.declared.record.SwitchRecord.{SwitchRecord}
 use Rattle.version_update.specs.declared.marks.Settled.{Settled}
-use Rattle.version_update.specs.Record.{is_member, joining_opens_at, opened_record}
+use Rattle.version_update.specs.Record.{is_member, update_joining_opens_at, opened_update_record}
 use Rattle.version_update.specs.Marks.{MarksValue, all_have_acked, retired_of}
 
 -- the new number if it rose
@@ -16,12 +16,12 @@ Names mask passes switches = (s : ℕ)
     → bit_at mask s ≡ from_bool (option_map_or passes (slice_get switches s) false)
 
 -- what rose, and the switches to send to
-pub record SettlingReports (before after : MarksValue) (answer : Settled) : Type 0 where
+pub record UpdateSettlingReports (before after : MarksValue) (answer : Settled) : Type 0 where
   pub current : answer.current ≡ mark_rises_to before.current after.current
   -- a new current version is sent to the members from before
   pub stamps : Names answer.stamps
       (λ known. nat_lt before.current after.current && is_member known.phase) before.switches
-  pub opens : Names answer.opens (joining_opens_at after.current) before.switches
+  pub opens : Names answer.opens (update_joining_opens_at after.current) before.switches
   pub retired : answer.retired ≡ mark_rises_to before.retired after.retired
   -- a newly retired version is sent to all members
   pub collects : Names answer.collects
@@ -41,6 +41,6 @@ pub record CurrentRisesTo (marks : MarksValue) (current : ℕ) : Type 0 where
 pub record Settles (before after : MarksValue) (answer : Settled) : Type 0 where
   pub count : after.count ≡ before.count
   pub current : CurrentRisesTo before after.current
-  pub switches : after.switches ≡ map (opened_record after.current) before.switches
+  pub switches : after.switches ≡ map (opened_update_record after.current) before.switches
   pub retired : after.retired ≡ retired_of after
-  pub tells : SettlingReports before after answer
+  pub tells : UpdateSettlingReports before after answer

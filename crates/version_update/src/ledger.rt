@@ -1,6 +1,6 @@
 ghost use Rattle.std.specs.Prelude.{◌≡◌, ◌+◌, ◌<◌, ◌≤◌, length, map, replicate, slice_set};
-ghost use Rattle.version_update.specs.Record.{first_record, IsSoundRecord, joining_opens_at, opened_record};
-ghost use Rattle.version_update.specs.Marks.{first_marks, record_of, AreMarksBounded, MarksStaySettled, retired_of};
+ghost use Rattle.version_update.specs.Record.{first_record, IsSoundRecord, update_joining_opens_at, opened_update_record};
+ghost use Rattle.version_update.specs.Marks.{first_marks, record_of, AreUpdateMarksBounded, UpdateMarksStaySettled, retired_of};
 ghost use Rattle.version_update.specs.Settling.{Names, mark_rises_to, CurrentRisesTo, Settles};
 
 use crate::marks::Settled;
@@ -25,7 +25,7 @@ pub struct MarksLedger {
 
 impl Model for MarksLedger {
     ghost use Rattle.std.specs.Prelude.{◌≤◌, take};
-    ghost use Rattle.version_update.specs.Marks.{MarksValue, AreMarksBounded};
+    ghost use Rattle.version_update.specs.Marks.{MarksValue, AreUpdateMarksBounded};
 
     ghost Value = { MarksValue };
 
@@ -36,7 +36,7 @@ impl Model for MarksLedger {
       switches = take l.number l.switches;
     } };
 
-    ghost invariant = { λ l. (l.number ≤ 64) × AreMarksBounded (record {
+    ghost invariant = { λ l. (l.number ≤ 64) × AreUpdateMarksBounded (record {
       count = l.count;
       current = l.current;
       retired = l.retired;
@@ -63,7 +63,7 @@ impl MarksLedger {
     /// What is known of the switches, by their numbers.
     pub fn switches(&self) -> &[SwitchRecord]
         ensures switches { result.now ≡ self.now.switches }
-        ensures bounds { AreMarksBounded self.now }
+        ensures bounds { AreUpdateMarksBounded self.now }
     {
         &self.switches[..self.number]
     }
@@ -97,7 +97,7 @@ impl MarksLedger {
     /// Settles, and returns what rose and to which switches to send.
     pub fn settle(&mut self, taken: bool) -> Settled
         ensures settled { Settles self.old self.new result }
-        ensures rule { MarksStaySettled self.old self.new }
+        ensures rule { UpdateMarksStaySettled self.old self.new }
         ensures taken { result.taken ≡ taken }
     {
         let current = self.risen();
@@ -131,8 +131,8 @@ impl MarksLedger {
 
     fn open_joining(&mut self) -> u64
         ensures opened { self.new
-            ≡ record self.old { switches = map (opened_record self.old.current) self.old.switches } }
-        ensures opens { Names result (joining_opens_at self.old.current) self.old.switches }
+            ≡ record self.old { switches = map (opened_update_record self.old.current) self.old.switches } }
+        ensures opens { Names result (update_joining_opens_at self.old.current) self.old.switches }
     {
         let number = self.number;
         let current = self.current;

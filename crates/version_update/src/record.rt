@@ -1,5 +1,5 @@
 ghost use Rattle.std.specs.Prelude.{◌≡◌, ◌<◌, ◌≤◌};
-ghost use Rattle.version_update.specs.Record.{is_member, has_acked, first_record, takes_hello, hello_recorded, takes_installed, after_installed, takes_stamped, after_stamped, after_over, joining_opens_at, opened_record};
+ghost use Rattle.version_update.specs.Record.{is_member, has_acked, first_record, update_takes_hello, update_hello_recorded, mark_takes_installed, mark_after_installed, takes_stamped, update_after_stamped, after_over, update_joining_opens_at, opened_update_record};
 
 use base::has;
 
@@ -57,8 +57,8 @@ impl SwitchRecord {
     }
 
     pub fn hello(&mut self, boot: u32) -> bool
-        ensures taken { result ≡ takes_hello boot self.old }
-        ensures after { self.new ≡ hello_recorded boot self.old }
+        ensures taken { result ≡ update_takes_hello boot self.old }
+        ensures after { self.new ≡ update_hello_recorded boot self.old }
     {
         let taken = self.boot < boot;
         if taken {
@@ -76,8 +76,8 @@ impl SwitchRecord {
     pub fn installed(&mut self, boot: u32, version: u32) -> bool
         requires first { 1 ≤ version }
         requires last { version ≤ 64 }
-        ensures taken { result ≡ takes_installed boot self.old }
-        ensures after { self.new ≡ after_installed boot version self.old }
+        ensures taken { result ≡ mark_takes_installed boot self.old }
+        ensures after { self.new ≡ mark_after_installed boot version self.old }
     {
         let taken = self.boot == boot && self.phase != Phase::Over;
         if taken {
@@ -88,7 +88,7 @@ impl SwitchRecord {
 
     pub fn stamped(&mut self, boot: u32, version: u32) -> bool
         ensures taken { result ≡ takes_stamped boot self.old }
-        ensures after { self.new ≡ after_stamped boot version self.old }
+        ensures after { self.new ≡ update_after_stamped boot version self.old }
     {
         let taken = self.boot == boot && self.is_member();
         if taken {
@@ -107,8 +107,8 @@ impl SwitchRecord {
     pub fn open_if_acked(&mut self, current: u32) -> bool
         requires first { 1 ≤ current }
         requires last { current ≤ 64 }
-        ensures opens { result ≡ joining_opens_at current self.old }
-        ensures after { self.new ≡ opened_record current self.old }
+        ensures opens { result ≡ update_joining_opens_at current self.old }
+        ensures after { self.new ≡ opened_update_record current self.old }
     {
         let opens = self.phase == Phase::Joining && self.has_acked(current);
         if opens {

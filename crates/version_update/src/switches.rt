@@ -1,7 +1,7 @@
 //! Questions about all switches, each answered in one pass over their records.
 ghost use Rattle.std.specs.Prelude.{◌≡◌, ◌-◌, ◌<◌, ◌≤◌, ◌&&◌, map, length};
-ghost use Rattle.version_update.specs.Record.{is_member, joining_opens_at, opened_record};
-ghost use Rattle.version_update.specs.Marks.{all_have_acked, acked_stamps, least_of};
+ghost use Rattle.version_update.specs.Record.{is_member, update_joining_opens_at, opened_update_record};
+ghost use Rattle.version_update.specs.Marks.{all_have_acked, acked_stamps, least_of_marks};
 ghost use Rattle.version_update.specs.Settling.{Names};
 ghost use Rattle.version_update.specs.declared.record.SwitchRecord.{SwitchRecord};
 
@@ -24,8 +24,8 @@ pub fn open_if_acked(switches: &mut [SwitchRecord], current: u32) -> u64
     requires few { length switches.old ≤ 64 }
     requires first { 1 ≤ current }
     requires last { current ≤ 64 }
-    ensures opened { switches.new ≡ map (opened_record current) switches.old }
-    ensures opens { Names result (joining_opens_at current) switches.old }
+    ensures opened { switches.new ≡ map (opened_update_record current) switches.old }
+    ensures opens { Names result (update_joining_opens_at current) switches.old }
 {
     let mut mask = 0;
     for (s, known) in switches.iter_mut().enumerate() {
@@ -48,7 +48,7 @@ pub fn all_acked(switches: &[SwitchRecord], version: u32) -> bool
 
 /// The least stamp that a member acknowledged; `None` if there is no member.
 pub fn least_acked_stamp(switches: &[SwitchRecord]) -> Option<u32>
-    ensures { result ≡ least_of (acked_stamps switches.now) }
+    ensures { result ≡ least_of_marks (acked_stamps switches.now) }
 {
     switches
         .iter()

@@ -2,7 +2,7 @@
 use Rattle.std.proofs.Common.{[], ◌*◌, ◌++◌, ◌+◌, ◌-◌, ◌∙◌, ◌∷◌, ◌≡◌, ◌≤◌, List, ap, arith, drop, flat_map, length, length-drop, map, refl, subst, suc, sym, take, take-add, take-append-drop, take_all, zero, zero-mul, ℕ}
 use Rattle.base.proofs.Exports.{IfRefused-weaker, div_ceil, div_ceil_times, length-map}
 use Rattle.ctrl_msg.specs.declared.message.Message.{Message}
-use Rattle.wire.specs.Exports.{AreFrames, AreNoMessageFrames, AreFramesRising, IsSpelling, chunk_of, chunks, chunks_behind_head, equal_chunks, frame, frames_from, frames_of, first_chunk_len, message, most_of_chunk, place_in_frame}
+use Rattle.wire.specs.Exports.{AreFrames, AreNoWireMessageFrames, AreFramesRising, IsSpelling, chunk_of, chunks, chunks_behind_head, wire_equal_chunks, frame, frames_from, frames_of, first_chunk_len, message, most_of_chunk, place_in_frame}
 use Rattle.base.specs.Exports.{IfRefused}
 use Rattle.base.specs.declared.error.Failure.{Failure}
 use Rattle.wire.specs.declared.error.Malformed.{Malformed}
@@ -15,7 +15,7 @@ abbrev pub joined : List (List ℕ) → List ℕ
 joined parts = flat_map (λ part. part) parts
 
 -- so many slices are the front of so many bytes
-slices_front : (count n : ℕ) (bytes : List ℕ) → joined (equal_chunks count n bytes)
+slices_front : (count n : ℕ) (bytes : List ℕ) → joined (wire_equal_chunks count n bytes)
     ≡ take (count * n) bytes
 slices_front zero n bytes = rw zero-mul refl
 slices_front (suc count) n bytes = let size : suc count * n ≡ n + count * n = grind arith in
@@ -97,7 +97,7 @@ none_by m bytes fs joined spelled not_cut other are =
 -- frames whose chunks spell no message are those of none
 pub none_spelled : (fs : List (List ℕ)) (bytes : List ℕ) (error : Failure Malformed)
     → bytes ≡ flat_map chunk_of fs → IfRefused (λ _. (m : Message) → IsSpelling m bytes → ⊥) error
-    → IfRefused (λ _. AreNoMessageFrames fs (length fs)) error
+    → IfRefused (λ _. AreNoWireMessageFrames fs (length fs)) error
 none_spelled fs bytes error are =
-    IfRefused-weaker (λ _. (m : Message) → IsSpelling m bytes → ⊥) (λ _. AreNoMessageFrames fs (length fs))
+    IfRefused-weaker (λ _. (m : Message) → IsSpelling m bytes → ⊥) (λ _. AreNoWireMessageFrames fs (length fs))
     (λ _ none. (refl, λ m frames. none m (rw are (spelled_by m fs frames)))) error

@@ -1,11 +1,11 @@
 -- A frame is its place, the count and its chunk.
 use Rattle.std.proofs.Common.{[], ◌++◌, ◌+◌, ◌<◌, ◌^◌, ◌∙◌, ◌∷◌, ◌≡◌, ◌≤◌, List, ap, append_assoc, arith, drop, drop-drop, drop_at, length, length-append, length-drop, length-take, map, refl, sym, take, take-append-drop, take_at, w32, ℕ}
 use Rattle.base.proofs.Exports.{be_bytes_4, from_be_bytes, from_be_bytes-to_be_bytes_4}
-use Rattle.wire.specs.Exports.{chunk_of, count_in_frame, frame, frames_from, n4, place_in_frame, spelled_number}
+use Rattle.wire.specs.Exports.{chunk_of, count_in_frame, frame, frames_from, n4, place_in_frame, wire_spelled_number}
 use Rattle.wire.proofs.WireFormatLaws.{AreBytes, AreBytes-drop, AreBytes-take}
 
 pub length_n4 : (n : ℕ) → length (n4.spell n) ≡ 4
-unfolding n4 spelled_number
+unfolding n4 wire_spelled_number
 length_n4 n = refl
 
 pub length_frame : (place count : ℕ) (chunk : List ℕ) → length (frame place count chunk)
@@ -31,7 +31,7 @@ behind place count chunk = ap (drop 4) (regroup place count chunk)
     ∙ drop_at (n4.spell place) (n4.spell count ++ chunk) 4 (length_n4 place)
 
 n4_back : (n : ℕ) → n < 2 ^ 32 → from_be_bytes w32 (n4.spell n) ≡ n
-unfolding n4 spelled_number
+unfolding n4 wire_spelled_number
 n4_back n lt = from_be_bytes-to_be_bytes_4 n lt
 
 pub place_of_frame : (place count : ℕ) (chunk : List ℕ) → place < 2 ^ 32
@@ -61,7 +61,7 @@ chunks_of_frames place count (part ∷ parts) = rw
     (chunk_of_frame place count part, chunks_of_frames (place + 1) count parts) refl
 
 n4_again : (bytes : List ℕ) → length bytes ≡ 4 → AreBytes bytes → n4.spell (from_be_bytes w32 bytes) ≡ bytes
-unfolding n4 spelled_number
+unfolding n4 wire_spelled_number
 n4_again bytes len are = be_bytes_4 bytes _ len are refl
 
 -- bytes are the frame that they say

@@ -6,7 +6,7 @@ use Rattle.wire.specs.declared.assembler.FrameCheck.TheVariants.{Held, New}
 use Rattle.base.specs.Exports.{IfRefused}
 use Rattle.base.specs.declared.error.Failure.{Failure}
 use Rattle.wire.specs.declared.error.Malformed.{Malformed}
-use Rattle.wire.specs.Exports.{Agree, AreAllHeld, AreFrames, AreNoMessageFrames, AreFramesRising, AreFramesTogether, IsMessageAssembled, IsAssemblerFed, IsFrameCheck, IsOfCount, IsRefusedFrame, Joins, another_count, another_frame, count_in_frame, frame_held_at, no_message, past_the_count, place_in_frame, too_long, too_short, frames_with_frame}
+use Rattle.wire.specs.Exports.{WireFramesAgree, AreWireFramesHeld, AreFrames, AreNoWireMessageFrames, AreFramesRising, AreWireFramesTogether, IsWireMessageAssembled, IsAssemblerFed, IsFrameCheck, IsFrameOfCount, IsRefusedFrame, WireFrameJoins, another_count, another_frame, count_in_frame, frame_held_at, no_message, past_the_count, place_in_frame, too_long, too_short, frames_with_frame}
 use Rattle.wire.proofs.WireFormatLaws.{AreBytes}
 use Rattle.wire.proofs.WireFrameBytes.{frame_again}
 use Rattle.wire.proofs.WireFrameAssembly.{rising_few}
@@ -101,10 +101,10 @@ all_there from count (f ∷ fs) rising all place le lt =
           rw (at, same_place (place_in_frame f)) refl
     ]
 
-pub all_held : (count : ℕ) (fs : List (List ℕ)) → AreFramesRising 0 count fs → length fs ≡ count → AreAllHeld fs count
+pub all_held : (count : ℕ) (fs : List (List ℕ)) → AreFramesRising 0 count fs → length fs ≡ count → AreWireFramesHeld fs count
 all_held count fs rising all place lt = all_there 0 count fs rising (omega arith) place (omega arith) lt
 
-pub held_all : (count : ℕ) (fs : List (List ℕ)) → AreFramesRising 0 count fs → AreAllHeld fs count → length fs ≡ count
+pub held_all : (count : ℕ) (fs : List (List ℕ)) → AreFramesRising 0 count fs → AreWireFramesHeld fs count → length fs ≡ count
 held_all count fs rising held =
     let few = rising_few 0 count fs rising in
     let many = enough 0 count fs rising (λ place le lt. held place lt) in omega arith
@@ -160,7 +160,7 @@ new_joins from count (g ∷ gs) f rising none =
           ) refl
     ]
 
-pub new_rises : (from count : ℕ) (fs : List (List ℕ)) (f : List ℕ) → AreFramesRising from count fs → from ≤ place_in_frame f → IsOfCount count f
+pub new_rises : (from count : ℕ) (fs : List (List ℕ)) (f : List ℕ) → AreFramesRising from count fs → from ≤ place_in_frame f → IsFrameOfCount count f
     → frame_held_at fs (place_in_frame f) ≡ None → AreFramesRising from count (frames_with_frame fs f)
 new_rises from count [] f rising le of none = (le, of, tt)
 new_rises from count (g ∷ gs) f rising le of none =
@@ -188,7 +188,7 @@ index_within (g ∷ gs) place = elim (cases_lt (place_in_frame g) place) [
 
 -- ---- the count of held frames
 
-pub rising_together : (count : ℕ) (fs : List (List ℕ)) → AreFramesRising 0 count fs → AreFramesTogether fs
+pub rising_together : (count : ℕ) (fs : List (List ℕ)) → AreFramesRising 0 count fs → AreWireFramesTogether fs
 rising_together count [] rising = tt
 rising_together count (f ∷ fs) rising = subst (λ n. AreFramesRising 0 n (f ∷ fs)) (sym rising.1.count_is) rising
 
@@ -201,7 +201,7 @@ held_count from count (f ∷ fs) place g rising e = elim (cases_eq (place_in_fra
       held_count (place_in_frame f + 1) count fs place g rising.2 (sym next ∙ e)
 ]
 
-pub agree_first : (fs : List (List ℕ)) (g : List ℕ) (count : ℕ) (b : Bool) → AreFramesTogether fs → slice_get fs 0 ≡ Some g → b ≡ eqb (count_in_frame g) count → Agree fs count b
+pub agree_first : (fs : List (List ℕ)) (g : List ℕ) (count : ℕ) (b : Bool) → AreWireFramesTogether fs → slice_get fs 0 ≡ Some g → b ≡ eqb (count_in_frame g) count → WireFramesAgree fs count b
 agree_first [] g count b together e is = absurd (none_is_not g e)
 agree_first (f ∷ fs) g count true together e is = let same : f ≡ g = same_Some f g e in
     subst (λ n. AreFramesRising 0 n (f ∷ fs)) (ap count_in_frame same ∙ eqb-true _ _ (sym is)) together
@@ -212,7 +212,7 @@ agree_first (f ∷ fs) g count false together e is =
 
 -- ---- where a frame belongs
 
-pub of_its_count : (f : List ℕ) → 9 ≤ length f → AreBytes f → place_in_frame f < count_in_frame f → IsOfCount (count_in_frame f) f
+pub of_its_count : (f : List ℕ) → 9 ≤ length f → AreBytes f → place_in_frame f < count_in_frame f → IsFrameOfCount (count_in_frame f) f
 of_its_count f long are below = record { below = below; whole = frame_again f (omega arith) are; count_is = refl }
 
 pub check_held : (held : List (List ℕ)) (f g : List ℕ) → 9 ≤ length f → length f ≤ 16384
@@ -250,8 +250,8 @@ index_past fs place e =
 
 -- ---- what taking in a frame answers
 
-not_refused : (held : List (List ℕ)) (f : List ℕ) → Joins held f
-    → (AreAllHeld (frames_with_frame held f) (count_in_frame f) → ((m : Message) → AreFrames m (frames_with_frame held f) → ⊥) → ⊥)
+not_refused : (held : List (List ℕ)) (f : List ℕ) → WireFrameJoins held f
+    → (AreWireFramesHeld (frames_with_frame held f) (count_in_frame f) → ((m : Message) → AreFrames m (frames_with_frame held f) → ⊥) → ⊥)
     → IsRefusedFrame held f → ⊥
 not_refused held f joins whole (too_short lt) = absurd (omega (arith, joins.long))
 not_refused held f joins whole (too_long lt) = absurd (omega (arith, joins.short))
@@ -262,9 +262,9 @@ not_refused held f joins whole (no_message all none) = whole all none
 
 -- running out of memory, or a frame that is refused, changes nothing
 fed_err : (held : List (List ℕ)) (f : List ℕ) (after : List (List ℕ)) (error : Failure Malformed)
-    → AreFramesTogether held → IfRefused (λ _. IsRefusedFrame held f) error → after ≡ held → IsAssemblerFed held f after (Err error)
+    → AreWireFramesTogether held → IfRefused (λ _. IsRefusedFrame held f) error → after ≡ held → IsAssemblerFed held f after (Err error)
 fed_err held f after error together refused unchanged = record {
-  together = subst AreFramesTogether (sym unchanged) together;
+  together = subst AreWireFramesTogether (sym unchanged) together;
   refused = refused;
   taken = tt;
   is_held = tt;
@@ -274,43 +274,43 @@ fed_err held f after error together refused unchanged = record {
 }
 
 pub fed : (held : List (List ℕ)) (f : List ℕ) (after : List (List ℕ)) (result : Result (Option Message) (Failure Malformed))
-    → AreFramesTogether held → Joins held f → AreFramesRising 0 (count_in_frame f) (frames_with_frame held f) → IsMessageAssembled (frames_with_frame held f) (count_in_frame f) result
+    → AreWireFramesTogether held → WireFrameJoins held f → AreFramesRising 0 (count_in_frame f) (frames_with_frame held f) → IsWireMessageAssembled (frames_with_frame held f) (count_in_frame f) result
     → OnOk result (after ≡ frames_with_frame held f) → OnErr result (after ≡ held) → IsAssemblerFed held f after result
 fed held f after (Ok None) together joins rising answer is unchanged =
-    let incomplete : AreAllHeld (frames_with_frame held f) (count_in_frame f) → ⊥ = λ all. answer (held_all (count_in_frame f) (frames_with_frame held f) rising all) in
+    let incomplete : AreWireFramesHeld (frames_with_frame held f) (count_in_frame f) → ⊥ = λ all. answer (held_all (count_in_frame f) (frames_with_frame held f) rising all) in
     record {
-      together = subst AreFramesTogether (sym is) (rising_together (count_in_frame f) (frames_with_frame held f) rising);
+      together = subst AreWireFramesTogether (sym is) (rising_together (count_in_frame f) (frames_with_frame held f) rising);
       refused = tt;
       taken = not_refused held f joins (λ all none. incomplete all);
       is_held = is;
-      some = (λ e. absurd (false_not_true e), λ all. absurd (incomplete (subst (λ fs. AreAllHeld fs (count_in_frame f)) is all)));
+      some = (λ e. absurd (false_not_true e), λ all. absurd (incomplete (subst (λ fs. AreWireFramesHeld fs (count_in_frame f)) is all)));
       message = tt;
       unchanged = tt;
     }
 fed held f after (Ok (Some m)) together joins rising answer is unchanged = record {
-  together = subst AreFramesTogether (sym is) (rising_together (count_in_frame f) (frames_with_frame held f) rising);
+  together = subst AreWireFramesTogether (sym is) (rising_together (count_in_frame f) (frames_with_frame held f) rising);
   refused = tt;
   taken = not_refused held f joins (λ all none. none m answer.1);
   is_held = is;
-  some = (λ e. subst (λ fs. AreAllHeld fs (count_in_frame f)) (sym is) (all_held (count_in_frame f) (frames_with_frame held f) rising answer.0), λ all. refl);
+  some = (λ e. subst (λ fs. AreWireFramesHeld fs (count_in_frame f)) (sym is) (all_held (count_in_frame f) (frames_with_frame held f) rising answer.0), λ all. refl);
   message = subst (AreFrames m) (sym is) answer.1;
   unchanged = tt;
 }
 fed held f after (Err error) together joins rising answer is unchanged = fed_err held f after error
-    together (IfRefused-weaker (λ _. AreNoMessageFrames (frames_with_frame held f) (count_in_frame f))
+    together (IfRefused-weaker (λ _. AreNoWireMessageFrames (frames_with_frame held f) (count_in_frame f))
     (λ _. IsRefusedFrame held f) (λ _ none. no_message
     (all_held (count_in_frame f) (frames_with_frame held f) rising none.0) none.1) error answer) unchanged
 
 pub fed_held : (held : List (List ℕ)) (f : List ℕ) (result : Result (Option Message) (Failure Malformed))
-    → AreFramesTogether held → IsFrameCheck held f Held → IsMessageAssembled held (count_in_frame f) result
+    → AreWireFramesTogether held → IsFrameCheck held f Held → IsWireMessageAssembled held (count_in_frame f) result
     → IsAssemblerFed held f held result
 fed_held held f result together check answer = fed held f held result together check.0
     (rw check.1 check.0.rising) (rw check.1 answer) (on_ok result (sym check.1))
     (on_err result refl)
 
 pub fed_new : (held : List (List ℕ)) (f : List ℕ) (index : ℕ) (after : List (List ℕ)) (result : Result (Option Message) (Failure Malformed))
-    → AreFramesTogether held → IsFrameCheck held f (New index)
-    → IsMessageAssembled (insert held index f) (count_in_frame f) result
+    → AreWireFramesTogether held → IsFrameCheck held f (New index)
+    → IsWireMessageAssembled (insert held index f) (count_in_frame f) result
     → OnOk result (after ≡ insert held index f) → OnErr result (after ≡ held) → IsAssemblerFed held f after result
 fed_new held f index after result together check answer is unchanged = fed held f after result
     together check.0 (rw check.2 check.3) (rw check.2 answer) (rw check.2 is) unchanged

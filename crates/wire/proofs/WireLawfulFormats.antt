@@ -7,7 +7,7 @@ use Rattle.ctrl_msg.specs.declared.message.Body.{Body}
 use Rattle.ctrl_msg.specs.declared.message.Body.TheVariants.{Install, OpenAt, Stamp, Collect, CacheRule, Advertise, Hello, Installed, Stamped}
 use Rattle.policy_rules.specs.declared.policy.Action.{Action}
 use Rattle.policy_rules.specs.declared.policy.Action.TheVariants.{Drop, Out}
-use Rattle.wire.specs.Exports.{◌⊗◌, Format, acknowledgement, action, action_by_port, advert, body, boot_and_version, cache_rule_form, cache_rule_of, fields_fit, hello, install_form, is_word_pair, kind_number, made_body, message, message_front, n1, n16, n4, n8, optional, partition, port_in_action, read_fields, receiver, receiver_of, region, rule, rule_name, spelled_fields, stamp_form, body_suits_receiver, switch, tables, target_count, targets, format_then_read, touched, touched_count, word}
+use Rattle.wire.specs.Exports.{◌⊗◌, Format, acknowledgement, action, wire_action_by_port, advert, body, boot_and_version, cache_rule_form, wire_cache_rule_of, fields_fit, hello, install_form, is_wire_word_pair, kind_number, made_body, message, message_front, n1, n16, n4, n8, wire_optional, partition, wire_port_in_action, read_wire_fields, receiver, wire_receiver_of, region, rule, rule_name, wire_spelled_fields, stamp_form, wire_body_suits_receiver, switch, tables, wire_target_count, targets, wire_format_then_read, touched, wire_touched_count, word}
 use Rattle.wire.proofs.WireFormatLaws.{AreBytes, Takes, IsLawful, then_some, n8-bits, n32-bits, n64-bits, ◌⊠◌, as_type_lawful, such_that_lawful, optional_lawful, list_lawful}
 
 n1_lawful : IsLawful n1
@@ -39,9 +39,9 @@ switch_lawful = such_that_lawful (λ n. ltb n 64) n1_lawful
 
 word_lawful : IsLawful word
 unfolding word
-word_lawful = as_type_lawful _ _ (λ p fits. refl) (λ w fits. refl) (such_that_lawful is_word_pair (n16_lawful ⊠ n16_lawful))
+word_lawful = as_type_lawful _ _ (λ p fits. refl) (λ w fits. refl) (such_that_lawful is_wire_word_pair (n16_lawful ⊠ n16_lawful))
 
-maybe_lawful : IsLawful (optional n1 n4)
+maybe_lawful : IsLawful (wire_optional n1 n4)
 unfolding n1
 maybe_lawful = optional_lawful refl refl n1_lawful n4_lawful
 
@@ -49,11 +49,11 @@ rule_name_lawful : IsLawful rule_name
 unfolding rule_name
 rule_name_lawful = maybe_lawful
 
-port_back : (o : Option ℕ) → port_in_action (action_by_port o) ≡ o
+port_back : (o : Option ℕ) → wire_port_in_action (wire_action_by_port o) ≡ o
 port_back None = refl
 port_back (Some port) = refl
 
-action_back : (a : Action) → action_by_port (port_in_action a) ≡ a
+action_back : (a : Action) → wire_action_by_port (wire_port_in_action a) ≡ a
 action_back Drop = refl
 action_back (Out port) = refl
 
@@ -66,11 +66,11 @@ unfolding rule
 rule_lawful = as_type_lawful _ _ (λ p fits. refl) (λ r fits. refl) (word_lawful ⊠ n4_lawful ⊠ rule_name_lawful ⊠ action_lawful)
 
 touched_lawful : IsLawful touched
-unfolding touched touched_count
+unfolding touched wire_touched_count
 touched_lawful = list_lawful (such_that_lawful _ n1_lawful) word_lawful
 
 targets_lawful : IsLawful targets
-unfolding targets target_count
+unfolding targets wire_target_count
 targets_lawful = list_lawful (such_that_lawful _ n1_lawful) switch_lawful
 
 region_lawful : IsLawful region
@@ -91,9 +91,9 @@ tables_lawful = as_type_lawful _ _ (λ p fits. refl) (λ t fits. refl)
 receiver_takes : (bytes : List ℕ) (to : Place) (rest : List ℕ) → AreBytes bytes → receiver.read bytes ≡ Some (to, rest) → Takes receiver to bytes rest
 unfolding receiver switch
 receiver_takes bytes to rest are e =
-    let b = then_some (n1.read bytes) (λ x. format_then_read (receiver_of x.0) (λ r. Some (r, x.1))) (to, rest) e in
+    let b = then_some (n1.read bytes) (λ x. wire_format_then_read (wire_receiver_of x.0) (λ r. Some (r, x.1))) (to, rest) e in
     let t = n1_lawful.takes bytes b.0.0 b.0.1 are b.1 in
-    let d = then_some (receiver_of b.0.0) (λ r. Some (r, b.0.1)) (to, rest) b.2 in
+    let d = then_some (wire_receiver_of b.0.0) (λ r. Some (r, b.0.1)) (to, rest) b.2 in
     let P : Place → Type 0 = λ r. Takes receiver r bytes b.0.1 in
     let taken : Takes receiver d.0 bytes b.0.1 = elim (cond_cases (eqb b.0.0 255) _ _ _ d.1) [
       | inl h ↦ subst P (same_Some _ _ h.1) (record { fits = refl; parts = t.parts ∙ ap (λ k. n1.spell k ++ b.0.1) (eqb-true _ _ h.0); rest_are = t.rest_are })
@@ -154,11 +154,11 @@ acknowledged_lawful = switch_lawful ⊠ of_version_lawful
 record TakesFields (kind : ℕ) (b : Body) (bytes rest : List ℕ) : Type 0 where
   pub kind_is : kind_number b ≡ kind
   pub fit : fields_fit b ≡ true
-  pub parts : bytes ≡ spelled_fields b ++ rest
+  pub parts : bytes ≡ wire_spelled_fields b ++ rest
   pub rest_are : AreBytes rest
 
 kind_takes : {A : Type 0} (make : A → Body) (f : Format A) (kind : ℕ)
-    → ((x : A) → kind_number (make x) ≡ kind) → ((x : A) → spelled_fields (make x) ≡ f.spell x) → ((x : A) → fields_fit (make x) ≡ f.fits x)
+    → ((x : A) → kind_number (make x) ≡ kind) → ((x : A) → wire_spelled_fields (make x) ≡ f.spell x) → ((x : A) → fields_fit (make x) ≡ f.fits x)
     → IsLawful f → (bytes : List ℕ) (b : Body) (rest : List ℕ) → AreBytes bytes
     → made_body make (f.read bytes) ≡ Some (b, rest)
     → TakesFields kind b bytes rest
@@ -176,7 +176,7 @@ kind_takes make f kind kinds spells fits lf bytes b rest are e =
 at_kind : (k kind : ℕ) (b : Body) (bytes rest : List ℕ) → eqb k kind ≡ true → TakesFields kind b bytes rest → TakesFields k b bytes rest
 at_kind k kind b bytes rest e t = subst (λ n. TakesFields n b bytes rest) (sym (eqb-true k kind e)) t
 
-fields_take : (k : ℕ) (bytes : List ℕ) (b : Body) (rest : List ℕ) → AreBytes bytes → read_fields k bytes ≡ Some (b, rest) → TakesFields k b bytes rest
+fields_take : (k : ℕ) (bytes : List ℕ) (b : Body) (rest : List ℕ) → AreBytes bytes → read_wire_fields k bytes ≡ Some (b, rest) → TakesFields k b bytes rest
 fields_take k bytes b rest are e = elim (cond_cases (eqb k 1) _ _ _ e) [
   | inl h ↦ at_kind k 1 b bytes rest h.0 (kind_takes (λ p. Install p.0 p.1) install_form 1 (λ x. refl) (λ x. refl) (λ x. refl) install_lawful bytes b rest are h.1)
   | inr g1 ↦ elim (cond_cases (eqb k 2) _ _ _ g1.1) [
@@ -189,7 +189,7 @@ fields_take k bytes b rest are e = elim (cond_cases (eqb k 1) _ _ _ e) [
         | inl h ↦ at_kind k 4 b bytes rest h.0 (kind_takes (λ p. Collect p.0 p.1) boot_and_version 4
             (λ x. refl) (λ x. refl) (λ x. refl) of_version_lawful bytes b rest are h.1)
         | inr g4 ↦ elim (cond_cases (eqb k 5) _ _ _ g4.1) [
-          | inl h ↦ at_kind k 5 b bytes rest h.0 (kind_takes cache_rule_of cache_rule_form 5 (λ x. refl) (λ x. refl) (λ x. refl) cache_rule_lawful bytes b rest are h.1)
+          | inl h ↦ at_kind k 5 b bytes rest h.0 (kind_takes wire_cache_rule_of cache_rule_form 5 (λ x. refl) (λ x. refl) (λ x. refl) cache_rule_lawful bytes b rest are h.1)
           | inr g5 ↦ elim (cond_cases (eqb k 6) _ _ _ g5.1) [
             | inl h ↦ at_kind k 6 b bytes rest h.0 (kind_takes Advertise advert 6 (λ x. refl) (λ x. refl) (λ x. refl) advert_lawful bytes b rest are h.1)
             | inr g6 ↦ elim (cond_cases (eqb k 7) _ _ _ g6.1) [
@@ -213,7 +213,7 @@ fields_take k bytes b rest are e = elim (cond_cases (eqb k 1) _ _ _ e) [
   ]
 ]
 
-fields_again : (b : Body) (rest : List ℕ) → fields_fit b ≡ true → read_fields (kind_number b) (spelled_fields b ++ rest) ≡ Some (b, rest)
+fields_again : (b : Body) (rest : List ℕ) → fields_fit b ≡ true → read_wire_fields (kind_number b) (wire_spelled_fields b ++ rest) ≡ Some (b, rest)
 fields_again (Install boot tables) rest fits = rw (install_lawful.again (boot, tables) rest fits) refl
 fields_again (OpenAt boot version) rest fits = rw (of_version_lawful.again (boot, version) rest fits) refl
 fields_again (Stamp boot version touched) rest fits = rw (stamp_lawful.again (boot, (version, touched)) rest fits) refl
@@ -240,22 +240,22 @@ body_lawful : IsLawful body
 unfolding body
 body_lawful = record {
   takes = λ bytes b rest are e.
-      let d = then_some (n1.read bytes) (λ k. read_fields k.0 k.1) (b, rest) e in
+      let d = then_some (n1.read bytes) (λ k. read_wire_fields k.0 k.1) (b, rest) e in
       let t = n1_lawful.takes bytes d.0.0 d.0.1 are d.1 in
       let fields = fields_take d.0.0 d.0.1 b rest t.rest_are d.2 in record {
         fits = fields.fit;
         parts = t.parts ∙ ap (λ u. n1.spell d.0.0 ++ u) fields.parts
-            ∙ ap (λ k. n1.spell k ++ (spelled_fields b ++ rest)) (sym fields.kind_is)
-            ∙ sym (append_assoc (n1.spell (kind_number b)) (spelled_fields b) rest);
+            ∙ ap (λ k. n1.spell k ++ (wire_spelled_fields b ++ rest)) (sym fields.kind_is)
+            ∙ sym (append_assoc (n1.spell (kind_number b)) (wire_spelled_fields b) rest);
         rest_are = fields.rest_are;
       };
   again = λ b rest fits. rw (
-    append_assoc (n1.spell (kind_number b)) (spelled_fields b) rest,
-    n1_lawful.again (kind_number b) (spelled_fields b ++ rest) (kind_fits b),
+    append_assoc (n1.spell (kind_number b)) (wire_spelled_fields b) rest,
+    n1_lawful.again (kind_number b) (wire_spelled_fields b ++ rest) (kind_fits b),
   ) (fields_again b rest fits);
 }
 
 pub message_lawful : IsLawful message
 unfolding message
 message_lawful = as_type_lawful _ _ (λ p fits. refl) (λ m fits. refl)
-    (such_that_lawful (λ p. body_suits_receiver p.0 p.1) (receiver_lawful ⊠ body_lawful))
+    (such_that_lawful (λ p. wire_body_suits_receiver p.0 p.1) (receiver_lawful ⊠ body_lawful))

@@ -1,15 +1,15 @@
 -- Cutting a spelling into chunks and the chunks into frames, one after the other.
 use Rattle.std.proofs.Common.{[], ◌++◌, ◌+◌, ◌-◌, ◌<◌, ◌^◌, ◌∙◌, ◌∷◌, ◌≡◌, List, add-one, ap, append_assoc, arith, drop, drop-cons, get_or, length, refl, suc, sym, take, zero, ℕ}
 use Rattle.base.proofs.Exports.{div_ceil, div_ceil_times}
-use Rattle.wire.specs.Exports.{chunks_behind_head, equal_chunks, frame, frames_from, most_of_chunk}
+use Rattle.wire.specs.Exports.{chunks_behind_head, wire_equal_chunks, frame, frames_from, most_of_chunk}
 
 pub goes_on : (front : List (List ℕ)) (count i n : ℕ) (left : List ℕ) (total : List (List ℕ))
-    → i < count → front ++ equal_chunks (count - i) n left ≡ total
-    → (front ++ take n left ∷ []) ++ equal_chunks (count - (i + 1)) n (drop n left) ≡ total
+    → i < count → front ++ wire_equal_chunks (count - i) n left ≡ total
+    → (front ++ take n left ∷ []) ++ wire_equal_chunks (count - (i + 1)) n (drop n left) ≡ total
 goes_on front count i n left total lt so_far =
     let k : count - i ≡ suc (count - (i + 1)) = omega arith in
-    append_assoc front (take n left ∷ []) (equal_chunks (count - (i + 1)) n (drop n left))
-    ∙ ap (λ j. front ++ equal_chunks j n left) (sym k) ∙ so_far
+    append_assoc front (take n left ∷ []) (wire_equal_chunks (count - (i + 1)) n (drop n left))
+    ∙ ap (λ j. front ++ wire_equal_chunks j n left) (sym k) ∙ so_far
 
 pub frames_go_on : (front : List (List ℕ)) (parts : List (List ℕ)) (count i : ℕ) (chunk : List ℕ)
     (total : List (List ℕ)) → i < length parts → chunk ≡ get_or parts i []
@@ -21,7 +21,7 @@ frames_go_on front parts count i chunk total lt is so_far =
     ∙ ap (λ p. front ++ frame i count p ∷ frames_from (i + 1) count (drop (i + 1) parts)) is
     ∙ ap (λ ps. front ++ frames_from i count ps) (sym next) ∙ so_far
 
-pub length-slices : (count n : ℕ) (bytes : List ℕ) → length (equal_chunks count n bytes) ≡ count
+pub length-slices : (count n : ℕ) (bytes : List ℕ) → length (wire_equal_chunks count n bytes) ≡ count
 length-slices zero n bytes = refl
 length-slices (suc count) n bytes = ap suc (length-slices count n (drop n bytes))
 

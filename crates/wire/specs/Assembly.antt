@@ -19,8 +19,8 @@ frames_with_frame held f =
     ++ f ∷ filter (λ g. nat_lt (place_in_frame f) (place_in_frame g)) held
 
 -- there is a frame at each place below the count
-abbrev pub AreAllHeld : List (List ℕ) → ℕ → Type 0
-AreAllHeld held count = (place : ℕ) → place < count → IsSome (frame_held_at held place)
+abbrev pub AreWireFramesHeld : List (List ℕ) → ℕ → Type 0
+AreWireFramesHeld held count = (place : ℕ) → place < count → IsSome (frame_held_at held place)
 
 -- why a frame is refused
 pub data IsRefusedFrame (held : List (List ℕ)) (f : List ℕ) : Type 0 where
@@ -30,13 +30,13 @@ pub data IsRefusedFrame (held : List (List ℕ)) (f : List ℕ) : Type 0 where
   another_count : (place : ℕ) (g : List ℕ) → frame_held_at held place ≡ Some g
       → count_in_frame g ≢ count_in_frame f → IsRefusedFrame held f
   another_frame : (g : List ℕ) → frame_held_at held (place_in_frame f) ≡ Some g → g ≢ f → IsRefusedFrame held f
-  no_message : AreAllHeld (frames_with_frame held f) (count_in_frame f)
+  no_message : AreWireFramesHeld (frames_with_frame held f) (count_in_frame f)
       → ((m : Message) → AreFrames m (frames_with_frame held f) → ⊥) → IsRefusedFrame held f
 
 -- ---- what is true of the frames that it has
 
 -- a frame of this count, whose place is below it
-pub record IsOfCount (count : ℕ) (f : List ℕ) : Type 0 where
+pub record IsFrameOfCount (count : ℕ) (f : List ℕ) : Type 0 where
   pub below : place_in_frame f < count
   pub whole : f ≡ frame (place_in_frame f) count (chunk_of f)
   pub count_is : count_in_frame f ≡ count
@@ -45,38 +45,38 @@ pub record IsOfCount (count : ℕ) (f : List ℕ) : Type 0 where
 abbrev pub AreFramesRising : ℕ → ℕ → List (List ℕ) → Type 0
 AreFramesRising from count [] = Unit {0}
 AreFramesRising from count (f ∷ fs) =
-    (from ≤ place_in_frame f) × IsOfCount count f × AreFramesRising (place_in_frame f + 1) count fs
+    (from ≤ place_in_frame f) × IsFrameOfCount count f × AreFramesRising (place_in_frame f + 1) count fs
 
 -- the frames are of one count, each of its own place
-abbrev pub AreFramesTogether : List (List ℕ) → Type 0
-AreFramesTogether [] = Unit {0}
-AreFramesTogether (f ∷ fs) = AreFramesRising 0 (count_in_frame f) (f ∷ fs)
+abbrev pub AreWireFramesTogether : List (List ℕ) → Type 0
+AreWireFramesTogether [] = Unit {0}
+AreWireFramesTogether (f ∷ fs) = AreFramesRising 0 (count_in_frame f) (f ∷ fs)
 
 -- ---- what an assembler returns
 
 -- as many frames as their count, which are the frames of no message
-abbrev pub AreNoMessageFrames : List (List ℕ) → ℕ → Type 0
-AreNoMessageFrames fs count = (length fs ≡ count) × ((m : Message) → AreFrames m fs → ⊥)
+abbrev pub AreNoWireMessageFrames : List (List ℕ) → ℕ → Type 0
+AreNoWireMessageFrames fs count = (length fs ≡ count) × ((m : Message) → AreFrames m fs → ⊥)
 
 -- the result for frames that have all come
-abbrev pub IsWhole : List (List ℕ) → Result Message (Failure Malformed) → Type 0
-IsWhole fs (Ok m) = AreFrames m fs
-IsWhole fs (Err error) = IfRefused (λ _. AreNoMessageFrames fs (length fs)) error
+abbrev pub IsWireMessageWhole : List (List ℕ) → Result Message (Failure Malformed) → Type 0
+IsWireMessageWhole fs (Ok m) = AreFrames m fs
+IsWireMessageWhole fs (Err error) = IfRefused (λ _. AreNoWireMessageFrames fs (length fs)) error
 
 -- the result for the frames of a count
-abbrev pub IsMessageAssembled : List (List ℕ) → ℕ → Result (Option Message) (Failure Malformed) → Type 0
-IsMessageAssembled fs count (Ok None) = length fs ≢ count
-IsMessageAssembled fs count (Ok (Some m)) = (length fs ≡ count) × AreFrames m fs
-IsMessageAssembled fs count (Err error) = IfRefused (λ _. AreNoMessageFrames fs count) error
+abbrev pub IsWireMessageAssembled : List (List ℕ) → ℕ → Result (Option Message) (Failure Malformed) → Type 0
+IsWireMessageAssembled fs count (Ok None) = length fs ≢ count
+IsWireMessageAssembled fs count (Ok (Some m)) = (length fs ≡ count) × AreFrames m fs
+IsWireMessageAssembled fs count (Err error) = IfRefused (λ _. AreNoWireMessageFrames fs count) error
 
 -- the frames are of this count, or one of them isn't
-abbrev pub Agree : List (List ℕ) → ℕ → Bool → Type 0
-Agree held count true = AreFramesRising 0 count held
-Agree held count false =
+abbrev pub WireFramesAgree : List (List ℕ) → ℕ → Bool → Type 0
+WireFramesAgree held count true = AreFramesRising 0 count held
+WireFramesAgree held count false =
     (place : ℕ) × (g : List ℕ) × (frame_held_at held place ≡ Some g) × (count_in_frame g ≢ count)
 
 -- a frame that can be added to those that have come
-pub record Joins (held : List (List ℕ)) (f : List ℕ) : Type 0 where
+pub record WireFrameJoins (held : List (List ℕ)) (f : List ℕ) : Type 0 where
   pub long : 9 ≤ length f
   pub short : length f ≤ 16384
   pub below : place_in_frame f < count_in_frame f
@@ -87,18 +87,18 @@ pub record Joins (held : List (List ℕ)) (f : List ℕ) : Type 0 where
 -- before the frame of this index
 abbrev pub IsFrameCheck : List (List ℕ) → List ℕ → FrameCheck → Type 0
 IsFrameCheck held f Refused = IsRefusedFrame held f
-IsFrameCheck held f Held = Joins held f × (frames_with_frame held f ≡ held)
+IsFrameCheck held f Held = WireFrameJoins held f × (frames_with_frame held f ≡ held)
 IsFrameCheck held f (New index) =
-    Joins held f × (index ≤ length held) × (frames_with_frame held f ≡ insert held index f)
+    WireFrameJoins held f × (index ≤ length held) × (frames_with_frame held f ≡ insert held index f)
     × AreFramesRising 0 (count_in_frame f) (insert held index f)
 
 -- the result of feeding a frame, and the frames after it
 pub record IsAssemblerFed (held : List (List ℕ)) (f : List ℕ) (after : List (List ℕ))
     (result : Result (Option Message) (Failure Malformed)) : Type 0 where
-  pub together : AreFramesTogether after
+  pub together : AreWireFramesTogether after
   pub refused : IfErr result (IfRefused (λ _. IsRefusedFrame held f))
   pub taken : OnOk result (IsRefusedFrame held f → ⊥)
   pub is_held : OnOk result (after ≡ frames_with_frame held f)
-  pub some : IfOk result (λ answer. IsSome answer ↔ AreAllHeld after (count_in_frame f))
+  pub some : IfOk result (λ answer. IsSome answer ↔ AreWireFramesHeld after (count_in_frame f))
   pub message : IfOk result (λ answer. IfSome answer (λ m. AreFrames m after))
   pub unchanged : OnErr result (after ≡ held)

@@ -8,7 +8,7 @@ use Rattle.policy_rules.specs.declared.rules.Partition.{Partition}
 use Rattle.switch_table.specs.declared.tables.PartRow.{PartRow}
 use Rattle.switch_table.specs.declared.tables.Tables.{Tables}
 use Rattle.ternary.specs.Exports.{WordValue}
-use Rattle.wire.specs.Format.{Format, number, ◌⊗◌, format_as_type, format_such_that, optional, list_of}
+use Rattle.wire.specs.Format.{Format, number, ◌⊗◌, wire_format_as_type, wire_format_such_that, wire_optional, wire_list_of}
 
 -- ---- numbers of 1, 4, 8 and 16 bytes
 
@@ -24,82 +24,82 @@ n8 = number w64 (2 ^ 64)
 -- the greater half first
 unfoldable pub n16 : Format ℕ
 n16 =
-    format_as_type (λ (halves : ℕ × ℕ). halves.0 * 2 ^ 64 + halves.1) (λ n. (n / 2 ^ 64, n % 2 ^ 64))
+    wire_format_as_type (λ (halves : ℕ × ℕ). halves.0 * 2 ^ 64 + halves.1) (λ n. (n / 2 ^ 64, n % 2 ^ 64))
     (n8 ⊗ n8)
 
 -- how many values follow: a byte within bounds
 abbrev pub count_within : ℕ → ℕ → Format ℕ
-count_within least most = format_such_that (λ n. nat_le least n && nat_le n most) n1
+count_within least most = wire_format_such_that (λ n. nat_le least n && nat_le n most) n1
 
 -- ---- switches, words, rules
 
 -- the number of a switch is below 64
 unfoldable pub switch : Format ℕ
-switch = format_such_that (λ n. nat_lt n 64) n1
+switch = wire_format_such_that (λ n. nat_lt n 64) n1
 
 -- no bit of the value is outside the mask, and no bit of the mask is above bit 103
-abbrev pub is_word_pair : ℕ × ℕ → Bool
-is_word_pair pair = (bit_and pair.0 pair.1 == pair.0) && nat_lt pair.1 (2 ^ 104)
+abbrev pub is_wire_word_pair : ℕ × ℕ → Bool
+is_wire_word_pair pair = (bit_and pair.0 pair.1 == pair.0) && nat_lt pair.1 (2 ^ 104)
 
 -- the value and the mask
 unfoldable pub word : Format WordValue
 word =
-    format_as_type (λ pair. record { value = pair.0; mask = pair.1 }) (λ w. (w.value, w.mask))
-    (format_such_that is_word_pair (n16 ⊗ n16))
+    wire_format_as_type (λ pair. record { value = pair.0; mask = pair.1 }) (λ w. (w.value, w.mask))
+    (wire_format_such_that is_wire_word_pair (n16 ⊗ n16))
 
 -- a row's priority, or nothing for the default
 unfoldable pub rule_name : Format (Option ℕ)
-rule_name = optional n1 n4
+rule_name = wire_optional n1 n4
 
 -- the port, or nothing for a drop
-abbrev pub action_by_port : Option ℕ → Action
-action_by_port None = Drop
-action_by_port (Some port) = Out port
+abbrev pub wire_action_by_port : Option ℕ → Action
+wire_action_by_port None = Drop
+wire_action_by_port (Some port) = Out port
 
-abbrev pub port_in_action : Action → Option ℕ
-port_in_action Drop = None
-port_in_action (Out port) = Some port
+abbrev pub wire_port_in_action : Action → Option ℕ
+wire_port_in_action Drop = None
+wire_port_in_action (Out port) = Some port
 
 unfoldable pub action : Format Action
-action = format_as_type action_by_port port_in_action (optional n1 n4)
+action = wire_format_as_type wire_action_by_port wire_port_in_action (wire_optional n1 n4)
 
 unfoldable pub rule : Format Rule
 rule =
-    format_as_type (λ p. record { word = p.0; rank = p.1.0; rule = p.1.1.0; action = p.1.1.1 })
+    wire_format_as_type (λ p. record { word = p.0; rank = p.1.0; rule = p.1.1.0; action = p.1.1.1 })
     (λ r. (r.word, (r.rank, (r.rule, r.action))))
     (word ⊗ n4 ⊗ rule_name ⊗ action)
 
 -- ---- what a change touches
 
-unfoldable pub touched_count : Format ℕ
-touched_count = format_such_that (λ n. nat_le n 16) n1
+unfoldable pub wire_touched_count : Format ℕ
+wire_touched_count = wire_format_such_that (λ n. nat_le n 16) n1
 
 -- at most 16 words
 unfoldable pub touched : Format (List WordValue)
-touched = list_of touched_count word
+touched = wire_list_of wire_touched_count word
 
 -- ---- tables
 
 -- one to four switches
-unfoldable pub target_count : Format ℕ
-target_count = count_within 1 4
+unfoldable pub wire_target_count : Format ℕ
+wire_target_count = count_within 1 4
 
 unfoldable pub targets : Format (List ℕ)
-targets = list_of target_count switch
+targets = wire_list_of wire_target_count switch
 
 unfoldable pub region : Format PartRow
 region =
-    format_as_type (λ p. record { region = p.0; targets = p.1 }) (λ row. (row.region, row.targets))
+    wire_format_as_type (λ p. record { region = p.0; targets = p.1 }) (λ row. (row.region, row.targets))
     (word ⊗ targets)
 
 unfoldable pub partition : Format Partition
 partition =
-    format_as_type (λ p. record { number = p.0; region = p.1.0; rules = p.1.1 })
+    wire_format_as_type (λ p. record { number = p.0; region = p.1.0; rules = p.1.1 })
     (λ part. (part.number, (part.region, part.rules)))
-    (n4 ⊗ word ⊗ list_of n4 rule)
+    (n4 ⊗ word ⊗ wire_list_of n4 rule)
 
 unfoldable pub tables : Format Tables
 tables =
-    format_as_type (λ p. record { version = p.0; parts = p.1.0; auth = p.1.1 })
+    wire_format_as_type (λ p. record { version = p.0; parts = p.1.0; auth = p.1.1 })
     (λ t. (t.version, (t.parts, t.auth)))
-    (n4 ⊗ list_of n4 region ⊗ list_of n4 partition)
+    (n4 ⊗ wire_list_of n4 region ⊗ wire_list_of n4 partition)

@@ -10,15 +10,15 @@ pub record Format (A : Type 0) : Type 0 where
   pub read : List ℕ → Option (A × List ℕ)
 
 -- what follows if something was read
-abbrev pub format_then_read : {A B : Type 0} → Option A → (A → Option B) → Option B
-format_then_read None f = None
-format_then_read (Some x) f = f x
+abbrev pub wire_format_then_read : {A B : Type 0} → Option A → (A → Option B) → Option B
+wire_format_then_read None f = None
+wire_format_then_read (Some x) f = f x
 
 -- ---- numbers
 
 -- a number in as many bytes as the width has, the most significant first
-unfoldable pub spelled_number : Width → ℕ → List ℕ
-spelled_number w n = to_be_bytes w n
+unfoldable pub wire_spelled_number : Width → ℕ → List ℕ
+wire_spelled_number w n = to_be_bytes w n
 
 unfoldable pub read_number : Width → List ℕ → Option (ℕ × List ℕ)
 read_number w bytes =
@@ -28,7 +28,7 @@ read_number w bytes =
 
 abbrev pub number : Width → ℕ → Format ℕ
 number w limit =
-    record { spell = spelled_number w; fits = λ n. nat_lt n limit; read = read_number w }
+    record { spell = wire_spelled_number w; fits = λ n. nat_lt n limit; read = read_number w }
 
 -- ---- formats of formats
 
@@ -38,24 +38,24 @@ abbrev pub ◌⊗◌ : {A B : Type 0} → Format A → Format B → Format (A ×
 f ⊗ g = record {
   spell = λ pair. f.spell pair.0 ++ g.spell pair.1;
   fits = λ pair. f.fits pair.0 && g.fits pair.1;
-  read = λ bytes. format_then_read (f.read bytes) (λ x.
-      format_then_read (g.read x.1) (λ y. Some ((x.0, y.0), y.1)));
+  read = λ bytes. wire_format_then_read (f.read bytes) (λ x.
+      wire_format_then_read (g.read x.1) (λ y. Some ((x.0, y.0), y.1)));
 }
 
 -- the values of another type, encoded as values of this one
-abbrev pub format_as_type : {A B : Type 0} → (A → B) → (B → A) → Format A → Format B
-format_as_type to from f = record {
+abbrev pub wire_format_as_type : {A B : Type 0} → (A → B) → (B → A) → Format A → Format B
+wire_format_as_type to from f = record {
   spell = λ y. f.spell (from y);
   fits = λ y. f.fits (from y);
-  read = λ bytes. format_then_read (f.read bytes) (λ x. Some (to x.0, x.1));
+  read = λ bytes. wire_format_then_read (f.read bytes) (λ x. Some (to x.0, x.1));
 }
 
 -- only the values that pass a test
-abbrev pub format_such_that : {A : Type 0} → (A → Bool) → Format A → Format A
-format_such_that test f = record {
+abbrev pub wire_format_such_that : {A : Type 0} → (A → Bool) → Format A → Format A
+wire_format_such_that test f = record {
   spell = f.spell;
   fits = λ x. f.fits x && test x;
-  read = λ bytes. format_then_read (f.read bytes) (λ x. if test x.0 then Some x else None);
+  read = λ bytes. wire_format_then_read (f.read bytes) (λ x. if test x.0 then Some x else None);
 }
 
 -- the flag 0 for nothing, or the flag 1 and the value
@@ -63,33 +63,33 @@ abbrev pub spelled_optional : {A : Type 0} → Format ℕ → Format A → Optio
 spelled_optional flag f None = flag.spell 0
 spelled_optional flag f (Some x) = flag.spell 1 ++ f.spell x
 
-abbrev pub optional_fits : {A : Type 0} → Format A → Option A → Bool
-optional_fits f None = true
-optional_fits f (Some x) = f.fits x
+abbrev pub wire_optional_fits : {A : Type 0} → Format A → Option A → Bool
+wire_optional_fits f None = true
+wire_optional_fits f (Some x) = f.fits x
 
-abbrev pub read_flagged : {A : Type 0} → Format A → ℕ → List ℕ → Option (Option A × List ℕ)
-read_flagged f zero bytes = Some (None, bytes)
-read_flagged f (suc zero) bytes = format_then_read (f.read bytes) (λ x. Some (Some x.0, x.1))
-read_flagged f (suc (suc other)) bytes = None
+abbrev pub read_wire_flagged : {A : Type 0} → Format A → ℕ → List ℕ → Option (Option A × List ℕ)
+read_wire_flagged f zero bytes = Some (None, bytes)
+read_wire_flagged f (suc zero) bytes = wire_format_then_read (f.read bytes) (λ x. Some (Some x.0, x.1))
+read_wire_flagged f (suc (suc other)) bytes = None
 
-abbrev pub optional : {A : Type 0} → Format ℕ → Format A → Format (Option A)
-optional flag f = record {
+abbrev pub wire_optional : {A : Type 0} → Format ℕ → Format A → Format (Option A)
+wire_optional flag f = record {
   spell = spelled_optional flag f;
-  fits = optional_fits f;
-  read = λ bytes. format_then_read (flag.read bytes) (λ x. read_flagged f x.0 x.1);
+  fits = wire_optional_fits f;
+  read = λ bytes. wire_format_then_read (flag.read bytes) (λ x. read_wire_flagged f x.0 x.1);
 }
 
 -- this many values
-unfoldable pub read_items : {A : Type 0} → Format A → ℕ → List ℕ → Option (List A × List ℕ)
-read_items f zero bytes = Some ([], bytes)
-read_items f (suc count) bytes =
-    format_then_read (f.read bytes) (λ x.
-    format_then_read (read_items f count x.1) (λ xs. Some (x.0 ∷ xs.0, xs.1)))
+unfoldable pub wire_read_items : {A : Type 0} → Format A → ℕ → List ℕ → Option (List A × List ℕ)
+wire_read_items f zero bytes = Some ([], bytes)
+wire_read_items f (suc count) bytes =
+    wire_format_then_read (f.read bytes) (λ x.
+    wire_format_then_read (wire_read_items f count x.1) (λ xs. Some (x.0 ∷ xs.0, xs.1)))
 
 -- how many values there are, and then each
-abbrev pub list_of : {A : Type 0} → Format ℕ → Format A → Format (List A)
-list_of count f = record {
+abbrev pub wire_list_of : {A : Type 0} → Format ℕ → Format A → Format (List A)
+wire_list_of count f = record {
   spell = λ xs. count.spell (length xs) ++ flat_map f.spell xs;
   fits = λ xs. count.fits (length xs) && list_all f.fits xs;
-  read = λ bytes. format_then_read (count.read bytes) (λ n. read_items f n.0 n.1);
+  read = λ bytes. wire_format_then_read (count.read bytes) (λ n. wire_read_items f n.0 n.1);
 }

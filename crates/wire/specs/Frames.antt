@@ -13,15 +13,15 @@ abbrev pub most_of_chunk : ℕ
 most_of_chunk = 16376
 
 -- this many slices, of n bytes each as long as there are that many
-abbrev pub equal_chunks : ℕ → ℕ → List ℕ → List (List ℕ)
-equal_chunks zero n bytes = []
-equal_chunks (suc count) n bytes = take n bytes ∷ equal_chunks count n (drop n bytes)
+abbrev pub wire_equal_chunks : ℕ → ℕ → List ℕ → List (List ℕ)
+wire_equal_chunks zero n bytes = []
+wire_equal_chunks (suc count) n bytes = take n bytes ∷ wire_equal_chunks count n (drop n bytes)
 
 -- a head of this many bytes, and the rest in as few chunks as possible
 abbrev pub chunks_behind_head : ℕ → List ℕ → List (List ℕ)
 chunks_behind_head head bytes =
     take head bytes
-    ∷ equal_chunks (div_ceil (length bytes - head) most_of_chunk) most_of_chunk (drop head bytes)
+    ∷ wire_equal_chunks (div_ceil (length bytes - head) most_of_chunk) most_of_chunk (drop head bytes)
 
 -- for an installation the receiver, the kind and the boot, so that its other chunks encode only
 -- the tables; for any other message everything
@@ -56,23 +56,23 @@ pub record AreFrames (m : Message) (fs : List (List ℕ)) : Type 0 where
 -- ---- the same tables under another version
 
 -- the frame whose chunk begins with the four bytes of this version
-abbrev pub begun_with : ℕ → List ℕ → List ℕ
-begun_with version bytes = take 8 bytes ++ n4.spell version ++ drop 12 bytes
+abbrev pub frame_begun_with : ℕ → List ℕ → List ℕ
+frame_begun_with version bytes = take 8 bytes ++ n4.spell version ++ drop 12 bytes
 
 -- the frames of an installation of the same tables under this version: the chunk of the second one
 -- begins with the version
-abbrev pub frames_of_version : ℕ → List (List ℕ) → List (List ℕ)
-frames_of_version version fs = slice_set fs 1 (begun_with version (slice_index_or fs 1 []))
+abbrev pub wire_frames_of_version : ℕ → List (List ℕ) → List (List ℕ)
+wire_frames_of_version version fs = slice_set fs 1 (frame_begun_with version (slice_index_or fs 1 []))
 
 -- ---- the same message to another receiver
 
 -- the frame whose chunk begins with the one byte of this receiver
-abbrev pub begun_for : Place → List ℕ → List ℕ
-begun_for to bytes = take 8 bytes ++ receiver.spell to ++ drop 9 bytes
+abbrev pub wire_begun_for : Place → List ℕ → List ℕ
+wire_begun_for to bytes = take 8 bytes ++ receiver.spell to ++ drop 9 bytes
 
 -- the frames of the same message to this receiver: the first one begins with it
-abbrev pub frames_of_receiver : Place → List (List ℕ) → List (List ℕ)
-frames_of_receiver to fs = slice_set fs 0 (begun_for to (slice_index_or fs 0 []))
+abbrev pub wire_frames_of_receiver : Place → List (List ℕ) → List (List ℕ)
+wire_frames_of_receiver to fs = slice_set fs 0 (wire_begun_for to (slice_index_or fs 0 []))
 
 -- ---- the parts of a frame
 

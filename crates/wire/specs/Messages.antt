@@ -12,7 +12,7 @@ use Rattle.policy_rules.specs.declared.rules.Partition.{Partition}
 use Rattle.switch_table.specs.declared.tables.PartRow.{PartRow}
 use Rattle.switch_table.specs.declared.tables.Tables.{Tables}
 use Rattle.ternary.specs.Exports.{WordValue}
-use Rattle.wire.specs.Format.{Format, format_then_read, ◌⊗◌, format_as_type, format_such_that}
+use Rattle.wire.specs.Format.{Format, wire_format_then_read, ◌⊗◌, wire_format_as_type, wire_format_such_that}
 use Rattle.wire.specs.Fields as form
 
 -- ---- the receiver: a switch, or 255 for the controller
@@ -21,20 +21,20 @@ abbrev pub spelled_receiver : Place → List ℕ
 spelled_receiver (Switch s) = form.switch.spell s
 spelled_receiver Controller = form.n1.spell 255
 
-abbrev pub receiver_fits : Place → Bool
-receiver_fits (Switch s) = form.switch.fits s
-receiver_fits Controller = true
+abbrev pub wire_receiver_fits : Place → Bool
+wire_receiver_fits (Switch s) = form.switch.fits s
+wire_receiver_fits Controller = true
 
-abbrev pub receiver_of : ℕ → Option Place
-receiver_of n =
+abbrev pub wire_receiver_of : ℕ → Option Place
+wire_receiver_of n =
     if n == 255 then Some Controller else (if nat_lt n 64 then Some (Switch n) else None)
 
 unfoldable pub receiver : Format Place
 receiver = record {
   spell = spelled_receiver;
-  fits = receiver_fits;
-  read = λ bytes. format_then_read (form.n1.read bytes) (λ x.
-      format_then_read (receiver_of x.0) (λ to. Some (to, x.1)));
+  fits = wire_receiver_fits;
+  read = λ bytes. wire_format_then_read (form.n1.read bytes) (λ x.
+      wire_format_then_read (wire_receiver_of x.0) (λ to. Some (to, x.1)));
 }
 
 -- ---- the fields of each kind
@@ -53,7 +53,7 @@ cache_rule_form = form.n4 ⊗ form.word ⊗ form.rule_name ⊗ form.action
 
 unfoldable pub advert : Format Advert
 advert =
-    format_as_type (λ p. record { origin = p.0; boot = p.1.0; seq = p.1.1.0; up = p.1.1.1 })
+    wire_format_as_type (λ p. record { origin = p.0; boot = p.1.0; seq = p.1.1.0; up = p.1.1.1 })
     (λ a. (a.origin, (a.boot, (a.seq, a.up))))
     (form.switch ⊗ form.n4 ⊗ form.n4 ⊗ form.n8)
 
@@ -77,42 +77,42 @@ kind_number (Installed _ _ _) = 8
 kind_number (Stamped _ _ _) = 9
 
 -- a value in its format: the encoding, and whether it has one
-abbrev pub spelled_in_format : {A : Type 0} → Format A → A → List ℕ × Bool
-spelled_in_format f x = (f.spell x, f.fits x)
+abbrev pub wire_spelled_in_format : {A : Type 0} → Format A → A → List ℕ × Bool
+wire_spelled_in_format f x = (f.spell x, f.fits x)
 
-abbrev pub fields_in_format : Body → List ℕ × Bool
-fields_in_format (Install boot tables) = spelled_in_format install_form (boot, tables)
-fields_in_format (OpenAt boot version) = spelled_in_format boot_and_version (boot, version)
-fields_in_format (Stamp boot version touched) = spelled_in_format stamp_form (boot, (version, touched))
-fields_in_format (Collect boot version) = spelled_in_format boot_and_version (boot, version)
-fields_in_format (CacheRule version word rule action) =
-    spelled_in_format cache_rule_form (version, (word, (rule, action)))
-fields_in_format (Advertise news) = spelled_in_format advert news
-fields_in_format (Hello switch boot) = spelled_in_format hello (switch, boot)
-fields_in_format (Installed switch boot version) = spelled_in_format acknowledgement
+abbrev pub wire_fields_in_format : Body → List ℕ × Bool
+wire_fields_in_format (Install boot tables) = wire_spelled_in_format install_form (boot, tables)
+wire_fields_in_format (OpenAt boot version) = wire_spelled_in_format boot_and_version (boot, version)
+wire_fields_in_format (Stamp boot version touched) = wire_spelled_in_format stamp_form (boot, (version, touched))
+wire_fields_in_format (Collect boot version) = wire_spelled_in_format boot_and_version (boot, version)
+wire_fields_in_format (CacheRule version word rule action) =
+    wire_spelled_in_format cache_rule_form (version, (word, (rule, action)))
+wire_fields_in_format (Advertise news) = wire_spelled_in_format advert news
+wire_fields_in_format (Hello switch boot) = wire_spelled_in_format hello (switch, boot)
+wire_fields_in_format (Installed switch boot version) = wire_spelled_in_format acknowledgement
     (switch, (boot, version))
-fields_in_format (Stamped switch boot version) = spelled_in_format acknowledgement (switch, (boot, version))
+wire_fields_in_format (Stamped switch boot version) = wire_spelled_in_format acknowledgement (switch, (boot, version))
 
-abbrev pub spelled_fields : Body → List ℕ
-spelled_fields body = (fields_in_format body).0
+abbrev pub wire_spelled_fields : Body → List ℕ
+wire_spelled_fields body = (wire_fields_in_format body).0
 
 abbrev pub fields_fit : Body → Bool
-fields_fit body = (fields_in_format body).1
+fields_fit body = (wire_fields_in_format body).1
 
 -- the body that the fields make
 abbrev pub made_body : {A : Type 0} → (A → Body) → Option (A × List ℕ) → Option (Body × List ℕ)
-made_body make read = format_then_read read (λ x. Some (make x.0, x.1))
+made_body make read = wire_format_then_read read (λ x. Some (make x.0, x.1))
 
-abbrev pub cache_rule_of : ℕ × (WordValue × (Option ℕ × Action)) → Body
-cache_rule_of p = CacheRule p.0 p.1.0 p.1.1.0 p.1.1.1
+abbrev pub wire_cache_rule_of : ℕ × (WordValue × (Option ℕ × Action)) → Body
+wire_cache_rule_of p = CacheRule p.0 p.1.0 p.1.1.0 p.1.1.1
 
-abbrev pub read_fields : ℕ → List ℕ → Option (Body × List ℕ)
-read_fields kind bytes =
+abbrev pub read_wire_fields : ℕ → List ℕ → Option (Body × List ℕ)
+read_wire_fields kind bytes =
     if kind == 1 then made_body (λ p. Install p.0 p.1) (install_form.read bytes)
     else (if kind == 2 then made_body (λ p. OpenAt p.0 p.1) (boot_and_version.read bytes)
     else (if kind == 3 then made_body (λ p. Stamp p.0 p.1.0 p.1.1) (stamp_form.read bytes)
     else (if kind == 4 then made_body (λ p. Collect p.0 p.1) (boot_and_version.read bytes)
-    else (if kind == 5 then made_body cache_rule_of (cache_rule_form.read bytes)
+    else (if kind == 5 then made_body wire_cache_rule_of (cache_rule_form.read bytes)
     else (if kind == 6 then made_body Advertise (advert.read bytes)
     else (if kind == 7 then made_body (λ p. Hello p.0 p.1) (hello.read bytes)
     else (if kind == 8 then made_body (λ p. Installed p.0 p.1.0 p.1.1) (acknowledgement.read bytes)
@@ -121,9 +121,9 @@ read_fields kind bytes =
 
 unfoldable pub body : Format Body
 body = record {
-  spell = λ b. form.n1.spell (kind_number b) ++ spelled_fields b;
+  spell = λ b. form.n1.spell (kind_number b) ++ wire_spelled_fields b;
   fits = fields_fit;
-  read = λ bytes. format_then_read (form.n1.read bytes) (λ kind. read_fields kind.0 kind.1);
+  read = λ bytes. wire_format_then_read (form.n1.read bytes) (λ kind. read_wire_fields kind.0 kind.1);
 }
 
 -- ---- what comes before the tables in the encoding of an installation
@@ -144,7 +144,7 @@ pub record IsFront (to : Place) (boot : ℕ) (bytes : List ℕ) : Type 0 where
 -- the receiver and the boot, if the bytes are exactly the front of an installation
 abbrev pub read_front : List ℕ → Option ((Place × ℕ) × List ℕ)
 read_front bytes =
-    format_then_read (message_front.read bytes) (λ x.
+    wire_format_then_read (message_front.read bytes) (λ x.
     if x.0.1.0 == 1
     then (if length x.1 == 0 then Some ((x.0.0, x.0.1.1), x.1) else None)
     else None)
@@ -152,18 +152,18 @@ read_front bytes =
 -- ---- messages
 
 -- a message to the controller has a body for it, and one to a switch has one for a switch
-abbrev pub body_suits_receiver : Place → Body → Bool
-body_suits_receiver (Switch s) body = not (is_for_controller body)
-body_suits_receiver Controller body = is_for_controller body
+abbrev pub wire_body_suits_receiver : Place → Body → Bool
+wire_body_suits_receiver (Switch s) body = not (is_for_controller body)
+wire_body_suits_receiver Controller body = is_for_controller body
 
 unfoldable pub message : Format Message
 message =
-    format_as_type (λ p. record { to = p.0; body = p.1 }) (λ m. (m.to, m.body))
-    (format_such_that (λ p. body_suits_receiver p.0 p.1) (receiver ⊗ body))
+    wire_format_as_type (λ p. record { to = p.0; body = p.1 }) (λ m. (m.to, m.body))
+    (wire_format_such_that (λ p. wire_body_suits_receiver p.0 p.1) (receiver ⊗ body))
 
 -- the message that all of the bytes encode
 abbrev pub whole_message : List ℕ → Option (Message × List ℕ)
-whole_message bytes = format_then_read (message.read bytes) (λ m. if length m.1 == 0 then Some m else None)
+whole_message bytes = wire_format_then_read (message.read bytes) (λ m. if length m.1 == 0 then Some m else None)
 
 -- the bytes are the encoding of the message: each number fits its bytes, each switch is below 64,
 -- each list is shorter than 2^32, and the receiver suits the body
@@ -176,14 +176,14 @@ pub record IsSpelling (m : Message) (bytes : List ℕ) : Type 0 where
 abbrev pub AreSwitches : PartRow → Type 0
 AreSwitches row = All (λ s. s < 64) row.targets
 
-abbrev pub HasFewRules : Partition → Type 0
-HasFewRules part = length part.rules < 2 ^ 32
+abbrev pub HasFewWireRules : Partition → Type 0
+HasFewWireRules part = length part.rules < 2 ^ 32
 
 pub record AreWireShort (t : Tables) : Type 0 where
   pub regions : length t.parts < 2 ^ 32
   pub targets : All AreSwitches t.parts
   pub partitions : length t.auth < 2 ^ 32
-  pub rules : All HasFewRules t.auth
+  pub rules : All HasFewWireRules t.auth
 
 abbrev pub WireFieldsSuit : Body → Type 0
 WireFieldsSuit (Install boot tables) = AreWireShort tables
@@ -200,5 +200,5 @@ IsWirePlace Controller = Unit {0}
 -- switches below 64, lists shorter than 2^32, and a receiver that suits the body
 pub record HasSpelling (m : Message) : Type 0 where
   pub switch : IsWirePlace m.to
-  pub suits : body_suits_receiver m.to m.body ≡ true
+  pub suits : wire_body_suits_receiver m.to m.body ≡ true
   pub fields : WireFieldsSuit m.body

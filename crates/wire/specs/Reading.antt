@@ -5,7 +5,7 @@ use Rattle.base.specs.declared.error.Failure.{Failure}
 use Rattle.wire.specs.declared.error.Malformed.{Malformed}
 use Rattle.ctrl_msg.specs.declared.message.Body.{Body}
 use Rattle.wire.specs.Format.{Format}
-use Rattle.wire.specs.Messages.{fields_fit, spelled_fields}
+use Rattle.wire.specs.Messages.{fields_fit, wire_spelled_fields}
 
 -- the result, seen by view, and the bytes that are left are what was read, unless memory ran out
 abbrev pub Gives : {X A : Type 0} → (X → A) → Option (A × List ℕ)
@@ -14,21 +14,21 @@ Gives view read (Ok x) rest = read ≡ Some (view x, rest)
 Gives view read (Err error) rest = IfRefused (λ _. read ≡ None) error
 
 -- the result and the bytes that are left are what the format reads
-abbrev pub FormatReads : {A : Type 0} → Format A → List ℕ → Result A (Failure Malformed) → List ℕ → Type 0
-FormatReads f bytes result rest = Gives (λ x. x) (f.read bytes) result rest
+abbrev pub WireFormatReads : {A : Type 0} → Format A → List ℕ → Result A (Failure Malformed) → List ℕ → Type 0
+WireFormatReads f bytes result rest = Gives (λ x. x) (f.read bytes) result rest
 
 -- the value has an encoding, which is at the end of the new bytes
-pub record AppendsForm {A : Type 0} (f : Format A) (x : A) (before after : List ℕ) : Type 0 where
+pub record AppendsWireForm {A : Type 0} (f : Format A) (x : A) (before after : List ℕ) : Type 0 where
   pub fits : f.fits x ≡ true
   pub bytes : after ≡ before ++ f.spell x
 
 -- each of the values has an encoding, and these are at the end of the new bytes
-pub record AppendsItems {A : Type 0} (f : Format A) (xs : List A) (before after : List ℕ)
+pub record AppendsEncodedItems {A : Type 0} (f : Format A) (xs : List A) (before after : List ℕ)
     : Type 0 where
   pub fits : list_all f.fits xs ≡ true
   pub bytes : after ≡ before ++ flat_map f.spell xs
 
 -- the fields of the body have an encoding, which is at the end of the new bytes
-pub record AppendsFields (b : Body) (before after : List ℕ) : Type 0 where
+pub record AppendsWireFields (b : Body) (before after : List ℕ) : Type 0 where
   pub fits : fields_fit b ≡ true
-  pub bytes : after ≡ before ++ spelled_fields b
+  pub bytes : after ≡ before ++ wire_spelled_fields b

@@ -3,9 +3,9 @@ ghost use Rattle.std.specs.Option.{option_copied};
 ghost use Rattle.std.specs.List.{insert, position, position_or_len};
 ghost use Rattle.base.specs.Refusals.{IfRefused};
 ghost use Rattle.wire.specs.Frames.{AreFrames, count_in_frame, place_in_frame};
-ghost use Rattle.wire.specs.Assembly.{Agree, AreAllHeld, AreFramesRising, AreFramesTogether, IsMessageAssembled, IsAssemblerFed, IsRefusedFrame, IsFrameCheck, frame_held_at, frames_with_frame};
+ghost use Rattle.wire.specs.Assembly.{WireFramesAgree, AreWireFramesHeld, AreFramesRising, AreWireFramesTogether, IsWireMessageAssembled, IsAssemblerFed, IsRefusedFrame, IsFrameCheck, frame_held_at, frames_with_frame};
 
-use crate::assembly::{are_same, message_of};
+use crate::assembly::{are_same_frame_bytes, wire_message_of};
 use crate::error::{Malformed, WireError};
 use crate::frame::{Frame, HEADER_LEN, count_of, place_of};
 use crate::frames::MAX_FRAME;
@@ -22,13 +22,13 @@ pub struct Assembler {
 
 impl Model for Assembler {
     ghost use Rattle.std.specs.Prelude.{List, ℕ};
-    ghost use Rattle.wire.specs.Assembly.{AreFramesTogether};
+    ghost use Rattle.wire.specs.Assembly.{AreWireFramesTogether};
 
     ghost Value = { List (List ℕ) };
 
     ghost view = { λ a. a.frames.items };
 
-    ghost invariant = { λ a. AreFramesTogether a.frames.items };
+    ghost invariant = { λ a. AreWireFramesTogether a.frames.items };
 }
 
 impl Assembler {
@@ -53,7 +53,7 @@ impl Assembler {
         ensures taken { OnOk result (IsRefusedFrame self.old frame.now → ⊥) }
         ensures held { OnOk result (self.new ≡ frames_with_frame self.old frame.now) }
         ensures some { IfOk result (λ answer.
-            IsSome answer ↔ AreAllHeld self.new (count_in_frame frame.now)) }
+            IsSome answer ↔ AreWireFramesHeld self.new (count_in_frame frame.now)) }
         ensures message { IfOk result (λ answer. IfSome answer (λ m. AreFrames m self.new)) }
         ensures unchanged { OnErr result (self.new ≡ self.old) }
     {
@@ -63,12 +63,12 @@ impl Assembler {
 }
 
 fn feed(frames: &mut Vec<Frame>, alloc: Global, frame: &[u8]) -> Result<Option<Message>, WireError>
-    requires { AreFramesTogether frames.old.items }
+    requires { AreWireFramesTogether frames.old.items }
     ensures { IsAssemblerFed frames.old.items frame.now frames.new.items result }
 {
     match frame_check_of(frames, frame) {
         FrameCheck::Refused => Err(WireError::Refused(Malformed)),
-        FrameCheck::Held => message_of(alloc, count_of(frame), frames),
+        FrameCheck::Held => wire_message_of(alloc, count_of(frame), frames),
         FrameCheck::New(index) => hold(frames, alloc, index, frame),
     }
 }
@@ -84,13 +84,13 @@ fn hold(
     requires long { 8 ≤ length frame.now }
     requires rising { AreFramesRising 0 (count_in_frame frame.now) (insert frames.old.items index frame.now) }
     ensures answer { let held = insert frames.old.items index frame.now in
-        IsMessageAssembled held (count_in_frame frame.now) result }
+        IsWireMessageAssembled held (count_in_frame frame.now) result }
     ensures ok { OnOk result (frames.new.items ≡ insert frames.old.items index frame.now) }
     ensures unchanged { OnErr result (frames.new.items ≡ frames.old.items) }
 {
     let copy = Frame::copied(alloc, frame)?;
     frames.insert(index, copy)?;
-    match message_of(alloc, count_of(frame), frames) {
+    match wire_message_of(alloc, count_of(frame), frames) {
         Ok(answer) => Ok(answer),
         Err(error) => {
             let _ = frames.remove(index);
@@ -110,7 +110,7 @@ enum FrameCheck {
 }
 
 fn frame_check_of(frames: &[Frame], frame: &[u8]) -> FrameCheck
-    requires { AreFramesTogether frames.now }
+    requires { AreWireFramesTogether frames.now }
     ensures { IsFrameCheck frames.now frame.now result }
 {
     if frame.len() <= HEADER_LEN {
@@ -130,8 +130,8 @@ fn frame_check_of(frames: &[Frame], frame: &[u8]) -> FrameCheck
 
 // Whether the frames that came have this count.
 fn agree(frames: &[Frame], count: u32) -> bool
-    requires { AreFramesTogether frames.now }
-    ensures { Agree frames.now count result }
+    requires { AreWireFramesTogether frames.now }
+    ensures { WireFramesAgree frames.now count result }
 {
     match frames.first() {
         Some(first) => first.count() == count,
@@ -150,7 +150,7 @@ fn frame_check_among(frames: &[Frame], frame: &[u8]) -> FrameCheck
     let place = place_of(frame);
     match find_at(frames, place) {
         Some(held) => {
-            if are_same(held.bytes(), frame) {
+            if are_same_frame_bytes(held.bytes(), frame) {
                 FrameCheck::Held
             } else {
                 FrameCheck::Refused

@@ -1,7 +1,7 @@
 ghost use Rattle.std.specs.Prelude.{◌≡◌, ◌↔◌, length, map, IsTrue, IfOk};
 ghost use Rattle.std.specs.List.{flat_map};
 ghost use Rattle.wire.specs.Frames.{chunk_of};
-ghost use Rattle.wire.specs.Assembly.{AreFramesRising, IsMessageAssembled, IsWhole};
+ghost use Rattle.wire.specs.Assembly.{AreFramesRising, IsWireMessageAssembled, IsWireMessageWhole};
 
 use crate::codec::decode;
 use crate::error::{Malformed, WireError};
@@ -11,7 +11,7 @@ use ctrl_msg::Message;
 use std::alloc::{AllocError, Global};
 
 // Whether two lists of bytes are the same.
-pub(crate) fn are_same(a: &[u8], b: &[u8]) -> bool
+pub(crate) fn are_same_frame_bytes(a: &[u8], b: &[u8]) -> bool
     ensures { IsTrue result ↔ (a.now ≡ b.now) }
 {
     a == b
@@ -36,7 +36,7 @@ fn are_frame_chunks(frames: &[Frame], parts: &[&[u8]]) -> bool
         return false;
     }
     for place in 0..frames.len() {
-        if !are_same(frames[place].chunk(), parts[place]) {
+        if !are_same_frame_bytes(frames[place].chunk(), parts[place]) {
             return false;
         }
     }
@@ -47,7 +47,7 @@ fn are_frame_chunks(frames: &[Frame], parts: &[&[u8]]) -> bool
 fn decoded_frames(alloc: Global, frames: &[Frame], bytes: &[u8]) -> Result<Message, WireError>
     requires rising { AreFramesRising 0 (length frames.now) frames.now }
     requires bytes { bytes.now ≡ flat_map chunk_of frames.now }
-    ensures { IsWhole frames.now result }
+    ensures { IsWireMessageWhole frames.now result }
 {
     let message = decode(alloc, bytes)?;
     let parts = cut(alloc, first_chunk_len(&message.body, bytes), bytes)?;
@@ -61,7 +61,7 @@ fn decoded_frames(alloc: Global, frames: &[Frame], bytes: &[u8]) -> Result<Messa
 // The message of all of its frames.
 fn complete(alloc: Global, frames: &[Frame]) -> Result<Message, WireError>
     requires { AreFramesRising 0 (length frames.now) frames.now }
-    ensures { IsWhole frames.now result }
+    ensures { IsWireMessageWhole frames.now result }
 {
     let bytes = joined(alloc, frames)?;
     decoded_frames(alloc, frames, &bytes)
@@ -71,13 +71,13 @@ fn complete(alloc: Global, frames: &[Frame]) -> Result<Message, WireError>
 ///
 /// # Errors
 /// `Malformed` exactly if there are as many, and they are those of no message; or out of memory.
-pub(crate) fn message_of(
+pub(crate) fn wire_message_of(
     alloc: Global,
     count: u32,
     frames: &[Frame],
 ) -> Result<Option<Message>, WireError>
     requires { AreFramesRising 0 count frames.now }
-    ensures { IsMessageAssembled frames.now count result }
+    ensures { IsWireMessageAssembled frames.now count result }
 {
     if frames.len() != count as usize {
         return Ok(None);

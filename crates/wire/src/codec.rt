@@ -3,15 +3,15 @@ ghost use Rattle.ctrl_msg.specs.declared.message.Message.{Message};
 ghost use Rattle.base.specs.Refusals.{IfRefused};
 ghost use Rattle.wire.specs.Fields as form;
 ghost use Rattle.wire.specs.Messages as kinds;
-ghost use Rattle.wire.specs.Messages.{AreWireShort, WireFieldsSuit, HasSpelling, IsSpelling, IsWirePlace, cache_rule_of, kind_number, made_body, read_fields, whole_message};
-ghost use Rattle.wire.specs.Reading.{AppendsForm, AppendsFields, Gives, FormatReads};
+ghost use Rattle.wire.specs.Messages.{AreWireShort, WireFieldsSuit, HasSpelling, IsSpelling, IsWirePlace, wire_cache_rule_of, kind_number, made_body, read_wire_fields, whole_message};
+ghost use Rattle.wire.specs.Reading.{AppendsWireForm, AppendsWireFields, Gives, WireFormatReads};
 
 use crate::error::{Malformed, WireError};
 use crate::fields::{
-    put_action, put_rule_name, put_switch, put_touched, put_word, read_action, read_rule_name,
-    read_switch, read_touched, read_word,
+    put_action, put_rule_name, put_wire_switch, put_wire_touched, put_word, read_rule_name,
+    read_touched, read_wire_action, read_wire_switch, read_wire_word,
 };
-use crate::parts::{put_tables, read_tables};
+use crate::parts::{put_tables, read_wire_tables};
 use crate::reader::ByteReader;
 use crate::writer::{put_n1, put_n4};
 use base::Shared;
@@ -24,7 +24,7 @@ use ternary::Word;
 
 #[tactic(auto, unfolding(crate::specs::Messages::receiver))]
 pub(crate) fn read_receiver(reader: &mut ByteReader) -> Result<Place, WireError>
-    ensures { FormatReads kinds.receiver reader.old result reader.new }
+    ensures { WireFormatReads kinds.receiver reader.old result reader.new }
 {
     match reader.n1()? {
         255 => Ok(Place::Controller),
@@ -34,7 +34,7 @@ pub(crate) fn read_receiver(reader: &mut ByteReader) -> Result<Place, WireError>
 }
 
 /// The byte of a receiver.
-#[tactic(auto, unfolding(crate::specs::Messages::receiver, crate::specs::Fields::switch, crate::specs::Fields::n1, crate::specs::Format::spelled_number))]
+#[tactic(auto, unfolding(crate::specs::Messages::receiver, crate::specs::Fields::switch, crate::specs::Fields::n1, crate::specs::Format::wire_spelled_number))]
 pub(crate) fn receiver_byte(to: Place) -> u8
     requires { IsWirePlace to }
     ensures fits { kinds.receiver.fits to ≡ true }
@@ -48,7 +48,7 @@ pub(crate) fn receiver_byte(to: Place) -> u8
 
 pub(crate) fn put_receiver(out: &mut Vec<u8>, to: Place) -> Result<(), AllocError>
     requires { IsWirePlace to }
-    ensures { OnOk result (AppendsForm kinds.receiver to out.old.items out.new.items) }
+    ensures { OnOk result (AppendsWireForm kinds.receiver to out.old.items out.new.items) }
 {
     out.push(receiver_byte(to))?;
     Ok(())
@@ -56,17 +56,17 @@ pub(crate) fn put_receiver(out: &mut Vec<u8>, to: Place) -> Result<(), AllocErro
 
 #[tactic(auto, unfolding(crate::specs::Messages::install_form))]
 fn read_install(reader: &mut ByteReader) -> Result<(u32, SharedTables), WireError>
-    ensures { FormatReads kinds.install_form reader.old result reader.new }
+    ensures { WireFormatReads kinds.install_form reader.old result reader.new }
 {
     let boot = reader.n4()?;
-    let tables = read_tables(reader)?;
+    let tables = read_wire_tables(reader)?;
     let tables = SharedTables::new(reader.alloc(), tables)?;
     Ok((boot, tables))
 }
 
 #[tactic(auto, unfolding(crate::specs::Messages::boot_and_version))]
 fn read_of_version(reader: &mut ByteReader) -> Result<(u32, u32), WireError>
-    ensures { FormatReads kinds.boot_and_version reader.old result reader.new }
+    ensures { WireFormatReads kinds.boot_and_version reader.old result reader.new }
 {
     let boot = reader.n4()?;
     let version = reader.n4()?;
@@ -87,10 +87,10 @@ fn read_stamp(reader: &mut ByteReader) -> Result<(u32, u32, Shared<Touched>), Wi
 
 #[tactic(auto, unfolding(crate::specs::Messages::advert))]
 fn read_advert(reader: &mut ByteReader) -> Result<Advert, WireError>
-    ensures { FormatReads kinds.advert reader.old result reader.new }
+    ensures { WireFormatReads kinds.advert reader.old result reader.new }
 {
     Ok(Advert {
-        origin: read_switch(reader)?,
+        origin: read_wire_switch(reader)?,
         boot: reader.n4()?,
         seq: reader.n4()?,
         up: reader.n8()?,
@@ -99,22 +99,22 @@ fn read_advert(reader: &mut ByteReader) -> Result<Advert, WireError>
 
 #[tactic(auto, unfolding(crate::specs::Messages::cache_rule_form))]
 fn read_cache_rule(reader: &mut ByteReader) -> Result<Body, WireError>
-    ensures { let read = made_body cache_rule_of (kinds.cache_rule_form.read reader.old) in
+    ensures { let read = made_body wire_cache_rule_of (kinds.cache_rule_form.read reader.old) in
         Gives (λ body. body) read result reader.new }
 {
     Ok(Body::CacheRule {
         version: reader.n4()?,
-        word: read_word(reader)?,
+        word: read_wire_word(reader)?,
         rule: read_rule_name(reader)?,
-        action: read_action(reader)?,
+        action: read_wire_action(reader)?,
     })
 }
 
 #[tactic(auto, unfolding(crate::specs::Messages::hello))]
 fn read_hello(reader: &mut ByteReader) -> Result<(u32, u32), WireError>
-    ensures { FormatReads kinds.hello reader.old result reader.new }
+    ensures { WireFormatReads kinds.hello reader.old result reader.new }
 {
-    let switch = read_switch(reader)?;
+    let switch = read_wire_switch(reader)?;
     let boot = reader.n4()?;
     Ok((switch, boot))
 }
@@ -124,13 +124,13 @@ fn read_acknowledged(reader: &mut ByteReader) -> Result<(u32, u32, u32), WireErr
     ensures { let read = kinds.acknowledgement.read reader.old in
         Gives (λ p. (p.0, (p.1, p.2))) read result reader.new }
 {
-    let switch = read_switch(reader)?;
+    let switch = read_wire_switch(reader)?;
     let (boot, version) = read_of_version(reader)?;
     Ok((switch, boot, version))
 }
 
-fn read_fields(kind: u8, reader: &mut ByteReader) -> Result<Body, WireError>
-    ensures { Gives (λ body. body) (read_fields kind reader.old) result reader.new }
+fn read_wire_fields(kind: u8, reader: &mut ByteReader) -> Result<Body, WireError>
+    ensures { Gives (λ body. body) (read_wire_fields kind reader.old) result reader.new }
 {
     match kind {
         1 => read_install(reader).map(|(boot, tables)| Body::Install { boot, tables }),
@@ -160,15 +160,15 @@ fn read_fields(kind: u8, reader: &mut ByteReader) -> Result<Body, WireError>
 
 #[tactic(auto, unfolding(crate::specs::Messages::body))]
 fn read_body(reader: &mut ByteReader) -> Result<Body, WireError>
-    ensures { FormatReads kinds.body reader.old result reader.new }
+    ensures { WireFormatReads kinds.body reader.old result reader.new }
 {
     let kind = reader.n1()?;
-    read_fields(kind, reader)
+    read_wire_fields(kind, reader)
 }
 
 #[tactic(auto, unfolding(crate::specs::Messages::message))]
 fn read_message(reader: &mut ByteReader) -> Result<Message, WireError>
-    ensures { FormatReads kinds.message reader.old result reader.new }
+    ensures { WireFormatReads kinds.message reader.old result reader.new }
 {
     let to = read_receiver(reader)?;
     let body = read_body(reader)?;
@@ -197,7 +197,7 @@ fn whole(reader: &mut ByteReader) -> Result<Message, WireError>
 #[tactic(auto, unfolding(crate::specs::Messages::install_form))]
 fn put_install(out: &mut Vec<u8>, boot: u32, tables: &SharedTables) -> Result<(), AllocError>
     requires { AreWireShort tables.now }
-    ensures { OnOk result (AppendsForm kinds.install_form (boot, tables.now) out.old.items out.new.items) }
+    ensures { OnOk result (AppendsWireForm kinds.install_form (boot, tables.now) out.old.items out.new.items) }
 {
     put_n4(out, boot)?;
     put_tables(out, tables.tables())
@@ -205,7 +205,7 @@ fn put_install(out: &mut Vec<u8>, boot: u32, tables: &SharedTables) -> Result<()
 
 #[tactic(auto, unfolding(crate::specs::Messages::boot_and_version))]
 fn put_of_version(out: &mut Vec<u8>, boot: u32, version: u32) -> Result<(), AllocError>
-    ensures { OnOk result (AppendsForm kinds.boot_and_version (boot, version) out.old.items
+    ensures { OnOk result (AppendsWireForm kinds.boot_and_version (boot, version) out.old.items
         out.new.items) }
 {
     put_n4(out, boot)?;
@@ -219,17 +219,17 @@ fn put_stamp(
     version: u32,
     touched: &Touched,
 ) -> Result<(), AllocError>
-    ensures { OnOk result (AppendsForm kinds.stamp_form (boot, (version, touched.now))
+    ensures { OnOk result (AppendsWireForm kinds.stamp_form (boot, (version, touched.now))
         out.old.items out.new.items) }
 {
     put_n4(out, boot)?;
     put_n4(out, version)?;
-    put_touched(out, touched)
+    put_wire_touched(out, touched)
 }
 
 #[tactic(auto, unfolding(crate::specs::Messages::cache_rule_form))]
 fn put_cache_rule(out: &mut Vec<u8>, version: u32, word: &Word, hit: Hit) -> Result<(), AllocError>
-    ensures { OnOk result (AppendsForm kinds.cache_rule_form (version, (word.now, (hit.rule, hit.action)))
+    ensures { OnOk result (AppendsWireForm kinds.cache_rule_form (version, (word.now, (hit.rule, hit.action)))
         out.old.items out.new.items) }
 {
     put_n4(out, version)?;
@@ -261,7 +261,7 @@ fn advert_bytes(advert: &Advert) -> [u8; 17]
 
 fn put_advert(out: &mut Vec<u8>, advert: &Advert) -> Result<(), AllocError>
     requires { advert.now.origin < 64 }
-    ensures { OnOk result (AppendsForm kinds.advert advert.now out.old.items out.new.items) }
+    ensures { OnOk result (AppendsWireForm kinds.advert advert.now out.old.items out.new.items) }
 {
     out.extend_from_slice(&advert_bytes(advert))
 }
@@ -269,9 +269,9 @@ fn put_advert(out: &mut Vec<u8>, advert: &Advert) -> Result<(), AllocError>
 #[tactic(auto, unfolding(crate::specs::Messages::hello))]
 fn put_hello(out: &mut Vec<u8>, switch: u32, boot: u32) -> Result<(), AllocError>
     requires { switch < 64 }
-    ensures { OnOk result (AppendsForm kinds.hello (switch, boot) out.old.items out.new.items) }
+    ensures { OnOk result (AppendsWireForm kinds.hello (switch, boot) out.old.items out.new.items) }
 {
-    put_switch(out, switch)?;
+    put_wire_switch(out, switch)?;
     put_n4(out, boot)
 }
 
@@ -283,10 +283,10 @@ fn put_acknowledged(
     version: u32,
 ) -> Result<(), AllocError>
     requires { switch < 64 }
-    ensures { OnOk result (AppendsForm kinds.acknowledgement (switch, (boot, version))
+    ensures { OnOk result (AppendsWireForm kinds.acknowledgement (switch, (boot, version))
         out.old.items out.new.items) }
 {
-    put_switch(out, switch)?;
+    put_wire_switch(out, switch)?;
     put_of_version(out, boot, version)
 }
 
@@ -308,7 +308,7 @@ fn kind_of(body: &Body) -> u8
 
 fn put_fields(out: &mut Vec<u8>, body: &Body) -> Result<(), AllocError>
     requires { WireFieldsSuit body.now }
-    ensures { OnOk result (AppendsFields body.now out.old.items out.new.items) }
+    ensures { OnOk result (AppendsWireFields body.now out.old.items out.new.items) }
 {
     match body {
         Body::Install { boot, tables } => put_install(out, *boot, tables),
@@ -350,7 +350,7 @@ fn put_fields(out: &mut Vec<u8>, body: &Body) -> Result<(), AllocError>
 #[tactic(auto, unfolding(crate::specs::Messages::body))]
 fn put_body(out: &mut Vec<u8>, body: &Body) -> Result<(), AllocError>
     requires { WireFieldsSuit body.now }
-    ensures { OnOk result (AppendsForm kinds.body body.now out.old.items out.new.items) }
+    ensures { OnOk result (AppendsWireForm kinds.body body.now out.old.items out.new.items) }
 {
     put_n1(out, kind_of(body))?;
     put_fields(out, body)

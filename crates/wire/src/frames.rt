@@ -1,5 +1,5 @@
 ghost use Rattle.std.specs.Prelude.{◌≡◌, ◌<◌, ◌≤◌, ◌^◌, ◌↔◌, Some, true, length, map, take, drop, slice_get, IfOk, IfSome, IsNone};
-ghost use Rattle.wire.specs.Frames.{AreFrames, begun_for, begun_with, chunks_behind_head, first_chunk_len, frames_of, frames_of_version};
+ghost use Rattle.wire.specs.Frames.{AreFrames, wire_begun_for, frame_begun_with, chunks_behind_head, first_chunk_len, frames_of, wire_frames_of_version};
 ghost use Rattle.wire.specs.Messages as kinds;
 ghost use Rattle.wire.specs.Messages.{HasSpelling, IsWirePlace};
 
@@ -51,11 +51,11 @@ impl Frames {
     /// # Errors
     /// Only out of memory.
     pub fn with_version(&self, alloc: Global, version: u32) -> Result<Frames, AllocError>
-        ensures { IfOk result (λ frames. frames ≡ frames_of_version version self.now) }
+        ensures { IfOk result (λ frames. frames ≡ wire_frames_of_version version self.now) }
     {
         let mut frames = shared(alloc, &self.frames)?;
         if frames.len() > 1 {
-            frames[1] = begun_with(alloc, version, frames[1].bytes())?;
+            frames[1] = frame_begun_with(alloc, version, frames[1].bytes())?;
         }
         Ok(Frames { frames })
     }
@@ -73,9 +73,9 @@ fn shared(alloc: Global, frames: &[Frame]) -> Result<Vec<Frame>, AllocError>
 }
 
 // The frame with the four bytes of this version at the beginning of its chunk.
-fn begun_with(alloc: Global, version: u32, frame: &[u8]) -> Result<Frame, AllocError>
+fn frame_begun_with(alloc: Global, version: u32, frame: &[u8]) -> Result<Frame, AllocError>
     requires { 8 ≤ length frame.now }
-    ensures { IfOk result (λ f. f ≡ begun_with version frame.now) }
+    ensures { IfOk result (λ f. f ≡ frame_begun_with version frame.now) }
 {
     let mut bytes = Vec::with_capacity(alloc, frame.len())?;
     bytes.extend_from_slice(split_front(frame, HEADER_LEN).0)?;
@@ -90,7 +90,7 @@ pub fn set_receiver(frame: &mut [u8], to: Place)
     requires receiver { IsWirePlace to }
     requires long { 9 ≤ length frame.old }
     ensures fits { kinds.receiver.fits to ≡ true }
-    ensures written { frame.new ≡ begun_for to frame.old }
+    ensures written { frame.new ≡ wire_begun_for to frame.old }
 {
     frame[HEADER_LEN] = receiver_byte(to);
 }

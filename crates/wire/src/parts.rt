@@ -1,14 +1,14 @@
 #![tactic(auto, unfolding(crate::specs::Fields::rule, crate::specs::Fields::region, crate::specs::Fields::partition, crate::specs::Fields::tables))]
 
 ghost use Rattle.std.specs.Prelude.{OnOk};
-ghost use Rattle.wire.specs.Reading.{AppendsForm, FormatReads};
+ghost use Rattle.wire.specs.Reading.{AppendsWireForm, WireFormatReads};
 ghost use Rattle.wire.specs.Fields as form;
-ghost use Rattle.wire.specs.Messages.{AreWireShort, AreSwitches, HasFewRules};
+ghost use Rattle.wire.specs.Messages.{AreWireShort, AreSwitches, HasFewWireRules};
 
 use crate::error::WireError;
 use crate::fields::{
-    put_action, put_rule_name, put_targets, put_word, read_action, read_rule_name, read_targets,
-    read_word,
+    put_action, put_rule_name, put_targets, put_word, read_rule_name, read_targets,
+    read_wire_action, read_wire_word,
 };
 use crate::list::{Part, put_list, read_list};
 use crate::reader::ByteReader;
@@ -24,7 +24,7 @@ impl Part for Word {
     ghost needs = { λ _. Unit {0} };
 
     fn read(reader: &mut ByteReader) -> Result<Word, WireError> {
-        read_word(reader)
+        read_wire_word(reader)
     }
 
     fn put(&self, out: &mut Vec<u8>) -> Result<(), AllocError> {
@@ -39,10 +39,10 @@ impl Part for Rule {
 
     fn read(reader: &mut ByteReader) -> Result<Rule, WireError> {
         Ok(Rule {
-            word: read_word(reader)?,
+            word: read_wire_word(reader)?,
             rank: reader.n4()?,
             rule: read_rule_name(reader)?,
-            action: read_action(reader)?,
+            action: read_wire_action(reader)?,
         })
     }
 
@@ -61,7 +61,7 @@ impl Part for PartRow {
 
     fn read(reader: &mut ByteReader) -> Result<PartRow, WireError> {
         Ok(PartRow {
-            region: read_word(reader)?,
+            region: read_wire_word(reader)?,
             targets: read_targets(reader)?,
         })
     }
@@ -75,12 +75,12 @@ impl Part for PartRow {
 impl Part for Partition {
     ghost format = { form.partition };
 
-    ghost needs = { HasFewRules };
+    ghost needs = { HasFewWireRules };
 
     fn read(reader: &mut ByteReader) -> Result<Partition, WireError> {
         Ok(Partition {
             number: reader.n4()?,
-            region: read_word(reader)?,
+            region: read_wire_word(reader)?,
             rules: Rules::new(read_list(reader)?)?,
         })
     }
@@ -92,8 +92,8 @@ impl Part for Partition {
     }
 }
 
-pub(crate) fn read_tables(reader: &mut ByteReader) -> Result<Tables, WireError>
-    ensures { FormatReads form.tables reader.old result reader.new }
+pub(crate) fn read_wire_tables(reader: &mut ByteReader) -> Result<Tables, WireError>
+    ensures { WireFormatReads form.tables reader.old result reader.new }
 {
     let version = reader.n4()?;
     let parts = PartRows::new(read_list(reader)?)?;
@@ -107,7 +107,7 @@ pub(crate) fn read_tables(reader: &mut ByteReader) -> Result<Tables, WireError>
 
 pub(crate) fn put_tables(out: &mut Vec<u8>, tables: &Tables) -> Result<(), AllocError>
     requires { AreWireShort tables.now }
-    ensures { OnOk result (AppendsForm form.tables tables.now out.old.items out.new.items) }
+    ensures { OnOk result (AppendsWireForm form.tables tables.now out.old.items out.new.items) }
 {
     put_n4(out, tables.version)?;
     put_list(tables.parts.items(), out)?;

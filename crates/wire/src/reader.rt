@@ -1,5 +1,5 @@
 ghost use Rattle.std.specs.Prelude.{◌≡◌, ◌==◌, ◌<◌, ◌≤◌, drop, length, take, IfNone, IfSome};
-ghost use Rattle.wire.specs.Reading.{FormatReads};
+ghost use Rattle.wire.specs.Reading.{WireFormatReads};
 ghost use Rattle.wire.specs.Fields.{n1, n4, n8, n16};
 
 use crate::error::{Malformed, WireError};
@@ -57,7 +57,7 @@ impl<'a> ByteReader<'a> {
 
     #[tactic(auto, unfolding(crate::specs::Fields::n1, crate::specs::Format::read_number))]
     pub fn n1(&mut self) -> Result<u8, WireError>
-        ensures { FormatReads n1 self.old result self.new }
+        ensures { WireFormatReads n1 self.old result self.new }
     {
         let front = self.take(1).ok_or(WireError::Refused(Malformed))?;
         Ok(front[0])
@@ -65,7 +65,7 @@ impl<'a> ByteReader<'a> {
 
     #[tactic(auto, unfolding(crate::specs::Fields::n4, crate::specs::Format::read_number))]
     pub fn n4(&mut self) -> Result<u32, WireError>
-        ensures { FormatReads n4 self.old result self.new }
+        ensures { WireFormatReads n4 self.old result self.new }
     {
         let front = self.take(4).ok_or(WireError::Refused(Malformed))?;
         Ok(u32::from_be_bytes([front[0], front[1], front[2], front[3]]))
@@ -73,7 +73,7 @@ impl<'a> ByteReader<'a> {
 
     #[tactic(auto, unfolding(crate::specs::Fields::n8, crate::specs::Format::read_number))]
     pub fn n8(&mut self) -> Result<u64, WireError>
-        ensures { FormatReads n8 self.old result self.new }
+        ensures { WireFormatReads n8 self.old result self.new }
     {
         let front = self.take(8).ok_or(WireError::Refused(Malformed))?;
         Ok(u64::from_be_bytes([
@@ -83,7 +83,7 @@ impl<'a> ByteReader<'a> {
 
     #[tactic(auto, unfolding(crate::specs::Fields::n16))]
     pub fn n16(&mut self) -> Result<u128, WireError>
-        ensures { FormatReads n16 self.old result self.new }
+        ensures { WireFormatReads n16 self.old result self.new }
     {
         let high = self.n8()?;
         let low = self.n8()?;

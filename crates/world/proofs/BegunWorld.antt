@@ -4,14 +4,14 @@ use Rattle.message_bag.specs.Exports.{Post}
 use Rattle.controller.specs.Exports.{ControllerValue, PlanValue}
 use Rattle.update_machine.specs.Exports.{Change, IsSetting, Item, Net, PolicyFile, Ports, Whole, setting_of}
 use Rattle.net_file.specs.Exports.{ArePortOwners, IsNet}
-use Rattle.partition.specs.Plan.{plan_of}
-use Rattle.world.specs.Exports.{FilesValue, IsFileMade, first_policy}
+use Rattle.partition.specs.Plan.{partition_plan_of}
+use Rattle.world.specs.Exports.{FilesValue, IsWorldFileMade, first_policy}
 use Rattle.world.specs.declared.files.Compiled.TheVariants.{Planned}
 use Rattle.switch_core.specs.Exports.{SwitchValue}
 use Rattle.travelling.specs.Travelling.{Flights}
-use Rattle.update_machine.proofs.CallerLemmas.{first_planned}
+use Rattle.update_machine.proofs.UpdateMachineCallerLemmas.{first_planned}
 use Rattle.refinement.specs.Exports.{RefineJournal}
-use Rattle.switch_table.specs.Exports.{all_touched}
+use Rattle.switch_table.specs.Exports.{cache_all_touched}
 
 -- where the files are these, on this network, and nothing was written, posted or sent
 -- on its way
@@ -40,15 +40,15 @@ as_begun net given files journal travelling bag switches controller near of_net 
 
 -- in a sound setting that has a plan
 pub first_plans : (net : Net) (files : List PolicyFile) → IsSetting (setting_of net files)
-    → IsSome (first_policy files) → IsOk (plan_of (unwrap_or (first_policy files) []) net)
+    → IsSome (first_policy files) → IsOk (partition_plan_of (unwrap_or (first_policy files) []) net)
 first_plans net [] is whole = absurd cc
 first_plans net (Whole rows ∷ files) is whole = first_planned net (Whole rows ∷ files) rows is refl
 first_plans net (Change edits ∷ files) is whole = absurd cc
 
 -- a copy of a plan on a copy of the network is one
 pub plan_copied : (net own : Net) (plan copy : PlanValue) → own ≡ net → copy ≡ plan
-    → plan_of plan.policy net ≡ Ok plan.hosted
-    → IsFileMade own (Ok copy.policy, all_touched) (Planned copy all_touched)
+    → partition_plan_of plan.policy net ≡ Ok plan.hosted
+    → IsWorldFileMade own (Ok copy.policy, cache_all_touched) (Planned copy cache_all_touched)
 plan_copied net own plan copy same as_it is =
     record { policy = refl; planned = rw (same, as_it) is; told_is = refl }
 

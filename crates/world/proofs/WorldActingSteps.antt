@@ -5,7 +5,7 @@ use Rattle.message_bag.specs.Exports.{Post}
 use Rattle.controller.specs.declared.sends.Act.{Act}
 use Rattle.update_machine.specs.Exports.{Item, Setting, Step, piece}
 use Rattle.journal.specs.declared.item.Item.TheVariants as item
-use Rattle.world.specs.Exports.{BeginsStep, Goes, PartsKeepNet, PartsKeepRest, comes_in, world_setting_in, world_state_in}
+use Rattle.world.specs.Exports.{WorldBeginsStep, WorldStepGoes, WorldPartsKeepNet, WorldPartsKeepRest, comes_in, world_setting_in, world_state_in}
 use Rattle.refinement.specs.Exports.{RefineJournal}
 use Rattle.travelling.specs.Travelling.{Flights}
 use Rattle.world_log.specs.Exports.{IsLogPart, log_act_items, log_act_posts}
@@ -52,9 +52,9 @@ as_noted r begun number posts now given acts same written posted part =
 
 pub goes_told : {T E : Type 0} {r : Result T E} {before : List Item} {row : ℕ} {step : Step}
     {old new : Parts} (first : Item) (tail : ℕ → List Item) (begun : List Item) (number : ℕ)
-    (posts more : List Post) → BeginsStep before row step old → Follows old new
+    (posts more : List Post) → WorldBeginsStep before row step old → Follows old new
     → Tells r before row step old new first tail begun number posts more
-    → Goes r before row step old new
+    → WorldStepGoes r before row step old new
 goes_told {r} {before} {row} {step} {old} {new} first tail begun number posts more begins keeps
     tells =
     let items : List Item = tail (length old.log.bag + 1) in
@@ -69,7 +69,7 @@ goes_told {r} {before} {row} {step} {old} {new} first tail begun number posts mo
 -- where the controller's acts are what it writes then
 pub goes_acting : {T E : Type 0} {r : Result T E} {before : List Item} {row : ℕ} {step : Step}
     {old new : Parts} (first : Item) (acts given : List Act) (begun : List Item)
-    → BeginsStep before row step old → Follows old new → new.packets ≡ old.packets + comes_in step
+    → WorldBeginsStep before row step old → Follows old new → new.packets ≡ old.packets + comes_in step
     → piece (world_setting_in old) before row step
     ≡ item.Row row step ∷ first ∷ log_act_items (length old.log.bag + 1) acts
     → begun ≡ old.log.journal ++ first ∷ [] → given ≡ acts → new.log.travelling ≡ old.log.travelling
@@ -80,7 +80,7 @@ pub goes_acting : {T E : Type 0} {r : Result T E} {before : List Item} {row : �
     ∷ first ∷ log_act_items (length old.log.bag + 1) acts) (record (world_state_in new) {
       travelling = old.log.travelling;
       posts = old.log.bag ++ log_act_posts acts;
-    }) → Goes r before row step old new
+    }) → WorldStepGoes r before row step old new
 goes_acting {r} {old} {new} first acts given begun begins keeps counted is pushed same travelling
     written posted part refines =
     let all = on_ok_weaker r (λ done. refines) (as_noted r begun (length old.log.bag) old.log.bag
@@ -90,9 +90,9 @@ goes_acting {r} {old} {new} first acts given begun begins keeps counted is pushe
 
 -- memory runs out behind the first item
 pub first_goes : {T E : Type 0} {r : Result T E} {before : List Item} {row : ℕ} {step : Step}
-    {old new : Parts} (first : Item) (rest : List Item) → BeginsStep before row step old
-    → PartsKeepNet old new → piece (world_setting_in old) before row step ≡ item.Row row step ∷ first ∷ rest
-    → IsErr r → new.log.journal ≡ old.log.journal ++ first ∷ [] → Goes r before row step old new
+    {old new : Parts} (first : Item) (rest : List Item) → WorldBeginsStep before row step old
+    → WorldPartsKeepNet old new → piece (world_setting_in old) before row step ≡ item.Row row step ∷ first ∷ rest
+    → IsErr r → new.log.journal ≡ old.log.journal ++ first ∷ [] → WorldStepGoes r before row step old new
 first_goes {before} {row} {step} first rest begins keeps is failed pushed =
     part_goes keeps failed (record {
       written = item.Row row step ∷ first ∷ [];
@@ -103,7 +103,7 @@ first_goes {before} {row} {step} first rest begins keeps is failed pushed =
 
 -- the parts refine the journal where only switches, messages and usable links changed
 pub relinked_refines : {old new : Parts} {setting : Setting} {journal : List Item}
-    {travelling : Flights} {posts : List Post} {near : List ℕ} → PartsKeepRest old new → new.near ≡ near
+    {travelling : Flights} {posts : List Post} {near : List ℕ} → WorldPartsKeepRest old new → new.near ≡ near
     → RefineJournal setting journal (record (world_state_in old) {
       switches = new.switches.items;
       travelling = travelling;

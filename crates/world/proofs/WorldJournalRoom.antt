@@ -1,14 +1,14 @@
 -- Whether a step may begin after the journal, by the count of the messages that were sent.
 use Rattle.std.proofs.Common.{◌<◌, ◌≡◌, ◌≤◌, Err, IsErrAnd, IsErrOf, List, Ok, Result, arith, length}
-use Rattle.update_machine.specs.Exports.{Failure, HasRoom, IsFull, Item, NoMemory, Setting}
+use Rattle.update_machine.specs.Exports.{Failure, HasRoom, IsJournalFull, Item, NoMemory, Setting}
 use Rattle.update_machine.specs.declared.full.TheConstants.{FULL_AT}
 use Rattle.world.specs.Exports.{no_world_step}
 use Rattle.world.specs.declared.error.Full.{Full}
-use Rattle.refinement.specs.Exports.{NetworkState, RefineJournal}
+use Rattle.refinement.specs.Exports.{RefinedNetworkState, RefineJournal}
 
-module _ {setting : Setting} {journal : List Item} {state : NetworkState}
+module _ {setting : Setting} {journal : List Item} {state : RefinedNetworkState}
     (refines : RefineJournal setting journal state) where
-  pub is_full : FULL_AT ≤ length state.posts → IsFull journal
+  pub is_full : FULL_AT ≤ length state.posts → IsJournalFull journal
   is_full many = omega (arith, refines.bag.many, many)
 
   pub has_room : length state.posts < FULL_AT → HasRoom journal

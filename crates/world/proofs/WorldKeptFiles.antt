@@ -4,10 +4,10 @@ use Rattle.base.proofs.Exports.{cases_eq, cases_lt, get_or_past, get_or_read}
 use Rattle.controller.specs.Exports.{PlanValue}
 use Rattle.net_file.specs.Exports.{IsNet}
 use Rattle.update_machine.specs.Exports.{Change, Net, PolicyFile, Row, Whole}
-use Rattle.world.specs.Exports.{AreFilesCompiled, IsFileMade, FilesKeepWhole, file_or_none, first_policy, file_made_at, file_made_from, own_policy}
+use Rattle.world.specs.Exports.{AreWorldFilesCompiled, IsWorldFileMade, WorldFilesKeepWhole, world_file_or_none, first_policy, world_file_made_at, world_file_made_from, own_policy}
 use Rattle.world.specs.declared.files.Compiled.{Compiled}
 use Rattle.world.specs.declared.files.Compiled.TheVariants.{Planned}
-use Rattle.switch_table.specs.Exports.{all_touched}
+use Rattle.switch_table.specs.Exports.{cache_all_touched}
 
 -- ---- files
 
@@ -32,23 +32,23 @@ first_at (file ∷ files) first there at = (refl, ap own_policy (sym at))
 
 -- a file that is there
 pub file_there : (files : List PolicyFile) (place : ℕ) → place < length files
-    → slice_get files place ≡ Some (file_or_none files place)
+    → slice_get files place ≡ Some (world_file_or_none files place)
 file_there [] place within = absurd (omega arith)
 file_there (file ∷ files) zero within = refl
 file_there (file ∷ files) (suc place) within = file_there files place (omega arith)
 
 -- one with a policy of its own makes that of any other
 pub own_made : (file : PolicyFile) (one other : List Row) → IsSome (own_policy file)
-    → file_made_from file one ≡ file_made_from file other
+    → world_file_made_from file one ≡ world_file_made_from file other
 own_made (Whole rows) one other own = refl
 own_made (Change edits) one other own = absurd cc
 
 -- and the first one its own
 first_made : (files : List PolicyFile) (rows newest : List Row) → first_policy files ≡ Some rows
-    → file_made_at files newest 0 ≡ (Ok rows, all_touched)
+    → world_file_made_at files newest 0 ≡ (Ok rows, cache_all_touched)
 first_made [] rows newest is = absurd cc
 first_made (Whole own ∷ files) rows newest is =
-    let same : own ≡ rows = cc is in ap (λ these. (Ok these, all_touched)) same
+    let same : own ≡ rows = cc is in ap (λ these. (Ok these, cache_all_touched)) same
 first_made (Change edits ∷ files) rows newest is = absurd cc
 
 -- ---- what became of them
@@ -56,17 +56,17 @@ first_made (Change edits ∷ files) rows newest is = absurd cc
 -- what was made of a file was made of the file at its place
 pub made_at_place : (net : Net) (files : List PolicyFile) (newest own : List Row)
     (place : ℕ) (file : PolicyFile) (compiled : Compiled) → place < length files
-    → file ≡ get_or files place file → own ≡ newest → IsFileMade net (file_made_from file own) compiled
-    → IsFileMade net (file_made_at files newest place) compiled
+    → file ≡ get_or files place file → own ≡ newest → IsWorldFileMade net (world_file_made_from file own) compiled
+    → IsWorldFileMade net (world_file_made_at files newest place) compiled
 made_at_place net files newest own place file compiled within at same made = rw same at
     (rw (get_or_read files place file within at (Change [])) at made)
 
 -- it is kept of that file
 pub kept_with : (net : Net) (files : List PolicyFile) (newest : List Row)
     (kept : List (Option Compiled)) (place : ℕ) (compiled : Compiled)
-    → AreFilesCompiled net files newest kept → place < length files
-    → IsFileMade net (file_made_at files newest place) compiled
-    → AreFilesCompiled net files newest (set kept place (Some compiled))
+    → AreWorldFilesCompiled net files newest kept → place < length files
+    → IsWorldFileMade net (world_file_made_at files newest place) compiled
+    → AreWorldFilesCompiled net files newest (set kept place (Some compiled))
 kept_with net files newest kept place compiled are within made = record {
   sound = are.sound;
   many = length-set kept place (Some compiled) ∙ are.many;
@@ -74,8 +74,8 @@ kept_with net files newest kept place compiled are within made = record {
     | inl same ↦ let inside : place < length kept = omega (arith, are.many) in
         let here : get_or (set kept place (Some compiled)) place None ≡ Some other =
         subst (λ j. get_or (set kept place (Some compiled)) j None ≡ Some other) same at in
-        subst (λ j. IsFileMade net (file_made_at files newest j) other) (sym same)
-        (subst (IsFileMade net (file_made_at files newest place))
+        subst (λ j. IsWorldFileMade net (world_file_made_at files newest j) other) (sym same)
+        (subst (IsWorldFileMade net (world_file_made_at files newest place))
         (cc (get_or-set_same kept place (Some compiled) None inside, here)) made)
     | inr apart ↦
         are.each k other (sym (get_or-set_other kept place k (Some compiled) None apart) ∙ at)
@@ -85,18 +85,18 @@ kept_with net files newest kept place compiled are within made = record {
 -- at first the plan of the first file is kept alone
 pub kept_first : (net : Net) (files : List PolicyFile) (plan : PlanValue)
     (kept : List (Option Compiled)) → IsNet net → first_policy files ≡ Some plan.policy
-    → IsFileMade net (Ok plan.policy, all_touched) (Planned plan all_touched) → length kept ≡ length files
-    → ((i : ℕ) → get_or kept i None ≡ get_or (Some (Planned plan all_touched) ∷ []) i None)
-    → AreFilesCompiled net files plan.policy kept
+    → IsWorldFileMade net (Ok plan.policy, cache_all_touched) (Planned plan cache_all_touched) → length kept ≡ length files
+    → ((i : ℕ) → get_or kept i None ≡ get_or (Some (Planned plan cache_all_touched) ∷ []) i None)
+    → AreWorldFilesCompiled net files plan.policy kept
 kept_first net files plan kept sound first made many same = record {
   sound = sound;
   many = many;
   each = each;
 } where
   each : (place : ℕ) (compiled : Compiled) → get_or kept place None ≡ Some compiled
-      → IsFileMade net (file_made_at files plan.policy place) compiled
-  each zero compiled at = let is : Planned plan all_touched ≡ compiled = cc (same 0, at) in
-      subst (IsFileMade net (file_made_at files plan.policy 0)) is
+      → IsWorldFileMade net (world_file_made_at files plan.policy place) compiled
+  each zero compiled at = let is : Planned plan cache_all_touched ≡ compiled = cc (same 0, at) in
+      subst (IsWorldFileMade net (world_file_made_at files plan.policy 0)) is
       (rw (first_made files plan.policy plan.policy first) made)
   each (suc place) compiled at = absurd (cc (same (suc place), at))
 
@@ -108,7 +108,7 @@ pub record AreForgotten (files : List PolicyFile) (many : ℕ) (old new : List (
   pub same : length new ≡ length old
   pub each : (place : ℕ) (compiled : Compiled) → get_or new place None ≡ Some compiled
       → (get_or old place None ≡ Some compiled)
-      × (place < many → IsSome (own_policy (file_or_none files place)))
+      × (place < many → IsSome (own_policy (world_file_or_none files place)))
 
 pub none_forgotten : (files : List PolicyFile) (old : List (Option Compiled))
     → AreForgotten files 0 old old
@@ -132,7 +132,7 @@ whole_kept files many file old new within at own so_far = record {
     λ below. elim (cases_lt place many) [
       | inl less ↦ (so_far.each place compiled kept).1 less
       | inr more ↦ let same : many ≡ place = omega (arith, below, more) in
-          subst (λ k. IsSome (own_policy (file_or_none files k))) same
+          subst (λ k. IsSome (own_policy (world_file_or_none files k))) same
           (rw (get_or_read files many file within at (Change [])) at own)
     ],
   );
@@ -159,7 +159,7 @@ change_forgotten files many old new within so_far = record {
 -- in the end only what became of files with policies of their own is kept
 pub all_forgotten : (files : List PolicyFile) (many : ℕ) (old new : List (Option Compiled))
     → length old ≡ length files → length files ≤ many → AreForgotten files many old new
-    → FilesKeepWhole files old new
+    → WorldFilesKeepWhole files old new
 all_forgotten files many old new as_many all so_far = record {
   many = so_far.same;
   each = λ place compiled kept. elim (cases_lt place (length new)) [

@@ -1,14 +1,14 @@
 -- The least message that waits in the bag is the least that the journal says to wait.
 use Rattle.std.proofs.Common.{◌&&◌, ◌+◌, ◌-◌, ◌<◌, ◌∙◌, ◌≡◌, ◌≤◌, Bool, List, None, Option, Some, ap, arith, cond, false, find, inl, inr, is_some, length, not, option_map, refl, subst, suc, sym, true, zero, ℕ}
 use Rattle.base.proofs.Exports.{cases_lt, length-map, option_map_or, range_with_len, slice_get_past}
-use Rattle.policy_rules.proofs.CallerLemmas.{find_same}
+use Rattle.policy_rules.proofs.PolicyRulesCallerLemmas.{find_same}
 use Rattle.message_bag.specs.Deliveries as statuses
 use Rattle.message_bag.specs.Posts as bag
 use Rattle.message_bag.proofs.BagNumberedPosts.{numbered_map}
 use Rattle.message_bag.specs.declared.deliveries.MessageState.{MessageState}
-use Rattle.update_machine.specs.Exports.{Item, Message, count_of, is_deliverable, is_forgotten, is_sending, is_waiting, message_of, next_message, next_waiting, was_delivered}
-use Rattle.world.specs.Exports.{IsLeastFrom, RefinesJournal, WorldValue}
-use Rattle.refinement.specs.Exports.{IsBagOf, post_in_journal}
+use Rattle.update_machine.specs.Exports.{Item, Message, count_of, is_deliverable, is_forgotten_in_journal, is_sending, is_waiting, message_of, journal_next_message, next_waiting, was_delivered}
+use Rattle.world.specs.Exports.{IsLeastFrom, WorldRefinesJournal, WorldValue}
+use Rattle.refinement.specs.Exports.{IsRefinedBagOf, refined_post_at}
 
 -- a post waits as the journal says of its message
 post_waits : (sent : Option Message) (delivered forgotten : Bool) → option_map_or statuses.waits
@@ -24,17 +24,17 @@ post_waits (Some message) true false = refl
 post_waits (Some message) false true = refl
 post_waits (Some message) false false = refl
 
-waits_same : (journal : List Item) (posts : List bag.Post) → IsBagOf journal posts → (n : ℕ)
+waits_same : (journal : List Item) (posts : List bag.Post) → IsRefinedBagOf journal posts → (n : ℕ)
     → statuses.is_waiting (bag.post_statuses_of posts) n ≡ is_waiting journal n
-unfolding post_in_journal is_deliverable
+unfolding refined_post_at is_deliverable
 waits_same journal posts of n = ap (λ o. option_map_or statuses.waits o false)
     (numbered_map (λ (post : bag.Post). post.1) posts n
     ∙ ap (option_map (λ (post : bag.Post). post.1)) (of.each n))
-    ∙ post_waits (message_of journal n) (was_delivered journal n) (is_forgotten journal n)
+    ∙ post_waits (message_of journal n) (was_delivered journal n) (is_forgotten_in_journal journal n)
 
-least_waits : (journal : List Item) (posts : List bag.Post) → IsBagOf journal posts
+least_waits : (journal : List Item) (posts : List bag.Post) → IsRefinedBagOf journal posts
     → bag.next_waiting_post posts 1 ≡ next_waiting journal
-unfolding next_waiting next_message
+unfolding next_waiting journal_next_message
 least_waits journal posts of = let all : List MessageState = bag.post_statuses_of posts in
     ap (λ count. find (statuses.is_waiting all) (range_with_len 1 count))
     (omega (arith, of.many, length-map posts (λ (post : bag.Post). post.1)))
@@ -76,7 +76,7 @@ none_behind : (all : List MessageState) (i : ℕ) → length all < i → statuse
 none_behind all zero behind = refl
 none_behind all (suc place) behind = cc (slice_get_past all place (omega (arith, behind)))
 
-least_from : (journal : List Item) (posts : List bag.Post) → IsBagOf journal posts → (from : ℕ)
+least_from : (journal : List Item) (posts : List bag.Post) → IsRefinedBagOf journal posts → (from : ℕ)
     → IsLeastFrom (is_waiting journal) from (bag.next_waiting_post posts from)
 least_from journal posts of from = let all : List MessageState = bag.post_statuses_of posts in
     subst (λ next. IsLeastFrom (is_waiting journal) from next)
@@ -85,10 +85,10 @@ least_from journal posts of from = let all : List MessageState = bag.post_status
     (found_is_least (is_waiting journal) from (length all + 1 - from)
     (λ i behind. sym (waits_same journal posts of i) ∙ none_behind all i (omega (arith, behind))))
 
-pub least_from_in : (world : WorldValue) → RefinesJournal world → (from : ℕ)
+pub least_from_in : (world : WorldValue) → WorldRefinesJournal world → (from : ℕ)
     → IsLeastFrom (is_waiting world.journal) from (bag.next_waiting_post world.bag from)
 least_from_in world refines from = least_from world.journal world.bag refines.bag from
 
-pub least_waits_in : (world : WorldValue) → RefinesJournal world
+pub least_waits_in : (world : WorldValue) → WorldRefinesJournal world
     → bag.next_waiting_post world.bag 1 ≡ next_waiting world.journal
 least_waits_in world refines = least_waits world.journal world.bag refines.bag

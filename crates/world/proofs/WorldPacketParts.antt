@@ -3,10 +3,10 @@ use Rattle.std.proofs.Common.{◌++◌, ◌+◌, ◌∙◌, ◌∷◌, ◌≡◌
 use Rattle.base.proofs.Exports.{both_ok, get_or_from_slice_get, on_ok_weaker, three_ok}
 use Rattle.update_machine.specs.Exports.{Header, Hop, Item, Packet as PacketStep}
 use Rattle.journal.specs.declared.item.Item.TheVariants as item
-use Rattle.switch_core.specs.Exports.{Answer, SwitchValue, call_counted}
+use Rattle.switch_core.specs.Exports.{Answer, SwitchValue, switch_call_counted}
 use Rattle.tunnel.specs.Exports.{here}
-use Rattle.world_log.specs.Exports.{Hops, LogAfter, MayGoOn, log_coming_in, log_entered_flight, log_entered_items, log_entered_posts, entry, log_hop_written}
-use Rattle.world.specs.Exports.{BeginsStep, Goes, world_setting_in}
+use Rattle.world_log.specs.Exports.{Hops, LogAfter, MayLoggedPacketGoOn, log_coming_in, log_entered_flight, log_entered_items, log_entered_posts, entry, log_hop_written}
+use Rattle.world.specs.Exports.{WorldBeginsStep, WorldStepGoes, world_setting_in}
 use Rattle.refinement.specs.Exports.{RefineJournal}
 use Rattle.travelling.specs.Travelling.{Flight, Standing, flight}
 use Rattle.world_log.specs.declared.log.Log.{Log}
@@ -20,7 +20,7 @@ use Rattle.world.proofs.WorldStepClauses.{files_stay, goes_one, goes_quiet, none
 -- ---- a packet that enters
 
 module _ {parts : Parts} {before : List Item} {row s : ℕ} {header : Header}
-    (begins : BeginsStep before row (PacketStep s header) parts) (own : SwitchValue)
+    (begins : WorldBeginsStep before row (PacketStep s header) parts) (own : SwitchValue)
     (its : own ≡ get_or parts.switches.items s own) where
   abbrev what : Option Answer
   what = entry own (slice_index parts.near s) parts.ports (parts.packets + 1) header
@@ -30,9 +30,9 @@ module _ {parts : Parts} {before : List Item} {row s : ℕ} {header : Header}
 
   pub packet_goes : {T E : Type 0} (r : Result T E) (log : Log) (switches : Vec SwitchValue Global)
       (changed : SwitchValue) → switches.items ≡ set parts.switches.items s changed
-      → changed ≡ call_counted own → LogAfter r (log_entered_items (length parts.log.bag + 1) at what)
+      → changed ≡ switch_call_counted own → LogAfter r (log_entered_items (length parts.log.bag + 1) at what)
       (log_entered_posts at what) (parts.packets + 1) (log_entered_flight what) parts.log log
-      → Goes r before row (PacketStep s header) parts (record parts {
+      → WorldStepGoes r before row (PacketStep s header) parts (record parts {
         log = log;
         switches = switches;
         packets = parts.packets + 1;
@@ -60,7 +60,7 @@ own_of : (switches : List SwitchValue) (s : ℕ) (switch : SwitchValue)
 own_of switches s switch found = sym (get_or_from_slice_get switches s switch switch found)
 
 module _ {parts : Parts} {before : List Item} {row i : ℕ}
-    (begins : BeginsStep before row (Hop i) parts) where
+    (begins : WorldBeginsStep before row (Hop i) parts) where
   -- its switch can be asked
   can : (t : Flight) (switch : SwitchValue) → flight parts.log.travelling i ≡ Some t
       → slice_get parts.switches.items (here t.tunnel) ≡ Some switch → CanAsk (world_setting_in parts)
@@ -70,7 +70,7 @@ module _ {parts : Parts} {before : List Item} {row i : ℕ}
 
   pub may_go_on : (t : Flight) (switch : SwitchValue) → flight parts.log.travelling i ≡ Some t
       → slice_get parts.switches.items (here t.tunnel) ≡ Some switch
-      → MayGoOn i switch (slice_index parts.near (here t.tunnel)) t
+      → MayLoggedPacketGoOn i switch (slice_index parts.near (here t.tunnel)) t
   may_go_on t switch its found = let can = can t switch its found in record {
     known = ap (λ (u : Flight). u.tunnel.packet) can.standing.is;
     here = can.stands;
@@ -90,7 +90,7 @@ module _ {parts : Parts} {before : List Item} {row i : ℕ}
     -- and says what the journal's definitions say
     pub hop_goes : (o : Option Flight) → flight parts.log.travelling i ≡ o
         → Hops r i parts.near parts.ports parts.log parts.switches.items log after o
-        → Goes r before row (Hop i) parts (record parts { log = log; switches = switches })
+        → WorldStepGoes r before row (Hop i) parts (record parts { log = log; switches = switches })
     hop_goes None none nothing =
         let left = hop_left begins.ready.refines row i begins.ready.may (ap is_some none) in
         goes_one begins (files_stay refl refl) item.Nothing parts.log.bag

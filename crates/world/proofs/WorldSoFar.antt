@@ -1,11 +1,11 @@
 -- What a world wrote so far.
 use Rattle.std.proofs.Common.{◌++◌, ◌≡◌, List, append_assoc, length, ℕ}
 use Rattle.update_machine.specs.Exports.{IsSetting, Item, Setting, Step, piece}
-use Rattle.packet_laws.specs.Exports.{HoldsBetween, HoldsSoFar, IsKeptBehind}
+use Rattle.packet_laws.specs.Exports.{HoldsBetween, HoldsSoFar, ArePacketsKeptBehind}
 use Rattle.control_laws.specs.Exports.{HoldsReached}
 use Rattle.refinement.proofs.RefinedSteps.{reached_more}
 use Rattle.steps.specs.Exports.{IsStep}
-use Rattle.world.specs.Exports.{RefinesJournal, WorldValue, world_setting_at}
+use Rattle.world.specs.Exports.{WorldRefinesJournal, WorldValue, world_setting_at}
 use Rattle.world_log.specs.Exports.{IsLogPart}
 
 -- the law of what is written so far, and that of what is kept after steps
@@ -13,21 +13,21 @@ abbrev pub SoFarLaw : Type 0
 SoFarLaw = HoldsReached (λ setting journal. IsSetting setting → HoldsSoFar setting journal)
 
 abbrev pub BehindLaw : Type 0
-BehindLaw = HoldsBetween (λ setting journal. IsSetting setting → IsKeptBehind setting journal)
+BehindLaw = HoldsBetween (λ setting journal. IsSetting setting → ArePacketsKeptBehind setting journal)
 
-pub so_far_in : SoFarLaw → (world : WorldValue) → RefinesJournal world
+pub so_far_in : SoFarLaw → (world : WorldValue) → WorldRefinesJournal world
     → HoldsSoFar (world_setting_at world) world.journal
 so_far_in law world refines =
     law.reached (world_setting_at world) world.journal refines.reached refines.sound
 
-pub kept_in : BehindLaw → (world : WorldValue) → RefinesJournal world
-    → IsKeptBehind (world_setting_at world) world.journal
+pub kept_in : BehindLaw → (world : WorldValue) → WorldRefinesJournal world
+    → ArePacketsKeptBehind (world_setting_at world) world.journal
 kept_in law world refines =
     law.reached (world_setting_at world) world.journal refines.reached refines.sound
 
 -- a part of a step's piece is written
 pub part_so_far : SoFarLaw → (world : WorldValue) (row : ℕ) (step : Step) (after : List Item)
-    → RefinesJournal world → IsStep world.net (length world.files) step
+    → WorldRefinesJournal world → IsStep world.net (length world.files) step
     → IsLogPart world.journal (piece (world_setting_at world) world.journal row step) after
     → HoldsSoFar (world_setting_at world) after
 part_so_far law world row step after refines own part =
@@ -40,7 +40,7 @@ part_so_far law world row step after refines own part =
 
 -- all of it is
 pub step_so_far : SoFarLaw → (world : WorldValue) (row : ℕ) (step : Step) (after : List Item)
-    → RefinesJournal world → IsStep world.net (length world.files) step
+    → WorldRefinesJournal world → IsStep world.net (length world.files) step
     → after ≡ world.journal ++ piece (world_setting_at world) world.journal row step
     → HoldsSoFar (world_setting_at world) after
 step_so_far law world row step after refines own written =

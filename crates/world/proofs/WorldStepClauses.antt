@@ -3,11 +3,11 @@
 use Rattle.std.proofs.Common.{[], ◌++◌, ◌+◌, ◌∙◌, ◌∷◌, ◌≡◌, IsErr, List, OnErr, OnOk, Result, Some, ap, arith, refl, rules, subst, sym, ℕ}
 use Rattle.base.proofs.Exports.{both_ok, on_err, on_err_weaker, on_ok_failed, on_ok_weaker}
 use Rattle.message_bag.specs.Exports.{Post}
-use Rattle.controller.specs.Exports.{newest_policy}
+use Rattle.controller.specs.Exports.{controller_newest_policy}
 use Rattle.update_machine.specs.Exports.{Item, Setting, Step, piece, step_items}
 use Rattle.journal.specs.declared.item.Item.TheVariants as item
-use Rattle.world.specs.Exports.{BeginsStep, FilesValue, Goes, WorldStepHasBegun, FilesHoldNewest, IsReadyForStep, PartsKeepNet, PartsRefineJournal, WorldPlays, comes_in, world_setting_in, world_state_in}
-use Rattle.refinement.specs.Exports.{NetworkState, RefineJournal}
+use Rattle.world.specs.Exports.{WorldBeginsStep, FilesValue, WorldStepGoes, WorldStepHasBegun, WorldFilesHoldNewest, IsWorldReadyForStep, WorldPartsKeepNet, WorldPartsRefineJournal, WorldPlays, comes_in, world_setting_in, world_state_in}
+use Rattle.refinement.specs.Exports.{RefinedNetworkState, RefineJournal}
 use Rattle.world_log.specs.Exports.{IsLogPart}
 use Rattle.world.specs.declared.parts.Parts.{Parts}
 use Rattle.refinement.proofs.RefinedSteps.{grown}
@@ -23,7 +23,7 @@ pub files_stay : {old new : Parts} → new.files ≡ old.files → new.ports ≡
 files_stay files ports = record { files = files; ports = ports }
 
 -- so the network stays, and the files
-pub net_stays : {old new : Parts} → new.files ≡ old.files → new.ports ≡ old.ports → PartsKeepNet old new
+pub net_stays : {old new : Parts} → new.files ≡ old.files → new.ports ≡ old.ports → WorldPartsKeepNet old new
 net_stays files ports = record {
   same_net = ap (λ (f : FilesValue). f.net) files;
   same_files = ap (λ (f : FilesValue). f.files) files;
@@ -32,21 +32,21 @@ net_stays files ports = record {
 
 -- they do, and changes are still applied to the newest policy
 pub record Follows (old new : Parts) : Type 0 where
-  pub net : PartsKeepNet old new
-  pub newest : FilesHoldNewest new
+  pub net : WorldPartsKeepNet old new
+  pub newest : WorldFilesHoldNewest new
 
 -- as where the newest policy is the one from before
 pub follows : {before : List Item} {row : ℕ} {step : Step} {old new : Parts}
-    → BeginsStep before row step old → new.files ≡ old.files → new.ports ≡ old.ports
-    → newest_policy new.controller ≡ newest_policy old.controller → Follows old new
+    → WorldBeginsStep before row step old → new.files ≡ old.files → new.ports ≡ old.ports
+    → controller_newest_policy new.controller ≡ controller_newest_policy old.controller → Follows old new
 follows begins files ports newest = record {
   net = net_stays files ports;
   newest = newest ∙ begins.ready.newest ∙ ap (λ (f : FilesValue). Some f.newest) (sym files);
 }
 
 -- the network and the files stayed
-as_kept : (old new : Parts) → PartsKeepNet old new
-    → RefineJournal (world_setting_in old) new.log.journal (world_state_in new) → PartsRefineJournal new
+as_kept : (old new : Parts) → WorldPartsKeepNet old new
+    → RefineJournal (world_setting_in old) new.log.journal (world_state_in new) → WorldPartsRefineJournal new
 as_kept old new keeps refines = rw (keeps.same_net, keeps.same_files) refines
 
 -- the controller stayed, and which links are up and usable
@@ -64,7 +64,7 @@ plane_stays controller links near = record {
 }
 
 -- so only switches, packets on their way and messages changed
-abbrev pub with_posts : Parts → Parts → List Post → NetworkState
+abbrev pub with_posts : Parts → Parts → List Post → RefinedNetworkState
 with_posts old new posts = record (world_state_in old) {
   switches = new.switches.items;
   travelling = new.log.travelling;
@@ -90,13 +90,13 @@ piece_split setting before row step = refl
 
 -- the step writes these items behind its row
 module _ {T E : Type 0} {r : Result T E} {before : List Item} {row : ℕ} {step : Step}
-    {old new : Parts} (begins : BeginsStep before row step old) (keeps : Follows old new) where
+    {old new : Parts} (begins : WorldBeginsStep before row step old) (keeps : Follows old new) where
   pub goes : (items : List Item) → piece (world_setting_in old) before row step
       ≡ item.Row row step ∷ items → OnOk r (new.packets ≡ old.packets + comes_in step)
       → OnOk r (new.log.journal ≡ old.log.journal ++ items)
       → OnErr r (IsLogPart old.log.journal items new.log.journal)
       → OnOk r (RefineJournal (world_setting_in old) (before ++ item.Row row step ∷ items) (world_state_in new))
-      → Goes r before row step old new
+      → WorldStepGoes r before row step old new
   goes items is counted written part refines = record {
     net = keeps.net;
     newest = on_ok_weaker r (λ grown. keeps.newest) written;
@@ -111,7 +111,7 @@ module _ {T E : Type 0} {r : Result T E} {before : List Item} {row : ℕ} {step 
   }
 
 module _ {T E : Type 0} {r : Result T E} {before : List Item} {row : ℕ} {step : Step}
-    {old new : Parts} (begins : BeginsStep before row step old) (keeps : KeepFiles old new) where
+    {old new : Parts} (begins : WorldBeginsStep before row step old) (keeps : KeepFiles old new) where
   -- and of the control plane it changes messages alone
   pub goes_quiet : (items : List Item) → KeepControl old new
       → piece (world_setting_in old) before row step ≡ item.Row row step ∷ items
@@ -119,10 +119,10 @@ module _ {T E : Type 0} {r : Result T E} {before : List Item} {row : ℕ} {step 
       → OnOk r (new.log.journal ≡ old.log.journal ++ items)
       → OnErr r (IsLogPart old.log.journal items new.log.journal)
       → OnOk r (RefineJournal (world_setting_in old) (before ++ item.Row row step ∷ items)
-      (with_posts old new new.log.bag)) → Goes r before row step old new
+      (with_posts old new new.log.bag)) → WorldStepGoes r before row step old new
   goes_quiet items control is counted written part refines =
       goes begins (follows begins keeps.files keeps.ports
-      (ap newest_policy control.same_controller)) items is counted written part
+      (ap controller_newest_policy control.same_controller)) items is counted written part
       (on_ok_weaker r (by_posts old new (before ++ item.Row row step ∷ items) control) refines)
 
   -- it writes one item, and no packet enters
@@ -131,17 +131,17 @@ module _ {T E : Type 0} {r : Result T E} {before : List Item} {row : ℕ} {step 
       → (piece (world_setting_in old) before row step ≡ item.Row row step ∷ one ∷ [])
       × RefineJournal (world_setting_in old) (grown before row step one) (with_posts old new posts)
       → OnOk r (new.log.journal ≡ old.log.journal ++ one ∷ [])
-      → OnErr r (new.log.journal ≡ old.log.journal) → Goes r before row step old new
+      → OnErr r (new.log.journal ≡ old.log.journal) → WorldStepGoes r before row step old new
   goes_one one posts control same counted is pushed unchanged = goes_quiet (one ∷ []) control is.0
       (on_ok_weaker r (λ grown. counted) pushed) pushed (on_err_weaker r
       (λ same. part_none old.log.journal (one ∷ []) new.log.journal same) unchanged)
       (on_ok_weaker r (λ grown. rw same is.1) pushed)
 
 module _ {T E : Type 0} {r : Result T E} {before : List Item} {row : ℕ} {step : Step}
-    {old new : Parts} (keeps : PartsKeepNet old new) where
+    {old new : Parts} (keeps : WorldPartsKeepNet old new) where
   -- it gives up when memory runs out, and a part of its items is written
   pub part_goes : IsErr r → IsLogPart before (piece (world_setting_in old) before row step) new.log.journal
-      → Goes r before row step old new
+      → WorldStepGoes r before row step old new
   part_goes failed part = record {
     net = keeps;
     newest = on_ok_failed _ r failed;
@@ -152,9 +152,9 @@ module _ {T E : Type 0} {r : Result T E} {before : List Item} {row : ℕ} {step 
   }
 
 module _ {T E : Type 0} {r : Result T E} {before : List Item} {row : ℕ} {step : Step}
-    {old new : Parts} (begins : BeginsStep before row step old) (keeps : PartsKeepNet old new) where
+    {old new : Parts} (begins : WorldBeginsStep before row step old) (keeps : WorldPartsKeepNet old new) where
   -- behind its row
-  pub nothing_goes : IsErr r → new.log.journal ≡ old.log.journal → Goes r before row step old new
+  pub nothing_goes : IsErr r → new.log.journal ≡ old.log.journal → WorldStepGoes r before row step old new
   nothing_goes failed same = part_goes keeps failed (record {
     written = item.Row row step ∷ [];
     rest = step_items (world_setting_in old) before step (before ++ item.Row row step ∷ []);
@@ -168,25 +168,25 @@ with_journal parts journal = record parts { log = record parts.log { journal = j
 
 -- nothing happens: of all parts the journal alone changes, which says so
 pub goes_nothing : {T E : Type 0} {r : Result T E} {before : List Item} {row : ℕ} {step : Step}
-    {old : Parts} {journal : List Item} → BeginsStep before row step old → comes_in step ≡ 0
+    {old : Parts} {journal : List Item} → WorldBeginsStep before row step old → comes_in step ≡ 0
     → (piece (world_setting_in old) before row step ≡ item.Row row step ∷ item.Nothing ∷ [])
     × RefineJournal (world_setting_in old) (grown before row step item.Nothing) (world_state_in old)
     → OnOk r (journal ≡ old.log.journal ++ item.Nothing ∷ []) → OnErr r (journal ≡ old.log.journal)
-    → Goes r before row step old (with_journal old journal)
+    → WorldStepGoes r before row step old (with_journal old journal)
 goes_nothing {old} begins none is pushed unchanged = goes_one begins (files_stay refl refl)
     item.Nothing old.log.bag (plane_stays refl refl refl) refl (omega arith) is pushed unchanged
 
 -- ---- the row is written, and then the rest
 
 ready_behind : (before : List Item) (step : Step) (parts : Parts) (journal : List Item)
-    → IsReadyForStep before step parts → IsReadyForStep before step (with_journal parts journal)
+    → IsWorldReadyForStep before step parts → IsWorldReadyForStep before step (with_journal parts journal)
 ready_behind before step parts journal ready = search rules
 
 module _ (row : ℕ) (step kind : Step) (old : Parts) (rowed : List Item)
-    (ready : IsReadyForStep old.log.journal step old)
+    (ready : IsWorldReadyForStep old.log.journal step old)
     (is : rowed ≡ old.log.journal ++ item.Row row step ∷ []) (kind_is : step ≡ kind) where
-  begins_kind : BeginsStep old.log.journal row kind (with_journal old rowed)
-  begins_kind = subst (λ (k : Step). BeginsStep old.log.journal row k (with_journal old rowed))
+  begins_kind : WorldBeginsStep old.log.journal row kind (with_journal old rowed)
+  begins_kind = subst (λ (k : Step). WorldBeginsStep old.log.journal row k (with_journal old rowed))
       kind_is (record { ready = ready_behind old.log.journal step old rowed ready; rowed = is })
 
   -- the method of its kind may take it
@@ -195,6 +195,6 @@ module _ (row : ℕ) (step kind : Step) (old : Parts) (rowed : List Item)
 
   -- and plays it
   pub played : {T E : Type 0} (r : Result T E) (new : Parts)
-      → WorldPlays kind r (with_journal old rowed) new → Goes r old.log.journal row step old new
+      → WorldPlays kind r (with_journal old rowed) new → WorldStepGoes r old.log.journal row step old new
   played r new plays = let its = plays old.log.journal row begins_kind in
-      subst (λ (k : Step). Goes r old.log.journal row k old new) (sym kind_is) (search rules)
+      subst (λ (k : Step). WorldStepGoes r old.log.journal row k old new) (sym kind_is) (search rules)

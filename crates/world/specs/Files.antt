@@ -1,10 +1,10 @@
 -- The policy files, and the plans of the policies that they have or make on a network.
 use Rattle.std.specs.Prelude.{[], ◌∷◌, ◌≡◌, ◌⊎◌, Err, IsSome, List, None, Ok, Option, Result, Some, length, slice_index_or, ℕ}
 use Rattle.net_file.specs.Exports.{IsNet}
-use Rattle.update_machine.specs.Exports.{Change, Inapplicable, Net, PolicyFile, Row, Whole, apply_code, made_by, plan_code, touched_of}
-use Rattle.partition.specs.Plan.{plan_of}
+use Rattle.update_machine.specs.Exports.{Change, Inapplicable, Net, PolicyFile, Row, Whole, machine_apply_code, made_by, machine_plan_code, touched_of}
+use Rattle.partition.specs.Plan.{partition_plan_of}
 use Rattle.policy_rules.specs.Hosted as no_plan
-use Rattle.policy_rules.specs.Exports.{NoPlan}
+use Rattle.policy_rules.specs.Exports.{NoPolicyPlan}
 use Rattle.controller.specs.Exports.{PlanValue}
 use Rattle.controller.specs.declared.plan_error.PlanError.{PlanError}
 use Rattle.controller.specs.declared.plan_error.PlanError.TheVariants as plan_error
@@ -29,59 +29,59 @@ first_policy [] = None
 first_policy (first ∷ files) = own_policy first
 
 -- the file at a place; a change without edits if there is none
-abbrev pub file_or_none : List PolicyFile → ℕ → PolicyFile
-file_or_none files place = slice_index_or files place (Change [])
+abbrev pub world_file_or_none : List PolicyFile → ℕ → PolicyFile
+world_file_or_none files place = slice_index_or files place (Change [])
 
 -- what a file makes of a policy, and what it touches of that policy
 abbrev pub Making : Type 0
 Making = Result (List Row) Inapplicable × List WordValue
 
-abbrev pub file_made_from : PolicyFile → List Row → Making
-file_made_from file newest = (made_by (Some file) (Some newest), touched_of (Some file) (Some newest))
+abbrev pub world_file_made_from : PolicyFile → List Row → Making
+world_file_made_from file newest = (made_by (Some file) (Some newest), touched_of (Some file) (Some newest))
 
 -- what the file at a place makes of the newest policy
-abbrev pub file_made_at : List PolicyFile → List Row → ℕ → Making
-file_made_at files newest place = file_made_from (file_or_none files place) newest
+abbrev pub world_file_made_at : List PolicyFile → List Row → ℕ → Making
+world_file_made_at files newest place = world_file_made_from (world_file_or_none files place) newest
 
 -- the code of why rows have no plan; none if memory ran out
 abbrev pub code_of : PlanError → Option ℕ
-code_of (plan_error.TooManyWords words) = Some (plan_code (no_plan.TooManyWords words))
-code_of plan_error.TooManyLeaves = Some (plan_code no_plan.TooManyLeaves)
-code_of (plan_error.NoRoom partition) = Some (plan_code (no_plan.NoRoom partition))
+code_of (plan_error.TooManyWords words) = Some (machine_plan_code (no_plan.TooManyWords words))
+code_of plan_error.TooManyLeaves = Some (machine_plan_code no_plan.TooManyLeaves)
+code_of (plan_error.NoRoom partition) = Some (machine_plan_code (no_plan.NoRoom partition))
 code_of plan_error.NoMemory = None
 
 -- these rows have no plan, for the reason with this code
-pub record HasNoPlan (net : Net) (rows : List Row) (code : ℕ) : Type 0 where
-  pub why : NoPlan
-  pub none : plan_of rows net ≡ Err why
-  pub code_is : plan_code why ≡ code
+pub record WorldHasNoPlan (net : Net) (rows : List Row) (code : ℕ) : Type 0 where
+  pub why : NoPolicyPlan
+  pub none : partition_plan_of rows net ≡ Err why
+  pub code_is : machine_plan_code why ≡ code
 
 -- the policy has this plan, and the words are those that the file touches
-pub record HasThisPlan (net : Net) (making : Making) (plan : PlanValue) (told : List WordValue)
+pub record WorldHasThisPlan (net : Net) (making : Making) (plan : PlanValue) (told : List WordValue)
     : Type 0 where
   pub policy : making.0 ≡ Ok plan.policy
-  pub planned : plan_of plan.policy net ≡ Ok plan.hosted
+  pub planned : partition_plan_of plan.policy net ≡ Ok plan.hosted
   pub told_is : told ≡ making.1
 
 -- what a file makes compiles to this: the plan of its policy, or the code of why there is no
 -- policy or no plan
-abbrev pub IsFileMade : Net → Making → Compiled → Type 0
-IsFileMade net making (Planned plan told) = HasThisPlan net making plan told
-IsFileMade net making (Refused code) =
-    ((why : Inapplicable) × (making.0 ≡ Err why) × (apply_code why ≡ code))
-    ⊎ ((rows : List Row) × (making.0 ≡ Ok rows) × HasNoPlan net rows code)
+abbrev pub IsWorldFileMade : Net → Making → Compiled → Type 0
+IsWorldFileMade net making (Planned plan told) = WorldHasThisPlan net making plan told
+IsWorldFileMade net making (Refused code) =
+    ((why : Inapplicable) × (making.0 ≡ Err why) × (machine_apply_code why ≡ code))
+    ⊎ ((rows : List Row) × (making.0 ≡ Ok rows) × WorldHasNoPlan net rows code)
 
 -- for each file that was compiled, the result that is kept is that for this newest policy
-pub record AreFilesCompiled (net : Net) (files : List PolicyFile) (newest : List Row)
+pub record AreWorldFilesCompiled (net : Net) (files : List PolicyFile) (newest : List Row)
     (kept : List (Option Compiled)) : Type 0 where
   pub sound : IsNet net
   pub many : length kept ≡ length files
   pub each : (place : ℕ) (compiled : Compiled) → slice_index_or kept place None ≡ Some compiled
-      → IsFileMade net (file_made_at files newest place) compiled
+      → IsWorldFileMade net (world_file_made_at files newest place) compiled
 
 -- what is still kept was kept before, and belongs to a file with its own policy
-pub record FilesKeepWhole (files : List PolicyFile) (old new : List (Option Compiled)) : Type 0 where
+pub record WorldFilesKeepWhole (files : List PolicyFile) (old new : List (Option Compiled)) : Type 0 where
   pub many : length new ≡ length old
   pub each : (place : ℕ) (compiled : Compiled) → slice_index_or new place None ≡ Some compiled
       → (slice_index_or old place None ≡ Some compiled)
-      × IsSome (own_policy (file_or_none files place))
+      × IsSome (own_policy (world_file_or_none files place))

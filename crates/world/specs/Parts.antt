@@ -1,12 +1,12 @@
 -- The parts of a world, and what is true of them.
 use Rattle.std.specs.Prelude.{[], ◌++◌, ◌+◌, ◌<◌, ◌∷◌, ◌≡◌, ◌≤◌, Bool, List, OnErr, OnOk, Result, Some, false, length, ℕ}
-use Rattle.controller.specs.Exports.{newest_policy}
-use Rattle.update_machine.specs.Exports.{Item, Setting, Step, next_packet, piece, setting_of}
+use Rattle.controller.specs.Exports.{controller_newest_policy}
+use Rattle.update_machine.specs.Exports.{Item, Setting, Step, journal_next_packet, piece, setting_of}
 use Rattle.journal.specs.declared.item.Item.TheVariants as item
 use Rattle.net_file.specs.Exports.{ArePortOwners, IsNet}
 use Rattle.steps.specs.Exports.{IsStep}
 use Rattle.world.specs.State.{WorldValue, comes_in}
-use Rattle.refinement.specs.Exports.{NetworkState, RefineJournal}
+use Rattle.refinement.specs.Exports.{RefinedNetworkState, RefineJournal}
 use Rattle.world_log.specs.Exports.{IsLogPart}
 use Rattle.world.specs.declared.parts.Parts.{Parts}
 
@@ -14,16 +14,16 @@ abbrev pub world_setting_in : Parts → Setting
 world_setting_in parts = setting_of parts.files.net parts.files.files
 
 -- the table of the ports is the network's
-pub record AreSoundParts (parts : Parts) : Type 0 where
+pub record AreSoundWorldParts (parts : Parts) : Type 0 where
   pub sound : IsNet parts.files.net
   pub owners : ArePortOwners parts.files.net.switches parts.ports
 
 -- changes are applied to the policy of the controller's newest version
-abbrev pub FilesHoldNewest : Parts → Type 0
-FilesHoldNewest parts = newest_policy parts.controller ≡ Some parts.files.newest
+abbrev pub WorldFilesHoldNewest : Parts → Type 0
+WorldFilesHoldNewest parts = controller_newest_policy parts.controller ≡ Some parts.files.newest
 
 -- the state of the parts, which their journal describes
-abbrev pub world_state_in : Parts → NetworkState
+abbrev pub world_state_in : Parts → RefinedNetworkState
 world_state_in parts = record {
   switches = parts.switches.items;
   travelling = parts.log.travelling;
@@ -35,19 +35,19 @@ world_state_in parts = record {
 }
 
 -- the parts are as their journal says
-abbrev pub PartsRefineJournal : Parts → Type 0
-PartsRefineJournal parts = RefineJournal (world_setting_in parts) parts.log.journal (world_state_in parts)
+abbrev pub WorldPartsRefineJournal : Parts → Type 0
+WorldPartsRefineJournal parts = RefineJournal (world_setting_in parts) parts.log.journal (world_state_in parts)
 
 -- ---- one step
 
 -- the network, its ports and the files stay the same
-pub record PartsKeepNet (before after : Parts) : Type 0 where
+pub record WorldPartsKeepNet (before after : Parts) : Type 0 where
   pub same_net : after.files.net ≡ before.files.net
   pub same_files : after.files.files ≡ before.files.files
   pub same_ports : after.ports ≡ before.ports
 
 -- all parts stay the same but the switches, their usable links, the journal and the messages
-pub record PartsKeepRest (before after : Parts) : Type 0 where
+pub record WorldPartsKeepRest (before after : Parts) : Type 0 where
   pub files : after.files ≡ before.files
   pub ports : after.ports ≡ before.ports
   pub links : after.links ≡ before.links
@@ -56,41 +56,41 @@ pub record PartsKeepRest (before after : Parts) : Type 0 where
   pub travelling : after.log.travelling ≡ before.log.travelling
 
 -- a step may be played on the parts, which are as this journal says
-pub record IsReadyForStep (before : List Item) (step : Step) (parts : Parts) : Type 0 where
-  pub sound : AreSoundParts parts
+pub record IsWorldReadyForStep (before : List Item) (step : Step) (parts : Parts) : Type 0 where
+  pub sound : AreSoundWorldParts parts
   pub refines : RefineJournal (world_setting_in parts) before (world_state_in parts)
-  pub newest : FilesHoldNewest parts
+  pub newest : WorldFilesHoldNewest parts
   pub may : IsStep parts.files.net (length parts.files.files) step
-  pub few : next_packet before ≤ 4_000_000_000
+  pub few : journal_next_packet before ≤ 4_000_000_000
   pub room : length parts.log.bag < 990_000
 
 -- and its row was written after that journal
-pub record BeginsStep (before : List Item) (row : ℕ) (step : Step) (parts : Parts) : Type 0 where
-  pub ready : IsReadyForStep before step parts
+pub record WorldBeginsStep (before : List Item) (row : ℕ) (step : Step) (parts : Parts) : Type 0 where
+  pub ready : IsWorldReadyForStep before step parts
   pub rowed : parts.log.journal ≡ before ++ item.Row row step ∷ []
 
 -- the parts after the step: its items are written, and then the parts are as the journal says; if
 -- memory ran out, a part of the items is written
-pub record Goes {T E : Type 0} (result : Result T E) (before : List Item) (row : ℕ) (step : Step)
+pub record WorldStepGoes {T E : Type 0} (result : Result T E) (before : List Item) (row : ℕ) (step : Step)
     (old new : Parts) : Type 0 where
-  pub net : PartsKeepNet old new
-  pub newest : OnOk result (FilesHoldNewest new)
+  pub net : WorldPartsKeepNet old new
+  pub newest : OnOk result (WorldFilesHoldNewest new)
   pub counted : OnOk result (new.packets ≡ old.packets + comes_in step)
   pub written : OnOk result (new.log.journal ≡ before ++ piece (world_setting_in old) before row step)
-  pub refines : OnOk result (PartsRefineJournal new)
+  pub refines : OnOk result (WorldPartsRefineJournal new)
   pub part : OnErr result (IsLogPart before (piece (world_setting_in old) before row step) new.log.journal)
 
 -- the step was begun
 pub record WorldStepHasBegun (step : Step) (parts : Parts) : Type 0 where
   pub before : List Item
   pub row : ℕ
-  pub begins : BeginsStep before row step parts
+  pub begins : WorldBeginsStep before row step parts
 
 -- the call plays a step that was begun
 abbrev pub WorldPlays : {T E : Type 0} → Step → Result T E → Parts → Parts → Type 0
 WorldPlays step result old new =
-    (before : List Item) (row : ℕ) → BeginsStep before row step old
-    → Goes result before row step old new
+    (before : List Item) (row : ℕ) → WorldBeginsStep before row step old
+    → WorldStepGoes result before row step old new
 
 -- ---- a world
 
@@ -112,6 +112,6 @@ world_value parts is_spent = record {
 
 -- as long as memory didn't run out within a step, the parts are as their journal says
 pub record IsWorld (parts : Parts) (is_spent : Bool) : Type 0 where
-  pub sound : AreSoundParts parts
-  pub refines : is_spent ≡ false → PartsRefineJournal parts
-  pub newest : is_spent ≡ false → FilesHoldNewest parts
+  pub sound : AreSoundWorldParts parts
+  pub refines : is_spent ≡ false → WorldPartsRefineJournal parts
+  pub newest : is_spent ≡ false → WorldFilesHoldNewest parts

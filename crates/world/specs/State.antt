@@ -5,7 +5,7 @@ use Rattle.controller.specs.Exports.{ControllerValue}
 use Rattle.update_machine.specs.Exports.{Item, Net, Packet, PolicyFile, Setting, Step, setting_of}
 use Rattle.switch_core.specs.Exports.{SwitchValue}
 use Rattle.travelling.specs.Travelling.{Flights}
-use Rattle.refinement.specs.Exports.{NetworkState, RefineJournal}
+use Rattle.refinement.specs.Exports.{RefinedNetworkState, RefineJournal}
 
 pub record WorldValue : Type 0 where
   pub net : Net
@@ -32,7 +32,7 @@ world_setting_at world = setting_of world.net world.files
 -- ---- a world
 
 -- all that it has
-abbrev pub state_at : WorldValue → NetworkState
+abbrev pub state_at : WorldValue → RefinedNetworkState
 state_at world = record {
   switches = world.switches;
   travelling = world.travelling;
@@ -44,8 +44,8 @@ state_at world = record {
 }
 
 -- the world is as its journal says
-abbrev pub RefinesJournal : WorldValue → Type 0
-RefinesJournal world = RefineJournal (world_setting_at world) world.journal (state_at world)
+abbrev pub WorldRefinesJournal : WorldValue → Type 0
+WorldRefinesJournal world = RefineJournal (world_setting_at world) world.journal (state_at world)
 
 -- nothing happened yet
 pub record IsWorldBegun (setting : Setting) (world : WorldValue) : Type 0 where

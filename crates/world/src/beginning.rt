@@ -1,9 +1,9 @@
 ghost use Rattle.std.specs.Prelude.{◌≡◌, [], length, map, IfOk};
 ghost use Rattle.std.specs.List.{range_with_len};
-ghost use Rattle.controller.specs.Exports.{PlanValue, first_controller};
+ghost use Rattle.controller.specs.Exports.{PlanValue, controller_at_start};
 ghost use Rattle.net_file.specs.Net.{IsNet};
-ghost use Rattle.world_log.specs.Linking.{AreNearMasks};
-ghost use Rattle.refinement.specs.Begun.{IsFirstController, switch_begun};
+ghost use Rattle.world_log.specs.Linking.{AreLogNearMasks};
+ghost use Rattle.refinement.specs.Begun.{IsRefinedFirstController, refined_switch_begun};
 
 use controller::Controller;
 use failover::Database;
@@ -38,11 +38,11 @@ pub fn switches_of(
     near: &[u64; 64],
 ) -> Result<Vec<Switch>, AllocError>
     requires net { IsNet net.now }
-    requires near { AreNearMasks net.now near.now }
-    requires first { IsFirstController net.now controller.now }
+    requires near { AreLogNearMasks net.now near.now }
+    requires first { IsRefinedFirstController net.now controller.now }
     ensures { IfOk result (λ switches. (plan : PlanValue)
-        → controller.now ≡ first_controller (length net.now.switches) plan
-        → switches.items ≡ map (switch_begun net.now plan.hosted)
+        → controller.now ≡ controller_at_start (length net.now.switches) plan
+        → switches.items ≡ map (refined_switch_begun net.now plan.hosted)
         (range_with_len 0 (length net.now.switches))) }
 {
     let count = net.switches.items().len();

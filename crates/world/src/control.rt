@@ -13,7 +13,7 @@ use base::Failure;
 use controller::{Act, SubmitError};
 use journal::{Item, Message};
 use std::alloc::{AllocError, Global};
-use world_log::adverts_again;
+use world_log::log_adverts_again;
 
 impl Parts {
     /// Makes the file's policy, or the one that its change makes, the newest version. If there is
@@ -76,7 +76,7 @@ impl Parts {
         let here = switch as usize;
         let count = self.switches.len() as u32;
         let near = self.near[here];
-        let messages = adverts_again(alloc, &self.switches[here], switch, count, near)?;
+        let messages = log_adverts_again(alloc, &self.switches[here], switch, count, near)?;
         let sends = self.controller.resend(switch)?;
         let acts = sends.into_items();
         if are_sends_none(messages.as_slice(), acts.as_slice()) {

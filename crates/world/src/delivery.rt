@@ -1,11 +1,11 @@
 //! Messages that are delivered: which switch hears them, and what is sent in reply.
 ghost use Rattle.std.specs.Prelude.{◌≡◌, ◌+◌, ◌-◌, ◌^◌, ◌<◌, ◌≤◌, ◌++◌, All, OnOk, OnErr, length, map};
 ghost use Rattle.message_bag.specs.Posts.{new_post};
-ghost use Rattle.controller.specs.Exports.{ControllerValue, ReplyNamesExist, SettlesWith, hear_acts, marks_after, newest_policy};
+ghost use Rattle.controller.specs.Exports.{ControllerValue, ControllerReplyNamesExist, ControllerSettlesWith, controller_hear_acts, controller_marks_after, controller_newest_policy};
 ghost use Rattle.steps.specs.declared.step.Step.TheVariants.{Deliver as DeliverStep};
-ghost use Rattle.update_machine.specs.Messages.{sent_from};
-ghost use Rattle.world_log.specs.Linking.{AreSwitchesRelinked, all_adverts_sent, near_all};
-ghost use Rattle.world.specs.Parts.{WorldStepHasBegun, PartsKeepRest, WorldPlays};
+ghost use Rattle.update_machine.specs.Messages.{machine_sent_items_from};
+ghost use Rattle.world_log.specs.Linking.{AreLogSwitchesRelinked, all_adverts_sent, logged_near_all};
+ghost use Rattle.world.specs.Parts.{WorldStepHasBegun, WorldPartsKeepRest, WorldPlays};
 ghost use Rattle.world_log.specs.Sending.{LogMayNote, LogMaySend, log_act_items, log_act_posts};
 ghost use Rattle.world_log.specs.Writing.{IsLogPart};
 
@@ -62,23 +62,23 @@ impl Parts {
         requires many { length self.old.switches.items ≤ 64 }
         requires next { All (λ switch. switch.seq < 2 ^ 32 - 1) self.old.switches.items }
         requires may { LogMaySend self.old.log.bag (all_adverts_sent self.old.near
-            (near_all self.old.links self.old.switches.items) self.old.switches.items) }
+            (logged_near_all self.old.links self.old.switches.items) self.old.switches.items) }
         ensures near { OnOk result
-            (self.new.near ≡ near_all self.old.links self.old.switches.items) }
-        ensures switches { OnOk result (AreSwitchesRelinked self.old.near
-            (near_all self.old.links self.old.switches.items)
+            (self.new.near ≡ logged_near_all self.old.links self.old.switches.items) }
+        ensures switches { OnOk result (AreLogSwitchesRelinked self.old.near
+            (logged_near_all self.old.links self.old.switches.items)
             self.old.switches.items self.new.switches.items) }
         ensures written { OnOk result (self.new.log.journal ≡ self.old.log.journal
-            ++ sent_from (length self.old.log.bag + 1) (all_adverts_sent self.old.near
-            (near_all self.old.links self.old.switches.items) self.old.switches.items)) }
+            ++ machine_sent_items_from (length self.old.log.bag + 1) (all_adverts_sent self.old.near
+            (logged_near_all self.old.links self.old.switches.items) self.old.switches.items)) }
         ensures posted { OnOk result (self.new.log.bag ≡ self.old.log.bag
             ++ map new_post (all_adverts_sent self.old.near
-            (near_all self.old.links self.old.switches.items) self.old.switches.items)) }
+            (logged_near_all self.old.links self.old.switches.items) self.old.switches.items)) }
         ensures part { OnErr result (IsLogPart self.old.log.journal
-            (sent_from (length self.old.log.bag + 1) (all_adverts_sent self.old.near
-            (near_all self.old.links self.old.switches.items) self.old.switches.items))
+            (machine_sent_items_from (length self.old.log.bag + 1) (all_adverts_sent self.old.near
+            (logged_near_all self.old.links self.old.switches.items) self.old.switches.items))
             self.new.log.journal) }
-        ensures rest { PartsKeepRest self.old self.new }
+        ensures rest { WorldPartsKeepRest self.old self.new }
     {
         let now = usable(&self.links, &self.switches);
         let messages = relink(alloc, &mut self.switches, &self.near, &now)?;
@@ -94,20 +94,20 @@ fn deliver_to_controller(
     controller: &mut Controller,
     body: &Body,
 ) -> Result<(), AllocError>
-    requires there { ReplyNamesExist body.now controller.old.marks }
+    requires there { ControllerReplyNamesExist body.now controller.old.marks }
     requires may { (new : ControllerValue)
-        → SettlesWith (marks_after body.now controller.old.marks) controller.old.plans new
-        → LogMayNote log.old.bag (hear_acts body.now controller.old.marks new) }
-    ensures after { SettlesWith
-        (marks_after body.now controller.old.marks) controller.old.plans controller.new }
-    ensures newest { newest_policy controller.new ≡ newest_policy controller.old }
+        → ControllerSettlesWith (controller_marks_after body.now controller.old.marks) controller.old.plans new
+        → LogMayNote log.old.bag (controller_hear_acts body.now controller.old.marks new) }
+    ensures after { ControllerSettlesWith
+        (controller_marks_after body.now controller.old.marks) controller.old.plans controller.new }
+    ensures newest { controller_newest_policy controller.new ≡ controller_newest_policy controller.old }
     ensures written { OnOk result (log.new.journal ≡ log.old.journal
         ++ log_act_items (length log.old.bag + 1)
-        (hear_acts body.now controller.old.marks controller.new)) }
+        (controller_hear_acts body.now controller.old.marks controller.new)) }
     ensures posted { OnOk result (log.new.bag ≡ log.old.bag
-        ++ log_act_posts (hear_acts body.now controller.old.marks controller.new)) }
+        ++ log_act_posts (controller_hear_acts body.now controller.old.marks controller.new)) }
     ensures part { OnErr result (IsLogPart log.old.journal (log_act_items (length log.old.bag + 1)
-        (hear_acts body.now controller.old.marks controller.new)) log.new.journal) }
+        (controller_hear_acts body.now controller.old.marks controller.new)) log.new.journal) }
     ensures travelling { log.new.travelling ≡ log.old.travelling }
 {
     let sends = controller.hear(body)?;

@@ -3,8 +3,8 @@ ghost use Rattle.std.specs.Prelude.{◌≡◌, ◌<◌, IfOk, IsSome, Ok, Some, 
 ghost use Rattle.net_file.specs.Net.{IsNet};
 ghost use Rattle.policy_rules.specs.Exports.{applied};
 ghost use Rattle.controller.specs.Exports.{touched_few};
-ghost use Rattle.switch_table.specs.Carried.{all_touched};
-ghost use Rattle.world.specs.Files.{IsFileMade, FilesKeepWhole, first_policy, file_made_at, file_made_from};
+ghost use Rattle.switch_table.specs.Carried.{cache_all_touched};
+ghost use Rattle.world.specs.Files.{IsWorldFileMade, WorldFilesKeepWhole, first_policy, world_file_made_at, world_file_made_from};
 ghost use Rattle.world.specs.declared.files.Compiled.TheVariants.{Planned};
 
 use crate::codes::{ABSENT, TAKEN, TOO_MANY_ROWS, code_of};
@@ -50,13 +50,13 @@ pub struct Files {
 }
 
 impl Model for Files {
-    ghost use Rattle.world.specs.Files.{FilesValue, AreFilesCompiled};
+    ghost use Rattle.world.specs.Files.{FilesValue, AreWorldFilesCompiled};
 
     ghost Value = { FilesValue };
 
     ghost view = { λ f. record { net = f.net; files = f.files.items; newest = f.newest.policy } };
 
-    ghost invariant = { λ f. AreFilesCompiled f.net f.files.items f.newest.policy f.compiled.items };
+    ghost invariant = { λ f. AreWorldFilesCompiled f.net f.files.items f.newest.policy f.compiled.items };
 }
 
 impl Files {
@@ -73,7 +73,7 @@ impl Files {
     ) -> Result<Files, AllocError>
         requires net { IsNet net }
         requires first { first_policy files.items ≡ Some plan.policy }
-        requires planned { IsFileMade net (Ok plan.policy, all_touched) (Planned plan all_touched) }
+        requires planned { IsWorldFileMade net (Ok plan.policy, cache_all_touched) (Planned plan cache_all_touched) }
         ensures { IfOk result (λ made. made
             ≡ record { net = net; files = files.items; newest = plan.policy }) }
     {
@@ -99,7 +99,7 @@ impl Files {
     pub fn compiled(&mut self, alloc: Global, place: usize) -> Result<Compiled, AllocError>
         requires { place < length self.old.files }
         ensures compiled { IfOk result
-            (IsFileMade self.old.net (file_made_at self.old.files self.old.newest place)) }
+            (IsWorldFileMade self.old.net (world_file_made_at self.old.files self.old.newest place)) }
         ensures same { self.new ≡ self.old }
     {
         if let Some(compiled) = &self.compiled[place] {
@@ -137,7 +137,7 @@ pub fn first_policy(files: &[PolicyFile]) -> &Policy
 // Forgets the results for changes, which depend on the newest policy.
 fn forget_changed_files(files: &[PolicyFile], compiled: &mut Vec<Option<Compiled>>)
     requires { length compiled.old.items ≡ length files.now }
-    ensures { FilesKeepWhole files.now compiled.old.items compiled.new.items }
+    ensures { WorldFilesKeepWhole files.now compiled.old.items compiled.new.items }
 {
     for (place, file) in files.iter().enumerate() {
         match file {
@@ -155,7 +155,7 @@ fn file_made_or_code(
     net: &Net,
 ) -> Result<Compiled, AllocError>
     requires { IsNet net.now }
-    ensures { IfOk result (IsFileMade net.now (file_made_from file.now newest.now)) }
+    ensures { IfOk result (IsWorldFileMade net.now (world_file_made_from file.now newest.now)) }
 {
     match file {
         PolicyFile::Whole(policy) => file_plan_or_code(alloc, policy, Touched::all(), net),
@@ -171,7 +171,7 @@ fn file_plan_or_code(
     net: &Net,
 ) -> Result<Compiled, AllocError>
     requires { IsNet net.now }
-    ensures { IfOk result (IsFileMade net.now (Ok policy.now, touched)) }
+    ensures { IfOk result (IsWorldFileMade net.now (Ok policy.now, touched)) }
 {
     match compile(alloc, policy, net) {
         Ok(plan) => Ok(Compiled::Planned(plan, touched)),
@@ -190,7 +190,7 @@ fn file_amended_or_code(
     net: &Net,
 ) -> Result<Compiled, AllocError>
     requires { IsNet net.now }
-    ensures { IfOk result (IsFileMade net.now
+    ensures { IfOk result (IsWorldFileMade net.now
         (applied policy.now change.now, touched_few policy.now change.now)) }
 {
     let code = match apply(alloc, policy, change) {

@@ -1,5 +1,5 @@
 ghost use Rattle.steps.specs.declared.step.Step.TheVariants.{Expire as ExpireStep, Forget as ForgetStep, Hop as HopStep, Lose as LoseStep, Packet as PacketStep};
-ghost use Rattle.world.specs.Parts.{Goes, WorldStepHasBegun, IsReadyForStep, WorldPlays};
+ghost use Rattle.world.specs.Parts.{WorldStepGoes, WorldStepHasBegun, IsWorldReadyForStep, WorldPlays};
 
 use crate::files::Files;
 use controller::Controller;
@@ -34,8 +34,8 @@ impl Parts {
     /// # Errors
     /// Only out of memory; then a part of the items is written.
     pub fn play(&mut self, alloc: Global, row: u32, step: &Step) -> Result<(), AllocError>
-        requires { IsReadyForStep self.old.log.journal step.now self.old }
-        ensures { Goes result self.old.log.journal row step.now self.old self.new }
+        requires { IsWorldReadyForStep self.old.log.journal step.now self.old }
+        ensures { WorldStepGoes result self.old.log.journal row step.now self.old self.new }
     {
         self.log.journal.push(Item::Row { row, step: *step })?;
         match step {

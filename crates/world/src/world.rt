@@ -2,17 +2,17 @@ ghost use Rattle.std.specs.Prelude.{◌≡◌, ◌+◌, ◌-◌, ◌++◌, ◌<�
 ghost use Rattle.message_bag.specs.Posts.{next_waiting_post};
 ghost use Rattle.controller.specs.Plan.{RefusesPlan};
 ghost use Rattle.net_file.specs.Net.{IsNet};
-ghost use Rattle.policy_rules.specs.Exports.{PolicyFileGivesOnly, IsPolicyFile};
-ghost use Rattle.update_machine.specs.Exports.{HasRoom, IsFull, NamesOwnPort, next_packet, next_travelling, next_waiting, piece, setting_of, travels};
+ghost use Rattle.policy_rules.specs.Exports.{PolicyRulesGiveOnly, IsPolicyOrAmendment};
+ghost use Rattle.update_machine.specs.Exports.{HasRoom, IsJournalFull, NamesSettingPort, journal_next_packet, next_travelling, next_waiting, piece, setting_of, travels};
 ghost use Rattle.update_machine.specs.Messages.{is_waiting};
-ghost use Rattle.packet_laws.specs.Exports.{HoldsSoFar, IsKeptBehind};
+ghost use Rattle.packet_laws.specs.Exports.{HoldsSoFar, ArePacketsKeptBehind};
 ghost use Rattle.steps.specs.Steps.{IsStep};
 ghost use Rattle.base.specs.declared.error.Failure.TheVariants.{NoMemory};
 ghost use Rattle.world.specs.Files.{first_policy};
 ghost use Rattle.world.specs.Least.{IsLeastFrom};
 ghost use Rattle.world.specs.NoStep.{no_world_step};
-ghost use Rattle.world.specs.State.{IsWorldBegun, RefinesJournal, comes_in, world_setting_at};
-ghost use Rattle.travelling.specs.Travelling.{IsNextFrom, flight};
+ghost use Rattle.world.specs.State.{IsWorldBegun, WorldRefinesJournal, comes_in, world_setting_at};
+ghost use Rattle.travelling.specs.Travelling.{IsNextTravellerFrom, flight};
 ghost use Rattle.world_log.specs.Writing.{IsLogPart};
 
 use crate::beginning::{first_journal, switches_of};
@@ -66,8 +66,8 @@ impl World {
     pub fn begin(alloc: Global, net: &Net, files: Vec<PolicyFile>) -> Result<World, PlanError>
         requires net { IsNet net.now }
         requires first { IsSome (first_policy files.items) }
-        requires sound { All IsPolicyFile files.items }
-        requires ports { All (PolicyFileGivesOnly (λ row. NamesOwnPort (setting_of net.now files.items)
+        requires sound { All IsPolicyOrAmendment files.items }
+        requires ports { All (PolicyRulesGiveOnly (λ row. NamesSettingPort (setting_of net.now files.items)
             row.action)) files.items }
         ensures begun { IfOk result (IsWorldBegun (setting_of net.now files.items)) }
         ensures refused { IfErr result
@@ -111,7 +111,7 @@ impl World {
     pub fn step(&mut self, row: u32, step: &Step) -> Result<(), StepError>
         requires may { HasRoom self.old.journal
             → IsStep self.old.net (length self.old.files) step.now }
-        requires few { next_packet self.old.journal ≤ 4_000_000_000 }
+        requires few { journal_next_packet self.old.journal ≤ 4_000_000_000 }
         ensures setting { world_setting_at self.new ≡ world_setting_at self.old }
         ensures written { OnOk result (self.new.journal ≡ self.old.journal
             ++ piece (world_setting_at self.old) self.old.journal row step.now) }
@@ -120,8 +120,8 @@ impl World {
         ensures part { OnErr result (IsLogPart self.old.journal
             (piece (world_setting_at self.old) self.old.journal row step.now) self.new.journal) }
         ensures room { OnOk result (HasRoom self.old.journal) }
-        ensures full { IsErrOf result no_world_step → IsFull self.old.journal }
-        ensures refused { self.old.is_spent ≡ false → IsFull self.old.journal
+        ensures full { IsErrOf result no_world_step → IsJournalFull self.old.journal }
+        ensures refused { self.old.is_spent ≡ false → IsJournalFull self.old.journal
             → IsErrOf result no_world_step }
         ensures unchanged { IsErrOf result no_world_step → self.new ≡ self.old }
         ensures lost { IsErrOf result NoMemory → self.new.is_spent ≡ true }
@@ -148,7 +148,7 @@ impl World {
 
     /// The least number, `from` or above, of a packet that travels; `None` exactly if none does.
     pub fn next_travelling(&self, from: u32) -> Option<u32>
-        ensures next { IsNextFrom self.now.travelling from result }
+        ensures next { IsNextTravellerFrom self.now.travelling from result }
         ensures least { self.now.is_spent ≡ false
             → IsLeastFrom (travels self.now.journal) from result }
         ensures first { self.now.is_spent ≡ false → from ≡ 1
@@ -223,7 +223,7 @@ impl World {
     /// As long as memory didn't run out within a step, the switches, the packets on their way, the
     /// messages and the controller are as the journal says.
     pub fn refines(&self)
-        ensures { self.now.is_spent ≡ false → RefinesJournal self.now }
+        ensures { self.now.is_spent ≡ false → WorldRefinesJournal self.now }
     {
         let _spent = self.is_spent;
     }
@@ -235,7 +235,7 @@ impl World {
         ensures so_far { self.now.is_spent ≡ false
             → HoldsSoFar (world_setting_at self.now) self.now.journal }
         ensures kept { self.now.is_spent ≡ false
-            → IsKeptBehind (world_setting_at self.now) self.now.journal }
+            → ArePacketsKeptBehind (world_setting_at self.now) self.now.journal }
     {
         journals_hold_so_far();
         steps_are_kept();

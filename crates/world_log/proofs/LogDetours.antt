@@ -4,12 +4,12 @@ use Rattle.base.proofs.Exports.{get_or_from_slice_get}
 use Rattle.failover.specs.Exports.{route_of, with_link}
 use Rattle.journal.specs.declared.item.Item.TheVariants as item
 use Rattle.update_machine.specs.Exports.{Cause, Leg, Ports}
-use Rattle.switch_core.specs.Exports.{IsAtAuthority, Moved, PacketStandsAt, SwitchValue, are_isolated, call_counted, cause_of, found_down_with, hop_answer, move_answer, moved_along_route}
+use Rattle.switch_core.specs.Exports.{IsAtAuthoritySwitch, Moved, PacketStandsAtSwitch, SwitchValue, are_isolated, switch_call_counted, switch_stuck_cause, switch_found_down_with, switch_hop_answer, switch_move_answer, switch_moved_along_route}
 use Rattle.switch_core.specs.declared.tunnel_calls.HopEnd.TheVariants as hop
 use Rattle.switch_core.proofs.SwitchHops.{hop_around, hop_stays}
 use Rattle.tunnel.specs.Exports.{here, tunnel_marked_down, next, on_route}
 use Rattle.travelling.specs.Travelling.{Flight, Standing, flight_begun_at, flight_marked_at, travels_by}
-use Rattle.world_log.specs.Exports.{LogAfter, MeetsDownLink, log_ended_switch, log_followed, log_followed_flight, log_followed_items, log_followed_posts, log_hop_flight, log_hop_posts, log_hop_written, log_hopped_switch}
+use Rattle.world_log.specs.Exports.{LogAfter, LogMeetsDownLink, log_ended_switch, log_followed, log_followed_flight, log_followed_items, log_followed_posts, log_hop_flight, log_hop_posts, log_hop_written, log_hopped_switch}
 use Rattle.world_log.specs.declared.log.Log.{Log}
 use Rattle.world_log.proofs.LogCalls.{log_behind}
 use Rattle.world_log.proofs.LogPacketMoves.{authority_counted}
@@ -18,28 +18,28 @@ use Rattle.world_log.proofs.LogHops.{hop_log, turned_along}
 -- the switch finds a route around the link, or none, as it does for the packet
 module _ (at : Standing) (version : ℕ) (rule : Option ℕ) (leg : Leg) (targets : List ℕ)
     (other : ℕ) (before s : SwitchValue) (near : ℕ) (t : Flight)
-    (met : MeetsDownLink at version rule leg targets other before s near t) (links : List ℕ)
+    (met : LogMeetsDownLink at version rule leg targets other before s near t) (links : List ℕ)
     (links_are : links ≡ (flight_marked_at at other).down) where
   pub stands : here t.tunnel ≡ before.number
   stands = get_or_from_slice_get t.tunnel.route t.tunnel.place before.number 0 met.here
 
-  links_is : links ≡ found_down_with t.tunnel other
+  links_is : links ≡ switch_found_down_with t.tunnel other
   links_is = cc (links_are, met.stands, stands)
 
   pub around : (found : Option (List ℕ)) → route_of s.database s.number targets near links ≡ found
-      → hop_answer before near t.tunnel ≡ moved_along_route before near (tunnel_marked_down t.tunnel other) found
+      → switch_hop_answer before near t.tunnel ≡ switch_moved_along_route before near (tunnel_marked_down t.tunnel other) found
   around found is = hop_around before near t.tunnel other found met.found
-      (ap (λ n. route_of before.database n t.tunnel.targets near (found_down_with t.tunnel other)) stands
-      ∙ ap (λ these. route_of before.database before.number these near (found_down_with t.tunnel other))
+      (ap (λ n. route_of before.database n t.tunnel.targets near (switch_found_down_with t.tunnel other)) stands
+      ∙ ap (λ these. route_of before.database before.number these near (switch_found_down_with t.tunnel other))
       (sym met.targets) ∙ ap (route_of before.database before.number targets near) (sym links_is)
       ∙ rw met.asked at is)
 
-  pub why : (cause : Cause) → cause ≡ cause_of s near links leg targets
-      → cause ≡ cause_of before near (found_down_with t.tunnel other) t.tunnel.leg t.tunnel.targets
-  unfolding cause_of are_isolated
-  why cause is = rw met.asked at is ∙ ap (λ down. cause_of before near down leg targets) links_is
-      ∙ ap (λ l. cause_of before near (found_down_with t.tunnel other) l targets) met.leg
-      ∙ ap (cause_of before near (found_down_with t.tunnel other) t.tunnel.leg) met.targets
+  pub why : (cause : Cause) → cause ≡ switch_stuck_cause s near links leg targets
+      → cause ≡ switch_stuck_cause before near (switch_found_down_with t.tunnel other) t.tunnel.leg t.tunnel.targets
+  unfolding switch_stuck_cause are_isolated
+  why cause is = rw met.asked at is ∙ ap (λ down. switch_stuck_cause before near down leg targets) links_is
+      ∙ ap (λ l. switch_stuck_cause before near (switch_found_down_with t.tunnel other) l targets) met.leg
+      ∙ ap (switch_stuck_cause before near (switch_found_down_with t.tunnel other) t.tunnel.leg) met.targets
 
   -- on that route
   abbrev pub turned : List ℕ → Flight
@@ -52,8 +52,8 @@ module _ (at : Standing) (version : ℕ) (rule : Option ℕ) (leg : Leg) (target
   -- ---- there is none
 
   module _ (cause : Cause) (none : route_of s.database s.number targets near links ≡ None)
-      (why_is : cause ≡ cause_of s near links leg targets) where
-    is_stuck : hop_answer before near t.tunnel
+      (why_is : cause ≡ switch_stuck_cause s near links leg targets) where
+    is_stuck : switch_hop_answer before near t.tunnel
         ≡ record { end = hop.Stuck cause; tunnel = tunnel_marked_down t.tunnel other }
     is_stuck = cc (around None none, why cause why_is)
 
@@ -78,14 +78,14 @@ module _ (at : Standing) (version : ℕ) (rule : Option ℕ) (leg : Leg) (target
         (item.Stuck at.packet at.switch cause leg (flight_marked_at at other).down ∷ []) [] [] packet None
         old mid new grown (same_bag ∙ sym (append-nil old.bag)) same log))))
 
-    pub stuck_switch : call_counted before ≡ log_hopped_switch before near t
-    stuck_switch = ap (λ (m : Moved). log_ended_switch (call_counted before) m.end) (sym is_stuck)
+    pub stuck_switch : switch_call_counted before ≡ log_hopped_switch before near t
+    stuck_switch = ap (λ (m : Moved). log_ended_switch (switch_call_counted before) m.end) (sym is_stuck)
 
   -- ---- along a route
 
   module _ (route : List ℕ) (some : route_of s.database s.number targets near links ≡ Some route)
     where
-      goes : hop_answer before near t.tunnel ≡ log_followed (turned route)
+      goes : switch_hop_answer before near t.tunnel ≡ log_followed (turned route)
       goes = around (Some route) some
 
       abbrev begun : Flight
@@ -102,9 +102,9 @@ module _ (at : Standing) (version : ℕ) (rule : Option ℕ) (leg : Leg) (target
           let packet = at.packet in
           let m : Moved = log_followed (turned route) in
           hop_log before near ports t r number packet (Some other) m old new met.found goes
-          (log_behind r _ (log_followed_items number (call_counted before) near ports (turned route)) []
-          (log_followed_posts (call_counted before) near ports (turned route)) packet
-          (log_followed_flight (call_counted before) near ports (turned route)) old mid new
+          (log_behind r _ (log_followed_items number (switch_call_counted before) near ports (turned route)) []
+          (log_followed_posts (switch_call_counted before) near ports (turned route)) packet
+          (log_followed_flight (switch_call_counted before) near ports (turned route)) old mid new
           (grown ∙ ap (λ (a : Standing). old.journal ++ item.FoundDown a.packet a.switch other
           ∷ item.Rerouted a.packet route ∷ []) met.stands
           ∙ ap (λ js. old.journal ++ js) (sym (turned_along t.tunnel.packet before.number other
@@ -116,19 +116,19 @@ module _ (at : Standing) (version : ℕ) (rule : Option ℕ) (leg : Leg) (target
           ports f) packet (log_followed_flight s near ports f) mid new) (turned_is route) log)))
 
       -- where its route is that one switch it has arrived there
-      pub last_here : next begun.tunnel ≡ None → PacketStandsAt s begun.tunnel.route begun.tunnel.place
-          × IsAtAuthority s begun.tunnel.header begun.tunnel.leg
+      pub last_here : next begun.tunnel ≡ None → PacketStandsAtSwitch s begun.tunnel.route begun.tunnel.place
+          × IsAtAuthoritySwitch s begun.tunnel.header begun.tunnel.leg
       last_here none =
-          let ends : hop_answer before near t.tunnel
+          let ends : switch_hop_answer before near t.tunnel
           ≡ record { end = hop.Arrive; tunnel = (turned route).tunnel } =
-          goes ∙ ap (move_answer (turned route).tunnel)
+          goes ∙ ap (switch_move_answer (turned route).tunnel)
           (ap (λ (f : Flight). next f.tunnel) (sym (turned_is route)) ∙ none) in
           let arrives = ap (λ (m : Moved). m.end) ends in
-          let there = subst (λ (m : Moved). PacketStandsAt before m.tunnel.route m.tunnel.place) ends
+          let there = subst (λ (m : Moved). PacketStandsAtSwitch before m.tunnel.route m.tunnel.place) ends
           (hop_stays before near t.tunnel met.here arrives) in
           let at = authority_counted before t.tunnel.header t.tunnel.leg (met.authority arrives) in
-          subst (λ (f : Flight). PacketStandsAt s f.tunnel.route f.tunnel.place
-          × IsAtAuthority s f.tunnel.header f.tunnel.leg) (sym (turned_is route))
+          subst (λ (f : Flight). PacketStandsAtSwitch s f.tunnel.route f.tunnel.place
+          × IsAtAuthoritySwitch s f.tunnel.header f.tunnel.leg) (sym (turned_is route))
           (rw met.asked (there, at))
 
       pub turned_switch : (now : SwitchValue) → now ≡ log_ended_switch s (log_followed begun).end

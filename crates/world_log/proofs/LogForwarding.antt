@@ -2,10 +2,10 @@
 use Rattle.std.proofs.Common.{[], if◌then◌else◌, ◌<◌, ◌==◌, ◌∙◌, ◌∷◌, ◌≡◌, Bool, Err, List, None, Ok, Option, Result, Some, ap, ok_or, option_map, refl, subst, sym, ℕ}
 use Rattle.update_machine.specs.Exports.{Action, CacheRule, Cause, Exit as ExitLeg, Leg, NoRoute, Out as OutBy}
 use Rattle.ctrl_msg.specs.declared.message.Place.TheVariants as receiver
-use Rattle.message_bag.specs.Exports.{HasShortSpelling}
+use Rattle.message_bag.specs.Exports.{HasShortBagSpelling}
 use Rattle.message_bag.proofs.BagSpellingLengths.{alone_short}
 use Rattle.net_file.specs.Exports.{port_owner}
-use Rattle.switch_core.specs.Exports.{SwitchSite, SwitchValue, cause_of, exit_by_switch, leave_by_switch, next_of, seek_by, set_out}
+use Rattle.switch_core.specs.Exports.{SwitchSite, SwitchValue, switch_stuck_cause, exit_by_switch, leave_by_switch, next_of, switch_seek_by, set_out}
 use Rattle.failover.specs.Exports.{route_of}
 use Rattle.tunnel.specs.Exports.{TunnelValue, tunnel_begun}
 use Rattle.switch_core.specs.declared.tunnel_calls.Packet.{Packet}
@@ -26,17 +26,17 @@ pub route_known : (s : SwitchValue) (near : ℕ) (packet : Packet) (leg : Leg)
 unfolding set_out
 route_known s near packet leg targets links route same is =
     sym (ap (λ found. ok_or (option_map (λ route. tunnel_begun packet.number packet.header
-    packet.ingress leg targets route packet.down) found) (cause_of s near packet.down leg targets))
+    packet.ingress leg targets route packet.down) found) (switch_stuck_cause s near packet.down leg targets))
     (subst (λ down. route_of s.database s.number targets near down ≡ Some route) same is))
 
 -- or why there is none
 pub none_known : (s : SwitchValue) (near : ℕ) (packet : Packet) (leg : Leg) (targets links : List ℕ)
     (cause : Cause) → links ≡ packet.down → route_of s.database s.number targets near links ≡ None
-    → cause ≡ cause_of s near links leg targets → Err cause ≡ set_out s near packet leg targets
+    → cause ≡ switch_stuck_cause s near links leg targets → Err cause ≡ set_out s near packet leg targets
 unfolding set_out
 none_known s near packet leg targets links cause same none is = ap Err (rw same at is)
     ∙ sym (ap (λ found. ok_or (option_map (λ route. tunnel_begun packet.number packet.header
-    packet.ingress leg targets route packet.down) found) (cause_of s near packet.down leg targets))
+    packet.ingress leg targets route packet.down) found) (switch_stuck_cause s near packet.down leg targets))
     (rw same at none))
 
 module _ {T E : Type 0} (r : Result T E) (at : Standing) (packet : ℕ) (old new : Log) where
@@ -44,8 +44,8 @@ module _ {T E : Type 0} (r : Result T E) (at : Standing) (packet : ℕ) (old new
   pub sought : (number : ℕ) (leg : Leg) (version : ℕ) (rule : Option ℕ)
       (way : Result TunnelValue Cause)
       → LogAfter r (log_set_item at leg way ∷ []) [] packet (log_set_flight version rule way) old new
-      → LogAfter r (log_answer_items number at (seek_by leg way)) (log_answer_posts at (seek_by leg way))
-      packet (log_answer_flight version rule (seek_by leg way)) old new
+      → LogAfter r (log_answer_items number at (switch_seek_by leg way)) (log_answer_posts at (switch_seek_by leg way))
+      packet (log_answer_flight version rule (switch_seek_by leg way)) old new
   sought number leg version rule (Ok tunnel) log = log
   sought number leg version rule (Err cause) log = log
 
@@ -105,7 +105,7 @@ module _ {T E : Type 0} (r : Result T E) (at : Standing) (packet : ℕ) (old new
 
 -- one to a switch below 64
 pub rule_spelled : (s version : ℕ) (word : WordValue) (rule : Option ℕ) (act : Action) → s < 64
-    → HasShortSpelling (record { to = receiver.Switch s; body = CacheRule version word rule act })
+    → HasShortBagSpelling (record { to = receiver.Switch s; body = CacheRule version word rule act })
 rule_spelled s version word rule act below = record {
   spelling = record { switch = below; suits = refl; fields = tt };
   short = alone_short _ refl;

@@ -4,7 +4,7 @@ use Rattle.base.proofs.Exports.{on_ok_weaker}
 use Rattle.update_machine.specs.Exports.{Item, Leg, Ports}
 use Rattle.journal.specs.declared.item.Item.TheVariants as item
 use Rattle.message_bag.specs.Exports.{Post}
-use Rattle.switch_core.specs.Exports.{SwitchArrival, Moved, SwitchValue, around, arrived_on_leg, call_counted, hop_answer, hopped_to, link_found_down, move_answer, onward_by_switch, received}
+use Rattle.switch_core.specs.Exports.{SwitchArrival, Moved, SwitchValue, around, switch_arrival_on_leg, switch_call_counted, switch_hop_answer, switch_hopped_to, switch_found_link_down, switch_move_answer, onward_by_switch, received}
 use Rattle.switch_core.specs.declared.packet.Onward.{Onward}
 use Rattle.switch_core.specs.declared.tunnel_calls.HopEnd.{HopEnd}
 use Rattle.switch_core.specs.declared.tunnel_calls.HopEnd.TheVariants as hop
@@ -25,48 +25,48 @@ passed_by near answer route place t route_is place_is is = cc (is, route_is, pla
 module _ (s : SwitchValue) (near : ℕ) (ports : Ports) (t : Flight) where
   abbrev pub items_by : ℕ → Option ℕ → Moved → List Item
   items_by number found m = log_turned_items t.tunnel.packet s.number found m.end m.tunnel.route
-      ++ log_ended_items number (call_counted s) near ports (record t { tunnel = m.tunnel }) m.end
+      ++ log_ended_items number (switch_call_counted s) near ports (record t { tunnel = m.tunnel }) m.end
 
   abbrev pub posts_by : Moved → List Post
-  posts_by m = log_ended_posts (call_counted s) near ports (record t { tunnel = m.tunnel }) m.end
+  posts_by m = log_ended_posts (switch_call_counted s) near ports (record t { tunnel = m.tunnel }) m.end
 
   abbrev pub flight_by : Moved → Option Flight
-  flight_by m = log_ended_flight (call_counted s) near ports (record t { tunnel = m.tunnel }) m.end
+  flight_by m = log_ended_flight (switch_call_counted s) near ports (record t { tunnel = m.tunnel }) m.end
 
   pub hop_log : {T E : Type 0} (r : Result T E) (number packet : ℕ) (found : Option ℕ) (m : Moved)
-      (old new : Log) → link_found_down near (next t.tunnel) ≡ found → hop_answer s near t.tunnel
+      (old new : Log) → switch_found_link_down near (next t.tunnel) ≡ found → switch_hop_answer s near t.tunnel
       ≡ m → LogAfter r (items_by number found m) (posts_by m) packet (flight_by m) old new
       → LogAfter r (log_hop_written number s near ports t) (log_hop_posts s near ports t) packet
       (log_hop_flight s near ports t) old new
   hop_log r number packet found m old new found_is moved_is log = rw found_is (rw moved_is log)
 
   -- where no link was found down
-  pub free_hop : (onward : Option ℕ) → link_found_down near (next t.tunnel) ≡ None
-      → next t.tunnel ≡ onward → hop_answer s near t.tunnel ≡ move_answer t.tunnel onward
-  unfolding hop_answer
-  free_hop onward free is = ap (hopped_to s near t.tunnel) free ∙ ap (move_answer t.tunnel) is
+  pub free_hop : (onward : Option ℕ) → switch_found_link_down near (next t.tunnel) ≡ None
+      → next t.tunnel ≡ onward → switch_hop_answer s near t.tunnel ≡ switch_move_answer t.tunnel onward
+  unfolding switch_hop_answer
+  free_hop onward free is = ap (switch_hopped_to s near t.tunnel) free ∙ ap (switch_move_answer t.tunnel) is
 
   pub passed_hop : {T E : Type 0} (r : Result T E) (packet : ℕ) (onward : Option ℕ) (old new : Log)
-      (after : SwitchValue) → link_found_down near (next t.tunnel) ≡ None → next t.tunnel ≡ onward
-      → LogAfter r (items_by (length old.bag + 1) None (move_answer t.tunnel onward)) (posts_by
-      (move_answer t.tunnel onward)) packet (flight_by (move_answer t.tunnel onward)) old new
-      → after ≡ log_ended_switch (call_counted s) (move_answer t.tunnel onward).end
+      (after : SwitchValue) → switch_found_link_down near (next t.tunnel) ≡ None → next t.tunnel ≡ onward
+      → LogAfter r (items_by (length old.bag + 1) None (switch_move_answer t.tunnel onward)) (posts_by
+      (switch_move_answer t.tunnel onward)) packet (flight_by (switch_move_answer t.tunnel onward)) old new
+      → after ≡ log_ended_switch (switch_call_counted s) (switch_move_answer t.tunnel onward).end
       → LogHasHopped r packet s near ports old after new t
   passed_hop r packet onward old new after free is log asked =
       let to = free_hop onward free is in record {
-        log = hop_log r (length old.bag + 1) packet None (move_answer t.tunnel onward) old new free
+        log = hop_log r (length old.bag + 1) packet None (switch_move_answer t.tunnel onward) old new free
             to log;
         counted = on_ok_weaker r (λ _. asked
-            ∙ ap (λ (m : Moved). log_ended_switch (call_counted s) m.end) (sym to)) log.written;
+            ∙ ap (λ (m : Moved). log_ended_switch (switch_call_counted s) m.end) (sym to)) log.written;
       }
 
 -- it moved on over a usable link
 pub move_hop : {T E : Type 0} (r : Result T E) (s : SwitchValue) (near : ℕ) (ports : Ports)
     (t : Flight) (packet place other : ℕ) (there : Option Flight) (old new : Log)
     (after : SwitchValue) → Some t ≡ there → t.tunnel.packet ≡ packet → place ≡ t.tunnel.place + 1
-    → link_found_down near (next t.tunnel) ≡ None → next t.tunnel ≡ Some other → LogAfter r
+    → switch_found_link_down near (next t.tunnel) ≡ None → next t.tunnel ≡ Some other → LogAfter r
     (item.Hopped packet other ∷ []) [] packet (option_map (flight_placed_at place) there) old new
-    → after ≡ call_counted s → LogHasHopped r packet s near ports old after new t
+    → after ≡ switch_call_counted s → LogHasHopped r packet s near ports old after new t
 move_hop r s near ports t packet place other there old new after its same place_is free is log =
     passed_hop s near ports t r packet (Some other) old new after free is
     (subst (λ k. LogAfter r (item.Hopped k other ∷ []) [] packet
@@ -80,11 +80,11 @@ move_hop r s near ports t packet place other there old new after its same place_
 
 -- a part of what a hop writes: that link alone
 pub found_part : (s : SwitchValue) (near : ℕ) (ports : Ports) (t : Flight) (number packet here
-    other : ℕ) (old new : List Item) → link_found_down near (next t.tunnel) ≡ Some other
+    other : ℕ) (old new : List Item) → switch_found_link_down near (next t.tunnel) ≡ Some other
     → packet ≡ t.tunnel.packet → here ≡ s.number → new ≡ old ++ item.FoundDown packet here other
     ∷ [] → IsLogPart old (log_hop_written number s near ports t) new
 found_part s near ports t number packet here other old new found packet_is here_is grown = rw found
-    (by_end (hop_answer s near t.tunnel).end (hop_answer s near t.tunnel).tunnel.route _)
+    (by_end (switch_hop_answer s near t.tunnel).end (switch_hop_answer s near t.tunnel).tunnel.route _)
   where
     its : new ≡ old ++ item.FoundDown t.tunnel.packet s.number other ∷ []
     its = cc (grown, packet_is, here_is)
@@ -97,7 +97,7 @@ found_part s near ports t number packet here other old new found packet_is here_
 
 -- a packet that goes on along this route took it first
 pub turned_along : (packet here other : ℕ) (t : TunnelValue) (onward : Option ℕ)
-    → log_turned_items packet here (Some other) (move_answer t onward).end (move_answer t
+    → log_turned_items packet here (Some other) (switch_move_answer t onward).end (switch_move_answer t
     onward).tunnel.route ≡ item.FoundDown packet here other ∷ item.Rerouted packet t.route ∷ []
 turned_along packet here other t None = refl
 turned_along packet here other t (Some next) = refl
@@ -114,7 +114,7 @@ pub arrival_log : {T E : Type 0} (r : Result T E) (number : ℕ) (w : SwitchValu
     (ports : Ports) (t : Flight) (at : Standing) (version : ℕ) (rule : Option ℕ)
     (leg : Leg) (packet : ℕ) (said : SwitchArrival) (old new : Log) → at ≡ standing_at w.number t
     → version ≡ t.version → rule ≡ t.rule → leg ≡ t.tunnel.leg → at.packet ≡ packet
-    → said ≡ arrived_on_leg w (around near ports) (log_packet_standing at) leg
+    → said ≡ switch_arrival_on_leg w (around near ports) (log_packet_standing at) leg
     → LogAfter r (log_arrived_items number at version rule said) (log_arrived_posts at said) at.packet
     (log_arrived_flight version rule said) old new → LogAfter r (log_arrival_items number w near ports t)
     (log_arrival_posts w near ports t) packet (log_arrival w near ports t) old new
@@ -125,10 +125,10 @@ arrival_log r number w near ports t at version rule leg packet said old new at_i
     LogAfter r (log_arrived_items number at version rule what) (log_arrived_posts at what) packet
     (log_arrived_flight version rule what) old new in
     let now = standing_at w.number t in
-    subst (λ leg. P packet now t.version t.rule (arrived_on_leg w (around near ports)
+    subst (λ leg. P packet now t.version t.rule (switch_arrival_on_leg w (around near ports)
     (log_packet_standing now) leg)) leg_is
-    (subst (λ rule. P packet now t.version rule (arrived_on_leg w (around near ports)
+    (subst (λ rule. P packet now t.version rule (switch_arrival_on_leg w (around near ports)
     (log_packet_standing now) leg)) rule_is (subst (λ version. P packet now version rule
-    (arrived_on_leg w (around near ports) (log_packet_standing now) leg)) version_is (subst (λ at. P packet
-    at version rule (arrived_on_leg w (around near ports) (log_packet_standing at) leg)) at_is (subst
+    (switch_arrival_on_leg w (around near ports) (log_packet_standing now) leg)) version_is (subst (λ at. P packet
+    at version rule (switch_arrival_on_leg w (around near ports) (log_packet_standing at) leg)) at_is (subst
     (P packet at version rule) said_is (subst (λ k. P k at version rule said) packet_is log)))))

@@ -3,12 +3,12 @@ use Rattle.std.proofs.Common.{[], if◌then◌else◌, ◌++◌, ◌+◌, ◌-�
 use Rattle.base.proofs.Exports.{cases_lt, filter_more, map-append, range_with_len}
 use Rattle.update_machine.specs.Exports.{Item}
 use Rattle.journal.specs.declared.item.Item.TheVariants as item
-use Rattle.travelling.specs.Travelling.{IsNextAt, Flights, TravellingWithOne, TravellingWithoutAt, numbers_at, stands_at, flight}
-use Rattle.world_log.specs.Exports.{AreLostBelow, IsLogPart, numbers_below}
+use Rattle.travelling.specs.Travelling.{IsNextTravellerAt, Flights, TravellingWithOne, TravellingWithoutAt, numbers_at, stands_at, flight}
+use Rattle.world_log.specs.Exports.{AreLoggedLossesBelow, IsLogPart, log_numbers_below}
 use Rattle.travelling.proofs.TravellingSlots.{beyond, filter_on, none_between}
 
 pub none_lost : (before : Flights) (switch : ℕ) (journal : List Item)
-    → AreLostBelow before switch 0 journal journal before
+    → AreLoggedLossesBelow before switch 0 journal journal before
 none_lost before switch journal = record {
   within = omega arith;
   written = sym (append-nil journal);
@@ -17,7 +17,7 @@ none_lost before switch journal = record {
 }
 
 module _ (before : Flights) (switch from : ℕ) (journal now : List Item) (after : Flights)
-    (lost : AreLostBelow before switch from journal now after) where
+    (lost : AreLoggedLossesBelow before switch from journal now after) where
   abbrev test : ℕ → Bool
   test i = stands_at switch (flight before i)
 
@@ -31,15 +31,15 @@ module _ (before : Flights) (switch from : ℕ) (journal now : List Item) (after
       let more : ℕ = length before - from in
       let rest : List ℕ = filter test (range_with_len from more) in
       let whole : ◌≡◌ {A = ℕ} (length before) (from + more) = omega (arith, lost.within) in record {
-        written = map item.Lost (numbers_below before switch from);
+        written = map item.Lost (log_numbers_below before switch from);
         rest = map item.Lost rest;
         split = ap (λ k. map item.Lost (filter test (range_with_len 0 k))) whole
             ∙ ap (map item.Lost) (filter_on test from more)
-            ∙ map-append item.Lost (numbers_below before switch from) rest;
+            ∙ map-append item.Lost (log_numbers_below before switch from) rest;
         grown = lost.written;
       }
 
-  module _ (packet : ℕ) (next : IsNextAt after switch from (Some packet)) where
+  module _ (packet : ℕ) (next : IsNextTravellerAt after switch from (Some packet)) where
     stood : test packet ≡ true
     stood = sym (stands_so packet next.0) ∙ next.1
 
@@ -54,8 +54,8 @@ module _ (before : Flights) (switch from : ℕ) (journal now : List Item) (after
       by_place (inr past) =
           absurd (let clash : true ≡ false = sym stood ∙ beyond before switch packet past in cc)
 
-    below_next : numbers_below before switch (packet + 1)
-        ≡ numbers_below before switch from ++ packet ∷ []
+    below_next : log_numbers_below before switch (packet + 1)
+        ≡ log_numbers_below before switch from ++ packet ∷ []
     below_next = let more : ℕ = packet - from in
         filter_more test packet
         ∙ ap (λ b. filter test (range_with_len 0 packet) ++ cond b (packet ∷ []) []) stood
@@ -66,13 +66,13 @@ module _ (before : Flights) (switch from : ℕ) (journal now : List Item) (after
     -- it is lost too
     pub lost_more : (behind : List Item) (gone : Flights)
         → behind ≡ now ++ item.Lost packet ∷ [] → TravellingWithOne after packet None gone
-        → AreLostBelow before switch (packet + 1) journal behind gone
+        → AreLoggedLossesBelow before switch (packet + 1) journal behind gone
     lost_more behind gone pushed without = record {
       within = omega (arith, lost_within);
       written = pushed ∙ ap (λ js. js ++ item.Lost packet ∷ []) lost.written
-          ∙ append_assoc journal (map item.Lost (numbers_below before switch from))
+          ∙ append_assoc journal (map item.Lost (log_numbers_below before switch from))
           (item.Lost packet ∷ []) ∙ ap (λ items. journal ++ items) (sym (map-append item.Lost
-          (numbers_below before switch from) (packet ∷ [])) ∙ ap (map item.Lost) (sym below_next));
+          (log_numbers_below before switch from) (packet ∷ [])) ∙ ap (map item.Lost) (sym below_next));
       lost = λ i below. without i ∙ by_same i (i == packet) refl below;
       later = λ i above. without i ∙ ap (λ b. if b then None else flight after i)
           (ne_eqb i packet (λ e. absurd (omega arith))) ∙ lost.later i (omega (arith, next.0));
@@ -92,7 +92,7 @@ module _ (before : Flights) (switch from : ℕ) (journal now : List Item) (after
             ap (λ k. k == packet) (sym same) ∙ e in let same_as : (packet == packet) ≡ true =
             eq-eqb packet packet refl in cc)
 
-  module _ (next : IsNextAt after switch from None) where
+  module _ (next : IsNextTravellerAt after switch from None) where
     none_more : (i : ℕ) → from ≤ i → test i ≡ false
     none_more i above = sym (stands_so i above) ∙ next i above
 

@@ -1,15 +1,15 @@
 -- What messages and acts write, one part after another.
 use Rattle.std.proofs.Common.{[], ◌++◌, ◌+◌, ◌<◌, ◌^◌, ◌∙◌, ◌∷◌, ◌≡◌, ◌≤◌, All, IsErr, List, Result, ap, append-nil, append_assoc, arith, get_or-append-add, length, length-append, map, refl, subst, sym, ℕ}
 use Rattle.base.proofs.Exports.{both_written, holds_next, get_or-map, get_or_append_left, length-map, map-append, on_err, on_ok_failed}
-use Rattle.message_bag.specs.Exports.{HasShortSpelling, Post, new_post}
+use Rattle.message_bag.specs.Exports.{HasShortBagSpelling, Post, new_post}
 use Rattle.controller.specs.declared.sends.Act.{Act}
 use Rattle.controller.specs.declared.sends.Act.TheVariants as act
-use Rattle.update_machine.specs.Exports.{Item, Message, sent_from}
-use Rattle.world_log.specs.Exports.{LogHasNoted, IsLogPart, IsActSpelled, LogMayNote, LogMaySend, log_act_item, log_act_items, log_act_post, log_act_posts, number_after_act}
+use Rattle.update_machine.specs.Exports.{Item, Message, machine_sent_items_from}
+use Rattle.world_log.specs.Exports.{LogHasNoted, IsLogPart, IsLoggedActSpelled, LogMayNote, LogMaySend, log_act_item, log_act_items, log_act_post, log_act_posts, log_number_after_act}
 use Rattle.world_log.specs.declared.log.Log.{Log}
 use Rattle.world_log.proofs.LogStepWrites.{part_of_first, part_of_rest}
 
-number_on : (number : ℕ) (one : Act) → number_after_act number one ≡ number + length (log_act_post one)
+number_on : (number : ℕ) (one : Act) → log_number_after_act number one ≡ number + length (log_act_post one)
 number_on number (act.Current version) = omega arith
 number_on number (act.Retired version) = omega arith
 number_on number (act.Post message) = refl
@@ -19,8 +19,8 @@ pub acts_append : (number : ℕ) (first later : List Act) → log_act_items numb
 unfolding log_act_items log_act_posts
 acts_append number [] later = ap (λ n. log_act_items n later) (omega arith)
 acts_append number (one ∷ first) later =
-    ap (λ items. log_act_item number one ∷ items) (acts_append (number_after_act number one) first later
-    ∙ ap (λ n. log_act_items (number_after_act number one) first ++ log_act_items n later)
+    ap (λ items. log_act_item number one ∷ items) (acts_append (log_number_after_act number one) first later
+    ∙ ap (λ n. log_act_items (log_number_after_act number one) first ++ log_act_items n later)
     (omega (arith, number_on number one, length-append (log_act_post one) (log_act_posts first))))
 
 pub posts_append : (first later : List Act)
@@ -157,8 +157,8 @@ module _ {A : Type 0} (act : A → Act) (all first rest : List A) (left : ℕ) (
           (map act first) so.done (map act later) (map act all) (act one) parts,
     )
 
-    pub noting_spelled : LogMayNote old.bag (map act all) → IsActSpelled (act one)
-    noting_spelled may = holds_next IsActSpelled (map act all) (map act first) (map act later)
+    pub noting_spelled : LogMayNote old.bag (map act all) → IsLoggedActSpelled (act one)
+    noting_spelled may = holds_next IsLoggedActSpelled (map act all) (map act first) (map act later)
         (act one) parts may.spelled
 
     -- and once it is
@@ -189,8 +189,8 @@ module _ {A : Type 0} (act : A → Act) (all first rest : List A) (left : ℕ) (
 
 -- if the acts are spelled, the messages of the first ones are
 pub messages_spelled : (messages : List Message) (later : List Act)
-    → All IsActSpelled (map act.Post messages ++ later) → All HasShortSpelling messages
-messages_spelled messages later all = λ k d within. subst IsActSpelled
+    → All IsLoggedActSpelled (map act.Post messages ++ later) → All HasShortBagSpelling messages
+messages_spelled messages later all = λ k d within. subst IsLoggedActSpelled
     (get_or_append_left (map act.Post messages) later (act.Post d) k
     (omega (arith, within, length-map messages act.Post))
     ∙ get_or-map act.Post messages k d (act.Post d) within) (all k (act.Post d) (omega (
@@ -209,14 +209,14 @@ module _ (bag : List Post) (first later : List Act) (may : LogMayNote bag (first
   pub may_later : (posts : List Post) → posts ≡ bag ++ log_act_posts first → LogMayNote posts later
   may_later posts posted = record {
     few = omega (arith, may.few, counted, ap length posted, length-append bag (log_act_posts first));
-    spelled = λ k d within. subst IsActSpelled (get_or-append-add first later k d)
+    spelled = λ k d within. subst IsLoggedActSpelled (get_or-append-add first later k d)
         (may.spelled (length first + k) d (omega (arith, within, length-append first later)));
   }
 
 -- messages alone
 pub sent_as_acts : (number : ℕ) (messages : List Message)
-    → log_act_items number (map act.Post messages) ≡ sent_from number messages
-unfolding log_act_items sent_from
+    → log_act_items number (map act.Post messages) ≡ machine_sent_items_from number messages
+unfolding log_act_items machine_sent_items_from
 sent_as_acts number [] = refl
 sent_as_acts number (message ∷ messages) = cc (sent_as_acts (number + 1) messages)
 
@@ -227,13 +227,13 @@ posts_as_acts [] = refl
 posts_as_acts (message ∷ messages) = ap (λ posts. new_post message ∷ posts) (posts_as_acts messages)
 
 -- messages are acts too
-pub spelled_as_acts : (messages : List Message) → All HasShortSpelling messages
-    → All IsActSpelled (map act.Post messages)
+pub spelled_as_acts : (messages : List Message) → All HasShortBagSpelling messages
+    → All IsLoggedActSpelled (map act.Post messages)
 spelled_as_acts [] all = λ k d within. absurd (omega (arith, within))
 spelled_as_acts (message ∷ messages) all = λ k d within.
     let inside : k < length (message ∷ messages) =
     omega (arith, within, length-map (message ∷ messages) act.Post) in
-    subst IsActSpelled (sym (get_or-map act.Post (message ∷ messages) k message d inside))
+    subst IsLoggedActSpelled (sym (get_or-map act.Post (message ∷ messages) k message d inside))
     (all k message inside)
 
 pub may_as_acts : (bag : List Post) (messages : List Message) → LogMaySend bag messages

@@ -5,8 +5,8 @@ use Rattle.update_machine.specs.Exports.{Advert, Hello, Message, advert_to}
 use Rattle.ctrl_msg.specs.Exports.{to_controller}
 use Rattle.failover.specs.Exports.{held_advert}
 use Rattle.base.specs.Exports.{has, only_if, switches}
-use Rattle.switch_core.specs.Exports.{SwitchValue, near_changed, next_advert, serves}
-use Rattle.world_log.specs.Exports.{advert_if_held, adverts_again, adverts_relinked_at, adverts_on_change, adverts_over, all_adverts_sent, all_held, links_change, near_mask_where, switch_relinked_as, switch_serves_at}
+use Rattle.switch_core.specs.Exports.{SwitchValue, near_changed, switch_next_advert, serves}
+use Rattle.world_log.specs.Exports.{log_advert_if_held, log_adverts_again, adverts_relinked_at, logged_adverts_on_change, adverts_over, all_adverts_sent, all_held, links_change, logged_near_mask_where, log_switch_relinked, logged_switch_serves_at}
 
 -- ---- adverts
 
@@ -31,11 +31,11 @@ held_one switch other n =
     (filter_map (held_advert switch.database) (n ∷ []))
 
 pub held_step : (switch : SwitchValue) (other n : ℕ) → held_below switch other (n + 1)
-    ≡ held_below switch other n ++ advert_if_held other (held_advert switch.database n)
+    ≡ held_below switch other n ++ log_advert_if_held other (held_advert switch.database n)
 held_step switch other n = cc (held_one switch other n, by_one (held_advert switch.database n) refl)
   where
     by_one : (o : Option Advert) → held_advert switch.database n ≡ o → map (advert_to other)
-        (filter_map (held_advert switch.database) (n ∷ [])) ≡ advert_if_held other o
+        (filter_map (held_advert switch.database) (n ∷ [])) ≡ log_advert_if_held other o
     by_one None e = rw e refl
     by_one (Some advert) e = rw e refl
 
@@ -82,23 +82,23 @@ again_below switch near n = near_below (λ other. map (advert_to other) (all_hel
 
 pub again_all : (s count near : ℕ) (switch : SwitchValue) → switch.is_up ≡ true
     → to_controller (Hello s switch.boot) ∷ again_below switch near count
-    ≡ adverts_again s count near switch
+    ≡ log_adverts_again s count near switch
 unfolding near_below
 again_all s count near switch up = rw up refl
 
 pub again_none : (s count near : ℕ) (switch : SwitchValue) → switch.is_up ≡ false
-    → [] ≡ adverts_again s count near switch
+    → [] ≡ log_adverts_again s count near switch
 again_none s count near switch down = rw down refl
 
 pub told_all : (switch : SwitchValue) (count had near : ℕ) → links_change had near switch ≡ true
-    → told_below (near_changed switch near) (next_advert switch near) had near count
-    ≡ adverts_on_change count had near switch
+    → told_below (near_changed switch near) (switch_next_advert switch near) had near count
+    ≡ logged_adverts_on_change count had near switch
 unfolding near_below
 told_all switch count had near is = rw is refl
 
 pub told_nothing : (switch : SwitchValue) (count had near : ℕ)
     → links_change had near switch ≡ false
-    → (switch_relinked_as had near switch ≡ switch) × (adverts_on_change count had near switch ≡ [])
+    → (log_switch_relinked had near switch ≡ switch) × (logged_adverts_on_change count had near switch ≡ [])
 told_nothing switch count had near is = (rw is refl, rw is refl)
 
 -- ---- switches
@@ -114,7 +114,7 @@ all_none count had near all = refl
 
 pub all_more : (count : ℕ) (had near : List ℕ) (all : List SwitchValue) (n : ℕ) (d : SwitchValue)
     → n < length all → all_below count had near all (n + 1) ≡ all_below count had near all n
-    ++ adverts_on_change count (get_or had n 0) (get_or near n 0) (get_or all n d)
+    ++ logged_adverts_on_change count (get_or had n 0) (get_or near n 0) (get_or all n d)
 unfolding all_below
 all_more count had near all n d there =
     let send_adverts : ℕ → List Message = adverts_relinked_at count had near all in
@@ -123,7 +123,7 @@ all_more count had near all n d there =
     ∙ ap (λ more. flat_map send_adverts (range_with_len 0 n) ++ more) (append-nil (send_adverts n)
     ∙ ap (λ o. elim o [
       | None ↦ []
-      | Some switch ↦ adverts_on_change count (get_or had n 0) (get_or near n 0) switch
+      | Some switch ↦ logged_adverts_on_change count (get_or had n 0) (get_or near n 0) switch
     ]) (slice_get-get_or all n d there))
 
 pub all_of_them : (had near : List ℕ) (all : List SwitchValue)
@@ -135,7 +135,7 @@ all_of_them had near all = refl
 
 -- those that serve among the switches below n, and no others
 pub record ServeBelow (mask n : ℕ) (all : List SwitchValue) : Type 0 where
-  pub below : (k : ℕ) → k < n → has mask k ≡ switch_serves_at all k
+  pub below : (k : ℕ) → k < n → has mask k ≡ logged_switch_serves_at all k
   pub past : (k : ℕ) → n ≤ k → has mask k ≡ false
 
 pub serve_none : (all : List SwitchValue) → ServeBelow 0 0 all
@@ -156,7 +156,7 @@ serve_one mask n all switch there is so = record {
         ∙ ap (λ b. b || has (only_if (serves switch) n) n) (so.past n (omega arith))
         ∙ has_only_same (serves switch) n ∙ ap serves is
         ∙ sym (ap (λ o. option_map_or serves o false) (slice_get-get_or all n switch there))
-        ∙ ap (switch_serves_at all) (sym same)
+        ∙ ap (logged_switch_serves_at all) (sym same)
   ];
   past = λ k past. has-or mask (only_if (serves switch) n) k
       ∙ ap (λ b. b || has (only_if (serves switch) n) k) (so.past k (omega (arith, past)))
@@ -167,13 +167,13 @@ serve_one mask n all switch there is so = record {
   or_false false = refl
 
 -- a switch that isn't there serves not
-none_there : (all : List SwitchValue) (k : ℕ) → length all ≤ k → switch_serves_at all k ≡ false
+none_there : (all : List SwitchValue) (k : ℕ) → length all ≤ k → logged_switch_serves_at all k ≡ false
 none_there [] k past = refl
 none_there (switch ∷ all) zero past = absurd (omega (arith, past))
 none_there (switch ∷ all) (suc k) past = none_there all k (omega (arith, past))
 
 pub serve_all : (mask : ℕ) (all : List SwitchValue) (n : ℕ) → length all ≤ n → n ≤ length all
-    → ServeBelow mask n all → (k : ℕ) → has mask k ≡ switch_serves_at all k
+    → ServeBelow mask n all → (k : ℕ) → has mask k ≡ logged_switch_serves_at all k
 serve_all mask all n least most so k = elim (cases_lt k n) [
   | inl less ↦ so.below k less
   | inr more ↦ so.past k more ∙ sym (none_there all k (omega (arith, least, more)))
@@ -181,7 +181,7 @@ serve_all mask all n least most so k = elim (cases_lt k n) [
 
 -- the usable links, as bits
 pub usable_bits : (links serving s : ℕ) → links < 2 ^ 64
-    → has serving s ≡ true → bit_and links serving ≡ near_mask_where links (has serving s) (has serving)
+    → has serving s ≡ true → bit_and links serving ≡ logged_near_mask_where links (has serving s) (has serving)
 usable_bits links serving s fits is = mask_of_is (bit_and links serving)
     (λ k. has links k && has serving s && has serving k) (omega (arith, and_le_l))
     (λ k below. has-and links serving k ∙ sym (and_true (has links k) (has serving k))
@@ -194,7 +194,7 @@ usable_bits links serving s fits is = mask_of_is (bit_and links serving)
     and_true false false = refl
 
 pub usable_none : (links serving s : ℕ) → has serving s ≡ false
-    → 0 ≡ near_mask_where links (has serving s) (has serving)
+    → 0 ≡ logged_near_mask_where links (has serving s) (has serving)
 usable_none links serving s is = mask_of_is 0 (λ k. has links k && has serving s && has serving k)
     (omega arith) (λ k below. has-zero k ∙ sym (ap (λ b. has links k && b && has serving k) is
     ∙ and_false (has links k) (has serving k)))
@@ -207,8 +207,8 @@ usable_none links serving s is = mask_of_is 0 (λ k. has links k && has serving 
 
 pub same_near : (links : ℕ) (own own2 : Bool) (test test2 : ℕ → Bool) → own ≡ own2
     → ((k : ℕ) → k < 64 → test k ≡ test2 k)
-    → near_mask_where links own test ≡ near_mask_where links own2 test2
-same_near links own own2 test test2 same others = mask_of_is (near_mask_where links own test)
+    → logged_near_mask_where links own test ≡ logged_near_mask_where links own2 test2
+same_near links own own2 test test2 same others = mask_of_is (logged_near_mask_where links own test)
     (λ k. has links k && own2 && test2 k) (mask_of_lt (λ k. has links k && own && test k))
     (λ k below. has_mask (λ j. has links j && own && test j) k below
     ∙ ap (λ b. has links k && b && test k) same

@@ -6,16 +6,16 @@ use Rattle.journal.specs.declared.item.Item.TheVariants as item
 use Rattle.travelling.specs.Travelling.{Flights, flight, stands_at}
 
 -- the numbers below `bound` of the packets that are at the switch, ascending
-abbrev pub numbers_below : Flights → ℕ → ℕ → List ℕ
-numbers_below flights switch bound =
+abbrev pub log_numbers_below : Flights → ℕ → ℕ → List ℕ
+log_numbers_below flights switch bound =
     filter (λ i. stands_at switch (flight flights i)) (range_with_len 0 bound)
 
 -- of the packets below a number exactly those that were at the switch are lost: each loss is
 -- written, and they no longer travel; all other packets are as before
-pub record AreLostBelow (before : Flights) (switch bound : ℕ) (journal now : List Item)
+pub record AreLoggedLossesBelow (before : Flights) (switch bound : ℕ) (journal now : List Item)
     (after : Flights) : Type 0 where
   pub within : bound ≤ length before
-  pub written : now ≡ journal ++ map item.Lost (numbers_below before switch bound)
+  pub written : now ≡ journal ++ map item.Lost (log_numbers_below before switch bound)
   pub lost : (i : ℕ) → i < bound → flight after i
       ≡ (if stands_at switch (flight before i) then None else flight before i)
   pub later : (i : ℕ) → bound ≤ i → flight after i ≡ flight before i

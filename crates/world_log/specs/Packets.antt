@@ -4,7 +4,7 @@ use Rattle.message_bag.specs.Exports.{Post}
 use Rattle.failover.specs.Exports.{no_links}
 use Rattle.update_machine.specs.Exports.{Header, Item, Leg, Ports}
 use Rattle.journal.specs.declared.item.Item.TheVariants as item
-use Rattle.switch_core.specs.Exports.{Answer, CanLookUp, IsAtAuthority, Moved, PacketStandsAt, SwitchValue, admitted, around, call_counted, hop_answer, incoming_packet, link_found_down, move_answer, received, serves}
+use Rattle.switch_core.specs.Exports.{Answer, CanSwitchLookUp, IsAtAuthoritySwitch, Moved, PacketStandsAtSwitch, SwitchValue, admitted, around, switch_call_counted, switch_hop_answer, incoming_packet, switch_found_link_down, switch_move_answer, received, serves}
 use Rattle.switch_core.specs.declared.tunnel_calls.HopEnd.{HopEnd}
 use Rattle.switch_core.specs.declared.tunnel_calls.HopEnd.TheVariants as hop
 use Rattle.tunnel.specs.Exports.{here, next}
@@ -64,25 +64,25 @@ log_ended_posts s near ports t _ = []
 
 -- the switch, called once more if the packet arrives
 abbrev pub log_ended_switch : SwitchValue → HopEnd → SwitchValue
-log_ended_switch s hop.Arrive = call_counted s
+log_ended_switch s hop.Arrive = switch_call_counted s
 log_ended_switch s _ = s
 
 -- the packet as the switch's move leaves it
 abbrev pub log_hopped_flight : SwitchValue → ℕ → Flight → Flight
-log_hopped_flight s near t = record t { tunnel = (hop_answer s near t.tunnel).tunnel }
+log_hopped_flight s near t = record t { tunnel = (switch_hop_answer s near t.tunnel).tunnel }
 
 -- all that a hop writes and posts, and where the packet is then
 abbrev pub log_hop_written : ℕ → SwitchValue → ℕ → Ports → Flight → List Item
 log_hop_written number s near ports t =
-    let moved = hop_answer s near t.tunnel in
-    log_turned_items t.tunnel.packet s.number (link_found_down near (next t.tunnel)) moved.end
+    let moved = switch_hop_answer s near t.tunnel in
+    log_turned_items t.tunnel.packet s.number (switch_found_link_down near (next t.tunnel)) moved.end
     moved.tunnel.route
-    ++ log_ended_items number (call_counted s) near ports (log_hopped_flight s near t) moved.end
+    ++ log_ended_items number (switch_call_counted s) near ports (log_hopped_flight s near t) moved.end
 
 abbrev pub log_hop_posts : SwitchValue → ℕ → Ports → Flight → List Post
 log_hop_posts s near ports t =
-    log_ended_posts (call_counted s) near ports (log_hopped_flight s near t)
-    (hop_answer s near t.tunnel).end
+    log_ended_posts (switch_call_counted s) near ports (log_hopped_flight s near t)
+    (switch_hop_answer s near t.tunnel).end
 
 abbrev pub log_ended_flight : SwitchValue → ℕ → Ports → Flight → HopEnd → Option Flight
 log_ended_flight s near ports t hop.Arrive = log_arrival s near ports t
@@ -91,17 +91,17 @@ log_ended_flight s near ports t (hop.Stuck cause) = None
 
 abbrev pub log_hop_flight : SwitchValue → ℕ → Ports → Flight → Option Flight
 log_hop_flight s near ports t =
-    log_ended_flight (call_counted s) near ports (log_hopped_flight s near t)
-    (hop_answer s near t.tunnel).end
+    log_ended_flight (switch_call_counted s) near ports (log_hopped_flight s near t)
+    (switch_hop_answer s near t.tunnel).end
 
 abbrev pub log_hopped_switch : SwitchValue → ℕ → Flight → SwitchValue
-log_hopped_switch s near t = log_ended_switch (call_counted s) (hop_answer s near t.tunnel).end
+log_hopped_switch s near t = log_ended_switch (switch_call_counted s) (switch_hop_answer s near t.tunnel).end
 
 -- ---- along a new route
 
 -- a packet at the beginning of this route moves to the second switch, or is at the end
 abbrev pub log_followed : Flight → Moved
-log_followed t = move_answer t.tunnel (next t.tunnel)
+log_followed t = switch_move_answer t.tunnel (next t.tunnel)
 
 abbrev pub log_followed_items : ℕ → SwitchValue → ℕ → Ports → Flight → List Item
 log_followed_items number s near ports t =
@@ -117,7 +117,7 @@ log_followed_flight s near ports t =
 
 -- the packet `t` is at this switch, with this version and rule, on this leg to these targets; the
 -- switch was called to move it on, and found the link to `other` down
-pub record MeetsDownLink (at : Standing) (its_version : ℕ) (its_rule : Option ℕ) (its_leg : Leg)
+pub record LogMeetsDownLink (at : Standing) (its_version : ℕ) (its_rule : Option ℕ) (its_leg : Leg)
     (its_targets : List ℕ) (other : ℕ) (before after : SwitchValue) (near : ℕ) (t : Flight)
     : Type 0 where
   pub stands : at ≡ standing_at before.number t
@@ -125,24 +125,24 @@ pub record MeetsDownLink (at : Standing) (its_version : ℕ) (its_rule : Option 
   pub rule : its_rule ≡ t.rule
   pub leg : its_leg ≡ t.tunnel.leg
   pub targets : its_targets ≡ t.tunnel.targets
-  pub here : PacketStandsAt before t.tunnel.route t.tunnel.place
-  pub found : link_found_down near (next t.tunnel) ≡ Some other
-  pub asked : after ≡ call_counted before
-  pub authority : (hop_answer before near t.tunnel).end ≡ hop.Arrive
-      → IsAtAuthority before t.tunnel.header t.tunnel.leg
+  pub here : PacketStandsAtSwitch before t.tunnel.route t.tunnel.place
+  pub found : switch_found_link_down near (next t.tunnel) ≡ Some other
+  pub asked : after ≡ switch_call_counted before
+  pub authority : (switch_hop_answer before near t.tunnel).end ≡ hop.Arrive
+      → IsAtAuthoritySwitch before t.tunnel.header t.tunnel.leg
   pub ingress : t.tunnel.ingress < 64
 
 -- ---- what a hop needs, and all that it does to a log and to the switches
 
 -- the packet of this number is at the switch, which may be called to move it on, and which can
 -- decide it if it arrives there
-pub record MayGoOn (packet : ℕ) (s : SwitchValue) (near : ℕ) (t : Flight) : Type 0 where
+pub record MayLoggedPacketGoOn (packet : ℕ) (s : SwitchValue) (near : ℕ) (t : Flight) : Type 0 where
   pub known : t.tunnel.packet ≡ packet
-  pub here : PacketStandsAt s t.tunnel.route t.tunnel.place
+  pub here : PacketStandsAtSwitch s t.tunnel.route t.tunnel.place
   pub serving : IsTrue (serves s)
-  pub stamped : CanLookUp s
-  pub authority : (hop_answer s near t.tunnel).end ≡ hop.Arrive
-      → IsAtAuthority s t.tunnel.header t.tunnel.leg
+  pub stamped : CanSwitchLookUp s
+  pub authority : (switch_hop_answer s near t.tunnel).end ≡ hop.Arrive
+      → IsAtAuthoritySwitch s t.tunnel.header t.tunnel.leg
   pub ingress : t.tunnel.ingress < 64
 
 -- after the packet's hop: what was written and posted, where it is, and its switch's count of calls

@@ -1,6 +1,6 @@
 -- Messages that are sent one after another, and what a controller does, as items of the journal.
 use Rattle.std.specs.Prelude.{[], ◌++◌, ◌+◌, ◌<◌, ◌^◌, ◌∷◌, ◌≡◌, All, List, OnErr, OnOk, Result, length, ℕ, ⊤}
-use Rattle.message_bag.specs.Exports.{HasShortSpelling, Post, new_post}
+use Rattle.message_bag.specs.Exports.{HasShortBagSpelling, Post, new_post}
 use Rattle.controller.specs.declared.sends.Act.{Act}
 use Rattle.controller.specs.declared.sends.Act.TheVariants as act
 use Rattle.update_machine.specs.Exports.{Item, Message}
@@ -15,13 +15,13 @@ log_act_item number (act.Retired version) = item.Retired version
 log_act_item number (act.Post message) = item.Sent number message
 
 -- the number of the next message after the act
-abbrev pub number_after_act : ℕ → Act → ℕ
-number_after_act number (act.Post message) = number + 1
-number_after_act number _ = number
+abbrev pub log_number_after_act : ℕ → Act → ℕ
+log_number_after_act number (act.Post message) = number + 1
+log_number_after_act number _ = number
 
 unfoldable pub log_act_items : ℕ → List Act → List Item
 log_act_items number [] = []
-log_act_items number (first ∷ acts) = log_act_item number first ∷ log_act_items (number_after_act number first) acts
+log_act_items number (first ∷ acts) = log_act_item number first ∷ log_act_items (log_number_after_act number first) acts
 
 -- what one act posts
 abbrev pub log_act_post : Act → List Post
@@ -37,17 +37,17 @@ log_act_posts (first ∷ acts) = log_act_post first ++ log_act_posts acts
 -- the bag has room for these messages, each of which has a short encoding
 pub record LogMaySend (bag : List Post) (messages : List Message) : Type 0 where
   pub few : length bag + length messages < 2 ^ 32
-  pub spelled : All HasShortSpelling messages
+  pub spelled : All HasShortBagSpelling messages
 
 -- what the act sends, if it sends something, has a short encoding
-abbrev pub IsActSpelled : Act → Type 0
-IsActSpelled (act.Post message) = HasShortSpelling message
-IsActSpelled _ = ⊤
+abbrev pub IsLoggedActSpelled : Act → Type 0
+IsLoggedActSpelled (act.Post message) = HasShortBagSpelling message
+IsLoggedActSpelled _ = ⊤
 
 -- the bag has room for all that these acts send, and each message has a short encoding
 pub record LogMayNote (bag : List Post) (acts : List Act) : Type 0 where
   pub few : length bag + length (log_act_posts acts) < 2 ^ 32
-  pub spelled : All IsActSpelled acts
+  pub spelled : All IsLoggedActSpelled acts
 
 -- the log after these acts; if memory ran out, a part of the items is written
 pub record LogHasNoted {T E : Type 0} (result : Result T E) (acts : List Act) (old new : Log)

@@ -1,7 +1,7 @@
 -- What the results of a switch for a packet do to the journal and the packet.
 use Rattle.std.specs.Prelude.{[], ◌++◌, ◌∷◌, ◌≡◌, Err, List, None, Ok, OnErr, OnOk, Option, Result, Some, map, option_map, ℕ}
 use Rattle.message_bag.specs.Exports.{Post, new_post}
-use Rattle.update_machine.specs.Exports.{Action, Body, Cause, Exit as ExitLeg, Item, Leg, Message, sent_from, takes_route}
+use Rattle.update_machine.specs.Exports.{Action, Body, Cause, Exit as ExitLeg, Item, Leg, Message, machine_sent_items_from, takes_route}
 use Rattle.ctrl_msg.specs.declared.message.Place.TheVariants as receiver
 use Rattle.policy_rules.specs.declared.policy.Action.TheVariants as action
 use Rattle.journal.specs.declared.item.Item.TheVariants as item
@@ -90,19 +90,19 @@ log_message_list None = []
 log_message_list (Some message) = message ∷ []
 
 -- a cache rule is sent to the switch where the packet entered
-abbrev pub cache_message : ℕ → Option Body → Option Message
-cache_message ingress cache =
+abbrev pub log_cache_message : ℕ → Option Body → Option Message
+log_cache_message ingress cache =
     option_map (λ body. record { to = receiver.Switch ingress; body = body }) cache
 
 -- the message of the result, if there is one
 abbrev pub log_answer_message : Standing → Answer → Option Message
-log_answer_message at (answer.Decided decision cache onward) = cache_message at.ingress cache
+log_answer_message at (answer.Decided decision cache onward) = log_cache_message at.ingress cache
 log_answer_message at _ = None
 
 -- the items, if the next message has this number
 abbrev pub log_answer_items : ℕ → Standing → Answer → List Item
 log_answer_items number at (answer.Decided decision cache onward) =
-    log_decided_items at decision (sent_from number (log_message_list (cache_message at.ingress cache)))
+    log_decided_items at decision (machine_sent_items_from number (log_message_list (log_cache_message at.ingress cache)))
     onward
 log_answer_items number at (answer.Seek tunnel) = takes_route at.packet tunnel.leg tunnel.route ∷ []
 log_answer_items number at (answer.Stuck cause leg) =

@@ -2,7 +2,7 @@
 ghost use Rattle.std.specs.Prelude.{◌≡◌, ◌<◌, ◌≤◌, ◌++◌, IfOk, OnOk};
 ghost use Rattle.ctrl_msg.specs.declared.message.Body.TheVariants.{Hello};
 ghost use Rattle.ctrl_msg.specs.Kinds.{to_controller};
-ghost use Rattle.world_log.specs.Linking.{adverts_again, adverts_all_near};
+ghost use Rattle.world_log.specs.Linking.{log_adverts_again, logged_adverts_all_near};
 
 use crate::usable_links::send_all_held;
 use base::has;
@@ -16,7 +16,7 @@ use switch_core::Switch;
 /// # Errors
 /// Only out of memory.
 #[tactic(auto, using(crate::proofs::LogRelinking::near_steps))]
-pub fn adverts_again(
+pub fn log_adverts_again(
     alloc: Global,
     switch: &Switch,
     s: u32,
@@ -24,7 +24,7 @@ pub fn adverts_again(
     near: u64,
 ) -> Result<Vec<Message>, AllocError>
     requires { count ≤ 64 }
-    ensures { IfOk result (λ messages. messages.items ≡ adverts_again s count near switch.now) }
+    ensures { IfOk result (λ messages. messages.items ≡ log_adverts_again s count near switch.now) }
 {
     let mut messages = Vec::new(alloc);
     if !switch.is_up() {
@@ -46,7 +46,7 @@ fn resend_to_neighbour(
 ) -> Result<(), AllocError>
     requires { other < 64 }
     ensures { OnOk result (messages.new.items
-        ≡ messages.old.items ++ adverts_all_near switch.now near other) }
+        ≡ messages.old.items ++ logged_adverts_all_near switch.now near other) }
 {
     if has(near, other) {
         send_all_held(messages, switch, other)?;

@@ -10,7 +10,7 @@
 //! A link is usable if it is up and both of its ends serve. `usable` returns these links as masks.
 //! `relink` returns what is sent when they change: each switch that is up and whose usable links
 //! changed makes its next advert, and sends it over each link that it had, and all that it knows
-//! over each new one. `link_masks` and `set_link_ends` keep which links are up, and `adverts_again` is
+//! over each new one. `link_masks` and `set_link_ends` keep which links are up, and `log_adverts_again` is
 //! what a switch sends again.
 //!
 //! ```text
@@ -31,7 +31,7 @@ mod sending;
 mod up_links;
 mod usable_links;
 
-pub use again::{adverts_again, hello};
+pub use again::{hello, log_adverts_again};
 pub use log::Log;
 pub use switch_core::SwitchSite;
 pub use up_links::{link_masks, set_link_ends};

@@ -1,8 +1,8 @@
 ghost use Rattle.std.specs.Prelude.{◌≡◌, ◌+◌, ◌-◌, ◌^◌, ◌<◌, [], ◌∷◌, ◌++◌, None, IsSomeAnd, OnOk, OnErr, length, option_map};
 ghost use Rattle.message_bag.specs.Posts.{new_post};
-ghost use Rattle.message_bag.specs.Feeding.{HasShortSpelling};
+ghost use Rattle.message_bag.specs.Feeding.{HasShortBagSpelling};
 ghost use Rattle.journal.specs.declared.item.Item.TheVariants.{Hopped as HoppedItem, Sent as SentItem, Stuck as StuckItem};
-ghost use Rattle.travelling.specs.Travelling.{FlightHasPlace, flight_placed_at, standing_kept, flight};
+ghost use Rattle.travelling.specs.Travelling.{FlightHasPlace, flight_placed_at, traveller_standing_kept, flight};
 ghost use Rattle.update_machine.specs.Exports.{takes_route};
 ghost use Rattle.world_log.specs.Writing.{LogAfter, log_left_item};
 
@@ -26,7 +26,7 @@ impl Log {
     /// # Errors
     /// Only out of memory; then nothing is written.
     pub fn send(&mut self, alloc: Global, message: Message) -> Result<(), AllocError>
-        requires spelling { HasShortSpelling message }
+        requires spelling { HasShortBagSpelling message }
         requires few { length self.old.bag < 2 ^ 32 - 1 }
         ensures written { OnOk result (self.new.journal
             ≡ self.old.journal ++ SentItem (length self.old.bag + 1) message ∷ []) }
@@ -47,7 +47,7 @@ impl Log {
         leg: Leg,
     ) -> Result<(), AllocError>
         ensures { LogAfter result
-            (StuckItem at.packet at.switch cause leg (standing_kept at).down ∷ []) []
+            (StuckItem at.packet at.switch cause leg (traveller_standing_kept at).down ∷ []) []
             at.packet None self.old self.new }
     {
         let packet = at.packet;
@@ -87,7 +87,7 @@ impl Log {
 
 /// The item of a packet that leaves by the port, with the version and the rule of its decision.
 pub fn leaves(at: &Standing, port: u32) -> Item
-    ensures { result ≡ log_left_item (standing_kept at.now) at.now.version at.now.rule port }
+    ensures { result ≡ log_left_item (traveller_standing_kept at.now) at.now.version at.now.rule port }
 {
     let leaving = Leaving {
         packet: at.packet,

@@ -2,7 +2,7 @@
 ghost use Rattle.std.specs.Prelude.{◌≡◌, ◌++◌, ◌∷◌, [], ℕ, map, None, OnOk, OnErr};
 ghost use Rattle.journal.specs.declared.item.Item.TheVariants.{Lost as LostItem};
 ghost use Rattle.travelling.specs.Travelling.{TravellingWithOne, TravellingWithoutAt, numbers_at};
-ghost use Rattle.world_log.specs.Losing.{AreLostBelow};
+ghost use Rattle.world_log.specs.Losing.{AreLoggedLossesBelow};
 ghost use Rattle.world_log.specs.Writing.{IsLogPart};
 
 use crate::log::Log;
@@ -38,7 +38,7 @@ impl Log {
         ensures lost { OnOk result (TravellingWithoutAt self.old.travelling switch self.new.travelling) }
         ensures part { OnErr result (IsLogPart self.old.journal
             (map LostItem (numbers_at self.old.travelling switch)) self.new.journal) }
-        ensures left { OnErr result ((bound : ℕ) × AreLostBelow self.old.travelling switch bound
+        ensures left { OnErr result ((bound : ℕ) × AreLoggedLossesBelow self.old.travelling switch bound
             self.old.journal self.new.journal self.new.travelling) }
         ensures unsent { self.new.bag ≡ self.old.bag }
     {

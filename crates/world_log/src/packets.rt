@@ -1,12 +1,12 @@
 ghost use Rattle.std.specs.Prelude.{◌≡◌, ◌≢◌, ◌+◌, ◌-◌, ◌^◌, ◌<◌, ◌++◌, [], ◌∷◌, None, Some, IsTrue, OnOk, OnErr, length, map, slice_get, slice_index};
 ghost use Rattle.message_bag.specs.Posts.{new_post};
-ghost use Rattle.switch_core.specs.Exports.{CanLookUp, IsAtAuthority, PacketStandsAt, answer_of, rule_cached_by, call_counted, next_of, serves, set_out, switch_site_of};
+ghost use Rattle.switch_core.specs.Exports.{CanSwitchLookUp, IsAtAuthoritySwitch, PacketStandsAtSwitch, answer_of, switch_rule_cached_by, switch_call_counted, next_of, serves, set_out, switch_site_of};
 ghost use Rattle.switch_core.specs.State.{SwitchValue};
-ghost use Rattle.travelling.specs.Travelling.{Flight, flight, standing_kept};
+ghost use Rattle.travelling.specs.Travelling.{Flight, flight, traveller_standing_kept};
 ghost use Rattle.tunnel.specs.Moves.{here, next};
-ghost use Rattle.update_machine.specs.Exports.{sent_from};
-ghost use Rattle.world_log.specs.Packets.{LogHasHopped, Hops, MeetsDownLink, MayGoOn, log_coming_in, log_ended_switch, entry, log_followed, log_followed_flight, log_followed_items, log_followed_posts};
-ghost use Rattle.world_log.specs.Writing.{LogAfter, log_arrived_items, log_arrived_posts, log_arrived_flight, cache_message, log_decided_flight, log_end_item, log_entered_items, log_entered_posts, log_entered_flight, log_message_list, log_packet_standing, log_set_flight, log_set_item};
+ghost use Rattle.update_machine.specs.Exports.{machine_sent_items_from};
+ghost use Rattle.world_log.specs.Packets.{LogHasHopped, Hops, LogMeetsDownLink, MayLoggedPacketGoOn, log_coming_in, log_ended_switch, entry, log_followed, log_followed_flight, log_followed_items, log_followed_posts};
+ghost use Rattle.world_log.specs.Writing.{LogAfter, log_arrived_items, log_arrived_posts, log_arrived_flight, log_cache_message, log_decided_flight, log_end_item, log_entered_items, log_entered_posts, log_entered_flight, log_message_list, log_packet_standing, log_set_flight, log_set_item};
 
 use crate::log::{Log, leaves, takes_route};
 use base::Failure;
@@ -32,7 +32,7 @@ impl Log {
         switch: &mut Switch,
         site: SwitchSite,
     ) -> Result<(), AllocError>
-        requires stamped { CanLookUp switch.old }
+        requires stamped { CanSwitchLookUp switch.old }
         requires few { length self.old.bag < 2 ^ 32 - 1 }
         ensures log { LogAfter result
             (log_entered_items (length self.old.bag + 1)
@@ -43,7 +43,7 @@ impl Log {
             packet (log_entered_flight
             (entry switch.old site.entry.near site.entry.ports.now packet header.now))
             self.old self.new }
-        ensures counted { switch.new ≡ call_counted switch.old }
+        ensures counted { switch.new ≡ switch_call_counted switch.old }
     {
         let number = switch.number();
         match switch.admit(header) {
@@ -95,7 +95,7 @@ impl Log {
             → here t.tunnel < length switches.old }
         requires may { (t : Flight) (s : SwitchValue) → flight self.old.travelling packet ≡ Some t
             → slice_get switches.old (here t.tunnel) ≡ Some s
-            → MayGoOn packet s (slice_index near.now (here t.tunnel)) t }
+            → MayLoggedPacketGoOn packet s (slice_index near.now (here t.tunnel)) t }
         requires few { length self.old.bag < 2 ^ 32 - 1 }
         ensures { Hops result packet near.now ports.now self.old switches.old self.new switches.new
             (flight self.old.travelling packet) }
@@ -148,15 +148,15 @@ impl Log {
         site: SwitchSite,
     ) -> Result<(), AllocError>
         requires serving { IsTrue (serves switch.old) }
-        requires stamped { CanLookUp switch.old }
-        requires met { (before : SwitchValue) × ((t : Flight) × MeetsDownLink (standing_kept at) at.version
+        requires stamped { CanSwitchLookUp switch.old }
+        requires met { (before : SwitchValue) × ((t : Flight) × LogMeetsDownLink (traveller_standing_kept at) at.version
             at.rule leg targets other before switch.old site.near t) }
         requires here { at.switch < 64 }
         requires different { other ≢ at.switch }
         requires other { other < 64 }
         requires few { length self.old.bag < 2 ^ 32 - 1 }
         ensures { (before : SwitchValue) (t : Flight)
-            → MeetsDownLink (standing_kept at) at.version at.rule leg targets other before switch.old
+            → LogMeetsDownLink (traveller_standing_kept at) at.version at.rule leg targets other before switch.old
             site.entry.near t
             → LogHasHopped result at.packet before site.entry.near site.entry.ports.now self.old switch.new
             self.new t }
@@ -191,10 +191,10 @@ impl Log {
         site: SwitchSite,
     ) -> Result<(), AllocError>
         requires serving { IsTrue (serves switch.old) }
-        requires stamped { CanLookUp switch.old }
+        requires stamped { CanSwitchLookUp switch.old }
         requires last { next kept.tunnel ≡ None
-            → PacketStandsAt switch.old kept.tunnel.route kept.tunnel.place
-            × IsAtAuthority switch.old kept.tunnel.header kept.tunnel.leg }
+            → PacketStandsAtSwitch switch.old kept.tunnel.route kept.tunnel.place
+            × IsAtAuthoritySwitch switch.old kept.tunnel.header kept.tunnel.leg }
         requires ingress { kept.tunnel.ingress < 64 }
         requires few { length self.old.bag < 2 ^ 32 - 1 }
         ensures log { LogAfter result
@@ -243,12 +243,12 @@ impl Log {
         requires ingress { at.ingress < 64 }
         requires few { length self.old.bag < 2 ^ 32 - 1 }
         ensures log { LogAfter result
-            (log_arrived_items (length self.old.bag + 1) (standing_kept at) at.version at.rule
-            (answer_of switch.old (switch_site_of site.entry) (log_packet_standing (standing_kept at)) forwarding))
-            (log_arrived_posts (standing_kept at)
-            (answer_of switch.old (switch_site_of site.entry) (log_packet_standing (standing_kept at)) forwarding))
+            (log_arrived_items (length self.old.bag + 1) (traveller_standing_kept at) at.version at.rule
+            (answer_of switch.old (switch_site_of site.entry) (log_packet_standing (traveller_standing_kept at)) forwarding))
+            (log_arrived_posts (traveller_standing_kept at)
+            (answer_of switch.old (switch_site_of site.entry) (log_packet_standing (traveller_standing_kept at)) forwarding))
             at.packet (log_arrived_flight at.version at.rule
-            (answer_of switch.old (switch_site_of site.entry) (log_packet_standing (standing_kept at)) forwarding))
+            (answer_of switch.old (switch_site_of site.entry) (log_packet_standing (traveller_standing_kept at)) forwarding))
             self.old self.new }
         ensures same { switch.new ≡ switch.old }
     {
@@ -283,10 +283,10 @@ impl Log {
         near: u64,
     ) -> Result<(), AllocError>
         ensures log { LogAfter result
-            (log_set_item (standing_kept at) leg
-            (set_out switch.old near (log_packet_standing (standing_kept at)) leg targets) ∷ [])
+            (log_set_item (traveller_standing_kept at) leg
+            (set_out switch.old near (log_packet_standing (traveller_standing_kept at)) leg targets) ∷ [])
             [] at.packet (log_set_flight at.version at.rule
-            (set_out switch.old near (log_packet_standing (standing_kept at)) leg targets))
+            (set_out switch.old near (log_packet_standing (traveller_standing_kept at)) leg targets))
             self.old self.new }
         ensures same { switch.new ≡ switch.old }
     {
@@ -314,10 +314,10 @@ impl Log {
         requires ingress { ingress < 64 }
         requires few { length self.old.bag < 2 ^ 32 - 1 }
         ensures written { OnOk result (self.new.journal ≡ self.old.journal
-            ++ sent_from (length self.old.bag + 1)
-            (log_message_list (cache_message ingress (rule_cached_by decision.now word)))) }
+            ++ machine_sent_items_from (length self.old.bag + 1)
+            (log_message_list (log_cache_message ingress (switch_rule_cached_by decision.now word)))) }
         ensures posted { OnOk result (self.new.bag ≡ self.old.bag
-            ++ map new_post (log_message_list (cache_message ingress (rule_cached_by decision.now word)))) }
+            ++ map new_post (log_message_list (log_cache_message ingress (switch_rule_cached_by decision.now word)))) }
         ensures unwritten { OnErr result (self.new.journal ≡ self.old.journal) }
         ensures travelling { self.new.travelling ≡ self.old.travelling }
     {
@@ -342,10 +342,10 @@ impl Log {
         site: SwitchSite,
     ) -> Result<(), AllocError>
         ensures log { LogAfter result
-            (log_end_item (standing_kept at) decision (next_of switch.old (switch_site_of site.entry)
-            (log_packet_standing (standing_kept at)) decision.action) ∷ [])
+            (log_end_item (traveller_standing_kept at) decision (next_of switch.old (switch_site_of site.entry)
+            (log_packet_standing (traveller_standing_kept at)) decision.action) ∷ [])
             [] at.packet (log_decided_flight decision (next_of switch.old (switch_site_of site.entry)
-            (log_packet_standing (standing_kept at)) decision.action))
+            (log_packet_standing (traveller_standing_kept at)) decision.action))
             self.old self.new }
         ensures same { switch.new ≡ switch.old }
     {

@@ -2,8 +2,8 @@
 ghost use Rattle.std.specs.Prelude.{◌≡◌, ◌+◌, ◌^◌, ◌<◌, ◌++◌, ◌∷◌, [], OnOk, OnErr, length, map};
 ghost use Rattle.message_bag.specs.Posts.{new_post};
 ghost use Rattle.controller.specs.declared.sends.Act.TheVariants.{Post};
-ghost use Rattle.update_machine.specs.Messages.{sent_from};
-ghost use Rattle.world_log.specs.Sending.{LogHasNoted, IsActSpelled, LogMayNote, LogMaySend, log_act_item, log_act_post};
+ghost use Rattle.update_machine.specs.Messages.{machine_sent_items_from};
+ghost use Rattle.world_log.specs.Sending.{LogHasNoted, IsLoggedActSpelled, LogMayNote, LogMaySend, log_act_item, log_act_post};
 ghost use Rattle.world_log.specs.Writing.{IsLogPart};
 
 use crate::log::Log;
@@ -19,11 +19,11 @@ impl Log {
     pub fn send_all(&mut self, alloc: Global, messages: Vec<Message>) -> Result<(), AllocError>
         requires { LogMaySend self.old.bag messages.items }
         ensures written { OnOk result (self.new.journal
-            ≡ self.old.journal ++ sent_from (length self.old.bag + 1) messages.items) }
+            ≡ self.old.journal ++ machine_sent_items_from (length self.old.bag + 1) messages.items) }
         ensures posted { OnOk result (self.new.bag
             ≡ self.old.bag ++ map new_post messages.items) }
         ensures part { OnErr result (IsLogPart self.old.journal
-            (sent_from (length self.old.bag + 1) messages.items) self.new.journal) }
+            (machine_sent_items_from (length self.old.bag + 1) messages.items) self.new.journal) }
         ensures travelling { self.new.travelling ≡ self.old.travelling }
     {
         for message in messages {
@@ -66,7 +66,7 @@ impl Log {
     // Writes that one mark rises, or sends one message; out of memory, it writes nothing.
     fn note(&mut self, alloc: Global, act: Act) -> Result<(), AllocError>
         requires few { length self.old.bag + length (log_act_post act) < 2 ^ 32 }
-        requires spelled { IsActSpelled act }
+        requires spelled { IsLoggedActSpelled act }
         ensures written { OnOk result (self.new.journal
             ≡ self.old.journal ++ log_act_item (length self.old.bag + 1) act ∷ []) }
         ensures posted { OnOk result (self.new.bag ≡ self.old.bag ++ log_act_post act) }

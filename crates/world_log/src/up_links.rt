@@ -2,7 +2,7 @@
 ghost use Rattle.std.specs.Prelude.{ℕ, ◌≡◌, ◌^◌, ◌<◌, if◌then◌else◌, ◌==◌, slice_index};
 ghost use Rattle.base.specs.Masks.{has};
 ghost use Rattle.net_file.specs.Net.{IsNet};
-ghost use Rattle.world_log.specs.Linking.{AreNearMasks, LogSetsLink};
+ghost use Rattle.world_log.specs.Linking.{AreLogNearMasks, LogSetsLink};
 
 use base::with;
 use net_file::Net;
@@ -10,7 +10,7 @@ use net_file::Net;
 /// The neighbours of each switch, as masks.
 pub fn link_masks(net: &Net) -> [u64; 64]
     requires { IsNet net.now }
-    ensures { AreNearMasks net.now result }
+    ensures { AreLogNearMasks net.now result }
 {
     let mut near = [0; 64];
     for switch in 0..64 {

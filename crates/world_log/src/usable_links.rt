@@ -3,7 +3,7 @@
 ghost use Rattle.std.specs.Prelude.{ℕ, ◌≡◌, ◌-◌, ◌^◌, ◌<◌, ◌≤◌, ◌++◌, All, IfOk, OnOk, length, map};
 ghost use Rattle.base.specs.Masks.{has};
 ghost use Rattle.update_machine.specs.Deliveries.{advert_to};
-ghost use Rattle.world_log.specs.Linking.{AreSwitchesRelinked, all_adverts_sent, all_held, near_all, near_mask_where, switch_relinked_as, switch_serves_at, adverts_on_change, advert_if_held, adverts_near, adverts_over};
+ghost use Rattle.world_log.specs.Linking.{AreLogSwitchesRelinked, all_adverts_sent, all_held, logged_near_all, logged_near_mask_where, log_switch_relinked, logged_switch_serves_at, logged_adverts_on_change, log_advert_if_held, log_adverts_near, adverts_over};
 
 use base::{has, only_if};
 use ctrl_msg::{Body, Message, Place};
@@ -14,7 +14,7 @@ use switch_core::Switch;
 /// For each switch the mask of those to which it has a usable link, if these links are up.
 pub fn usable(links: &[u64; 64], switches: &[Switch]) -> [u64; 64]
     requires { length switches.now ≤ 64 }
-    ensures { result ≡ near_all links.now switches.now }
+    ensures { result ≡ logged_near_all links.now switches.now }
 {
     let serving = serving(switches);
     let mut near = [0; 64];
@@ -27,7 +27,7 @@ pub fn usable(links: &[u64; 64], switches: &[Switch]) -> [u64; 64]
 // The switches that serve.
 fn serving(switches: &[Switch]) -> u64
     requires { length switches.now ≤ 64 }
-    ensures { (k : ℕ) → k < 64 → has result k ≡ switch_serves_at switches.now k }
+    ensures { (k : ℕ) → k < 64 → has result k ≡ logged_switch_serves_at switches.now k }
 {
     let mut mask = 0;
     for (s, switch) in switches.iter().enumerate() {
@@ -39,7 +39,7 @@ fn serving(switches: &[Switch]) -> u64
 // The usable links of switch s, if these switches serve.
 fn usable_mask_from(links: u64, serving: u64, s: u32) -> u64
     requires { s < 64 }
-    ensures { result ≡ near_mask_where links (has serving s) (has serving) }
+    ensures { result ≡ logged_near_mask_where links (has serving s) (has serving) }
 {
     if has(serving, s) { links & serving } else { 0 }
 }
@@ -58,7 +58,7 @@ pub fn relink(
     requires few { length switches.old.items ≤ 64 }
     requires next { All (λ switch. switch.seq < 2 ^ 32 - 1) switches.old.items }
     ensures switches { OnOk result
-        (AreSwitchesRelinked had.now now.now switches.old.items switches.new.items) }
+        (AreLogSwitchesRelinked had.now now.now switches.old.items switches.new.items) }
     ensures told { IfOk result (λ messages. messages.items
         ≡ all_adverts_sent had.now now.now switches.old.items) }
 {
@@ -81,9 +81,9 @@ fn relink_switch(
 ) -> Result<(), AllocError>
     requires few { count ≤ 64 }
     requires next { switch.old.seq < 2 ^ 32 - 1 }
-    ensures switch { switch.new ≡ switch_relinked_as had near switch.old }
+    ensures switch { switch.new ≡ log_switch_relinked had near switch.old }
     ensures told { OnOk result (messages.new.items
-        ≡ messages.old.items ++ adverts_on_change count had near switch.old) }
+        ≡ messages.old.items ++ logged_adverts_on_change count had near switch.old) }
 {
     if !switch.is_up() || had == near {
         return Ok(());
@@ -106,7 +106,7 @@ fn send_over_link(
 ) -> Result<(), AllocError>
     requires { other < 64 }
     ensures { OnOk result (messages.new.items
-        ≡ messages.old.items ++ adverts_near switch.now own.now had near other) }
+        ≡ messages.old.items ++ log_adverts_near switch.now own.now had near other) }
 {
     if has(near, other) {
         send_adverts(messages, switch, own, has(had, other), other)?;
@@ -158,7 +158,7 @@ fn send_advert_to(
     advert: Option<Advert>,
 ) -> Result<(), AllocError>
     ensures { OnOk result (messages.new.items
-        ≡ messages.old.items ++ advert_if_held other advert) }
+        ≡ messages.old.items ++ log_advert_if_held other advert) }
 {
     if let Some(advert) = advert {
         messages.push(advert_to(other, &advert))?;

@@ -3,7 +3,7 @@
 use Rattle.std.proofs.Common.{[], ◌++◌, ◌∙◌, ◌∷◌, ◌≡◌, List, None, Option, Some, ap, length, option_to_list, refl, subst, sym, ℕ}
 use Rattle.std.specs.Prelude.{⊤}
 use Rattle.std.specs.Result.{result_ok}
-use Rattle.update_machine.specs.Exports.{Dropped, End, IsRun, Item, LeftBy, Lost, Machine, Row, Runs, Setting, Stuck, Takes, first_machine, policy_by, submitted_policy, with_packet}
+use Rattle.update_machine.specs.Exports.{Dropped, End, IsRun, Item, LeftBy, Lost, Machine, Row, Runs, Setting, Stuck, Takes, first_machine, policy_by, submitted_policy, machine_with_packet}
 use Rattle.journal.specs.declared.item.Item.TheVariants as item
 use Rattle.update_machine.specs.Machine.{Packet}
 
@@ -11,15 +11,15 @@ use Rattle.update_machine.specs.Machine.{Packet}
 abbrev pub changed : Machine → ℕ → (Packet → Packet) → Machine
 changed old number change = elim (old.packets number) [
   | None ↦ old
-  | Some packet ↦ with_packet old number (change packet)
+  | Some packet ↦ machine_with_packet old number (change packet)
 ]
 
 changed_there : (old : Machine) (number : ℕ) (change : Packet → Packet) (packet : Packet)
     → old.packets number ≡ Some packet
-    → with_packet old number (change packet) ≡ changed old number change
+    → machine_with_packet old number (change packet) ≡ changed old number change
 changed_there old number change packet there =
-    subst (λ (known : Option Packet). with_packet old number (change packet)
-    ≡ elim known [ None ↦ old | Some own ↦ with_packet old number (change own) ]) (sym there) refl
+    subst (λ (known : Option Packet). machine_with_packet old number (change packet)
+    ≡ elim known [ None ↦ old | Some own ↦ machine_with_packet old number (change own) ]) (sym there) refl
 
 abbrev pub ended : End → Packet → Packet
 ended end packet = record packet { end = Some end }
@@ -31,7 +31,7 @@ behind_item setting old (item.Submitted file version) =
       policies = old.policies ++ option_to_list (result_ok (policy_by setting newest file));
     }
 behind_item setting old (item.Retired version) = record old { mark = version }
-behind_item setting old (item.Entered packet switch header) = with_packet old packet
+behind_item setting old (item.Entered packet switch header) = machine_with_packet old packet
     (record { header = header; entry_mark = old.mark; decision = None; end = None })
 behind_item setting old (item.Decided packet version rule action how) = changed old packet
     (λ own. record own { decision = Some (record { rule = rule; action = action }) })

@@ -1,9 +1,9 @@
 -- Moves of the machine with one packet: it enters, is decided, and ends.
 use Rattle.std.proofs.Common.{◌<◌, ◌≡◌, List, None, Some, arith, refl, ℕ}
-use Rattle.update_machine.specs.Exports.{Decides, End, Ends, MachineEnters, Header, Hit, Machine, PacketMayEnd, Out, Row, submitted_policy, with_packet}
+use Rattle.update_machine.specs.Exports.{Decides, End, Ends, MachineEnters, Header, Hit, Machine, MachinePacketMayEnd, Out, Row, submitted_policy, machine_with_packet}
 use Rattle.policy_rules.specs.Exports.{IsFirstMatch}
 use Rattle.update_machine.specs.Machine.{Packet}
-use Rattle.wrong_journals.specs.Exports.{allowed, office_policy}
+use Rattle.wrong_journals.specs.Exports.{allowed, wrong_journals_policy}
 use Rattle.wrong_journals.proofs.WrongJournalMatches.{by_100, first_of_allowed}
 
 -- a packet that entered under this mark
@@ -19,13 +19,13 @@ abbrev pub let_out : Packet
 let_out = decided allowed 0 (by_100 (Out 2))
 
 pub enters : (old : Machine) (header : Header) → old.packets 1 ≡ None
-    → MachineEnters old 1 header (with_packet old 1 (comer header old.mark))
+    → MachineEnters old 1 header (machine_with_packet old 1 (comer header old.mark))
 enters old header unknown = record { unknown = unknown; after = refl }
 
 pub decides : (old : Machine) (header : Header) (mark version : ℕ) (policy : List Row) (hit : Hit)
     → old.packets 1 ≡ Some (comer header mark) → mark < version
     → submitted_policy old version ≡ Some policy → IsFirstMatch policy header hit
-    → Decides old 1 version hit (with_packet old 1 (decided header mark hit))
+    → Decides old 1 version hit (machine_with_packet old 1 (decided header mark hit))
 decides old header mark version policy hit entered above submitted first = record {
   packet = comer header mark;
   policy = policy;
@@ -39,13 +39,13 @@ decides old header mark version policy hit entered above submitted first = recor
 }
 
 pub ends : (old : Machine) (packet : Packet) (end : End) → old.packets 1 ≡ Some packet
-    → packet.end ≡ None → PacketMayEnd packet end
-    → Ends old 1 end (with_packet old 1 (record packet { end = Some end }))
+    → packet.end ≡ None → MachinePacketMayEnd packet end
+    → Ends old 1 end (machine_with_packet old 1 (record packet { end = Some end }))
 ends old packet end entered going may =
     record { packet = packet; entered = entered; not_ended = going; may = may; after = refl }
 
 pub lets_out : (old : Machine) → old.packets 1 ≡ Some (comer allowed 0)
-    → submitted_policy old 1 ≡ Some office_policy
-    → Decides old 1 1 (by_100 (Out 2)) (with_packet old 1 let_out)
-lets_out old entered submitted = decides old allowed 0 1 office_policy (by_100 (Out 2)) entered
+    → submitted_policy old 1 ≡ Some wrong_journals_policy
+    → Decides old 1 1 (by_100 (Out 2)) (machine_with_packet old 1 let_out)
+lets_out old entered submitted = decides old allowed 0 1 wrong_journals_policy (by_100 (Out 2)) entered
     (omega arith) submitted first_of_allowed

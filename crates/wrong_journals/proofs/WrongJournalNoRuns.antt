@@ -2,11 +2,11 @@
 use Rattle.std.proofs.Common.{[], ◌++◌, ◌<◌, ◌∙◌, ◌∷◌, ◌≡◌, List, None, Some, arith, refl, subst, sym, ℕ}
 use Rattle.std.proofs.lemmas.Option.{none-some, same_Some}
 use Rattle.policy_rules.specs.Exports.{IsFirstMatch}
-use Rattle.update_machine.specs.Exports.{Decides, Drop, Dropped, End, Ends, Hit, IsRun, LeftBy, Machine, PacketMayEnd, Out, Row, submitted_policy}
+use Rattle.update_machine.specs.Exports.{Decides, Drop, Dropped, End, Ends, Hit, IsRun, LeftBy, Machine, MachinePacketMayEnd, Out, Row, submitted_policy}
 use Rattle.journal.specs.declared.item.Item.TheVariants as item
 use Rattle.steps.specs.declared.step.Step.TheVariants as step
 use Rattle.update_machine.specs.Machine.{Packet}
-use Rattle.wrong_journals.specs.Exports.{allowed, another_row, decided_rightly, decided_twice, denied, dropped_undecided, gets, half_and_half, in_at_a, in_behind_update, office, office_policy, other_port, retired_version, second_policy, unknown_version}
+use Rattle.wrong_journals.specs.Exports.{allowed, another_row, right_journal_decided, decided_twice, wrong_journal_denied, dropped_undecided, gets, half_and_half, wrong_journals_in_at_a, wrong_journals_behind_update, wrong_journal_office, wrong_journals_policy, other_port, retired_version, wrong_journals_second_policy, unknown_version}
 use Rattle.wrong_journals.proofs.WrongJournalMatches.{by_100, no_first_of_denied, no_second_of_allowed}
 use Rattle.wrong_journals.proofs.WrongJournalMachine.{move_at}
 use Rattle.wrong_journals.proofs.WrongJournalMoves.{comer, let_out}
@@ -40,44 +40,44 @@ undecided old number version got new packet decides known = subst (λ (p : Packe
     ≡ None) (own_packet old number version got new packet decides known) decides.undecided
 
 may_end : (old : Machine) (number : ℕ) (end : End) (new : Machine) (packet : Packet)
-    → Ends old number end new → old.packets number ≡ Some packet → PacketMayEnd packet end
-may_end old number end new packet ends known = subst (λ (p : Packet). PacketMayEnd p end)
+    → Ends old number end new → old.packets number ≡ Some packet → MachinePacketMayEnd packet end
+may_end old number end new packet ends known = subst (λ (p : Packet). MachinePacketMayEnd p end)
     (same_Some ends.packet packet (sym ends.entered ∙ known)) ends.may
 
 -- ---- journals
 
-pub another_row_is_no_run : IsRun office another_row → ⊥
+pub another_row_is_no_run : IsRun wrong_journal_office another_row → ⊥
 another_row_is_no_run run =
-    no_first_of_denied (first_match _ 1 1 (by_100 (Out 2)) _ (comer denied 0) office_policy
-    (move_at office (in_at_a denied) (gets 1 (Out 2)) [] run).1 refl refl)
+    no_first_of_denied (first_match _ 1 1 (by_100 (Out 2)) _ (comer wrong_journal_denied 0) wrong_journals_policy
+    (move_at wrong_journal_office (wrong_journals_in_at_a wrong_journal_denied) (gets 1 (Out 2)) [] run).1 refl refl)
 
-pub retired_version_is_no_run : IsRun office retired_version → ⊥
+pub retired_version_is_no_run : IsRun wrong_journal_office retired_version → ⊥
 retired_version_is_no_run run =
     let above : 1 < 1 = above_mark _ 1 1 (by_100 (Out 2)) _ (comer allowed 1)
-    (move_at office (item.Row 1 (step.Update 2) ∷ item.Submitted 2 2 ∷ item.Retired 1 ∷ item.Row 2
+    (move_at wrong_journal_office (item.Row 1 (step.Update 2) ∷ item.Submitted 2 2 ∷ item.Retired 1 ∷ item.Row 2
     (step.Packet 0 allowed) ∷ item.Entered 1 0 allowed ∷ []) (gets 1 (Out 2)) [] run).1 refl in
     omega (arith, above)
 
-pub unknown_version_is_no_run : IsRun office unknown_version → ⊥
-unknown_version_is_no_run run = let move = move_at office (in_at_a allowed) (gets 2 Drop) [] run in
+pub unknown_version_is_no_run : IsRun wrong_journal_office unknown_version → ⊥
+unknown_version_is_no_run run = let move = move_at wrong_journal_office (wrong_journals_in_at_a allowed) (gets 2 Drop) [] run in
     none-some move.1.policy move.1.submitted
 
-pub decided_twice_is_no_run : IsRun office decided_twice → ⊥
+pub decided_twice_is_no_run : IsRun wrong_journal_office decided_twice → ⊥
 decided_twice_is_no_run run = none-some (by_100 (Out 2)) (sym (undecided _ 1 2 (by_100 Drop) _
-    let_out (move_at office decided_rightly (gets 2 Drop) [] run).1 refl))
+    let_out (move_at wrong_journal_office right_journal_decided (gets 2 Drop) [] run).1 refl))
 
-pub half_and_half_is_no_run : IsRun office half_and_half → ⊥
+pub half_and_half_is_no_run : IsRun wrong_journal_office half_and_half → ⊥
 half_and_half_is_no_run run =
-    no_second_of_allowed (first_match _ 1 2 (by_100 (Out 2)) _ (comer allowed 0) second_policy
-    (move_at office in_behind_update (gets 2 (Out 2)) [] run).1 refl refl)
+    no_second_of_allowed (first_match _ 1 2 (by_100 (Out 2)) _ (comer allowed 0) wrong_journals_second_policy
+    (move_at wrong_journal_office wrong_journals_behind_update (gets 2 (Out 2)) [] run).1 refl refl)
 
-pub other_port_is_no_run : IsRun office other_port → ⊥
+pub other_port_is_no_run : IsRun wrong_journal_office other_port → ⊥
 other_port_is_no_run run =
     let may : Some (Out 2) ≡ Some (Out 1) = may_end _ 1 (LeftBy 1) _ let_out
-    (move_at office (in_at_a allowed ++ gets 1 (Out 2) ∷ []) (item.Left 1 1
+    (move_at wrong_journal_office (wrong_journals_in_at_a allowed ++ gets 1 (Out 2) ∷ []) (item.Left 1 1
     (record { packet = 1; header = allowed; version = 1; rule = Some 100 })) [] run).1 refl in
     cc
 
-pub dropped_undecided_is_no_run : IsRun office dropped_undecided → ⊥
+pub dropped_undecided_is_no_run : IsRun wrong_journal_office dropped_undecided → ⊥
 dropped_undecided_is_no_run run = none-some Drop (may_end _ 1 Dropped _ (comer allowed 0)
-    (move_at office (in_at_a allowed) (item.Dropped 1) [] run).1 refl)
+    (move_at wrong_journal_office (wrong_journals_in_at_a allowed) (item.Dropped 1) [] run).1 refl)

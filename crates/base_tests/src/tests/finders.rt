@@ -1,7 +1,7 @@
 //! A finder for the regions of a tree that is cut at bit 71, and on its low side at bit 103.
 ghost use Rattle.std.specs.Prelude.{◌≡◌, [], ◌∷◌, false, true, IfOk};
-ghost use Rattle.ternary.specs.Meets.{any_word, fix_of};
-ghost use Rattle.switch_table.specs.Tables.{AreSoundTables};
+ghost use Rattle.ternary.specs.Meets.{any_word, word_fix_of};
+ghost use Rattle.switch_table.specs.Tables.{AreSoundSwitchTables};
 
 use crate::packets::web_header;
 use policy_rules::Targets;
@@ -15,9 +15,9 @@ use ternary::{Word, any_laws, fix_laws};
 // Tables of three regions, of a switch that is no authority.
 fn tables(alloc: Global) -> Result<Tables, Fail>
     ensures parts { IfOk result (λ t. t.parts
-        ≡ record { region = fix_of (fix_of any_word 71 false) 103 false; targets = 1 ∷ [] }
-        ∷ record { region = fix_of (fix_of any_word 71 false) 103 true; targets = 1 ∷ [] }
-        ∷ record { region = fix_of any_word 71 true; targets = 1 ∷ [] } ∷ []) }
+        ≡ record { region = word_fix_of (word_fix_of any_word 71 false) 103 false; targets = 1 ∷ [] }
+        ∷ record { region = word_fix_of (word_fix_of any_word 71 false) 103 true; targets = 1 ∷ [] }
+        ∷ record { region = word_fix_of any_word 71 true; targets = 1 ∷ [] } ∷ []) }
     ensures auth { IfOk result (λ t. t.auth ≡ []) }
 {
     any_laws();
@@ -46,7 +46,7 @@ fn tables(alloc: Global) -> Result<Tables, Fail>
 
 #[tactic(auto, using(crate::proofs::BaseTestTables::sound_thirds))]
 fn shared(alloc: Global) -> Result<Rc<Tables>, Fail>
-    ensures { IfOk result (λ t. AreSoundTables t.value) }
+    ensures { IfOk result (λ t. AreSoundSwitchTables t.value) }
 {
     let tables = tables(alloc)?;
     Ok(Rc::new(alloc, tables)?)

@@ -2,10 +2,10 @@
 ghost use Rattle.std.specs.Prelude.{◌≡◌, [], ◌∷◌, None, IfOk, IsSomeAnd, IsTrue};
 ghost use Rattle.five_tuple.specs.declared.header.Header.{Header};
 ghost use Rattle.ternary.specs.Meets.{any_word};
-ghost use Rattle.policy_rules.specs.Hosted.{is_in};
+ghost use Rattle.policy_rules.specs.Hosted.{is_in_policy_partition};
 ghost use Rattle.policy_rules.specs.declared.packet.Leg.TheVariants.{Seek};
-ghost use Rattle.switch_table.specs.Tables.{AreSoundTables};
-ghost use Rattle.switch_core.specs.Exports.{CanLookUp, HasOwnUpTo, IsAtAuthority, PacketStandsAt, own_part, serves};
+ghost use Rattle.switch_table.specs.Tables.{AreSoundSwitchTables};
+ghost use Rattle.switch_core.specs.Exports.{CanSwitchLookUp, HasSwitchAdvertUpTo, IsAtAuthoritySwitch, PacketStandsAtSwitch, own_part, serves};
 ghost use Rattle.tunnel.specs.Moves.{next};
 
 use ctrl_msg::{Body, SharedTables};
@@ -43,10 +43,10 @@ fn tables(alloc: Global, version: u32, auth: Vec<Partition>) -> Result<Tables, F
 // Of the authority switch.
 #[tactic(auto, using(crate::proofs::SwitchTestTables::sound_authority, crate::proofs::SwitchTestTables::own_whole))]
 fn authority_tables(alloc: Global, version: u32) -> Result<SharedTables, Fail>
-    ensures sound { IfOk result AreSoundTables }
+    ensures sound { IfOk result AreSoundSwitchTables }
     ensures version { IfOk result (λ t. t.version ≡ version) }
     ensures own { IfOk result (λ t. (header : Header) →
-        IsSomeAnd (own_part t 0) (λ part. IsTrue (is_in header part))) }
+        IsSomeAnd (own_part t 0) (λ part. IsTrue (is_in_policy_partition header part))) }
 {
     let mut rules = Vec::new(alloc);
     rules.push(Rule {
@@ -67,8 +67,8 @@ fn authority_tables(alloc: Global, version: u32) -> Result<SharedTables, Fail>
 
 // Switches a, b and c, numbered from 0, with the links a-b and b-c.
 fn chain() -> Database
-    ensures a { HasOwnUpTo result 0 1 1 }
-    ensures b { HasOwnUpTo result 1 1 1 }
+    ensures a { HasSwitchAdvertUpTo result 0 1 1 }
+    ensures b { HasSwitchAdvertUpTo result 1 1 1 }
 {
     switch_laws();
     let mut near = [0; 64];
@@ -102,14 +102,14 @@ fn seeking(version: u32) -> Result<Tunnel, Fail>
 
 // Whether the packet is at the switch.
 fn is_at(packet: &Tunnel, switch: &Switch) -> bool
-    ensures { IsTrue result → PacketStandsAt switch.now packet.now.route packet.now.place }
+    ensures { IsTrue result → PacketStandsAtSwitch switch.now packet.now.route packet.now.place }
 {
     packet.here() == switch.number()
 }
 
 // Whether it is there at the end of its route.
 fn is_at_end(packet: &Tunnel, switch: &Switch) -> bool
-    ensures here { IsTrue result → PacketStandsAt switch.now packet.now.route packet.now.place }
+    ensures here { IsTrue result → PacketStandsAtSwitch switch.now packet.now.route packet.now.place }
     ensures last { IsTrue result → next packet.now ≡ None }
 {
     is_at(packet, switch) && packet.next().is_none()
@@ -121,8 +121,8 @@ fn authority(alloc: Global) -> Result<Switch, Fail>
     ensures boot { IfOk result (λ s. s.boot ≡ 1) }
     ensures seq { IfOk result (λ s. s.seq ≡ 1) }
     ensures serves { IfOk result (λ s. IsTrue (serves s)) }
-    ensures stamped { IfOk result CanLookUp }
-    ensures part { IfOk result (λ s. (header : Header) → IsAtAuthority s header (Seek 1 0)) }
+    ensures stamped { IfOk result CanSwitchLookUp }
+    ensures part { IfOk result (λ s. (header : Header) → IsAtAuthoritySwitch s header (Seek 1 0)) }
 {
     let tables = authority_tables(alloc, 1)?;
     Ok(Switch::begin(alloc, 1, 4, tables, chain())?)

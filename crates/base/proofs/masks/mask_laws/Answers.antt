@@ -1,4 +1,4 @@
-use Rattle.base.proofs.CallerLemmas.{laws}
+use Rattle.base.proofs.BaseCallerLemmas.{laws}
 use Rattle.base.proofs.masks.mask_laws.Goals as goal
 
 pub returns : goal.returns

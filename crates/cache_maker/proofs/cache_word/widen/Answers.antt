@@ -4,8 +4,8 @@ use Rattle.std.proofs.lemmas.Nat.{one_shl, or_lt, xor_lt}
 use Rattle.five_tuple.specs.Exports.{number_of}
 use Rattle.policy_rules.specs.Exports.{is_held}
 use Rattle.ternary.specs.Exports.{IsWord, WordValue, exact_word, free_of, holds, is_fixed_of}
-use Rattle.cache_maker.specs.Differing.{IsWithoutReasons}
-use Rattle.cache_maker.specs.Independent.{IsIndependent, widen, widening_of}
+use Rattle.cache_maker.specs.Differing.{IsWideningWithoutReasons}
+use Rattle.cache_maker.specs.Independent.{IsIndependentCacheWord, widen, widening_of}
 use Rattle.cache_maker.proofs.IndependentCacheWords.{exact_independent}
 use Rattle.cache_maker.proofs.CacheWordFixedBits.{IsGiven, IsNewReason, closes_both, differs_somewhere, fixed_at_first, fixed_next, independent_at, is_new_reason, left_less, left_over, without_open, word_at_last, word_is_sound}
 use Rattle.cache_maker.proofs.WidenedCacheWords.{widened_holds, widest}
@@ -31,7 +31,7 @@ loop-place-init c =
       free = c.free_laws.ensures;
       bound = c.number-number.ensures.bound;
       words = sound.rules;
-      start = subst (λ n. IsIndependent region rules index (exact_word n)) (sym same) start;
+      start = subst (λ n. IsIndependentCacheWord region rules index (exact_word n)) (sym same) start;
       within = (position-Some (is_held (number_of c.args.h.now)) rules index d
           c.requires.first_hit).0;
       d = d;
@@ -69,7 +69,7 @@ closed_bound : (c : goal.After-without) → bit_or c.mask.result c.mask-2.result
 closed_bound c = or_lt 104 c.mask.result c.mask-2.result c.mask.ensures.bound c.mask-2.ensures.bound
 
 -- what stays of all fixed bits
-stays : (c : goal.After-without) → IsWithoutReasons c.loop-place.fixed c.loop-place.reasons
+stays : (c : goal.After-without) → IsWideningWithoutReasons c.loop-place.fixed c.loop-place.reasons
     c.ilog2-bit.result (bit_or (bit_or c.mask.result c.mask-2.result) c.without.result)
 stays c = without_open c.loop-place.invariant.are (closed_bound c) c.without.ensures
 
@@ -145,10 +145,10 @@ returns c =
       widened = made ∙ ap (λ n. widening_of n region rules index 104) same;
       header = subst (λ (w : WordValue). IsTrue (holds w (number_of c.args.h.now))) (sym made)
           (subst (λ n. IsTrue (holds (widening_of number region rules index 104) n)) same held);
-      independent = subst (λ (w : WordValue). IsIndependent region rules index w) (sym made)
+      independent = subst (λ (w : WordValue). IsIndependentCacheWord region rules index w) (sym made)
           (independent_at given 104);
       widest = λ bit within fixed is. widest given.covers given.meet given.free number region rules
           index bit within (subst (λ (w : WordValue). IsTrue (is_fixed_of w bit)) made fixed)
-          (subst (λ (w : WordValue). IsIndependent region rules index (free_of w bit)) made is);
+          (subst (λ (w : WordValue). IsIndependentCacheWord region rules index (free_of w bit)) made is);
       word = is_word;
     }

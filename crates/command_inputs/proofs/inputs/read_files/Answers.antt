@@ -1,11 +1,11 @@
 use Rattle.std.proofs.Common.{[], ◌++◌, ◌+◌, ◌==◌, ◌∙◌, ◌∷◌, ◌≡◌, ◌≤◌, All, Bool, Err, Global, IsSome, IsTrue, List, Ok, Vec, ap, arith, drop, get_or, length, length-append, subst, sym, ℕ}
 use Rattle.base.proofs.Exports.{All-push, ForSome, length-map}
-use Rattle.policy_file.specs.Exports.{file_length, names_port_of}
-use Rattle.policy_rules.specs.Exports.{PolicyFileGivesOnly, IsPolicyFile}
+use Rattle.policy_file.specs.Exports.{policy_file_length, policy_file_names_port}
+use Rattle.policy_rules.specs.Exports.{PolicyRulesGiveOnly, IsPolicyOrAmendment}
 use Rattle.update_machine.specs.Exports.{PolicyFile}
 use Rattle.command_line.specs.Exports.{argument_names_seen}
 use Rattle.world.specs.Exports.{first_policy}
-use Rattle.command_inputs.specs.Exports.{CommandEndsRead, NamesOneOf, read_file, status_of}
+use Rattle.command_inputs.specs.Exports.{CommandEndsRead, CommandStatusNamesOneOf, read_file, command_status_of}
 use Rattle.command_inputs.specs.declared.status.Stop.TheVariants as stop
 use Rattle.command_inputs.proofs.InputCalmReads.{stops_behind, stops_with}
 use Rattle.command_inputs.proofs.InputFileReads.{HasRead, at_next, first_behind, is_none, name_there, one_read, reads_at, stops_at}
@@ -48,7 +48,7 @@ returns-in_err-file-clause-shelf g c =
     (omega (arith, length-map names (λ n. n.now), c.loop-name-test.true)))
     (reads_at _ _ _ _ _ _ _ _ so_far file.after) so_far.after c.loop-name.invariant.calm file.after
     file.calm
-    (subst (λ (name : List ℕ). NamesOneOf (name ∷ []) (status_of stop))
+    (subst (λ (name : List ℕ). CommandStatusNamesOneOf (name ∷ []) (command_status_of stop))
     (name_there names i _ c.loop-name-test.true) file.stops)
 
 pub returns-in_err-push-clause-shelf : goal.returns-in_err-push-clause-shelf
@@ -68,8 +68,8 @@ loop-name-preserved g c =
     let before = c.loop-name.read.items in
     let file = c.in_ok-file.file in
     let pushed : c.push.new.self.items ≡ before ++ file ∷ [] = c.in_ok-push.ensures.items in
-    let HasOwn : PolicyFile → Type 0 = PolicyFileGivesOnly (λ row. IsTrue (names_port_of c.args.ports row.action)) in
-    let IsShort : PolicyFile → Type 0 = λ (file : PolicyFile). file_length file ≤ 2000 in
+    let HasOwn : PolicyFile → Type 0 = PolicyRulesGiveOnly (λ row. IsTrue (policy_file_names_port c.args.ports row.action)) in
+    let IsShort : PolicyFile → Type 0 = λ (file : PolicyFile). policy_file_length file ≤ 2000 in
     let name = get_or (argument_names_seen names) c.loop-name.name-index [] in
     let is_first : c.is_empty.result ≡ is_none before =
     c.is_empty.ensures ∙ counted c.loop-name.read in
@@ -96,8 +96,8 @@ loop-name-preserved g c =
           c.in_ok-file.ensures.whole);
       own_ports = subst (All HasOwn) (sym pushed) (All-push HasOwn before file
           c.loop-name.invariant.own_ports c.in_ok-file.ensures.own_ports);
-      sound = subst (All IsPolicyFile) (sym pushed)
-          (All-push IsPolicyFile before file c.loop-name.invariant.sound c.in_ok-file.ensures.sound);
+      sound = subst (All IsPolicyOrAmendment) (sym pushed)
+          (All-push IsPolicyOrAmendment before file c.loop-name.invariant.sound c.in_ok-file.ensures.sound);
       few = subst (All IsShort) (sym pushed)
           (All-push IsShort before file c.loop-name.invariant.few c.in_ok-file.ensures.few);
       calm = c.in_ok-file.ensures.shelf.calm ∙ c.loop-name.invariant.calm;

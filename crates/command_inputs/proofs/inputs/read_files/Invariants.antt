@@ -1,6 +1,6 @@
 use Rattle.std.proofs.Common.{◌<◌, ◌≡◌, ◌≤◌, All, IsSome, IsTrue, drop, length}
-use Rattle.policy_file.specs.Exports.{file_length, names_port_of}
-use Rattle.policy_rules.specs.Exports.{PolicyFileGivesOnly, IsPolicyFile}
+use Rattle.policy_file.specs.Exports.{policy_file_length, policy_file_names_port}
+use Rattle.policy_rules.specs.Exports.{PolicyRulesGiveOnly, IsPolicyOrAmendment}
 use Rattle.world.specs.Exports.{first_policy}
 use Rattle.command_line.specs.Exports.{argument_names_seen}
 use Rattle.command_inputs.proofs.InputFileReads.{HasRead}
@@ -12,8 +12,8 @@ invariant-loop-name g l = record {
       (g.F.Shelf.state l.fn.shelf) (g.F.Shelf.state l.shelf);
   many : length l.read.items ≡ l.name-index;
   first : 0 < l.name-index → IsSome (first_policy l.read.items);
-  own_ports : All (PolicyFileGivesOnly (λ row. IsTrue (names_port_of l.ports row.action))) l.read.items;
-  sound : All IsPolicyFile l.read.items;
-  few : All (λ file. file_length file ≤ 2000) l.read.items;
+  own_ports : All (PolicyRulesGiveOnly (λ row. IsTrue (policy_file_names_port l.ports row.action))) l.read.items;
+  sound : All IsPolicyOrAmendment l.read.items;
+  few : All (λ file. policy_file_length file ≤ 2000) l.read.items;
   calm : (g.F.Shelf.state l.shelf).faults ≡ (g.F.Shelf.state l.fn.shelf).faults;
 }

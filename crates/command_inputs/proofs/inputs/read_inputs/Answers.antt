@@ -2,8 +2,8 @@ use Rattle.world.specs.Exports.{world_setting_at}
 use Rattle.base.proofs.Exports.{ForSome, common_steps, length-map}
 use Rattle.std.proofs.Common.{[], ◌+◌, ◌∙◌, ◌∷◌, ◌≡◌, Some, ap, arith, option_to_list, refl}
 use Rattle.shelf.specs.Exports.{IsAfterReads}
-use Rattle.command_line.specs.Exports.{Replay, replay_named}
-use Rattle.command_inputs.specs.Exports.{replay_inputs_of, most_reads, command_net_reads}
+use Rattle.command_line.specs.Exports.{Replay, replay_arguments_named}
+use Rattle.command_inputs.specs.Exports.{command_replay_inputs, command_most_reads, command_net_reads}
 use Rattle.command_inputs.proofs.InputBegunNetwork.{all_are_events, as_many, asked_for, ends_in_check, few_named, inputs_are, inputs_then, plan_accounts, planned_inputs}
 use Rattle.command_inputs.proofs.InputCalmReads.{stops_behind, stops_with}
 use Rattle.command_inputs.proofs.InputRefusedNames.{among_behind, among_front, among_last, first_check}
@@ -14,7 +14,7 @@ use Rattle.command_inputs.proofs.inputs.read_inputs.Given.{Over}
 
 pub returns-in_err-net-clause-shelf : goal.returns-in_err-net-clause-shelf
 returns-in_err-net-clause-shelf g c =
-    let args = replay_named c.args.args.now in
+    let args = replay_arguments_named c.args.args.now in
     let net = c.in_err-net.ensures.shelf in
     stops_with (option_to_list args.net) _ _ _ _ c.in_err-net.field-0.0 c.from_residual.result
     c.from_residual.ensures.1 (among_front (option_to_list args.net) (args.schedule ∷ args.policies))
@@ -22,7 +22,7 @@ returns-in_err-net-clause-shelf g c =
 
 pub returns-in_err-events-clause-shelf : goal.returns-in_err-events-clause-shelf
 returns-in_err-events-clause-shelf g c =
-    let args = replay_named c.args.args.now in
+    let args = replay_arguments_named c.args.args.now in
     let net = c.in_ok-net.ensures.shelf in
     let events = c.in_err-events.ensures.shelf in
     let most = schedule_read _ args c.in_ok-net.net c.in_ok-net.ensures.read in
@@ -34,7 +34,7 @@ returns-in_err-events-clause-shelf g c =
 
 pub returns-in_err-files-clause-shelf : goal.returns-in_err-files-clause-shelf
 returns-in_err-files-clause-shelf g c =
-    let args = replay_named c.args.args.now in
+    let args = replay_arguments_named c.args.args.now in
     let net = c.in_ok-net.ensures.shelf in
     let events = c.in_ok-events.ensures.shelf in
     let files = rw c.deref-names.ensures.value at c.in_err-files.ensures.shelf in
@@ -49,10 +49,10 @@ returns-in_err-files-clause-shelf g c =
 
 -- the network, the schedule and the policies are all that is read
 policies_read : (g : Over) (c : In_ok-files g)
-    → IsAfterReads (most_reads (g.F.Shelf.state c.args.shelf.now).files
-    (Some (Replay (replay_named c.args.args.now))))
+    → IsAfterReads (command_most_reads (g.F.Shelf.state c.args.shelf.now).files
+    (Some (Replay (replay_arguments_named c.args.args.now))))
     (g.F.Shelf.state c.args.shelf.now) (g.F.Shelf.state c.read_files.new.shelf)
-policies_read g c = all_reads (replay_named c.args.args.now) c.in_ok-net.net
+policies_read g c = all_reads (replay_arguments_named c.args.args.now) c.in_ok-net.net
     c.in_ok-events.events.items _ _ _ _ _ _ (as_many _ _ c.deref-names.ensures.value)
     c.port_mask.ensures c.in_ok-net.ensures.read c.in_ok-events.ensures.read
     c.in_ok-net.ensures.shelf.after c.in_ok-events.ensures.shelf.after
@@ -60,7 +60,7 @@ policies_read g c = all_reads (replay_named c.args.args.now) c.in_ok-net.net
 
 pub returns-in_err-world-clause-shelf : goal.returns-in_err-world-clause-shelf
 returns-in_err-world-clause-shelf g c =
-    let args = replay_named c.args.args.now in
+    let args = replay_arguments_named c.args.args.now in
     let named = length-map c.args.args.now.policies.items (λ n. n.now) in
     stops_with args.policies _ _ _ _ c.in_err-world.field-0.0
     c.from_residual-in_err-world.result c.from_residual-in_err-world.ensures.1
@@ -88,10 +88,10 @@ returns-in_err-files-clause-read g c =
 
 -- all is read, and the first policy is left to be planned
 left_to_plan : (g : Over) (c : In_ok-files g) → ForSome (g.F.Shelf.state c.args.shelf.now).files
-    (λ files. replay_inputs_of files (replay_named c.args.args.now) ≡ planned_inputs (replay_named
+    (λ files. command_replay_inputs files (replay_arguments_named c.args.args.now) ≡ planned_inputs (replay_arguments_named
     c.args.args.now) c.in_ok-net.net c.in_ok-files.files.items c.in_ok-events.events.items)
 left_to_plan g c = let net_files = c.in_ok-net.ensures.shelf.after.same_files in
-    inputs_then _ _ _ (replay_named c.args.args.now) c.in_ok-net.net c.in_ok-files.files.items
+    inputs_then _ _ _ (replay_arguments_named c.args.args.now) c.in_ok-net.net c.in_ok-files.files.items
     c.in_ok-events.events.items _ _ net_files
     (c.in_ok-events.ensures.shelf.after.same_files ∙ net_files)
     (as_many _ _ c.deref-names.ensures.value) c.port_mask.ensures
@@ -104,13 +104,13 @@ returns-in_err-world-clause-read g c =
     ends_in_check _ _ _ (g.F.Shelf.state c.args.shelf.now) (g.F.Shelf.state c.read_files.new.shelf)
     c.in_err-world.field-0.0 c.from_residual-in_err-world.result
     c.from_residual-in_err-world.ensures.1 stopped
-    (plan_accounts _ (replay_named c.args.args.now) c.in_ok-net.net c.in_ok-files.files.items
+    (plan_accounts _ (replay_arguments_named c.args.args.now) c.in_ok-net.net c.in_ok-files.files.items
     c.in_ok-events.events.items c.in_err-world.field-0.0
     (left_to_plan g (goal.at.returns-in_err-world-clause-read g c).In_ok-files) stopped.0)
 
 pub returns-clause-read : goal.returns-clause-read
 returns-clause-read g c =
-    inputs_are _ (replay_named c.args.args.now) c.in_ok-net.net c.in_ok-files.files.items
+    inputs_are _ (replay_arguments_named c.args.args.now) c.in_ok-net.net c.in_ok-files.files.items
     c.in_ok-events.events.items (world_setting_at c.in_ok-world.world)
     (left_to_plan g (goal.at.returns-clause-read g c).In_ok-files)
     (rw c.deref-names.ensures.value at c.in_ok-world.ensures.planned) c.in_ok-world.ensures.begun.own
@@ -129,7 +129,7 @@ returns-clause-ready g c = let begun = c.in_ok-world.ensures.begun in record {
 }
 
 pub returns-clause-asked : goal.returns-clause-asked
-returns-clause-asked g c = asked_for (replay_named c.args.args.now) c.in_ok-net.net
+returns-clause-asked g c = asked_for (replay_arguments_named c.args.args.now) c.in_ok-net.net
     c.in_ok-files.files.items c.in_ok-events.events.items (world_setting_at c.in_ok-world.world)
     c.in_ok-net.ensures.named c.in_ok-world.ensures.begun.own
     (c.in_ok-files.ensures.many ∙ as_many _ _ c.deref-names.ensures.value)

@@ -1,7 +1,7 @@
 use Rattle.std.proofs.Common.{[], ◌∙◌, ◌≡◌, Bool, ap, arith, false, not, slice_get, sym, ℕ}
 use Rattle.base.proofs.Exports.{option_map_or, picked_add, picked_skip}
 use Rattle.version_update.specs.Exports.{is_over}
-use Rattle.controller.specs.Exports.{boot_recorded, install_act}
+use Rattle.controller.specs.Exports.{controller_recorded_boot, controller_install_act}
 use Rattle.controller.proofs.ControllerPickedSwitches.{passes_there}
 use Rattle.controller.proofs.controller.install_at_each.Goals as goal
 use Rattle.controller.proofs.controller.install_at_each.Goals.{then-is_there+in_ok-install+in_ok-push, else-is_there}
@@ -15,7 +15,7 @@ loop-s-preserved c =
     let there : test s ≡ c.is_there.result = passes_there (λ known. not (is_over known.phase))
     switches s _ (omega (arith, c.loop-s-test.true, c.switches-s-end.ensures.number))
     ∙ sym (c.is_there.ensures ∙ ap (λ phase. not (is_over phase)) c.phase.ensures) in
-    let act = λ (s : ℕ). install_act s (boot_recorded c.args.marks.now s) c.args.version.now in
+    let act = λ (s : ℕ). controller_install_act s (controller_recorded_boot c.args.marks.now s) c.args.version.now in
     elim c.if-is_there.branch [
       | then-is_there+in_ok-install+in_ok-push w ↦ picked_add act test s [] c.loop-s.acts.items _
           c.loop-s.invariant (there ∙ w.if-is_there.true) (ap (λ v. v.items) w.acts-is

@@ -1,7 +1,7 @@
 use Rattle.std.proofs.Common.{◌<◌, ◌∙◌, Bool, ap, arith, length, sym}
 use Rattle.base.proofs.Exports.{item_add, item_skip}
 use Rattle.version_update.specs.Exports.{record_of}
-use Rattle.controller.specs.Exports.{KeptPlan, install_act, is_missing}
+use Rattle.controller.specs.Exports.{KeptPlan, controller_install_act, is_missing}
 use Rattle.controller.proofs.resending.install_missing.Goals as goal
 use Rattle.controller.proofs.resending.install_missing.Goals.{then-is_missing+in_ok-install+in_ok-push, else-is_missing}
 
@@ -13,12 +13,12 @@ loop-kept-preserved c =
     omega (arith, c.loop-kept-test.true) in
     let test = sym (c.is_missing.ensures ∙ ap (is_missing known c.args.first) c.version.ensures) in
     elim c.if-is_missing.branch [
-      | then-is_missing+in_ok-install+in_ok-push w ↦ item_add (install_act c.args.s known.boot) lacks
+      | then-is_missing+in_ok-install+in_ok-push w ↦ item_add (controller_install_act c.args.s known.boot) lacks
           c.args.versions.now c.loop-kept.kept-index c.kept-item.result _ c.loop-kept.acts.items _
           within c.kept-item.is c.loop-kept.invariant (test ∙ w.if-is_missing.true)
           (ap (λ v. v.items) w.acts-is
           ∙ cc (c.boot-boot.ensures, w.in_ok-install.ensures, w.in_ok-push.ensures.items))
-      | else-is_missing w ↦ item_skip (install_act c.args.s known.boot) lacks c.args.versions.now
+      | else-is_missing w ↦ item_skip (controller_install_act c.args.s known.boot) lacks c.args.versions.now
           c.loop-kept.kept-index c.kept-item.result _ c.loop-kept.acts.items _ within c.kept-item.is
           c.loop-kept.invariant (test ∙ w.if-is_missing.false) (ap (λ v. v.items) w.acts-is)
     ]

@@ -3,7 +3,7 @@ use Rattle.ctrl_msg.specs.declared.message.Body.{Body}
 use Rattle.ctrl_msg.specs.declared.message.Body.TheVariants.{Stamp, Collect}
 use Rattle.version_update.specs.Exports.{MarksValue, Settles}
 use Rattle.ternary.specs.Exports.{WordValue}
-use Rattle.controller.specs.Exports.{kept_touched, controller_posts_to, mark_rising_acts, stamp_acts, switches_in_mask}
+use Rattle.controller.specs.Exports.{kept_plan_touched, controller_posts_to, controller_mark_rising_acts, stamp_acts, controller_switches_in_mask}
 use Rattle.controller.specs.declared.sends.Act.TheVariants.{Current, Retired}
 use Rattle.controller.proofs.ControllerSettledSends.{opens_told, rising_none, rising_told, same_number, settling_told, told_current}
 use Rattle.controller.proofs.settling.settle.Goals as goal
@@ -11,7 +11,7 @@ use Rattle.controller.proofs.settling.settle.Goals.{After-send_to_switches, in-S
 
 -- what the change of the current version touches
 abbrev touched : After-send_to_switches → List WordValue
-touched c = kept_touched c.drop_old_plans.new.versions.items c.args.marks.now.current
+touched c = kept_plan_touched c.drop_old_plans.new.versions.items c.args.marks.now.current
 
 stamps_told : (c : After-send_to_switches) (before : MarksValue)
     → Settles before c.args.marks.now c.args.settled.now → c.match-settled.acts.items
@@ -22,16 +22,16 @@ stamps_told c before is =
     let stamp : List WordValue → ℕ → ℕ → Body = λ words boot version. Stamp boot version words in
     elim c.match-settled.branch [
       | in-Some+in_ok-tell_current_version w ↦ let current : ℕ = w.in-Some.current in
-          let words : List WordValue = kept_touched c.drop_old_plans.new.versions.items current in
+          let words : List WordValue = kept_plan_touched c.drop_old_plans.new.versions.items current in
           ap (λ v. v.items) w.acts-is
           ∙ rising_told before.current after.current current _ _ _ Current (stamp words) after
           before.switches old _ _ is.tells.current is.tells.stamps
           (same_number before after _ is) w.in-Some.is refl
           (w.in_ok-tell_current_version.ensures ∙ ap (λ plans. old ++ Current current
-          ∷ [] ++ controller_posts_to after (λ boot. Stamp boot current (kept_touched plans current))
-          (switches_in_mask c.args.settled.now.stamps (length after.switches))) w.deref.ensures.value)
-          ∙ ap (λ version. old ++ mark_rising_acts before.current after.current Current
-          (stamp (kept_touched c.drop_old_plans.new.versions.items version)) after before.switches)
+          ∷ [] ++ controller_posts_to after (λ boot. Stamp boot current (kept_plan_touched plans current))
+          (controller_switches_in_mask c.args.settled.now.stamps (length after.switches))) w.deref.ensures.value)
+          ∙ ap (λ version. old ++ controller_mark_rising_acts before.current after.current Current
+          (stamp (kept_plan_touched c.drop_old_plans.new.versions.items version)) after before.switches)
           (sym (told_current before after current (sym is.tells.current ∙ w.in-Some.is)))
       | in_default w ↦ ap (λ v. v.items) w.acts-is ∙ rising_none before.current after.current _
           Current (stamp (touched c)) after before.switches _ is.tells.current w.in_default.is

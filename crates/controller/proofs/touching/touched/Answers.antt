@@ -3,9 +3,9 @@ use Rattle.base.proofs.Exports.{flat_map-append}
 use Rattle.ternary.specs.Exports.{WordValue}
 use Rattle.policy_rules.specs.Exports.{IsSoundRow, additions, removals, removed_rows, words_of_row}
 use Rattle.policy_rules.specs.declared.policy.Row.{Row}
-use Rattle.policy_rules.proofs.CallerLemmas.{additions_sound}
-use Rattle.switch_table.specs.Exports.{few_touched_words}
-use Rattle.controller.specs.Exports.{ListsMoreTouched}
+use Rattle.policy_rules.proofs.PolicyRulesCallerLemmas.{additions_sound}
+use Rattle.switch_table.specs.Exports.{cache_few_touched}
+use Rattle.controller.specs.Exports.{ControllerListsMoreTouched}
 use Rattle.controller.proofs.ControllerTouchedWords.{lists_then, told_alike}
 use Rattle.controller.proofs.touching.touched.Goals as goal
 
@@ -22,13 +22,13 @@ returns c =
     let listed : List WordValue = c.touch_added_rows.new.words.items in
     let words_of : List Row → List ℕ → List WordValue = λ rows gone. flat_map words_of_row
     (filter_map (λ priority. find (λ (row : Row). row.priority == priority) rows) gone) in
-    let first = subst (λ these. ListsMoreTouched these some (words_of rows (removals c.args.change.now)))
-    c.new-words.ensures.items (subst (λ these. ListsMoreTouched c.new-words.result.items some
+    let first = subst (λ these. ControllerListsMoreTouched these some (words_of rows (removals c.args.change.now)))
+    c.new-words.ensures.items (subst (λ these. ControllerListsMoreTouched c.new-words.result.items some
     (words_of these (removals c.args.change.now))) c.rows.ensures.rows
-    (subst (λ gone. ListsMoreTouched c.new-words.result.items some (words_of c.rows.result.now gone))
+    (subst (λ gone. ControllerListsMoreTouched c.new-words.result.items some (words_of c.rows.result.now gone))
     c.removed.ensures c.in_ok-touch_removed_rows.ensures)) in
-    let last = subst (λ these. ListsMoreTouched some listed (flat_map words_of_row these))
+    let last = subst (λ these. ControllerListsMoreTouched some listed (flat_map words_of_row these))
     c.added.ensures.rows c.in_ok-touch_added_rows.ensures in
     c.touched_by_words.ensures ∙ told_alike listed _
     ((lists_then [] some listed _ _ first last) [] (inl refl))
-    ∙ ap few_touched_words (sym (flat_map-append words_of_row removed added))
+    ∙ ap cache_few_touched (sym (flat_map-append words_of_row removed added))

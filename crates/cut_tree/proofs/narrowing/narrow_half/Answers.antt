@@ -1,5 +1,5 @@
 use Rattle.std.proofs.Common.{◌++◌, ◌∙◌, ◌≡◌, List, Option, Some, ap, arith, sym}
-use Rattle.ternary.specs.Exports.{WordValue, fix_of, meet_of}
+use Rattle.ternary.specs.Exports.{WordValue, word_fix_of, meet_of}
 use Rattle.policy_rules.specs.declared.rules.Rule.{Rule}
 use Rattle.cut_tree.proofs.CutHalves.{lies_at}
 use Rattle.cut_tree.proofs.CutNarrowing.{keeps_all, keeps_last, keeps_next, narrow_past}
@@ -17,7 +17,7 @@ loop-rule-preserved-in_default c =
 
 -- the next rule meets the half
 meets_half : (c : After-mask-in-loop-rule) → ◌≡◌ {A = Option WordValue}
-    (meet_of c.rule-item.result.word (fix_of c.args.region.now c.args.bit c.args.one))
+    (meet_of c.rule-item.result.word (word_fix_of c.args.region.now c.args.bit c.args.one))
     (Some c.in-Some.word)
 meets_half c =
     let region = c.args.region.now in
@@ -25,23 +25,23 @@ meets_half c =
     sym (c.with_bit.ensures region c.mask.ensures.word c.requires.free lies) ∙ c.in-Some.is
 
 mask_is : (c : After-mask-in-loop-rule)
-    → c.mask-whole.result ≡ (fix_of c.args.region.now c.args.bit c.args.one).mask
+    → c.mask-whole.result ≡ (word_fix_of c.args.region.now c.args.bit c.args.one).mask
 mask_is c = c.mask-whole.ensures.mask ∙ ap (λ (w : WordValue). w.mask) c.fix.ensures.pair
 
 pub returns-then-is_whole : goal.returns-then-is_whole
 returns-then-is_whole c = let before = (goal.at.returns-then-is_whole c).After-mask-in-loop-rule in
     c.in_ok-push.ensures.items
-    ∙ sym (keeps_last c.args.rules.now _ _ _ (fix_of c.args.region.now c.args.bit c.args.one)
+    ∙ sym (keeps_last c.args.rules.now _ _ _ (word_fix_of c.args.region.now c.args.bit c.args.one)
     c.loop-rule.invariant _ _ (omega arith) c.rule-item.is (meets_half before)
     (sym c.mask-in-loop-rule.ensures.mask ∙ c.if-is_whole.true ∙ mask_is before))
 
 pub loop-rule-preserved : goal.loop-rule-preserved
 loop-rule-preserved c = let before = (goal.at.loop-rule-preserved c).After-mask-in-loop-rule in
     rw c.in_ok-push.ensures.items
-    (keeps_next c.args.rules.now _ _ _ (fix_of c.args.region.now c.args.bit c.args.one)
+    (keeps_next c.args.rules.now _ _ _ (word_fix_of c.args.region.now c.args.bit c.args.one)
     c.loop-rule.invariant _ _ (omega arith) c.rule-item.is (meets_half before)
     (λ e. c.if-is_whole.false (c.mask-in-loop-rule.ensures.mask ∙ e ∙ sym (mask_is before))))
 
 pub returns : goal.returns
-returns c = sym (keeps_all c.args.rules.now _ _ _ (fix_of c.args.region.now c.args.bit c.args.one)
+returns c = sym (keeps_all c.args.rules.now _ _ _ (word_fix_of c.args.region.now c.args.bit c.args.one)
     c.loop-rule.invariant c.loop-rule-test.false)

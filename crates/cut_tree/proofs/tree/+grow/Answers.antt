@@ -1,6 +1,6 @@
 use Rattle.std.proofs.Common.{◌+◌, ◌∙◌, ◌≡◌, ap, arith, false, sym, true, ℕ}
 use Rattle.base.proofs.Exports.{err_from_is_err_and}
-use Rattle.cut_tree.specs.Exports.{Node, leaf_count, tree_at}
+use Rattle.cut_tree.specs.Exports.{Node, leaf_count, cut_tree_at}
 use Rattle.cut_tree.proofs.CutTreeLemmas.{tree_leaf, cut_at, defined_at, half_smaller, exceeds_low, exceeds_high}
 use Rattle.cut_tree.proofs.tree.+grow.Goals as goal
 use Rattle.cut_tree.proofs.tree.+grow.Goals.{After-grow}
@@ -23,10 +23,10 @@ grow-requires t c =
     (omega (arith, smaller), c.requires.cap)
 
 -- the tree of the node, out of those of its halves
-cut_is : (t : ℕ) (c : After-grow t) → tree_at c.args.cap c.args.node.rules.items c.args.node.region
+cut_is : (t : ℕ) (c : After-grow t) → cut_tree_at c.args.cap c.args.node.rules.items c.args.node.region
     ≡ Node c.least_cut-bit.result.bit
-    (tree_at c.args.cap c.in_ok-low.low.rules.items c.in_ok-low.low.region)
-    (tree_at c.args.cap c.in_ok-high.high.rules.items c.in_ok-high.high.region)
+    (cut_tree_at c.args.cap c.in_ok-low.low.rules.items c.in_ok-low.low.region)
+    (cut_tree_at c.args.cap c.in_ok-high.high.rules.items c.in_ok-high.high.region)
 cut_is t c = cut_at c.args.cap c.args.node.rules.items c.args.node.region c.least_cut-bit.result _ _
     _ _ (omega arith) c.least_cut-bit.ensures.least c.in_ok-low.ensures.rules
     c.in_ok-low.ensures.region c.in_ok-high.ensures.rules c.in_ok-high.ensures.region

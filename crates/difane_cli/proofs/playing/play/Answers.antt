@@ -1,9 +1,9 @@
 use Rattle.std.proofs.Common.{◌∙◌, Bool, IsTrue, List, ap, inr, map, subst, sym, ℕ}
 use Rattle.meters.specs.Exports.{gone_records, kept_meters}
 use Rattle.meters.specs.declared.flows.FlowRecord.{FlowRecord}
-use Rattle.update_machine.specs.Exports.{Event, IsPlay, Net}
+use Rattle.update_machine.specs.Exports.{Event, IsMachinePlay, Net}
 use Rattle.replay.specs.Leavings.{left_in, kept_by}
-use Rattle.difane_cli.specs.Exports.{IsAfterText, gone_records_by, is_asked, is_output_made, play_text}
+use Rattle.difane_cli.specs.Exports.{IsAfterCommandText, command_gone_records_by, is_command_verdict_asked, is_command_output_made, play_text}
 use Rattle.command_inputs.specs.Exports.{task_inputs_stated}
 use Rattle.difane_cli.proofs.ProgramPlayOutcomes.{judged, played, told, unjudged}
 use Rattle.difane_cli.proofs.ProgramStatus.{after_work, by_failed, by_memory, of_failed, on_err, out_of_judging, out_of_writing}
@@ -15,29 +15,29 @@ returns-clause-outcome g c = λ command files asked read. let inputs = task_inpu
     let journal = c.in-Ok.played.journal in
     let said = c.in-Ok-judge.answer in
     let laws = c.answer_laws.ensures in
-    let play = subst (λ (events : List Event). IsPlay inputs.setting events journal full)
+    let play = subst (λ (events : List Event). IsMachinePlay inputs.setting events journal full)
     c.deref.ensures.value c.in-Ok.ensures.play in
     let answer = played laws command files inputs journal full asked read c.requires.ready.sound play
     c.in-Ok.ensures.held in
     let verdict = judged laws command files inputs journal full c.args.inputs.net said answer
     c.requires.ready.net
-    (c.in-Ok-judge.ensures.asked ∙ ap (λ q. is_asked q full) c.asks_quiet.ensures)
+    (c.in-Ok-judge.ensures.asked ∙ ap (λ q. is_command_verdict_asked q full) c.command_asks_quiet.ensures)
     c.in-Ok-judge.ensures.decides in
     let taken = map g.M.Meter.seen c.args.meters.items in
     let given = map g.M.Meter.seen c.in-Ok.played.meters.items in
     let before = g.K.Sink.state c.args.out.now in
     let now = g.K.Sink.state c.write_report-written.new.out in
     let written = c.write_report-written.result in
-    let in_memory = is_output_made inputs.report full in
+    let in_memory = is_command_output_made inputs.report full in
     let takes_memory = g.K.Sink.takes_memory in
     let kept = c.in-Ok.ensures.kept
     ∙ ap (λ (ports : ℕ). kept_meters ports (left_in journal) taken) c.port_mask.ensures
     ∙ ap (λ (net : Net). kept_by net journal taken) (sym c.requires.ready.net) in
     let gone = c.in-Ok.ensures.gone
     ∙ ap (λ (ports : ℕ). gone_records ports (left_in journal) taken) c.port_mask.ensures in
-    let after = subst (λ (net : Net). IsAfterText (play_text inputs.report net journal full
-    (gone_records_by net journal taken) given said) in_memory takes_memory before now written)
-    (sym c.requires.ready.net) (subst (λ (records : List FlowRecord). IsAfterText
+    let after = subst (λ (net : Net). IsAfterCommandText (play_text inputs.report net journal full
+    (command_gone_records_by net journal taken) given said) in_memory takes_memory before now written)
+    (sym c.requires.ready.net) (subst (λ (records : List FlowRecord). IsAfterCommandText
     (play_text inputs.report c.args.inputs.net journal full records given said) in_memory
     takes_memory before now written) gone c.write_report-written.ensures) in
     rw c.after.ensures (told laws command files inputs journal full taken given said before now
@@ -49,7 +49,7 @@ returns-in_default-judge-clause-outcome g c = λ command files asked read.
     let full = c.in-Ok.played.full in
     let journal = c.in-Ok.played.journal in
     let laws = c.answer_laws.ensures in
-    let play = subst (λ (events : List Event). IsPlay inputs.setting events journal full)
+    let play = subst (λ (events : List Event). IsMachinePlay inputs.setting events journal full)
     c.deref.ensures.value c.in-Ok.ensures.play in
     let answer = played laws command files inputs journal full asked read c.requires.ready.sound play
     c.in-Ok.ensures.held in
@@ -59,7 +59,7 @@ returns-in_default-judge-clause-outcome g c = λ command files asked read.
     inr (unjudged command files g.K.Sink.takes_memory inputs journal full
     (map g.M.Meter.seen c.args.meters.items) (map g.M.Meter.seen c.in-Ok.played.meters.items)
     (g.K.Sink.state c.args.out.now) answer (rw c.requires.ready.net kept)
-    (subst (λ (asked : Bool). IsTrue (is_asked asked full)) c.asks_quiet.ensures wants))
+    (subst (λ (asked : Bool). IsTrue (is_command_verdict_asked asked full)) c.command_asks_quiet.ensures wants))
 
 pub returns-clause-ended : goal.returns-clause-ended
 returns-clause-ended g c =
@@ -82,4 +82,4 @@ pub returns-in_default-judge-clause-no_memory : goal.returns-in_default-judge-cl
 returns-in_default-judge-clause-no_memory g c = λ command own is. let full = c.in-Ok.played.full in
     let wants = on_err c.judge.result _ c.judge.ensures.wants c.in_default-judge.not-Ok in
     out_of_judging command (task_inputs_stated c.args.inputs) full g.K.Sink.takes_memory _ _ own
-    (subst (λ (asked : Bool). IsTrue (is_asked asked full)) c.asks_quiet.ensures wants)
+    (subst (λ (asked : Bool). IsTrue (is_command_verdict_asked asked full)) c.command_asks_quiet.ensures wants)

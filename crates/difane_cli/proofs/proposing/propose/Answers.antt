@@ -1,9 +1,9 @@
 -- The plan that a play leaves is the one whose placement is proposed.
 use Rattle.std.proofs.Common.{List, subst, sym}
-use Rattle.update_machine.specs.Exports.{Event, IsPlay, Net}
+use Rattle.update_machine.specs.Exports.{Event, IsMachinePlay, Net}
 use Rattle.command_line.specs.Commands as grammar
 use Rattle.partition.specs.Plan.{IsPartitionPlan}
-use Rattle.difane_cli.specs.Exports.{IsAfterProposing}
+use Rattle.difane_cli.specs.Exports.{IsAfterCommandProposing}
 use Rattle.command_inputs.specs.Exports.{task_inputs_stated}
 use Rattle.difane_cli.proofs.ProgramPlayOutcomes.{played}
 use Rattle.difane_cli.proofs.ProposalOutcomes.{out_of_proposing, proposing_ends, whole_told}
@@ -23,11 +23,11 @@ returns-clause-outcome g c = λ command files own read. let inputs = task_inputs
     let now = g.K.Sink.state c.write_proposal-written.new.out in
     let written = c.write_proposal-written.result in
     let takes_memory = g.K.Sink.takes_memory in
-    let play = subst (λ (events : List Event). IsPlay inputs.setting events journal full)
+    let play = subst (λ (events : List Event). IsMachinePlay inputs.setting events journal full)
     c.deref.ensures.value c.in-Ok.ensures.play in
     let answer = played c.answer_laws.ensures (grammar.Replay command) files inputs journal full own
     read c.requires.sound play c.in-Ok.ensures.held in
-    let after = subst (λ (net : Net). IsAfterProposing full plan.policy plan.hosted net journal
+    let after = subst (λ (net : Net). IsAfterCommandProposing full plan.policy plan.hosted net journal
     takes_memory before now written) (sym c.requires.net) c.write_proposal-written.ensures in
     rw c.after.ensures (whole_told command files inputs journal full plan takes_memory before now
     written answer c.in-Ok.ensures.plan after)

@@ -1,10 +1,10 @@
 use Rattle.std.proofs.Common.{◌<◌, ◌≡◌, false, length, ℕ}
 use Rattle.base.specs.Exports.{has}
-use Rattle.failover.specs.Exports.{AreBalls, IsBallEdge, ball, links_of_each}
+use Rattle.failover.specs.Exports.{AreBalls, IsBallEdge, ball, advertised_links_of_each}
 use Rattle.failover.proofs.search.distance.Given as goal
 
 abbrev pub invariant-loop-k : goal.invariant-loop-k
-invariant-loop-k l = let links = links_of_each l.neighbours l.down in record {
+invariant-loop-k l = let links = advertised_links_of_each l.neighbours l.down in record {
   here : l.ball ≡ ball links l.target l.k;
   places : length l.balls ≡ 64;
   edge : IsBallEdge links l.ball l.edge;

@@ -1,5 +1,5 @@
 use Rattle.std.proofs.Common.{◌∙◌, Some, ap, arith, sym}
-use Rattle.failover.specs.Exports.{links_of_each}
+use Rattle.failover.specs.Exports.{advertised_links_of_each}
 use Rattle.failover.proofs.FailoverKnownLinks.{length-link_rows}
 use Rattle.failover.proofs.RouteSearch.{route_to-above, route_to-out}
 use Rattle.failover.proofs.RouteWriting.{is_route_list, route_to-along}
@@ -9,9 +9,9 @@ use Rattle.failover.proofs.search.route_to.Goals.{then-from-ge-MAX_SWITCHES-via-
 pub returns-then-from-ge-MAX_SWITCHES : goal.returns-then-from-ge-MAX_SWITCHES
 returns-then-from-ge-MAX_SWITCHES c = elim c.then-from-ge-MAX_SWITCHES.branch [
   | then-from-ge-MAX_SWITCHES-via-then-from-ge-MAX_SWITCHES w ↦ sym
-      (route_to-above (links_of_each c.args.neighbours.now c.args.down.now) c.args.from c.args.target (λ p q. absurd (omega arith)))
+      (route_to-above (advertised_links_of_each c.args.neighbours.now c.args.down.now) c.args.from c.args.target (λ p q. absurd (omega arith)))
   | then-from-ge-MAX_SWITCHES-via-else-from-ge-MAX_SWITCHES+then-target-ge-MAX_SWITCHES w ↦ sym
-      (route_to-above (links_of_each c.args.neighbours.now c.args.down.now) c.args.from c.args.target (λ p q. absurd (omega arith)))
+      (route_to-above (advertised_links_of_each c.args.neighbours.now c.args.down.now) c.args.from c.args.target (λ p q. absurd (omega arith)))
 ]
 
 pub returns-in_err-distance : goal.returns-in_err-distance

@@ -1,5 +1,5 @@
 use Rattle.std.proofs.Common.{◌++◌, ◌+◌, ◌-◌, ◌∙◌, ◌∷◌, ◌≡◌, List, ap, arith, bit_and, get_or, length, replicate, sym, take, ℕ}
-use Rattle.failover.specs.Exports.{least_neighbour_in, links_of_each, path_by_balls}
+use Rattle.failover.specs.Exports.{least_neighbour_in, advertised_links_of_each, path_by_balls}
 use Rattle.base.specs.Exports.{least_in}
 use Rattle.failover.proofs.FailoverKnownLinks.{row_of}
 use Rattle.failover.proofs.RouteWriting.{length-along, left_at, below_in, along-next, written_more, written_route}
@@ -11,7 +11,7 @@ links_within-at-requires c = below_in _ c.loop-step.step _ _ c.requires c.loop-s
 pub offset_bounds-balls-distance : goal.offset_bounds-balls-distance
 offset_bounds-balls-distance c = omega (
   arith,
-  length-along (links_of_each c.args.neighbours.now c.args.down.now) c.args.balls.now c.args.distance c.args.from,
+  length-along (advertised_links_of_each c.args.neighbours.now c.args.down.now) c.args.balls.now c.args.distance c.args.from,
   c.requires.few,
 )
 
@@ -24,7 +24,7 @@ bounds-switches-step c = omega (arith, length-along, c.requires.few)
 pub loop-step-preserved : goal.loop-step-preserved
 unfolding least_neighbour_in least_in
 loop-step-preserved c =
-    let links = links_of_each c.args.neighbours.now c.args.down.now in
+    let links = advertised_links_of_each c.args.neighbours.now c.args.down.now in
     let route = c.args.from ∷ path_by_balls links c.args.balls.now c.args.distance c.args.from in
     let long = length-along links c.args.balls.now c.args.distance c.args.from in
     let fits = below_in _ c.loop-step.step _ _ c.requires c.loop-step.invariant.left in
@@ -51,15 +51,15 @@ whole_of route switches distance step long last written = written_route route sw
 
 pub new-requires-clause-list : goal.new-requires-clause-list
 new-requires-clause-list c =
-    let long = length-along (links_of_each c.args.neighbours.now c.args.down.now) c.args.balls.now c.args.distance c.args.from in
-    rw (whole_of (c.args.from ∷ path_by_balls (links_of_each c.args.neighbours.now c.args.down.now)
+    let long = length-along (advertised_links_of_each c.args.neighbours.now c.args.down.now) c.args.balls.now c.args.distance c.args.from in
+    rw (whole_of (c.args.from ∷ path_by_balls (advertised_links_of_each c.args.neighbours.now c.args.down.now)
     c.args.balls.now c.args.distance c.args.from) c.loop-step.switches c.args.distance
     c.loop-step.step (omega arith) (omega arith) c.loop-step.invariant.written) c.requires
 
 pub returns : goal.returns
 returns c =
-    let long = length-along (links_of_each c.args.neighbours.now c.args.down.now) c.args.balls.now c.args.distance c.args.from in
+    let long = length-along (advertised_links_of_each c.args.neighbours.now c.args.down.now) c.args.balls.now c.args.distance c.args.from in
     c.new.ensures ∙ whole_of (c.args.from ∷ path_by_balls
-    (links_of_each c.args.neighbours.now c.args.down.now) c.args.balls.now c.args.distance
+    (advertised_links_of_each c.args.neighbours.now c.args.down.now) c.args.balls.now c.args.distance
     c.args.from) c.loop-step.switches c.args.distance c.loop-step.step (omega arith)
     (omega arith) c.loop-step.invariant.written

@@ -1,5 +1,5 @@
 use Rattle.std.proofs.Common.{◌∙◌, arith, refl, subst, sym, take_all, true≢false}
-use Rattle.journal_reports.specs.Exports.{BucketHasSaying, SaysAsMuch}
+use Rattle.journal_reports.specs.Exports.{ReportBucketHasSaying, ReportedMessageSaysAsMuch}
 use Rattle.journal_reports.proofs.QuietMessageBuckets.{none_more, some_at}
 use Rattle.journal_reports.proofs.bucket.is_said_in_bucket.Goals as goal
 
@@ -11,7 +11,7 @@ loop-kept-preserved c = none_more c.args.messages.now c.loop-kept.kept-index c.k
 pub returns-then-says_as_much : goal.returns-then-says_as_much
 returns-then-says_as_much c = (
   λ yes. some_at c.args.messages.now c.loop-kept.kept-index c.kept-item.result c.args.message.now
-      c.loop-kept-test.true c.kept-item.is (subst (λ m. SaysAsMuch m c.args.message.now)
+      c.loop-kept-test.true c.kept-item.is (subst (λ m. ReportedMessageSaysAsMuch m c.args.message.now)
       c.get.ensures (c.says_as_much.ensures.0 c.if-says_as_much.true)),
   λ has. refl,
 )
@@ -19,6 +19,6 @@ returns-then-says_as_much c = (
 pub returns : goal.returns
 returns c = (
   λ yes. absurd (true≢false (sym yes)),
-  λ has. absurd (c.loop-kept.invariant (subst (λ ms. BucketHasSaying ms c.args.message.now)
+  λ has. absurd (c.loop-kept.invariant (subst (λ ms. ReportBucketHasSaying ms c.args.message.now)
       (sym (take_all c.loop-kept.kept-index c.args.messages.now (omega arith))) has)),
 )

@@ -1,7 +1,7 @@
 use Rattle.std.proofs.Common.{[], ◌-◌, ◌∙◌, ◌≡◌, Bool, List, ap, arith, drop, length, not, subst, sym, true≢false, ℕ}
 use Rattle.std.specs.List.{list_all}
-use Rattle.update_machine.specs.Exports.{IsQuiet, Net, SwitchRow, was_delivered}
-use Rattle.journal_reports.specs.Exports.{has_mark, is_missed}
+use Rattle.update_machine.specs.Exports.{IsMachineQuiet, Net, SwitchRow, was_delivered}
+use Rattle.journal_reports.specs.Exports.{report_has_mark, is_missed}
 use Rattle.journal_reports.specs.declared.traffic.Traffic.{Traffic}
 use Rattle.journal_reports.proofs.QuietReportJudge.{marks_at_end, marks_before, missed_answer, read_next, received_at_end, received_before, rows_at_end, rows_before, switches_found, waiting_answer}
 use Rattle.journal_reports.proofs.judge.quiet.Goals as goal
@@ -43,8 +43,8 @@ returns-then-not-branch c = λ setting net. let items = c.items-items.result.now
     let next = c.index-items-place.result in
     let rows = c.loop-place.rows.items in
     let marks = c.deref-in-loop-place.result.now in
-    let right : (n : ℕ) → has_mark marks n ≡ was_delivered (drop place items) n = λ n.
-    ap (λ (marks : List Bool). has_mark marks n) c.deref-in-loop-place.ensures.value
+    let right : (n : ℕ) → report_has_mark marks n ≡ was_delivered (drop place items) n = λ n.
+    ap (λ (marks : List Bool). report_has_mark marks n) c.deref-in-loop-place.ensures.value
     ∙ marks_before items place from n next c.loop-place.delivered.items
     c.mark_delivered_item.new.marks.items (omega arith) (omega arith) c.index-items-place.is
     (c.loop-place.invariant.marks n) (c.in_ok-mark_delivered_item.ensures n) in
@@ -59,7 +59,7 @@ returns-then-not-branch c = λ setting net. let items = c.items-items.result.now
       λ quiet. absurd (waiting_answer items place next marks rows now c.in_ok-take_item.field-0
           (omega arith) c.index-items-place.is read setting count
           (c.in_ok-take_item.ensures.some c.if-not-branch.true) c.if-not-branch.true
-          (subst (IsQuiet setting) (sym c.items-items.ensures) quiet)),
+          (subst (IsMachineQuiet setting) (sym c.items-items.ensures) quiet)),
     )
 
 pub loop-place-preserved : goal.loop-place-preserved
@@ -71,12 +71,12 @@ loop-place-preserved c =
     let rows = c.loop-place.rows.items in
     let now = c.take_item.new.rows.items in
     let marks = c.deref-in-loop-place.result.now in
-    let own : (n : ℕ) → has_mark c.mark_delivered_item.new.marks.items n
+    let own : (n : ℕ) → report_has_mark c.mark_delivered_item.new.marks.items n
     ≡ was_delivered (drop place items) n = λ n. marks_before items place from n next
     c.loop-place.delivered.items c.mark_delivered_item.new.marks.items (omega arith) (omega arith)
     c.index-items-place.is (c.loop-place.invariant.marks n) (c.in_ok-mark_delivered_item.ensures n) in
-    let right : (n : ℕ) → has_mark marks n ≡ was_delivered (drop place items) n = λ n.
-    ap (λ (marks : List Bool). has_mark marks n) c.deref-in-loop-place.ensures.value ∙ own n in
+    let right : (n : ℕ) → report_has_mark marks n ≡ was_delivered (drop place items) n = λ n.
+    ap (λ (marks : List Bool). report_has_mark marks n) c.deref-in-loop-place.ensures.value ∙ own n in
     let read = read_next items place from next marks rows now c.in_ok-take_item.field-0 (omega arith)
     (omega arith) c.index-items-place.is right c.loop-place.invariant.rows
     c.in_ok-take_item.ensures.concerned in record {

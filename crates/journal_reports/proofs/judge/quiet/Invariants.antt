@@ -1,17 +1,17 @@
 use Rattle.std.proofs.Common.{◌||◌, ◌≡◌, ◌≤◌, All, IsTrue, drop, length, not, ℕ}
-use Rattle.update_machine.specs.Exports.{AreMessagesReceived, Setting, is_up, is_waited_for, switches_of, was_delivered}
-use Rattle.journal_reports.specs.Exports.{AreTraffic, has_mark}
+use Rattle.update_machine.specs.Exports.{AreJournalMessagesReceived, Setting, is_up, is_waited_for, switches_of, was_delivered}
+use Rattle.journal_reports.specs.Exports.{AreReportTrafficRows, report_has_mark}
 use Rattle.journal_reports.proofs.judge.quiet.Given as goal
 
 -- the items from the place on were read
 abbrev pub invariant-loop-place : goal.invariant-loop-place
 invariant-loop-place l = record {
   within : l.place ≤ length l.items;
-  marks : (n : ℕ) → has_mark l.delivered.items n ≡ was_delivered (drop l.place l.items) n;
+  marks : (n : ℕ) → report_has_mark l.delivered.items n ≡ was_delivered (drop l.place l.items) n;
   count : length l.rows.items ≡ l.count;
-  rows : AreTraffic l.items (drop l.place l.items) l.rows.items;
+  rows : AreReportTrafficRows l.items (drop l.place l.items) l.rows.items;
   received : (setting : Setting) → length setting.net.switches ≡ l.count
-      → AreMessagesReceived setting l.items (drop l.place l.items);
+      → AreJournalMessagesReceived setting l.items (drop l.place l.items);
   switches : (setting : Setting) → length setting.net.switches ≡ l.count
       → All (λ s. IsTrue (is_up l.items s || not (is_waited_for l.items s))) (switches_of setting);
 }

@@ -1,11 +1,11 @@
 use Rattle.std.proofs.Common.{List, ap}
 use Rattle.update_machine.specs.Exports.{Item}
-use Rattle.journal_reports.specs.Exports.{switch_status_in}
+use Rattle.journal_reports.specs.Exports.{report_switch_status_in}
 use Rattle.journal_reports.proofs.QuietSwitchStatus.{told_of_item}
 use Rattle.journal_reports.proofs.status.status_items.Goals as goal
 
 pub loop-item-init : goal.loop-item-init
-loop-item-init c = λ s. ap (λ (js : List Item). switch_status_in js s) c.new-told.ensures.items
+loop-item-init c = λ s. ap (λ (js : List Item). report_switch_status_in js s) c.new-told.ensures.items
 
 pub loop-item-preserved : goal.loop-item-preserved
 loop-item-preserved c = λ s. told_of_item c.args.items.now c.loop-item.item-index s

@@ -1,13 +1,13 @@
 use Rattle.std.proofs.Common.{append_assoc, refl}
-use Rattle.lines.proofs.CallerLemmas.{pushed_append}
+use Rattle.lines.proofs.LinesCallerLemmas.{pushed_append}
 use Rattle.journal_text.proofs.messages.push_cache_rule_body.Goals as goal
 
 pub returns-clause-text : goal.returns-clause-text
 returns-clause-text c = simp (
-  c.push_cached_rule.ensures.text,
+  c.push_journal_cached_rule.ensures.text,
   c.push_word.ensures,
   c.push.ensures,
-  c.push_numbered_text.ensures,
+  c.push_journal_numbered_text.ensures,
   pushed_append,
   append_assoc,
 ) refl

@@ -2,7 +2,7 @@ use Rattle.std.proofs.Common.{◌++◌, ◌^◌, ◌∙◌, List, ap, arith, bit
 use Rattle.base.specs.Exports.{has, least_in, switches}
 use Rattle.failover.proofs.RouteRowLoop.{fewer_left}
 use Rattle.net_file.specs.Exports.{switch_name_of, names_text}
-use Rattle.lines.proofs.CallerLemmas.{pushed_append}
+use Rattle.lines.proofs.LinesCallerLemmas.{pushed_append}
 use Rattle.lines.specs.Pushes.{line_with}
 use Rattle.journal_text.proofs.JournalLineMasks.{least_first}
 use Rattle.journal_text.proofs.names.push_mask_switches.Goals as goal

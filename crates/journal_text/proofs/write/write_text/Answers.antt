@@ -58,11 +58,11 @@ loop-item-preserved g c =
       | else-bytes-gt-ROOMY_BYTES w ↦ rw (w.sink-is, w.block-is, w.line-is) (is.held, is.faults)
     ] in record {
       held = rw (
-        c.push_line.ensures.text,
+        c.push_journal_line.ensures.text,
         lines_more net items c.loop-item.item-index item c.loop-item-test.true c.item-item.is,
       ) (held_more text (item_line net item ++ 10 ∷ []) first.bytes now.bytes
           c.if-bytes-gt-ROOMY_BYTES.block c.if-bytes-gt-ROOMY_BYTES.line kept.0);
-      texts = c.push_line.ensures.texts;
+      texts = c.push_journal_line.ensures.texts;
       faults = kept.1;
     }
 

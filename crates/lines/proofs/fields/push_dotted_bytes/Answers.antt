@@ -1,5 +1,5 @@
 use Rattle.std.proofs.Common.{append_assoc, refl}
-use Rattle.lines.proofs.CallerLemmas.{pushed_append}
+use Rattle.lines.proofs.LinesCallerLemmas.{pushed_append}
 use Rattle.lines.proofs.fields.push_dotted_bytes.Goals as goal
 
 pub returns : goal.returns

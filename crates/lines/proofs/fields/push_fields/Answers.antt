@@ -1,6 +1,6 @@
 use Rattle.std.proofs.Common.{append_assoc, refl}
 use Rattle.five_tuple.specs.Exports.{fields_text}
-use Rattle.lines.proofs.CallerLemmas.{pushed_append}
+use Rattle.lines.proofs.LinesCallerLemmas.{pushed_append}
 use Rattle.lines.proofs.fields.push_fields.Goals as goal
 
 pub returns : goal.returns

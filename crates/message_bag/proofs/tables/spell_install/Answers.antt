@@ -2,14 +2,14 @@ use Rattle.std.proofs.Common.{[], ◌++◌, ◌∙◌, List, ap, get_or, length,
 use Rattle.base.proofs.Exports.{get_or_read}
 use Rattle.wire.specs.Exports.{frame, spelled_front}
 use Rattle.switch_table.specs.declared.tables.Tables.{Tables}
-use Rattle.message_bag.specs.Exports.{CarryTables}
+use Rattle.message_bag.specs.Exports.{BagFramesCarryTables}
 use Rattle.message_bag.proofs.BagPostedMessages.{tables_are, tables_fit}
 use Rattle.message_bag.proofs.tables.spell_install.Goals as goal
 
-its : (c : goal.In_ok-put_first) → CarryTables c.args.tables.now
+its : (c : goal.In_ok-put_first) → BagFramesCarryTables c.args.tables.now
     (get_or c.keep.new.kept.items c.in_ok-number.number [])
 its c = let fs = get_or c.keep.new.kept.items c.in_ok-number.number [] in
-    subst (λ (t : Tables). CarryTables t fs) c.tables.ensures c.in_ok-number.ensures.carry
+    subst (λ (t : Tables). BagFramesCarryTables t fs) c.tables.ensures c.in_ok-number.ensures.carry
 
 pub returns-clause-fits : goal.returns-clause-fits
 returns-clause-fits c = tables_fit c.args.message.now c.args.boot c.args.tables.now

@@ -1,9 +1,9 @@
 use Rattle.std.proofs.Common.{◌<◌, ◌≡◌, None, length, slice_index_or, ℕ}
-use Rattle.net_file.specs.Exports.{owner_of}
+use Rattle.net_file.specs.Exports.{net_port_owner}
 use Rattle.net_file.proofs.ports.owners.Given as goal
 
 abbrev pub invariant-loop-port : goal.invariant-loop-port
 invariant-loop-port l = record {
   size : length l.owners ≡ 64;
-  owners : (k : ℕ) → k < l.port → slice_index_or l.owners k None ≡ owner_of l.switches k;
+  owners : (k : ℕ) → k < l.port → slice_index_or l.owners k None ≡ net_port_owner l.switches k;
 }

@@ -1,7 +1,7 @@
 use Rattle.std.proofs.Common.{[], ◌++◌, ◌+◌, ◌||◌, ◌∙◌, ◌∷◌, ◌≡◌, ap, arith, drop, length-append, map, refl}
 use Rattle.base.proofs.Exports.{err_from_is_err_and}
 use Rattle.toml.specs.View.{view}
-use Rattle.net_file.specs.Exports.{has_port, net_rows_read, switch_read}
+use Rattle.net_file.specs.Exports.{has_port, net_rows_read, net_switch_read}
 use Rattle.net_file.proofs.NetFilePortMasks.{in_mask_or}
 use Rattle.net_file.proofs.NetFileFreshPorts.{have_port_push}
 use Rattle.net_file.proofs.NetFileRowRefusals.{next_row, refused_row, refused_same}
@@ -17,8 +17,8 @@ returns-in_err-switch-clause-refused c =
     c.loop-value-test.true c.value-item.is in
     let e = c.in_err-switch.field-0.0 in
     let p = err_from_is_err_and c.from_residual.result c.from_residual.ensures.1 in
-    rw (p.1, p.2) (refused_same _ _ e (inv.rest ∙ ap (net_rows_read 0 switch_read rows) left)
-    (refused_row 0 switch_read rows (view c.value-item.result) more (c.loop-value.row + 1) e (omega
+    rw (p.1, p.2) (refused_same _ _ e (inv.rest ∙ ap (net_rows_read 0 net_switch_read rows) left)
+    (refused_row 0 net_switch_read rows (view c.value-item.result) more (c.loop-value.row + 1) e (omega
     (arith, inv.count, inv.row)) (rw (← c.deref.ensures.value) c.in_err-switch.ensures.refused)))
 
 pub loop-value-preserved : goal.loop-value-preserved
@@ -30,8 +30,8 @@ loop-value-preserved c =
     let more = map view (drop (c.loop-value.value-index + 1) c.args.values.now) in
     let left = values_more c.args.values.now c.loop-value.value-index c.value-item.result
     c.loop-value-test.true c.value-item.is in record {
-      rest = rw items (inv.rest ∙ ap (net_rows_read 0 switch_read rows) left
-          ∙ next_row 0 switch_read rows (view c.value-item.result) more row
+      rest = rw items (inv.rest ∙ ap (net_rows_read 0 net_switch_read rows) left
+          ∙ next_row 0 net_switch_read rows (view c.value-item.result) more row
           (rw (← c.deref.ensures.value) c.in_ok-switch.ensures.switch));
       count = rw (items, length-append, inv.count) refl;
       row = rw inv.row refl;

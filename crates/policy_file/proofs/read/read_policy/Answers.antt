@@ -1,6 +1,6 @@
 use Rattle.std.proofs.Common.{◌+◌, ◌∙◌, Err, Ok, ap, arith, subst, sym}
 use Rattle.policy_file.specs.declared.error.PolicyRefusal.TheVariants as why
-use Rattle.policy_file.specs.Exports.{IsReadUpTo, policy_of, policy_rows}
+use Rattle.policy_file.specs.Exports.{IsPolicyReadUpTo, policy_of, policy_file_rows}
 use Rattle.policy_file.proofs.PolicyFileRows.{all_fresh_rows, all_read, fresh_rows, refused_next, repeated}
 use Rattle.policy_file.proofs.read.read_policy.Goals as goal
 
@@ -10,7 +10,7 @@ returns-in-Err-Refused-clause-refused c =
     let rows = c.in_ok-rows.field-0.rows.items in
     let from = c.in_ok-rows.ensures.read in
     let (place, is, first) = rw c.in-Err-Refused.field-0-is at c.in-Err-Refused.ensures.refused in
-    from.under ∙ repeated policy_rows from.records rows c.in_ok-rows.field-0.refusal place from.read
+    from.under ∙ repeated policy_file_rows from.records rows c.in_ok-rows.field-0.refusal place from.read
     first.there first.repeats (fresh_rows rows place first.first)
     ∙ ap (λ row. Err (record { refusal = why.SamePriority; row = row })) (cc)
 
@@ -19,8 +19,8 @@ unfolding policy_of
 returns-in-None-clause-policy c =
     let rows = c.in_ok-rows.field-0.rows.items in
     let from = c.in_ok-rows.ensures.read in
-    from.under ∙ all_read policy_rows from.records rows
-    (subst (IsReadUpTo policy_rows from.records rows) c.in-None.is from.read)
+    from.under ∙ all_read policy_file_rows from.records rows
+    (subst (IsPolicyReadUpTo policy_file_rows from.records rows) c.in-None.is from.read)
     (all_fresh_rows rows c.in-Ok.ensures.policy.distinct) ∙ ap Ok (sym c.in-Ok.ensures.rows)
 
 pub returns-in-Some-clause-refused : goal.returns-in-Some-clause-refused
@@ -28,7 +28,7 @@ unfolding policy_of
 returns-in-Some-clause-refused c =
     let rows = c.in_ok-rows.field-0.rows.items in
     let from = c.in_ok-rows.ensures.read in
-    from.under ∙ refused_next policy_rows from.records rows c.in-Some.refusal
-    (subst (IsReadUpTo policy_rows from.records rows) c.in-Some.is from.read)
+    from.under ∙ refused_next policy_file_rows from.records rows c.in-Some.refusal
+    (subst (IsPolicyReadUpTo policy_file_rows from.records rows) c.in-Some.is from.read)
     (all_fresh_rows rows c.in-Ok.ensures.policy.distinct)
     ∙ ap (λ n. Err (record { refusal = c.in-Some.refusal; row = n + 1 })) (omega arith)

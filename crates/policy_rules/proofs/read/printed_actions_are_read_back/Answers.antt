@@ -1,11 +1,11 @@
 use Rattle.std.proofs.Common.{◌<◌, ◌^◌, ◌≡◌, ◌≤◌, Some, decimal, ℕ, rules}
 use Rattle.five_tuple.specs.Exports.{number_up_to}
 use Rattle.policy_rules.specs.declared.policy.Action.{Action}
-use Rattle.policy_rules.specs.Exports.{HasSmallPort, action_of, action_text}
+use Rattle.policy_rules.specs.Exports.{HasSmallRulePort, action_of, action_text}
 use Rattle.policy_rules.proofs.read.printed_actions_are_read_back.Goals as goal
 
 back : ((most n : ℕ) → n ≤ most → n < 2 ^ 64 → number_up_to most (decimal n) ≡ Some n)
-    → (action : Action) → HasSmallPort action → action_of (action_text action) ≡ Some action
+    → (action : Action) → HasSmallRulePort action → action_of (action_text action) ≡ Some action
 unfolding action_of
 back number action small = search rules
 

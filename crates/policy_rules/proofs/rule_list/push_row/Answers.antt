@@ -1,8 +1,8 @@
 use Rattle.std.proofs.Common.{[], ◌++◌, ◌∙◌, ◌∷◌, ◌≡◌, ap, append-nil, arith, length, length-take, sym, take, take_all, rules}
 use Rattle.base.proofs.Exports.{length-map, map-append, take_more}
-use Rattle.five_tuple.proofs.CallerLemmas.{is_cover_of}
+use Rattle.five_tuple.proofs.FiveTupleCallerLemmas.{is_cover_of}
 use Rattle.five_tuple.specs.Exports.{cover_of}
-use Rattle.policy_rules.specs.Exports.{ranked_from, words_with_hit, words_of_row}
+use Rattle.policy_rules.specs.Exports.{rules_ranked_from, policy_words_with_hit, words_of_row}
 use Rattle.policy_rules.proofs.PolicyRuleRanks.{ranked_more, length_ranked, few_pairs}
 use Rattle.policy_rules.proofs.rule_list.push_row.Goals as goal
 use Rattle.policy_rules.proofs.rule_list.push_row.Goals.{After-as_slice-word-items}
@@ -13,15 +13,15 @@ words_are : (c : After-as_slice-word-items) → c.as_slice-word-items.result.now
 words_are c = search rules
 
 pub loop-word-init : goal.loop-word-init
-unfolding ranked_from
+unfolding rules_ranked_from
 loop-word-init c = sym (append-nil _)
 
 pub push_rule-requires : goal.push_rule-requires
 push_rule-requires c =
     let row = c.args.row.now in
     let words = take c.loop-word.word-index c.as_slice-word-items.result.now in
-    let some : length (words_with_hit row words) ≡ length words = length-map _ _ in
-    let all : length (words_with_hit row (words_of_row row)) ≡ length (words_of_row row) = length-map _ _ in
+    let some : length (policy_words_with_hit row words) ≡ length words = length-map _ _ in
+    let all : length (policy_words_with_hit row (words_of_row row)) ≡ length (words_of_row row) = length-map _ _ in
     omega (
       arith,
       some,
@@ -31,7 +31,7 @@ push_rule-requires c =
       few_pairs row (cover_of row.dport) (cover_of row.sport)
           (is_cover_of row.dport c.requires.row.dport).few
           (is_cover_of row.sport c.requires.row.sport).few,
-      length_ranked _ _ (words_with_hit row words) c.loop-word.invariant,
+      length_ranked _ _ (policy_words_with_hit row words) c.loop-word.invariant,
     )
 
 pub loop-word-preserved : goal.loop-word-preserved
@@ -41,11 +41,11 @@ loop-word-preserved c =
     let more = take_more words i c.word-item.result c.loop-word-test.true
     ∙ ap (λ word. take i words ++ word ∷ []) (sym c.word-item.is) in
     ranked_more _ _ _ _ _ _ c.loop-word.invariant (rw c.of.ensures at c.in_ok-push_rule.ensures)
-    (ap (words_with_hit c.args.row.now) more ∙ map-append _ (take i words) (c.word-item.result ∷ []))
+    (ap (policy_words_with_hit c.args.row.now) more ∙ map-append _ (take i words) (c.word-item.result ∷ []))
 
 pub returns : goal.returns
 returns c = let rules = c.args.rules.now.items in
     c.loop-word.invariant
-    ∙ ap (λ words. rules ++ ranked_from (length rules) (words_with_hit c.args.row.now words))
+    ∙ ap (λ words. rules ++ rules_ranked_from (length rules) (policy_words_with_hit c.args.row.now words))
     (take_all c.loop-word.word-index c.as_slice-word-items.result.now (omega arith)
     ∙ words_are (goal.at.returns c).After-as_slice-word-items)

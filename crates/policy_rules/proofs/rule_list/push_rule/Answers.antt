@@ -1,9 +1,9 @@
 use Rattle.std.proofs.Common.{[], ◌++◌, ◌∙◌, ◌∷◌, ap}
-use Rattle.policy_rules.specs.Exports.{ranked_from, ranked_rule}
+use Rattle.policy_rules.specs.Exports.{rules_ranked_from, ranked_rule}
 use Rattle.policy_rules.proofs.rule_list.push_rule.Goals as goal
 
 pub returns : goal.returns
-unfolding ranked_from
+unfolding rules_ranked_from
 returns c = let before = c.args.rules.now in
     c.in_ok-push.ensures.items
     ∙ ap (λ rank. before.items ++ ranked_rule (rank, (c.args.word, c.args.hit)) ∷ [])

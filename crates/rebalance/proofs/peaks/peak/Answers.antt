@@ -1,5 +1,5 @@
 use Rattle.std.proofs.Common.{◌∙◌, ◌≡◌, arith, length, refl, replicate}
-use Rattle.placement.proofs.CallerLemmas.{none_yet}
+use Rattle.placement.proofs.PlacementCallerLemmas.{none_yet}
 use Rattle.rebalance.proofs.RebalanceLoads.{greatest-is}
 use Rattle.rebalance.proofs.peaks.peak.Goals as goal
 

@@ -5,8 +5,8 @@ use Rattle.partition.specs.Plan.{Hosted, sizes_of}
 use Rattle.switch_table.specs.Exports.{part_of}
 use Rattle.update_machine.specs.Exports.{Partition}
 use Rattle.rebalance.specs.Loads.{weights_of}
-use Rattle.rebalance.specs.Spread.{IsProposal}
-use Rattle.rebalance.specs.Proposals.{targets_by_partition}
+use Rattle.rebalance.specs.Spread.{IsRebalanceProposal}
+use Rattle.rebalance.specs.Proposals.{rebalance_partition_targets}
 use Rattle.rebalance.proofs.ProposedPlans.{AreMeasured, as_many_asked, as_many_sizes, as_many_targets, few_rooms, found_for, proposal_number, sizes_are}
 use Rattle.rebalance.proofs.plan_proposal.find_proposal.Goals as goal
 use Rattle.rebalance.proofs.plan_proposal.find_proposal.Goals.{In_ok-new, In_ok-old}
@@ -20,11 +20,11 @@ measured c = record {
   weights_are = c.in_ok-weights.ensures.weights ∙ ap (λ (hosts : List Hosted). weights_of
       c.args.journal.now (length hosts)) c.hosted-hosted.ensures.hosted;
   rooms_are = c.in_ok-rooms.ensures;
-  old_is = c.in_ok-old.ensures ∙ ap targets_by_partition c.hosted-hosted.ensures.hosted;
+  old_is = c.in_ok-old.ensures ∙ ap rebalance_partition_targets c.hosted-hosted.ensures.hosted;
 }
 
 -- the placement that is proposed
-chosen : (c : In_ok-new) → IsProposal c.in_ok-sizes.sizes.items c.in_ok-weights.weights.items
+chosen : (c : In_ok-new) → IsRebalanceProposal c.in_ok-sizes.sizes.items c.in_ok-weights.weights.items
     c.in_ok-rooms.rooms.items c.args.net.now.backups c.in_ok-old.old.items c.in_ok-new.new.items
 chosen c = rw (c.deref-4.ensures.value, c.deref-5.ensures.value, c.deref-6.ensures.value) at
     c.in_ok-new.ensures

@@ -1,6 +1,6 @@
 use Rattle.std.proofs.Common.{[], ◌++◌, ◌∙◌, ◌∷◌, ap, sym, take}
 use Rattle.base.proofs.Exports.{take_more}
-use Rattle.update_machine.specs.Exports.{current_mark}
+use Rattle.update_machine.specs.Exports.{journal_current_mark}
 use Rattle.rebalance.proofs.RebalanceWeights.{current_goes_on, current_start}
 use Rattle.rebalance.proofs.weighing.weighed_version_at_end.Goals as goal
 
@@ -14,5 +14,5 @@ loop-item-preserved c =
     let item = c.item-item.result in
     c.weighed_version_behind-current.ensures
     ∙ current_goes_on (take i items) item c.loop-item.current c.loop-item.invariant
-    ∙ ap current_mark (ap (λ x. take i items ++ x ∷ []) c.item-item.is
+    ∙ ap journal_current_mark (ap (λ x. take i items ++ x ∷ []) c.item-item.is
     ∙ sym (take_more items i item c.loop-item-test.true))

@@ -1,7 +1,7 @@
 use Rattle.std.proofs.Common.{◌++◌, ◌<◌, ◌∙◌, ◌≡◌, List, ap, arith, drop, get_or, length, length-take, replicate, rules, sum, take, take_all, ℕ}
 use Rattle.base.proofs.Exports.{get_or_default, length-replicate}
-use Rattle.placement.proofs.CallerLemmas.{none_yet, overwritten}
-use Rattle.update_machine.specs.Exports.{current_mark}
+use Rattle.placement.proofs.PlacementCallerLemmas.{none_yet, overwritten}
+use Rattle.update_machine.specs.Exports.{journal_current_mark}
 use Rattle.rebalance.proofs.RebalanceWeights.{asked-room, asked-step, asked_count, weights-are, weights-few}
 use Rattle.rebalance.proofs.weighing.weights.Goals as goal
 
@@ -59,7 +59,7 @@ returns-clause-weights c =
     c.loop-item.invariant.number (λ p within. c.loop-item.invariant.counts p within
     ∙ ap (asked_count current p) (take_all c.loop-item.item-index items c.loop-item-test.false)
     ∙ ap (λ version. asked_count version p items) c.weighed_version_at_end-current.ensures
-    ∙ ap (λ journal. asked_count (current_mark journal) p journal) c.items-items.ensures)
+    ∙ ap (λ journal. asked_count (journal_current_mark journal) p journal) c.items-items.ensures)
 
 pub returns-clause-small : goal.returns-clause-small
 returns-clause-small c = let items = c.items-items.result.now in

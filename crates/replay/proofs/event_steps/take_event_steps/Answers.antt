@@ -4,7 +4,7 @@ use Rattle.meters.specs.Exports.{seen_board}
 use Rattle.steps.specs.Exports.{IsEvent}
 use Rattle.update_machine.specs.Exports.{Setting}
 use Rattle.world.specs.Exports.{WorldValue, no_world_step, world_setting_at}
-use Rattle.replay.specs.Leavings.{MetersKeepUp}
+use Rattle.replay.specs.Leavings.{ReplayMetersKeepUp}
 use Rattle.replay.specs.Playing.{EventStopsWithin}
 use Rattle.replay.proofs.ReplayAskedStep.{Asked, asked, brought_all, none_yet}
 use Rattle.replay.proofs.ReplayBoard.{keep_up_next, keep_up_none, rest_is}
@@ -122,7 +122,7 @@ returns-in_err-step-clause-packets_full g c = λ is.
 pub returns-in_err-step-clause-kept_full : goal.returns-in_err-step-clause-kept_full
 returns-in_err-step-clause-kept_full g c = λ is.
     let full = ap Err (same_error c.from_residual.result _ no_world_step c.from_residual.ensures.1 is) in
-    subst (λ (world : WorldValue). MetersKeepUp c.args.world.now.journal world.journal
+    subst (λ (world : WorldValue). ReplayMetersKeepUp c.args.world.now.journal world.journal
     (seen_board g.M.Meter.seen c.args.board.now) (seen_board g.M.Meter.seen c.loop-next.board))
     (sym (c.in_err-step.ensures.unchanged full)) c.loop-next.invariant.kept
 

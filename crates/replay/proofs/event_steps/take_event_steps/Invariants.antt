@@ -1,7 +1,7 @@
 use Rattle.world.specs.Exports.{world_setting_at}
 use Rattle.std.proofs.Common.{◌+◌, ◌≡◌, false}
 use Rattle.meters.specs.Exports.{seen_board}
-use Rattle.replay.specs.Leavings.{MetersKeepUp}
+use Rattle.replay.specs.Leavings.{ReplayMetersKeepUp}
 use Rattle.replay.proofs.ReplayAskedStep.{brought_so_far, steps_left}
 use Rattle.replay.proofs.ReplayEventStepping.{Took}
 use Rattle.replay.proofs.event_steps.take_event_steps.Given as goal
@@ -12,7 +12,7 @@ invariant-loop-next g l = record {
   able : l.world.is_spent ≡ false;
   packets : l.world.packets ≡ l.fn.world.packets + brought_so_far l.event l.is_begun;
   took : Took (world_setting_at l.fn.world) l.row l.event l.is_begun l.fn.world.journal l.world.journal;
-  kept : MetersKeepUp l.fn.world.journal l.world.journal (seen_board g.M.Meter.seen l.fn.board)
+  kept : ReplayMetersKeepUp l.fn.world.journal l.world.journal (seen_board g.M.Meter.seen l.fn.board)
       (seen_board g.M.Meter.seen l.board);
 }
 

@@ -1,5 +1,5 @@
 use Rattle.std.proofs.Common.{◌∙◌, Some, ap, subst, sym}
-use Rattle.control_laws.specs.Exports.{MarksAreBounded, VersionsArePlanned}
+use Rattle.control_laws.specs.Exports.{MarksAreBounded, ControlVersionsArePlanned}
 use Rattle.controller.specs.Exports.{current_plan}
 use Rattle.world.specs.Exports.{world_setting_at}
 use Rattle.replay.proofs.ReplayPlanInForce.{kept_in_force}
@@ -14,8 +14,8 @@ returns c =
     let bounds : MarksAreBounded setting world.journal =
     subst (MarksAreBounded setting) (sym tie.reached.written)
     (c.marks_are_bounded.ensures.behind.ends.stepped setting tie.reached.steps) in
-    let planned : VersionsArePlanned setting world.journal =
-    subst (VersionsArePlanned setting) (sym tie.reached.written)
+    let planned : ControlVersionsArePlanned setting world.journal =
+    subst (ControlVersionsArePlanned setting) (sym tie.reached.written)
     (c.versions_are_planned.ensures.behind.ends.stepped setting tie.reached.steps) in
     kept_in_force setting world.journal world.controller c.in_ok-plan.plan tie.sound tie.controller
     bounds planned

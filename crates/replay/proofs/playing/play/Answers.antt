@@ -1,13 +1,13 @@
 use Rattle.world.specs.Exports.{world_setting_at}
 use Rattle.std.proofs.Common.{[], ◌+◌, ◌∙◌, ◌≡◌, Err, List, None, Some, ap, arith, map, refl, subst, sym}
 use Rattle.base.proofs.Exports.{drop_all}
-use Rattle.update_machine.specs.Exports.{Item, next_packet}
+use Rattle.update_machine.specs.Exports.{Item, journal_next_packet}
 use Rattle.meters.specs.Exports.{BoardValue, Seen, board_after, seen_board}
 use Rattle.update_machine.proofs.Exports.{start_laws}
 use Rattle.replay.specs.Leavings.{left_in}
 use Rattle.replay.proofs.ReplayAskedStep.{brought_few}
 use Rattle.replay.proofs.ReplayEventPlays.{PlaysOn, plays_from_start, plays_no_more, plays_on_by, stops_by}
-use Rattle.replay.specs.InForce.{IsPlanInForce}
+use Rattle.replay.specs.InForce.{IsReplayPlanInForce}
 use Rattle.replay.proofs.ReplayBoard.{kept_up}
 use Rattle.replay.proofs.ReplayedWorld.{tie_of}
 use Rattle.replay.proofs.playing.play.Goals as goal
@@ -27,7 +27,7 @@ loop-event-init g c =
       packets = omega (
         arith,
         (tie_of world (c.refines.ensures begun.able)).counted,
-        ap next_packet begun.silent,
+        ap journal_next_packet begun.silent,
         start_laws.packets,
       );
       plays_on = λ whole stop rest.
@@ -118,12 +118,12 @@ pub returns-in-Err-Refused-clause-plan : goal.returns-in-Err-Refused-clause-plan
 returns-in-Err-Refused-clause-plan g c =
     let same = c.in-Err-Refused.ensures.setting ∙ c.loop-event.invariant.setting in
     rw (c.ended.ensures.journal, c.ended.ensures.plan)
-    (subst (λ setting. IsPlanInForce setting c.take_event_steps.new.world.journal c.in_ok-plan-in-Err-Refused.plan) same
+    (subst (λ setting. IsReplayPlanInForce setting c.take_event_steps.new.world.journal c.in_ok-plan-in-Err-Refused.plan) same
     c.in_ok-plan-in-Err-Refused.ensures)
 
 pub returns-clause-plan : goal.returns-clause-plan
 returns-clause-plan g c = rw (c.ended-2.ensures.journal, c.ended-2.ensures.plan)
-    (subst (λ setting. IsPlanInForce setting c.loop-event.world.journal c.in_ok-plan.plan)
+    (subst (λ setting. IsReplayPlanInForce setting c.loop-event.world.journal c.in_ok-plan.plan)
     c.loop-event.invariant.setting c.in_ok-plan.ensures)
 
 pub plan_in_force-requires : goal.plan_in_force-requires

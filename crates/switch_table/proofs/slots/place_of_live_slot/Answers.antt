@@ -1,6 +1,6 @@
 use Rattle.std.proofs.Common.{◌<◌, ◌∙◌, ap, drop, map, subst, sym, ℕ}
 use Rattle.base.proofs.Exports.{drop-map, values_of}
-use Rattle.switch_table.specs.Exports.{IsNthSet, live_count_set, live_flags_of, is_live}
+use Rattle.switch_table.specs.Exports.{IsNthLiveCacheFlag, cache_live_count_set, cache_live_flags_of, is_live}
 use Rattle.switch_table.proofs.CacheSlotRemovals.{IsStart, flag_of, flags_values, nth_behind, starts_block, starts_first}
 use Rattle.switch_table.proofs.slots.place_of_live_slot.Goals as goal
 use Rattle.switch_table.proofs.slots.place_of_live_slot.Goals.{then-before-eq0, else-before-eq0}
@@ -9,7 +9,7 @@ pub returns : goal.returns
 returns c =
     let before = c.args.before in
     let slots = c.args.map.now.entries in
-    let flags = live_flags_of slots in
+    let flags = cache_live_flags_of slots in
     let start = c.if-before-eq0.start in
     let begins : IsStart start.0 start.1 before flags = elim c.if-before-eq0.branch [
       | then-before-eq0 w ↦ rw w.start-is (starts_first c.args.live.now c.args.first before slots
@@ -21,6 +21,6 @@ returns c =
     let behind = ap (map flag_of) (c.as_slice.ensures ∙ c.values.ensures.rest ∙ ap values_of
     (c.split_at-rest.ensures.back ∙ ap (drop start.0) c.as_slice-slots.ensures.entries))
     ∙ flags_values (drop start.0 slots) ∙ sym (drop-map is_live start.0 slots) in
-    let found = subst (λ fs. start.1 < live_count_set fs → IsNthSet start.1 c.nth_live_slot.result fs) behind
+    let found = subst (λ fs. start.1 < cache_live_count_set fs → IsNthLiveCacheFlag start.1 c.nth_live_slot.result fs) behind
     c.nth_live_slot.ensures.found in
     nth_behind start.0 start.1 before c.nth_live_slot.result flags begins (found begins.some)

@@ -1,6 +1,6 @@
 use Rattle.std.proofs.Common.{◌∙◌, ◌≡◌, ap, filter, length, replicate, rules, subst, sym, true}
 use Rattle.indexmap.proofs.CallerLemmas.{filter-RetainsPairs}
-use Rattle.switch_table.specs.Exports.{AreLiveCounts, live_flags_of, is_live}
+use Rattle.switch_table.specs.Exports.{AreCacheLiveCounts, cache_live_flags_of, is_live}
 use Rattle.switch_table.proofs.CacheSlotPushes.{swept_flags}
 use Rattle.switch_table.proofs.slots.sweep_dead_slots.Goals as goal
 use Rattle.switch_table.proofs.slots.sweep_dead_slots.Goals.{After-retain}
@@ -13,6 +13,6 @@ returns-clause-slots c = kept (goal.at.returns-clause-slots c).After-retain
 
 pub returns-clause-counts : goal.returns-clause-counts
 returns-clause-counts c = let left = kept (goal.at.returns-clause-counts c).After-retain in
-    subst (AreLiveCounts c.fill.new.self)
+    subst (AreCacheLiveCounts c.fill.new.self)
     (ap (λ n. replicate n true) (c.len.ensures.len ∙ ap length left)
-    ∙ sym (swept_flags c.args.map.now.entries) ∙ ap live_flags_of (sym left)) c.fill.ensures
+    ∙ sym (swept_flags c.args.map.now.entries) ∙ ap cache_live_flags_of (sym left)) c.fill.ensures

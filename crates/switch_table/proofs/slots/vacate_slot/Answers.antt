@@ -2,7 +2,7 @@ use Rattle.std.proofs.Common.{◌+◌, ◌-◌, ◌<◌, ◌^◌, ◌∙◌, ◌
 use Rattle.base.proofs.Exports.{length-map, same_Some, slice_get_within}
 use Rattle.indexmap.proofs.CallerLemmas.{insert_entry-new}
 use Rattle.indexmap.specs.IndexMap.{Updates, get}
-use Rattle.switch_table.specs.Exports.{AreNamed, SlotPair, equal_keys, live_flags_of, is_live, live_pairs}
+use Rattle.switch_table.specs.Exports.{AreCacheSlotsNamed, SlotPair, equal_keys, cache_live_flags_of, is_live, live_cache_pairs}
 use Rattle.switch_table.proofs.CacheSlotPushes.{IsRekeyed, rekeyed, rekeyed_flags, rekeyed_pairs}
 use Rattle.switch_table.specs.declared.key.CacheKey.{CacheKey}
 use Rattle.switch_table.proofs.CacheSlotKeys.{named_absent, named_set}
@@ -38,14 +38,14 @@ pub returns-clause-pairs : goal.returns-clause-pairs
 returns-clause-pairs c =
     let here = (goal.at.returns-clause-pairs c).After-swap_remove_index in
     let is = made here in
-    ap live_pairs is.new_is
+    ap live_cache_pairs is.new_is
     ∙ rekeyed_pairs c.args.map.now.entries c.args.place is.pair (new_key here) is.at is.dead
 
 pub returns-clause-flags : goal.returns-clause-flags
 returns-clause-flags c =
     let here = (goal.at.returns-clause-flags c).After-swap_remove_index in
     let is = made here in
-    ap live_flags_of is.new_is
+    ap cache_live_flags_of is.new_is
     ∙ rekeyed_flags c.args.map.now.entries c.args.place is.pair (new_key here) is.at
 
 pub returns-clause-gone : goal.returns-clause-gone
@@ -64,6 +64,6 @@ unfolding new_key
 returns-clause-named c =
     let here = (goal.at.returns-clause-named c).After-swap_remove_index in
     let is = made here in
-    subst (AreNamed 0) (sym is.new_is)
+    subst (AreCacheSlotsNamed 0) (sym is.new_is)
     (named_set 0 c.args.map.now.entries c.args.place (new_key here, is.pair.1) c.requires.named
     (inr (omega (arith, within here), is.dead)))

@@ -1,5 +1,5 @@
 use Rattle.std.proofs.Common.{◌∙◌, ap, arith, take_all}
-use Rattle.table_tree.specs.Regions.{all_regions_fix}
+use Rattle.table_tree.specs.Regions.{table_tree_all_fix}
 use Rattle.table_tree.proofs.TableTreeMasks.{all_more, all_none}
 use Rattle.table_tree.proofs.bits.fixed_by_all_regions.Goals as goal
 
@@ -13,5 +13,5 @@ loop-candidate-preserved c = λ bit within. all_more c.args.candidates.now
 
 pub returns : goal.returns
 returns c = λ bit within. c.loop-candidate.invariant bit within
-    ∙ ap (λ candidates. all_regions_fix candidates bit)
+    ∙ ap (λ candidates. table_tree_all_fix candidates bit)
     (take_all c.loop-candidate.candidate-index c.args.candidates.now (omega arith))

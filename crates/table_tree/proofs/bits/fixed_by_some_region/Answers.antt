@@ -1,5 +1,5 @@
 use Rattle.std.proofs.Common.{◌∙◌, ap, arith, take_all}
-use Rattle.table_tree.specs.Regions.{some_region_fixes}
+use Rattle.table_tree.specs.Regions.{table_tree_some_fixes}
 use Rattle.table_tree.proofs.TableTreeMasks.{some_more, some_none}
 use Rattle.table_tree.proofs.bits.fixed_by_some_region.Goals as goal
 
@@ -12,5 +12,5 @@ loop-candidate-preserved c = λ bit. some_more c.args.candidates.now c.loop-cand
     c.mask-bits.ensures.mask (c.loop-candidate.invariant bit)
 
 pub returns : goal.returns
-returns c = λ bit. c.loop-candidate.invariant bit ∙ ap (λ candidates. some_region_fixes candidates bit)
+returns c = λ bit. c.loop-candidate.invariant bit ∙ ap (λ candidates. table_tree_some_fixes candidates bit)
     (take_all c.loop-candidate.candidate-index c.args.candidates.now (omega arith))

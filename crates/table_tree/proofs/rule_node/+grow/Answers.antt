@@ -7,7 +7,7 @@ pub returns-in_default : goal.returns-in_default
 returns-in_default t c = let node = c.args.node in
     ap Leaf (c.in_ok-places.ensures ∙ ap (map rank_of) c.deref.ensures.value)
     ∙ within_end c.args.cuts node.rules.items node.region
-    (sym c.in_default.is ∙ c.paying_cut.ensures.cut)
+    (sym c.in_default.is ∙ c.table_tree_paying_cut.ensures.cut)
 
 pub returns : goal.returns
 returns t c = let node = c.args.node in

@@ -1,5 +1,5 @@
 use Rattle.std.proofs.Common.{[], ◌∙◌, ap, arith, length, subst, sym}
-use Rattle.trace_audit.specs.Exports.{IsAuditVerdict, IsLineRead, Open, Whole, lines_of, trace_state_seen}
+use Rattle.trace_audit.specs.Exports.{IsTraceAuditVerdict, IsTraceLineRead, Open, Whole, lines_of, trace_state_seen}
 use Rattle.trace_audit.specs.declared.trace.Verdict.TheVariants.{No, Yes}
 use Rattle.trace_audit.proofs.AuditKnownPackets.{verdict_justified}
 use Rattle.trace_audit.proofs.AuditTraceLines.{lines_next, lines_nil, lines_open}
@@ -12,7 +12,7 @@ returns-in-None c =
     let rest = c.loop-rest.rest.now in
     let lines = lines_of c.args.trace.now in
     let verdict = No c.saturating_add-line.result in
-    let is : IsAuditVerdict c.args.files.now lines verdict =
+    let is : IsTraceAuditVerdict c.args.files.now lines verdict =
     bad_here c.args.files.now c.args.trace.now rest c.loop-rest.line (trace_state_seen c.loop-rest.auditor)
     (Open rest) [] c.audited_files_are_sound.ensures c.loop-rest.invariant
     (lines_open rest (some_left rest (sym c.is_empty.ensures ∙ c.loop-rest-test.true))
@@ -28,11 +28,11 @@ returns-then-not-good c =
     let rest = c.loop-rest.rest.now in
     let lines = lines_of c.args.trace.now in
     let verdict = No c.saturating_add-line.result in
-    let is : IsAuditVerdict c.args.files.now lines verdict = bad_here c.args.files.now
+    let is : IsTraceAuditVerdict c.args.files.now lines verdict = bad_here c.args.files.now
     c.args.trace.now rest c.loop-rest.line (trace_state_seen c.loop-rest.auditor)
     (Whole c.in-Some.text.now) (lines_of c.in-Some.next.now) c.audited_files_are_sound.ensures
     c.loop-rest.invariant (lines_next rest c.in-Some.text.now c.in-Some.next.now c.in-Some.ensures)
-    (subst (λ good. IsLineRead c.args.files.now (trace_state_seen c.loop-rest.auditor)
+    (subst (λ good. IsTraceLineRead c.args.files.now (trace_state_seen c.loop-rest.auditor)
     (Whole c.in-Some.text.now) (trace_state_seen c.take_trace_line.new.auditor) good) c.if-not-good.true
     c.in_ok-good-in-Some.ensures) _ c.saturating_add-line.ensures in record {
       verdict = is;
@@ -60,7 +60,7 @@ pub returns : goal.returns
 returns c =
     let rest = c.loop-rest.rest.now in
     let lines = lines_of c.args.trace.now in
-    let is : IsAuditVerdict c.args.files.now lines Yes = all_good c.args.files.now c.args.trace.now
+    let is : IsTraceAuditVerdict c.args.files.now lines Yes = all_good c.args.files.now c.args.trace.now
     c.loop-rest.line (trace_state_seen c.loop-rest.auditor) lines_nil (subst (λ left. IsSoFar
     c.args.files.now c.args.trace.now left c.loop-rest.line (trace_state_seen c.loop-rest.auditor))
     (nil_left rest (sym c.is_empty.ensures ∙ c.loop-rest-test.false)) c.loop-rest.invariant) in

@@ -1,6 +1,6 @@
 use Rattle.std.proofs.Common.{◌∙◌, sym}
 use Rattle.base.proofs.Exports.{take_rest}
-use Rattle.five_tuple.proofs.CallerLemmas.{parts_at, parts_none}
+use Rattle.five_tuple.proofs.FiveTupleCallerLemmas.{parts_at, parts_none}
 use Rattle.trace_audit.proofs.words.cut_at.Goals as goal
 
 pub returns-in-None : goal.returns-in-None

@@ -1,7 +1,7 @@
 use Rattle.std.proofs.Common.{◌*◌, ◌+◌, ◌<◌, ◌^◌, arith}
 use Rattle.base.specs.Exports.{least_in}
 use Rattle.base.proofs.Exports.{least_lt, some_of}
-use Rattle.travelling.specs.SwitchIndex.{switch_mask_at}
+use Rattle.travelling.specs.SwitchIndex.{traveller_mask_at}
 use Rattle.travelling.proofs.TravellingMarkBlocks.{block_within, first_marked}
 use Rattle.travelling.proofs.switch_index.first_mark_of_block.Goals as goal
 
@@ -11,10 +11,10 @@ overflow_add-result-2 c =
     let masks = c.args.masks.now in
     let block = c.args.block in
     let s = c.args.switch in
-    let fits : switch_mask_at masks block s < 2 ^ 64 =
+    let fits : traveller_mask_at masks block s < 2 ^ 64 =
     (let fit = c.type_inv.masks (block * 64 + s) in omega (arith, fit.fits)) in
-    let some = some_of (switch_mask_at masks block s) c.requires.some in
-    let few = least_lt (switch_mask_at masks block s) some fits in
+    let some = some_of (traveller_mask_at masks block s) c.requires.some in
+    let few = least_lt (traveller_mask_at masks block s) some fits in
     omega (arith, block_within masks block s c.requires.some, few, c.well_formed)
 
 pub returns : goal.returns

@@ -1,10 +1,10 @@
 use Rattle.std.proofs.Common.{◌*◌, ◌+◌, ◌/◌}
-use Rattle.travelling.specs.SwitchIndex.{IsNoneMarked}
+use Rattle.travelling.specs.SwitchIndex.{IsNoTravellerMarked}
 use Rattle.travelling.proofs.TravellingMarkBlocks.{block_has, least_beyond, none_beyond}
 use Rattle.travelling.proofs.switch_index.next_mark_by_blocks.Goals as goal
 use Rattle.travelling.proofs.switch_index.next_mark_by_blocks.Goals.{In_default}
 
-none_here : (c : In_default) → IsNoneMarked c.args.masks.now c.args.switch c.args.from
+none_here : (c : In_default) → IsNoTravellerMarked c.args.masks.now c.args.switch c.args.from
     ((c.args.from / 64 + 1) * 64)
 none_here c = rw c.in_default.is at c.next_mark_in_block.ensures
 

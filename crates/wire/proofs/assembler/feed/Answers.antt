@@ -1,6 +1,6 @@
 use Rattle.std.proofs.Common.{subst}
 use Rattle.wire.specs.declared.assembler.FrameCheck.TheVariants.{Held, New}
-use Rattle.wire.specs.Exports.{IsMessageAssembled, IsFrameCheck, count_in_frame}
+use Rattle.wire.specs.Exports.{IsWireMessageAssembled, IsFrameCheck, count_in_frame}
 use Rattle.wire.proofs.WireFramesHeld.{fed_held, fed_new}
 use Rattle.wire.proofs.assembler.feed.Goals as goal
 
@@ -8,10 +8,10 @@ pub returns-in-Held : goal.returns-in-Held
 returns-in-Held c =
     let held = c.args.frames.now.items in
     let f = c.args.frame.now in
-    let r = c.message_of.result in
-    let answer : IsMessageAssembled held (count_in_frame f) r =
-    subst (λ n. IsMessageAssembled held n r) c.count_of.ensures
-    (subst (λ fs. IsMessageAssembled fs c.count_of.result r) c.deref-in-Held.ensures.value c.message_of.ensures) in
+    let r = c.wire_message_of.result in
+    let answer : IsWireMessageAssembled held (count_in_frame f) r =
+    subst (λ n. IsWireMessageAssembled held n r) c.count_of.ensures
+    (subst (λ fs. IsWireMessageAssembled fs c.count_of.result r) c.deref-in-Held.ensures.value c.wire_message_of.ensures) in
     fed_held held f r c.requires
     (subst (λ fs. IsFrameCheck fs f Held) c.deref.ensures.value c.in-Held.ensures) answer
 

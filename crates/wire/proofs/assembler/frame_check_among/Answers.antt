@@ -11,16 +11,16 @@ at_place : (frames : List (List ℕ)) (frame : List ℕ) (place : ℕ) (held : O
     → frame_held_at frames (place_in_frame frame) ≡ held
 at_place frames frame place held is found = ap (frame_held_at frames) (sym is) ∙ sym found
 
-pub returns-then-are_same : goal.returns-then-are_same
-returns-then-are_same c = check_held c.args.frames.now c.args.frame.now c.in-Some.held.now
+pub returns-then-are_same_frame_bytes : goal.returns-then-are_same_frame_bytes
+returns-then-are_same_frame_bytes c = check_held c.args.frames.now c.args.frame.now c.in-Some.held.now
     c.requires.long c.requires.short c.requires.below c.requires.rising
     (at_place _ _ _ _ c.place_of-place.ensures c.in-Some.ensures)
-    (sym c.bytes.ensures.bytes ∙ c.if-are_same.ensures.0 refl)
+    (sym c.bytes.ensures.bytes ∙ c.if-are_same_frame_bytes.ensures.0 refl)
 
-pub returns-else-are_same : goal.returns-else-are_same
-returns-else-are_same c =
+pub returns-else-are_same_frame_bytes : goal.returns-else-are_same_frame_bytes
+returns-else-are_same_frame_bytes c =
     another_frame c.in-Some.held.now (at_place _ _ _ _ c.place_of-place.ensures c.in-Some.ensures)
-    (λ e. false_not_true (c.if-are_same.ensures.1 (c.bytes.ensures.bytes ∙ e)))
+    (λ e. false_not_true (c.if-are_same_frame_bytes.ensures.1 (c.bytes.ensures.bytes ∙ e)))
 
 pub returns-in-None : goal.returns-in-None
 returns-in-None c = let are : AreBytes c.args.frame.now = λ i. omega (arith, c.type_inv.frame i) in

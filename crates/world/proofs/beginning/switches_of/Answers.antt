@@ -1,12 +1,12 @@
 use Rattle.std.proofs.Common.{[], ◌++◌, ◌<◌, ◌∙◌, ◌∷◌, ◌≡◌, ap, arith, length, map, subst, sym, ℕ}
 use Rattle.base.proofs.Exports.{map-range_with_len_more, range_with_len}
 use Rattle.failover.specs.Exports.{first_adverts}
-use Rattle.switch_core.specs.Exports.{HasOwnUpTo, SwitchValue, new_switch}
+use Rattle.switch_core.specs.Exports.{HasSwitchAdvertUpTo, SwitchValue, new_switch}
 use Rattle.switch_core.proofs.SwitchLaws.{own_first}
 use Rattle.net_file.specs.Exports.{links_of}
 use Rattle.switch_table.specs.Exports.{tables_of}
 use Rattle.update_machine.specs.Exports.{Tables}
-use Rattle.refinement.specs.Exports.{switch_begun}
+use Rattle.refinement.specs.Exports.{refined_switch_begun}
 use Rattle.refinement.proofs.RefinedTakenLegs.{first_near, first_tables}
 use Rattle.world.proofs.beginning.switches_of.Goals as goal
 
@@ -14,7 +14,7 @@ pub begin-requires-clause-own : goal.begin-requires-clause-own
 begin-requires-clause-own c =
     let below : c.loop-number.number < 64 =
     omega (arith, ap length c.items-count.ensures, c.requires.net.few_switches) in
-    subst (λ base. HasOwnUpTo base c.loop-number.number 1 1) (sym c.begin-base.ensures)
+    subst (λ base. HasSwitchAdvertUpTo base c.loop-number.number 1 1) (sym c.begin-base.ensures)
     (own_first c.args.near.now (length c.items-count.result.now) c.loop-number.number below)
 
 pub begin-requires-clause-version : goal.begin-requires-clause-version
@@ -24,7 +24,7 @@ begin-requires-clause-version c = cc (first_tables c.args.net.now c.args.control
 pub loop-number-preserved : goal.loop-number-preserved
 loop-number-preserved c = λ plan is. let number = c.loop-number.number in
     let net = c.args.net.now in
-    let each : ℕ → SwitchValue = switch_begun net plan.hosted in
+    let each : ℕ → SwitchValue = refined_switch_begun net plan.hosted in
     let told : c.begin-base.result ≡ first_adverts (map (links_of net.links)
     (range_with_len 0 (length net.switches))) (length net.switches) =
     c.begin-base.ensures ∙ ap (first_adverts c.args.near.now) (ap length c.items-count.ensures)

@@ -1,6 +1,6 @@
 use Rattle.std.proofs.Common.{IfOk, List, subst}
 use Rattle.policy_rules.specs.Exports.{applied}
-use Rattle.world.specs.Exports.{IsFileMade}
+use Rattle.world.specs.Exports.{IsWorldFileMade}
 use Rattle.world.proofs.files.file_amended_or_code.Goals as goal
 use Rattle.ternary.specs.Exports.{WordValue}
 
@@ -8,6 +8,6 @@ pub returns-in-Ok : goal.returns-in-Ok
 returns-in-Ok c =
     let result = c.file_plan_or_code.result in
     let made = applied c.args.policy.now c.args.change.now in
-    subst (λ (words : List WordValue). IfOk result (IsFileMade c.args.net.now (made, words)))
+    subst (λ (words : List WordValue). IfOk result (IsWorldFileMade c.args.net.now (made, words)))
     c.in_ok-touched-in-Ok.ensures
     (rw c.in-Ok.ensures.applied c.file_plan_or_code.ensures)

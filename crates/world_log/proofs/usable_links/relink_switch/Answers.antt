@@ -1,5 +1,5 @@
 use Rattle.std.proofs.Common.{◌&&◌, ◌++◌, ◌==◌, ◌∙◌, ◌≡◌, ap, arith, ne_eqb, not, sym, true}
-use Rattle.switch_core.specs.Exports.{near_changed, next_advert}
+use Rattle.switch_core.specs.Exports.{near_changed, switch_next_advert}
 use Rattle.world_log.proofs.LogRelinking.{told_all, told_below}
 use Rattle.world_log.specs.Exports.{links_change}
 use Rattle.world_log.proofs.usable_links.relink_switch.Goals as goal
@@ -19,6 +19,6 @@ returns-clause-told c =
     ++ told_below (near_changed old near) own c.args.had near c.loop-other.other)
     c.near_changed-own.ensures.advert
     ∙ ap (λ n. c.args.messages.now.items
-    ++ told_below (near_changed old near) (next_advert old near) c.args.had near n) (omega arith)
+    ++ told_below (near_changed old near) (switch_next_advert old near) c.args.had near n) (omega arith)
     ∙ ap (λ more. c.args.messages.now.items ++ more)
     (told_all old c.args.count c.args.had near changed)

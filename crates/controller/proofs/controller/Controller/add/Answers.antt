@@ -1,6 +1,6 @@
 use Rattle.std.proofs.Common.{[], ◌++◌, ◌+◌, ◌∙◌, ◌∷◌, ◌≡◌, ap, map, not, refl, ℕ}
 use Rattle.version_update.specs.Exports.{is_over, with_version}
-use Rattle.controller.specs.Exports.{ControllerValue, KeptPlan, StaysController, SubmitsPlan, boot_recorded, current_touched, install_act, kept_plans_from, settling_acts, submit_acts, switches_by_record}
+use Rattle.controller.specs.Exports.{ControllerValue, KeptPlan, ControllerStaysSound, ControllerSubmitsPlan, controller_recorded_boot, current_plan_touched, controller_install_act, kept_plans_from, controller_settling_acts, submit_acts, controller_switches_by_record}
 use Rattle.controller.proofs.ControllerNewestPolicy.{newest_added}
 use Rattle.controller.proofs.ControllerKeptVersions.{IsWhole, whole_more, stays_more}
 use Rattle.controller.proofs.controller.Controller.add.Goals as goal
@@ -22,7 +22,7 @@ whole c = whole_more c.self.inside.marks c.self.inside.versions.items
     (Next c c.self.inside.marks.count) _ _ _ _ c.hosted.ensures.sound refl c.self.invariant c.add_version-settled.ensures.rule
     c.add_version-settled.ensures.settled (pushed c) c.settle.ensures.versions
 
-stays : (c : After-settle) → StaysController c.args.self.now (record {
+stays : (c : After-settle) → ControllerStaysSound c.args.self.now (record {
   marks = c.add_version-settled.new.marks;
   plans = c.settle.new.versions.items;
 })
@@ -47,7 +47,7 @@ returns-clause-newest c =
     let marks = c.add_version-settled.new.marks in
     let new : ControllerValue = record { marks = marks; plans = c.settle.new.versions.items } in
     let at = (goal.at.returns-clause-newest c).After-settle in
-    let submits : SubmitsPlan old (Next at c.self.inside.marks.count) new = record {
+    let submits : ControllerSubmitsPlan old (Next at c.self.inside.marks.count) new = record {
       marks = (_, c.add_version-settled.ensures.settled);
       plans = c.settle.ensures.versions ∙ ap (kept_plans_from marks.current) (pushed at);
     } in
@@ -62,9 +62,9 @@ returns-clause-sends c =
       plans = c.settle.new.versions.items;
     } in
     c.from_items.ensures ∙ c.in_ok-settle.ensures.acts _ c.add_version-settled.ensures.settled
-    ∙ ap (λ l. l ++ settling_acts (current_touched new) (with_version old) new.marks)
-    (c.in_ok-acts.ensures ∙ ap (λ (version : KeptPlan). map (λ s. install_act s (boot_recorded old
-    s) version) (switches_by_record (λ known. not (is_over known.phase)) old.switches)) (next_is at))
+    ∙ ap (λ l. l ++ controller_settling_acts (current_plan_touched new) (with_version old) new.marks)
+    (c.in_ok-acts.ensures ∙ ap (λ (version : KeptPlan). map (λ s. controller_install_act s (controller_recorded_boot old
+    s) version) (controller_switches_by_record (λ known. not (is_over known.phase)) old.switches)) (next_is at))
     ∙ ap (λ (value : ControllerValue). submit_acts value.marks (Next at value.marks.count) new)
     c.self.view_is
 

@@ -1,6 +1,6 @@
 use Rattle.std.proofs.Common.{[], ◌++◌, ◌∙◌, ap, refl, subst, sym}
 use Rattle.version_update.specs.Exports.{MarksValue}
-use Rattle.controller.specs.Exports.{SettlesWith}
+use Rattle.controller.specs.Exports.{ControllerSettlesWith}
 use Rattle.controller.proofs.ControllerNewestPolicy.{newest_stays}
 use Rattle.controller.proofs.ControllerUnheardMarks.{is_unheard}
 use Rattle.controller.proofs.controller.Controller.hear.Goals as goal
@@ -10,7 +10,7 @@ returns-in_default c =
     let value = c.args.self.now in
     let is = is_unheard c.args.body.now value c.in_default.not-Hello c.in_default.not-Installed
     c.in_default.not-Stamped in
-    let Settled : MarksValue → Type 0 = λ marks. SettlesWith marks value.plans value in record {
+    let Settled : MarksValue → Type 0 = λ marks. ControllerSettlesWith marks value.plans value in record {
       after = subst Settled (sym is.same) c.unheard.ensures.after;
       newest = refl;
       sends = c.unheard.ensures.none ∙ sym (is.sent ∙ ap (λ l. l ++ []) c.unheard.ensures.idle);

@@ -1,6 +1,6 @@
 use Rattle.std.proofs.Common.{refl}
 use Rattle.version_update.specs.Exports.{after_over, at_switch}
-use Rattle.controller.specs.Exports.{ControllerValue, SettlesWith, StaysController}
+use Rattle.controller.specs.Exports.{ControllerValue, ControllerSettlesWith, ControllerStaysSound}
 use Rattle.controller.proofs.ControllerNewestPolicy.{newest_stays}
 use Rattle.controller.proofs.ControllerKeptVersions.{whole_at, settles_at, settles_seen, stays_at}
 use Rattle.controller.proofs.controller.Controller.over.Goals as goal
@@ -15,9 +15,9 @@ returns c =
       marks = c.over-settled.new.self;
       plans = c.settled_sends.new.versions.items;
     } in
-    let settles : SettlesWith (at_switch c.args.s after_over old.marks) old.plans new =
+    let settles : ControllerSettlesWith (at_switch c.args.s after_over old.marks) old.plans new =
     search settles_at in
-    let stays : StaysController old new = search stays_at in
+    let stays : ControllerStaysSound old new = search stays_at in
     let sent = c.settled_sends.ensures.sends _ (settles_seen c.args.s after_over _ _ _ _ _
     c.self.view_is c.over-settled.ensures.settled) in record {
       after = settles;

@@ -1,5 +1,5 @@
 use Rattle.std.proofs.Common.{arith}
-use Rattle.ternary.specs.Exports.{fix_of}
+use Rattle.ternary.specs.Exports.{word_fix_of}
 use Rattle.cut_tree.proofs.CutNarrowing.{narrow_few}
 use Rattle.cut_tree.proofs.CutTreeLemmas.{side_node}
 use Rattle.cut_tree.proofs.node.Node.half.Goals as goal
@@ -15,7 +15,7 @@ invariant_of-result c = let node = c.args.self.now in
           c.requires.bound;
       few = omega (
         arith,
-        narrow_few node.rules.items (fix_of node.region c.args.bit c.args.one),
+        narrow_few node.rules.items (word_fix_of node.region c.args.bit c.args.one),
         node.few,
       );
     })

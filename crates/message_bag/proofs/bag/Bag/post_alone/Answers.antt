@@ -1,6 +1,6 @@
 use Rattle.std.proofs.Common.{[], ◌++◌, ◌∙◌, ◌∷◌, ◌≡◌, List, None, ap, ℕ}
 use Rattle.wire.specs.Exports.{frames, message}
-use Rattle.message_bag.specs.Exports.{HasFrames, bag_frames_in}
+use Rattle.message_bag.specs.Exports.{HasBagFrames, bag_frames_in}
 use Rattle.message_bag.proofs.BagPostedMessages.{alone_is, kept_after, posted_after}
 use Rattle.message_bag.proofs.bag.Bag.post_alone.Goals as goal
 
@@ -13,7 +13,7 @@ its c =
     ∙ ap (λ (b : List ℕ). b ++ message.spell c.args.message.now)
     (c.in_ok-extend_from_slice.ensures.items ∙ ap (λ (b : List ℕ). b ++ (0 ∷ 0 ∷ 0 ∷ 0 ∷ 0 ∷ 0 ∷ 0 ∷ 1 ∷ [])) c.clear.ensures.items))
 
-has : (c : goal.After-push) → HasFrames c.args.message.now
+has : (c : goal.After-push) → HasBagFrames c.args.message.now
 has c = record { fits = c.in_ok-append.ensures.fits; short = c.requires.spelling.short }
 
 pub invariant_of-self-2 : goal.invariant_of-self-2

@@ -1,7 +1,7 @@
 use Rattle.std.proofs.Common.{◌++◌, ◌∙◌, ◌≡◌, List, ap, arith, length, ℕ}
 use Rattle.base.proofs.Exports.{common_steps, on_ok}
-use Rattle.wire.specs.Exports.{begun_for, frames}
-use Rattle.message_bag.specs.Exports.{HasFrames, bag_frames_in}
+use Rattle.wire.specs.Exports.{wire_begun_for, frames}
+use Rattle.message_bag.specs.Exports.{HasBagFrames, bag_frames_in}
 use Rattle.message_bag.proofs.BagCopiedMessages.{AreLike, copied, found, has, long}
 use Rattle.message_bag.proofs.BagPostedMessages.{kept_after, posted_after}
 use Rattle.message_bag.proofs.bag.Bag.post_like.Goals as goal
@@ -21,7 +21,7 @@ like : (c : goal.After-push)
 like c = found c.self.inside.tables.items c.self.inside.firsts c.args.self.now c.args.number
     c.args.message.now _ c.self.invariant c.self.view_is c.requires.like c.in-Some.ensures.some
 
-has_frames : (c : goal.After-push) → HasFrames c.args.message.now
+has_frames : (c : goal.After-push) → HasBagFrames c.args.message.now
 has_frames c = has c.self.inside.tables.items _ c.args.message.now (like c)
     c.set_receiver.ensures.fits c.requires.spelling
 
@@ -30,7 +30,7 @@ its : (c : goal.After-push)
 its c = let written : c.deref.result.now ≡ c.set_receiver.new.frame = grind (arith, common_steps) in
     ap (λ (b : List ℕ). bag_frames_in c.self.inside.tables.items (b, c.in-Some.tables))
     (written ∙ c.set_receiver.ensures.written
-    ∙ ap (begun_for c.args.message.now.to) (c.deref_mut.ensures.value ∙ c.in_ok-extend_from_slice.ensures.items
+    ∙ ap (wire_begun_for c.args.message.now.to) (c.deref_mut.ensures.value ∙ c.in_ok-extend_from_slice.ensures.items
     ∙ ap (λ (b : List ℕ). b ++ c.in-Some.frame.now) c.clear.ensures.items))
     ∙ copied c.self.inside.tables.items c.in-Some.frame.now c.in-Some.tables c.args.message.now (like c)
 

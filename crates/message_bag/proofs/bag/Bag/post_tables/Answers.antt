@@ -1,6 +1,6 @@
 use Rattle.std.proofs.Common.{◌∙◌, ◌≡◌, Some}
 use Rattle.wire.specs.Exports.{frames}
-use Rattle.message_bag.specs.Exports.{HasFrames, bag_frames_in}
+use Rattle.message_bag.specs.Exports.{HasBagFrames, bag_frames_in}
 use Rattle.message_bag.proofs.BagNumberedPosts.{post_failed}
 use Rattle.message_bag.proofs.BagPostedMessages.{all_stay, kept_after, posted_after, still_kept}
 use Rattle.message_bag.proofs.bag.Bag.post_tables.Goals as goal
@@ -18,7 +18,7 @@ its : (c : goal.After-push)
     → bag_frames_in c.spell_install.new.kept.items (c.deref.result.now, Some c.in_ok-number.number) ≡ frames c.args.message.now
 its c = cc (c.deref.ensures.value, c.in_ok-number.ensures.own)
 
-has : (c : goal.After-push) → HasFrames c.args.message.now
+has : (c : goal.After-push) → HasBagFrames c.args.message.now
 has c = record { fits = c.in_ok-number.ensures.fits; short = c.requires.spelling.short }
 
 pub invariant_of-self-2 : goal.invariant_of-self-2

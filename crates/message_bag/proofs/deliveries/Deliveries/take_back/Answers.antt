@@ -1,5 +1,5 @@
 use Rattle.std.proofs.Common.{◌∙◌, arith, subst, sym}
-use Rattle.message_bag.specs.Exports.{ArePassedMessages}
+use Rattle.message_bag.specs.Exports.{AreBagMessagesPassed}
 use Rattle.message_bag.proofs.BagWaitingStatuses.{taken_back, without_last}
 use Rattle.message_bag.proofs.deliveries.Deliveries.take_back.Goals as goal
 
@@ -9,9 +9,9 @@ invariant_of-self c =
     let passed = c.self.inside.passed in
     let before = c.requires.0 in
     let is = c.self.view_is ∙ c.requires.1 in
-    subst (ArePassedMessages passed)
+    subst (AreBagMessagesPassed passed)
     (sym (c.truncate.ensures.items ∙ without_last _ all before is (omega arith)))
-    (taken_back passed before (subst (ArePassedMessages passed) is c.self.invariant))
+    (taken_back passed before (subst (AreBagMessagesPassed passed) is c.self.invariant))
 
 pub returns : goal.returns
 returns c = λ before is. c.truncate.ensures.items

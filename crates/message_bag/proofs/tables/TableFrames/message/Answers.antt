@@ -1,7 +1,7 @@
 use Rattle.std.proofs.Common.{◌∙◌, ◌∷◌, ◌≡◌, List, ap, arith, drop, subst, sym, ℕ}
 use Rattle.ctrl_msg.specs.declared.message.Body.TheVariants.{Install}
 use Rattle.switch_table.specs.declared.tables.Tables.{Tables}
-use Rattle.message_bag.specs.Exports.{AreOfMessage, table_frames}
+use Rattle.message_bag.specs.Exports.{AreBagFramesOfMessage, bag_table_frames}
 use Rattle.message_bag.proofs.BagMessagesOut.{rest_is}
 use Rattle.message_bag.proofs.BagInstallationFrames.{again_installed, has_front, long_installed}
 use Rattle.wire.specs.Exports.{AreFrames}
@@ -9,10 +9,10 @@ use Rattle.message_bag.proofs.tables.TableFrames.message.Goals as goal
 use Rattle.message_bag.proofs.tables.TableFrames.message.Goals.{In_ok-tables}
 
 -- the other frames are those of the tables
-others : (c : In_ok-tables) → drop 1 c.args.self.now ≡ table_frames c.self.inside.said
+others : (c : In_ok-tables) → drop 1 c.args.self.now ≡ bag_table_frames c.self.inside.said
 others c = ap (drop 1) (sym c.self.view_is) ∙ c.self.invariant.behind.are
 
-are : (c : In_ok-tables) → AreOfMessage (c.args.first.now ∷ table_frames c.self.inside.said)
+are : (c : In_ok-tables) → AreBagFramesOfMessage (c.args.first.now ∷ bag_table_frames c.self.inside.said)
 are c = rw (others c) at c.requires
 
 pub slice_bounds-front_of-count : goal.slice_bounds-front_of-count
@@ -39,6 +39,6 @@ returns c =
     (subst (λ (u : Tables). AreFrames (record {
       to = c.in_ok-to.to;
       body = Install c.in_ok-to.boot u;
-    }) (first ∷ table_frames t)) (sym c.in_ok-tables.ensures.cases)
+    }) (first ∷ bag_table_frames t)) (sym c.in_ok-tables.ensures.cases)
     (again_installed first _ t c.in_ok-to.to c.in_ok-to.boot (are start) c.self.invariant.behind.fits
     (rest_is first) c.in_ok-to.ensures))

@@ -1,5 +1,5 @@
 use Rattle.std.proofs.Common.{[], ◌++◌, ◌<◌, ◌∙◌, ◌∷◌, ◌≡◌, ap, append-nil, drop, flat_map, get_or-set_same, length, map, rules, sym}
-use Rattle.meters.specs.Exports.{flow_records_of, leaving_records, meters_after}
+use Rattle.meters.specs.Exports.{meter_flow_records_of, leaving_records, meters_after}
 use Rattle.meters.proofs.MetersKept.{after_stay, after_leave, after_all}
 use Rattle.meters.proofs.MeterRecords.{board_on, told_all, told_leave, told_stay}
 use Rattle.meters.proofs.board.Board.note.Goals as goal
@@ -25,7 +25,7 @@ its_records g c =
     let it : c.remove-meter.result ≡ c.offer_leaving.new.meter =
     c.remove-meter.ensures.value ∙ get_or-set_same c.loop-at.self-inside.meters.items c.loop-at.at
     c.offer_leaving.new.meter c.remove-meter.result within in
-    c.offer_leaving.ensures.told c.in-Leave.is ∙ ap (λ m. flow_records_of (g.M.Meter.seen m)) (sym it)
+    c.offer_leaving.ensures.told c.in-Leave.is ∙ ap (λ m. meter_flow_records_of (g.M.Meter.seen m)) (sym it)
     ∙ sym c.in_ok-records-in-Leave.ensures
 
 pub loop-at-preserved : goal.loop-at-preserved

@@ -1,12 +1,12 @@
 use Rattle.std.proofs.Common.{◌≡◌, None, Option, ap, option_map, rules}
-use Rattle.switch_core.specs.Exports.{Answer, Answered, SwitchValue, admitted, around, entry_of, incoming_packet}
+use Rattle.switch_core.specs.Exports.{Answer, Answered, SwitchValue, admitted, around, switch_entry_of, incoming_packet}
 use Rattle.switch_core.proofs.SwitchAdmissions.{answered, by_lookup}
 use Rattle.switch_core.proofs.SwitchLookupAnswers.{entry_uncached}
 use Rattle.switch_core.proofs.switch.Switch.enter.Goals as goal
 
 -- a packet that isn't looked up finds the switch closed
 closed : (answer : Option Answer) → None ≡ option_map Answered answer
-    → entry_of None ≡ entry_of answer
+    → switch_entry_of None ≡ switch_entry_of answer
 closed answer is = search rules
 
 pub answer_entry-requires : goal.answer_entry-requires

@@ -1,5 +1,5 @@
 use Rattle.std.proofs.Common.{◌∙◌, ap, sym}
-use Rattle.switch_core.specs.Exports.{arrived_on_leg, packet_to_look_up}
+use Rattle.switch_core.specs.Exports.{switch_arrival_on_leg, packet_to_look_up}
 use Rattle.switch_core.proofs.SwitchAdmissions.{answer_counted}
 use Rattle.switch_core.proofs.switch.Switch.receive.Goals as goal
 
@@ -9,4 +9,4 @@ returns-in-Seek-clause-answer c = λ site number down.
     answer_counted c.args.self.now c.count-in-Seek.new.self site packet
     c.judge-forwarding.result c.count-in-Seek.ensures
     ∙ c.judge-forwarding.ensures site number down
-    ∙ ap (arrived_on_leg c.args.self.now site packet) (sym c.in-Seek.is)
+    ∙ ap (switch_arrival_on_leg c.args.self.now site packet) (sym c.in-Seek.is)

@@ -1,6 +1,6 @@
 use Rattle.std.proofs.Common.{[], ◌++◌, ◌∙◌, ◌∷◌, ap, arith, drop, length, rules, sym}
 use Rattle.base.proofs.Exports.{length-map, list_any}
-use Rattle.switch_table.specs.Exports.{CacheValue, after_accept, kept_entries, kept_entry, same_key}
+use Rattle.switch_table.specs.Exports.{CacheValue, cache_after_accept, kept_entries, kept_entry, same_key}
 use Rattle.switch_table.proofs.CacheLemmas.{first_evicted, length-rest}
 use Rattle.switch_table.proofs.CachePairs.{entries_pushed, entries_removed, first_removed, holds_pushed, holds_removed}
 use Rattle.switch_table.proofs.cache.Cache.accept.Goals as goal
@@ -42,4 +42,4 @@ returns-then-len-self-clause-ok c =
       ap length pushed,
       length-map c.push.new.self (kept_entry shift),
     ))
-    ∙ ap (after_accept c.args.stamp entry) same
+    ∙ ap (cache_after_accept c.args.stamp entry) same

@@ -1,5 +1,5 @@
 use Rattle.std.proofs.Common.{[], ◌++◌, ◌∙◌, ◌∷◌, ◌≡◌, ap, append_assoc, filter_map, subst, sym}
-use Rattle.switch_table.specs.Exports.{IsCache, after_accept, carried_entry}
+use Rattle.switch_table.specs.Exports.{IsCache, cache_after_accept, carried_entry}
 use Rattle.switch_table.proofs.CacheCarryLemmas.{cache_carried, left_in, left_out}
 use Rattle.switch_table.proofs.cache.Cache.carried.Goals as goal
 use Rattle.switch_table.proofs.cache.Cache.carried.Goals.{After-carried_entry}
@@ -24,7 +24,7 @@ loop-entry-preserved-in-Continue-1 c =
       capacity = cache.capacity;
     })) (sym (all here))
     (cache_carried c.args.version c.args.touched.now cache c.entries-entry-items.ensures.cache) in (
-      c.in_ok-accept.ensures.ok ∙ ap (after_accept 0 c.in-Some-carried_entry.left) c.loop-entry.invariant.0
+      c.in_ok-accept.ensures.ok ∙ ap (cache_after_accept 0 c.in-Some-carried_entry.left) c.loop-entry.invariant.0
           ∙ left_in left c.loop-entry.yielded c.in-Some.entry c.in-Some-carried_entry.left
           c.next.new.self cache.capacity
           (sym c.carried_entry.ensures ∙ c.in-Some-carried_entry.is) is,

@@ -1,5 +1,5 @@
 use Rattle.std.proofs.Common.{◌-◌, ◌<◌, ◌∙◌, ◌≡◌, ap, arith, filter_map, subst, sym, rules}
-use Rattle.switch_table.specs.Exports.{KeysHaveVersions, HoldsEntries, after_carry, carried_entry, kept_entries}
+use Rattle.switch_table.specs.Exports.{CacheKeysHaveVersions, HoldsEntries, cache_after_carry, carried_entry, kept_entries}
 use Rattle.switch_table.proofs.CacheCarryLemmas.{left_few}
 use Rattle.switch_table.proofs.CacheCarryShift.{below_newest, carried_pairs, masked_carried, pairs_over, up_to_carried, versions_over}
 use Rattle.switch_table.proofs.CachePairs.{holds_of}
@@ -31,7 +31,7 @@ invariant_of-self c =
     (holds_of c.self.inside.masks (shift - 1) version c.self.inside.capacity c.keep_carried.new.self
     _ (omega (arith, c.self.invariant.fits))
     (omega (arith, c.self.invariant.falls, c.if-self-version.true, c.ranges.version.fits))
-    (subst (KeysHaveVersions (shift - 1)) (sym (kept here)) (versions_over shift version touched
+    (subst (CacheKeysHaveVersions (shift - 1)) (sym (kept here)) (versions_over shift version touched
     c.self.inside.slots (some here) (omega (arith, c.ranges.version.fits)))) (gone_over here)
     (up_to_carried version c.self.inside.newest version touched entries c.self.invariant.up_to
     (omega (arith, c.if-self-version.true)) (omega arith))
@@ -42,4 +42,4 @@ pub returns-then-self-version-clause-ok : goal.returns-then-self-version-clause-
 returns-then-self-version-clause-ok c =
     let left = gone_over (goal.at.returns-then-self-version-clause-ok c).After-keep_carried in
     (λ i. record { entries = left i; capacity = c.self.inside.capacity })
-    ∙ ap (after_carry c.args.version c.args.touched.now) c.self.view_is
+    ∙ ap (cache_after_carry c.args.version c.args.touched.now) c.self.view_is

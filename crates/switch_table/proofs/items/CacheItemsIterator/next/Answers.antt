@@ -1,6 +1,6 @@
 use Rattle.std.proofs.Common.{◌+◌, ◌<◌, ◌^◌, ◌≤◌, subst, ℕ}
 use Rattle.base.proofs.Exports.{All-head, All-tail}
-use Rattle.switch_table.specs.Exports.{KeysHaveVersions, Pair}
+use Rattle.switch_table.specs.Exports.{CacheKeysHaveVersions, Pair}
 use Rattle.switch_table.proofs.items.CacheItemsIterator.next.Goals as goal
 
 abbrev IsVersioned : ℕ → Pair → Type 0
@@ -13,4 +13,4 @@ of-requires c = All-head (IsVersioned c.self.inside.shift) (c.in_ok-key.key, c.i
 pub invariant_of-self-2 : goal.invariant_of-self-2
 invariant_of-self-2 c = All-tail (IsVersioned c.self.inside.shift)
     (c.in_ok-key.key, c.in_ok-key.learnt) c.next.new.self
-    (subst (KeysHaveVersions c.self.inside.shift) c.in_ok-key.ensures.steps c.self.invariant)
+    (subst (CacheKeysHaveVersions c.self.inside.shift) c.in_ok-key.ensures.steps c.self.invariant)

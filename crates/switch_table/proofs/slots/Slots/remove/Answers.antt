@@ -1,5 +1,5 @@
 use Rattle.std.proofs.Common.{◌∙◌, ◌≡◌, ap, arith, inl, inr, length, refl, remove, slice_get, subst, sym}
-use Rattle.switch_table.specs.Exports.{AreNamed, AreSlots, is_live, live_pairs}
+use Rattle.switch_table.specs.Exports.{AreCacheSlotsNamed, AreCacheSlots, is_live, live_cache_pairs}
 use Rattle.switch_table.proofs.CacheSlotKeys.{named_kept}
 use Rattle.switch_table.proofs.CacheSlotPushes.{count_live, swept_pairs, swept_slots}
 use Rattle.switch_table.proofs.CacheSlotRemovals.{all_fit, nth_killed, nth_pair, slots_killed}
@@ -11,7 +11,7 @@ place_of_live_slot-at-requires-clause-some c =
     omega (arith, c.len.ensures.len, ap length c.self.view_is, count_live c.self.inside.map.entries)
 
 -- the slots once the one is dead
-left : (c : After-all) → AreSlots c.if-place-eq0.self-inside.live
+left : (c : After-all) → AreCacheSlots c.if-place-eq0.self-inside.live
     c.if-place-eq0.self-inside.first c.if-place-eq0.self-inside.map.entries
 left c =
     let old = c.self.inside in
@@ -27,7 +27,7 @@ left c =
     ]
 
 -- and its pairs
-rest : (c : After-all) → live_pairs c.if-place-eq0.self-inside.map.entries
+rest : (c : After-all) → live_cache_pairs c.if-place-eq0.self-inside.map.entries
     ≡ remove c.args.self.now c.args.place
 rest c =
     let made = nth_killed c.self.inside.map.entries c.kill.new.map.entries c.args.place
@@ -63,7 +63,7 @@ sweep_dead_slots-requires c = (left (goal.at.sweep_dead_slots-requires c).After-
 pub invariant_of-self : goal.invariant_of-self
 invariant_of-self c = let are = left (goal.at.invariant_of-self c).After-all in
     swept_slots c.sweep_dead_slots.new.live c.sweep_dead_slots.new.map.entries c.sweep_dead_slots.ensures.counts
-    (subst (AreNamed 0) (sym c.sweep_dead_slots.ensures.slots)
+    (subst (AreCacheSlotsNamed 0) (sym c.sweep_dead_slots.ensures.slots)
     (named_kept is_live (λ slot is. is) 0 0 c.if-place-eq0.self-inside.map.entries are.named))
 
 pub invariant_of-self-else-len-all : goal.invariant_of-self-else-len-all
@@ -83,7 +83,7 @@ returns-else-len-all-clause-pair c = taken (goal.at.returns-else-len-all-clause-
 
 pub returns-then-len-all-clause-rest : goal.returns-then-len-all-clause-rest
 returns-then-len-all-clause-rest c =
-    ap live_pairs c.sweep_dead_slots.ensures.slots ∙ swept_pairs c.if-place-eq0.self-inside.map.entries
+    ap live_cache_pairs c.sweep_dead_slots.ensures.slots ∙ swept_pairs c.if-place-eq0.self-inside.map.entries
     ∙ rest (goal.at.returns-then-len-all-clause-rest c).After-all
 
 pub returns-else-len-all-clause-rest : goal.returns-else-len-all-clause-rest

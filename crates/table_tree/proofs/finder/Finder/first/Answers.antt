@@ -1,5 +1,5 @@
 use Rattle.std.proofs.Common.{◌==◌, ◌∙◌, IsSomeAnd, IsTrue, ap, find, option_and_then, subst, sym}
-use Rattle.policy_rules.specs.Exports.{is_in}
+use Rattle.policy_rules.specs.Exports.{is_in_policy_partition}
 use Rattle.policy_rules.specs.declared.rules.Partition.{Partition}
 use Rattle.switch_table.specs.declared.tables.Tables.{Tables}
 use Rattle.table_tree.specs.Finding.{FinderValue}
@@ -18,7 +18,7 @@ first_at-requires c =
     let at = one_read c.items.result.now c.args.self.now.tables.auth c.args.partition c.in-Some.own
     (c.items.ensures ∙ ap (λ (t : Tables). t.auth) c.deref.ensures
     ∙ ap (λ (v : FinderValue). v.tables.auth) c.self.view_is) c.in-Some.ensures in
-    subst (λ o. IsSomeAnd o (λ (part : Partition). IsTrue (is_in c.args.header.now part)))
+    subst (λ o. IsSomeAnd o (λ (part : Partition). IsTrue (is_in_policy_partition c.args.header.now part)))
     (sym at) c.requires
 
 pub returns-in-Some-clause-place : goal.returns-in-Some-clause-place

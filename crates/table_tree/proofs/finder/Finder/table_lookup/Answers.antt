@@ -1,5 +1,5 @@
 use Rattle.std.proofs.Common.{◌<◌, ◌==◌, ◌∙◌, IsSomeAnd, IsTrue, List, ap, find, get_or, length, option_and_then, position, slice_get, subst, sym}
-use Rattle.policy_rules.specs.Exports.{is_in}
+use Rattle.policy_rules.specs.Exports.{is_in_policy_partition}
 use Rattle.policy_rules.specs.declared.rules.Partition.{Partition}
 use Rattle.switch_table.specs.Exports.{table_lookup}
 use Rattle.switch_table.specs.declared.search.Found.TheVariants.{Authority, Redirect}
@@ -19,7 +19,7 @@ first_at-requires c =
     let there = sym (c.in-Some.ensures ∙ ap (position (λ (p : Partition). p.number == place))
     (c.items.ensures ∙ ap (λ (t : Tables). t.auth) c.deref-2.ensures)) in
     subst (λ (v : FinderValue). IsSomeAnd (slice_get v.tables.auth c.in-Some.own)
-    (λ (part : Partition). IsTrue (is_in c.args.header.now part))) c.self.view_is
+    (λ (part : Partition). IsTrue (is_in_policy_partition c.args.header.now part))) c.self.view_is
     (own_has tables c.args.header.now place c.in-Some.own c.self.invariant.sound
     c.number.ensures.header at there)
 

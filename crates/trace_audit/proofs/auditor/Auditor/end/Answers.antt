@@ -1,5 +1,5 @@
 use Rattle.std.proofs.Common.{refl, rules, sym}
-use Rattle.policy_rules.proofs.CallerLemmas.{none_from_not_some}
+use Rattle.policy_rules.proofs.PolicyRulesCallerLemmas.{none_from_not_some}
 use Rattle.trace_audit.specs.Exports.{trace_packet_seen}
 use Rattle.trace_audit.proofs.AuditLineMoves.{put_after}
 use Rattle.trace_audit.proofs.auditor.Auditor.end.Goals as goal

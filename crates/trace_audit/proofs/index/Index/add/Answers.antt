@@ -1,16 +1,16 @@
 use Rattle.std.proofs.Common.{◌∙◌, List, Some, ap, refl, set, subst, sym}
 use Rattle.base.proofs.Exports.{slice_get_read}
-use Rattle.trace_audit.specs.Exports.{HasShape, slot_of_row}
+use Rattle.trace_audit.specs.Exports.{HasAuditShape, audit_slot_of_row}
 use Rattle.trace_audit.specs.declared.index.Shape.{Shape}
 use Rattle.trace_audit.proofs.AuditIndexedRows.{has_shape, next_indexed}
 use Rattle.trace_audit.proofs.index.Index.add.Goals as goal
 
-pub slot_of_row-slot-requires : goal.slot_of_row-slot-requires
-slot_of_row-slot-requires c =
+pub audit_slot_of_row-slot-requires : goal.audit_slot_of_row-slot-requires
+audit_slot_of_row-slot-requires c =
     let rows = c.args.rows.now in
     let place = c.args.place in
     let row = c.index-rows-place.result in
-    subst (λ (xs : List Shape). HasShape xs row) (sym c.deref.ensures.value)
+    subst (λ (xs : List Shape). HasAuditShape xs row) (sym c.deref.ensures.value)
     (has_shape c.args.self.now.shapes.items rows place row c.requires.index.shapes
     (slice_get_read rows _ place row refl c.requires.place c.index-rows-place.is))
 
@@ -21,10 +21,10 @@ returns c =
     let row = c.index-rows-place.result in
     let last = c.args.self.now.last.items in
     let at = c.index-before.result.now in
-    let slot = c.slot_of_row-slot.ensures.slot
-    ∙ ap (λ (xs : List Shape). slot_of_row xs row) c.deref.ensures.value in
+    let slot = c.audit_slot_of_row-slot.ensures.slot
+    ∙ ap (λ (xs : List Shape). audit_slot_of_row xs row) c.deref.ensures.value in
     next_indexed rows place row at c.args.self.now _
     (slice_get_read rows _ place row refl c.requires.place c.index-rows-place.is) c.requires.index
-    (rw slot at (slice_get_read last 4096 c.slot_of_row-slot.result at (sym c.requires.index.slots)
-    c.slot_of_row-slot.ensures.bound c.index-before.ensures))
+    (rw slot at (slice_get_read last 4096 c.audit_slot_of_row-slot.result at (sym c.requires.index.slots)
+    c.audit_slot_of_row-slot.ensures.bound c.index-before.ensures))
     (ap (λ n. set last n (Some place)) slot) c.in_ok-push.ensures.items refl

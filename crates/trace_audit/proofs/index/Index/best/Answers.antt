@@ -1,7 +1,7 @@
 use Rattle.std.proofs.Common.{◌∙◌, ◌≡◌, List, ap, arith, get_or, length, slice_get, sym}
 use Rattle.base.proofs.Exports.{slice_get-get_or}
 use Rattle.five_tuple.specs.Exports.{AddressBlock}
-use Rattle.trace_audit.specs.Exports.{index_slot_of}
+use Rattle.trace_audit.specs.Exports.{audit_index_slot_of}
 use Rattle.trace_audit.specs.declared.index.Shape.{Shape}
 use Rattle.trace_audit.proofs.AuditIndexedRows.{sought_all, sought_more}
 use Rattle.trace_audit.proofs.index.Index.best.Goals as goal
@@ -24,7 +24,7 @@ loop-place-preserved c =
     ∙ slice_get-get_or read place none c.loop-place-test.true)
     (ap (λ (p : AddressBlock). p.address) (c.src.view_is ∙ c.new-src.ensures.block))
     (ap (λ (p : AddressBlock). p.address) (c.dst.view_is ∙ c.new-dst.ensures.block))
-    (rw (c.slot-slot.ensures.slot ∙ ap (λ (xs : List Shape). index_slot_of (length xs) place src dst)
+    (rw (c.slot-slot.ensures.slot ∙ ap (λ (xs : List Shape). audit_index_slot_of (length xs) place src dst)
     c.deref.ensures.value) at c.best_in-best.ensures)
     c.loop-place.invariant
 

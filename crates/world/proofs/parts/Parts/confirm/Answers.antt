@@ -1,5 +1,5 @@
 use Rattle.std.proofs.Common.{◌∙◌, List, arith, refl, subst, sym}
-use Rattle.controller.specs.Exports.{ControllerValue, current_touched, settling_acts}
+use Rattle.controller.specs.Exports.{ControllerValue, current_plan_touched, controller_settling_acts}
 use Rattle.controller.specs.declared.sends.Act.{Act}
 use Rattle.journal.specs.declared.item.Item.TheVariants as item
 use Rattle.version_update.specs.Exports.{after_over, at_switch}
@@ -47,7 +47,7 @@ pub returns : goal.returns
 returns c = λ before row begins. let s = c.args.switch in
     let ready = begins.ready in
     let new : ControllerValue = c.over.new.self in
-    let acts : List Act = settling_acts (current_touched new)
+    let acts : List Act = controller_settling_acts (current_plan_touched new)
     (at_switch s after_over c.args.self.now.controller.marks) new.marks in
     let down = sym c.is_up.ensures ∙ c.if-is_up.false in
     let its = c.note_acts.ensures in

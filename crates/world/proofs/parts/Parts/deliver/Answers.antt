@@ -2,11 +2,11 @@ use Rattle.std.proofs.Common.{◌+◌, ◌<◌, ◌∙◌, ◌∷◌, List, ap, 
 use Rattle.message_bag.specs.Exports.{delivered_status, new_post, posts_with_delivered, post_with_status}
 use Rattle.base.proofs.Exports.{both_ok, on_ok_weaker}
 use Rattle.message_bag.proofs.BagNumberedPosts.{length_changed}
-use Rattle.controller.specs.Exports.{ControllerValue, hear_acts, newest_policy}
-use Rattle.update_machine.specs.Exports.{Message, sent_from}
+use Rattle.controller.specs.Exports.{ControllerValue, controller_hear_acts, controller_newest_policy}
+use Rattle.update_machine.specs.Exports.{Message, machine_sent_items_from}
 use Rattle.journal.specs.declared.item.Item.TheVariants as item
-use Rattle.switch_core.specs.Exports.{IsSoundBody, replies}
-use Rattle.world_log.specs.Exports.{LogMayNote, LogMaySend, log_act_items, log_act_posts, all_adverts_sent, near_all}
+use Rattle.switch_core.specs.Exports.{IsBodySoundForSwitch, replies}
+use Rattle.world_log.specs.Exports.{LogMayNote, LogMaySend, log_act_items, log_act_posts, all_adverts_sent, logged_near_all}
 use Rattle.refinement.proofs.RefinedBagDeliveries.{found_there, hear_ready, usable_here}
 use Rattle.world.proofs.WorldActingSteps.{first_goes, goes_told, relinked_refines}
 use Rattle.refinement.proofs.RefinedDeliveries.{control_may, control_piece, control_refines, first_piece, names_known, shut_may, shut_piece, shut_refines, undelivered}
@@ -43,7 +43,7 @@ deliver_to_controller-requires-clause-there c = let self = c.args.self.now in
 pub deliver_to_controller-requires-clause-may : goal.deliver_to_controller-requires-clause-may
 deliver_to_controller-requires-clause-may c = λ new settles. let self = c.args.self.now in
     let ready = c.requires.begins.ready in
-    subst (λ bag. LogMayNote bag (hear_acts c.in-Some.message.body self.controller.marks new))
+    subst (λ bag. LogMayNote bag (controller_hear_acts c.in-Some.message.body self.controller.marks new))
     (sym c.deliver.ensures)
     (control_may ready.refines c.requires.row c.args.number c.in-Some.message new ready.may
     (found_there _ _ _ _ c.in-Some.is c.in_ok-get.ensures.message) c.in-Controller.is settles
@@ -54,7 +54,7 @@ returns-in-Controller c = λ before row begins. let self = c.args.self.now in
     let n = c.args.number in
     let message = c.in-Some.message in
     let new : ControllerValue = c.deliver_to_controller.new.controller in
-    let acts = hear_acts message.body self.controller.marks new in
+    let acts = controller_hear_acts message.body self.controller.marks new in
     let there = found_there _ _ _ _ c.in-Some.is c.in_ok-get.ensures.message in
     let ready = begins.ready in
     goes_told (item.Delivered n)
@@ -80,7 +80,7 @@ returns-in-Controller c = λ before row begins. let self = c.args.self.now in
 -- ---- what its switch needs
 
 hears : (c : In-Switch) → (c.in-Switch.switch < length c.args.self.now.switches.items)
-    × (c.in-Switch.switch < 64) × IsSoundBody c.in-Some.message.body
+    × (c.in-Switch.switch < 64) × IsBodySoundForSwitch c.in-Some.message.body
 hears c = let self = c.args.self.now in
     hear_ready c.requires.begins.ready.refines c.args.number c.in-Switch.switch c.in-Some.message
     (found_there _ _ _ _ c.in-Some.is c.in_ok-get.ensures.message) c.in-Switch.is
@@ -132,7 +132,7 @@ returns-in-None-opened c = λ before row begins. let self = c.args.self.now in
     let messages : List Message = replies own near message.body in
     let are = c.into_items.ensures ∙ c.in_ok-heard.ensures.replies in
     goes_told (item.Delivered n)
-    (λ k. sent_from k messages) c.push-2.new.self (length c.deliver.new.self)
+    (λ k. machine_sent_items_from k messages) c.push-2.new.self (length c.deliver.new.self)
     (posts_with_delivered self.log.bag n) (map new_post messages) begins
     (follows begins refl refl refl) (record {
       piece_is = shut_piece ready.refines row n s message own c.hear.new.self near ready.may there
@@ -199,13 +199,13 @@ returns c = λ before row begins. let self = c.args.self.now in
     let within = hears (goal.at.returns c).In-Switch in
     let opens = sym c.in_ok-heard.ensures.opened ∙ c.in-Some-opened.is in
     let others = set self.switches.items s c.hear.new.self in
-    let messages : List Message = all_adverts_sent self.near (near_all self.links others) others in
+    let messages : List Message = all_adverts_sent self.near (logged_near_all self.links others) others in
     let rest = c.change_links.ensures.rest in
     let behind = c.push-in-Some-opened.new.self in
-    let sends = sent_from (length c.deliver.new.self + 1) messages in
-    goes_told (item.Delivered n) (λ k. item.Opened s stamp ∷ sent_from k messages) c.push-2.new.self
+    let sends = machine_sent_items_from (length c.deliver.new.self + 1) messages in
+    goes_told (item.Delivered n) (λ k. item.Opened s stamp ∷ machine_sent_items_from k messages) c.push-2.new.self
     (length c.deliver.new.self) (posts_with_delivered self.log.bag n) (map new_post messages) begins
-    (follows begins rest.files rest.ports (ap newest_policy rest.controller)) (record {
+    (follows begins rest.files rest.ports (ap controller_newest_policy rest.controller)) (record {
       piece_is = opening_piece ready.refines row n s stamp message own c.hear.new.self ready.may
           there c.in-Switch.is within.0 c.index_mut.ensures.value c.in_ok-heard.ensures.after opens;
       counted = omega (arith, rest.packets);

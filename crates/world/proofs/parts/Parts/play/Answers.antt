@@ -1,7 +1,7 @@
 -- Each kind of step behind its row.
 use Rattle.std.proofs.Common.{◌≡◌, Result}
 use Rattle.update_machine.specs.Exports.{Step}
-use Rattle.world.specs.Exports.{Goes, WorldStepHasBegun, WorldPlays}
+use Rattle.world.specs.Exports.{WorldStepGoes, WorldStepHasBegun, WorldPlays}
 use Rattle.world.specs.declared.parts.Parts.{Parts}
 use Rattle.world.proofs.WorldStepClauses.{begun, played, with_journal}
 use Rattle.world.proofs.parts.Parts.play.Goals as goal
@@ -16,7 +16,7 @@ takes c kind is = begun c.args.row c.args.step.now kind c.args.self.now c.push.n
 -- and plays it
 plays : {T E : Type 0} (c : In_ok-push) (kind : Step) → c.args.step.now ≡ kind → (r : Result T E)
     (new : Parts) → WorldPlays kind r (with_journal c.args.self.now c.push.new.self) new
-    → Goes r c.args.self.now.log.journal c.args.row c.args.step.now c.args.self.now new
+    → WorldStepGoes r c.args.self.now.log.journal c.args.row c.args.step.now c.args.self.now new
 plays c kind is = played c.args.row c.args.step.now kind c.args.self.now c.push.new.self c.requires
     c.in_ok-push.ensures.pushed is
 

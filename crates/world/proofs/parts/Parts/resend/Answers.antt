@@ -4,7 +4,7 @@ use Rattle.controller.specs.Exports.{resend_acts}
 use Rattle.controller.specs.declared.sends.Act.{Act}
 use Rattle.controller.specs.declared.sends.Act.TheVariants.{Post}
 use Rattle.journal.specs.declared.item.Item.TheVariants as item
-use Rattle.world_log.specs.Exports.{LogMayNote, log_act_items, adverts_again}
+use Rattle.world_log.specs.Exports.{LogMayNote, log_act_items, log_adverts_again}
 use Rattle.world.proofs.WorldStepClauses.{files_stay, goes_nothing, goes_quiet, net_stays, none_in, nothing_goes, plane_stays}
 use Rattle.world.proofs.WorldActingSteps.{as_noted}
 use Rattle.world.proofs.WorldSwitchParts.{few_in, known_in, place_in, switch_in}
@@ -21,8 +21,8 @@ bounds-self-here c = let self = c.args.self.now in
 pub index-requires : goal.index-requires
 index-requires c = place_in c.args.switch c.requires c.requires.begins.ready.may
 
-pub adverts_again-requires : goal.adverts_again-requires
-adverts_again-requires c = omega (arith, few_in c.requires, c.args.self.now.switches.ok.0)
+pub log_adverts_again-requires : goal.log_adverts_again-requires
+log_adverts_again-requires c = omega (arith, few_in c.requires, c.args.self.now.switches.ok.0)
 
 pub resend-requires : goal.resend-requires
 resend-requires c = known_in c.args.switch c.requires c.requires.begins.ready.may
@@ -38,7 +38,7 @@ returns-in_err-sends c = λ before row begins.
 -- what the switch and the controller have to say, as acts
 said : (c : After-are_sends_none)
     → map Post c.in_ok-messages.messages.items ++ c.into_items-acts.result.items
-    ≡ map Post (adverts_again c.args.switch (length c.args.self.now.switches.items)
+    ≡ map Post (log_adverts_again c.args.switch (length c.args.self.now.switches.items)
     (get_or c.args.self.now.near c.args.switch 0) c.index.result.now)
     ++ resend_acts c.args.self.now.controller c.args.switch
 said c = let self = c.args.self.now in
@@ -49,7 +49,7 @@ said c = let self = c.args.self.now in
 
 -- and whether there is nothing of it
 none_said : (c : After-are_sends_none) (b : Bool) → c.are_sends_none.result ≡ b
-    → (length (map Post (adverts_again c.args.switch (length c.args.self.now.switches.items)
+    → (length (map Post (log_adverts_again c.args.switch (length c.args.self.now.switches.items)
     (get_or c.args.self.now.near c.args.switch 0) c.index.result.now)
     ++ resend_acts c.args.self.now.controller c.args.switch) == 0) ≡ b
 none_said c b is =
@@ -84,7 +84,7 @@ returns c = λ before row begins. let self = c.args.self.now in
     let ready = begins.ready in
     let sent = (goal.at.returns c).After-are_sends_none in
     let some = none_said sent false c.if-are_sends_none.false in
-    let acts : List Act = map Post (adverts_again s (length self.switches.items)
+    let acts : List Act = map Post (log_adverts_again s (length self.switches.items)
     (get_or self.near s 0) c.index.result.now) ++ resend_acts self.controller s in
     let r = c.send_and_note.result in
     let noted = as_noted r self.log.journal (length self.log.bag) self.log.bag

@@ -1,11 +1,11 @@
 use Rattle.std.proofs.Common.{[], ◌+◌, ◌<◌, ◌∙◌, ◌≡◌, Bool, List, ap, arith, false, length, map, max, min, refl, sym, true, ℕ}
 use Rattle.base.proofs.Exports.{beq, both_ok}
 use Rattle.message_bag.specs.Exports.{new_post}
-use Rattle.update_machine.specs.Exports.{Item, Message, sent_from}
-use Rattle.controller.specs.Exports.{newest_policy}
+use Rattle.update_machine.specs.Exports.{Item, Message, machine_sent_items_from}
+use Rattle.controller.specs.Exports.{controller_newest_policy}
 use Rattle.journal.specs.declared.item.Item.TheVariants as item
 use Rattle.refinement.specs.Exports.{link_step}
-use Rattle.world_log.specs.Exports.{all_adverts_sent, near_all}
+use Rattle.world_log.specs.Exports.{all_adverts_sent, logged_near_all}
 use Rattle.world.specs.Exports.{WorldStepHasBegun, comes_in}
 use Rattle.world.specs.declared.parts.Parts.{Parts}
 use Rattle.world.proofs.WorldStepClauses.{follows, goes_nothing, net_stays, nothing_goes}
@@ -80,13 +80,13 @@ returns c = λ before row begins. let self = c.args.self.now in
     let ready = begins.ready in
     let links = c.set_link_ends.new.links in
     let other = ap (λ b. beq b up) (sym c.has.ensures.has) ∙ c.if-has-up.false in
-    let near = near_all links self.switches.items in
+    let near = logged_near_all links self.switches.items in
     let messages : List Message = all_adverts_sent self.near near self.switches.items in
     let told : Item = item.LinkIs (min one two) (max one two) up in
     let rest = c.change_links.ensures.rest in
-    goes_told told (λ k. sent_from k messages) c.push-2.new.self (length self.log.bag) self.log.bag
+    goes_told told (λ k. machine_sent_items_from k messages) c.push-2.new.self (length self.log.bag) self.log.bag
     (map new_post messages) begins
-    (follows begins rest.files rest.ports (ap newest_policy rest.controller)) (record {
+    (follows begins rest.files rest.ports (ap controller_newest_policy rest.controller)) (record {
       piece_is = set_piece ready.refines row one two up ready.may links other c.set_link_ends.ensures.set
           c.set_link_ends.ensures.fits;
       counted = omega (arith, rest.packets, none_come one two up);

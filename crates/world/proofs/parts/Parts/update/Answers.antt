@@ -1,12 +1,12 @@
 use Rattle.std.proofs.Common.{[], ◌++◌, ◌+◌, ◌-◌, ◌∙◌, ◌∷◌, ◌≡◌, ◌≢◌, ◌≤◌, Err, List, OnErr, OnOk, Result, Some, ap, arith, inl, inr, length, refl, rules, slice_get, subst, sym, ℕ}
-use Rattle.refinement.specs.Exports.{IsPlanOfNext}
-use Rattle.update_machine.specs.Exports.{Inapplicable, Item, Refused, Row, Update, made_by, piece, touched_of, update_code}
+use Rattle.refinement.specs.Exports.{IsNextPlanRefined}
+use Rattle.update_machine.specs.Exports.{Inapplicable, Item, Refused, Row, Update, made_by, piece, touched_of, machine_update_code}
 use Rattle.base.proofs.Exports.{ok_is_not_err}
 use Rattle.controller.specs.Exports.{ControllerValue, PlanValue, next_kept_plan, submit_acts}
 use Rattle.controller.specs.declared.sends.Act.{Act}
 use Rattle.journal.specs.declared.item.Item.TheVariants as item
 use Rattle.version_update.specs.declared.marks.SubmitError.TheVariants.{TooManyLive, TooManyVersions}
-use Rattle.world.specs.Exports.{BeginsStep, FilesValue, Goes, IsFileMade, PartsKeepNet, Making, file_made_at, world_setting_in}
+use Rattle.world.specs.Exports.{WorldBeginsStep, FilesValue, WorldStepGoes, IsWorldFileMade, WorldPartsKeepNet, Making, world_file_made_at, world_setting_in}
 use Rattle.world.specs.declared.parts.Parts.{Parts}
 use Rattle.world_log.specs.Exports.{LogMayNote}
 use Rattle.world.proofs.WorldKeptFiles.{file_there}
@@ -18,10 +18,10 @@ use Rattle.world.proofs.parts.Parts.update.Goals.{In-Planned, in-Err-Refused-Too
 
 -- what the file makes of the newest policy
 abbrev made_of : Parts → ℕ → Result (List Row) Inapplicable
-made_of self file = (file_made_at self.files.files self.files.newest (file - 1)).0
+made_of self file = (world_file_made_at self.files.files self.files.newest (file - 1)).0
 
 abbrev making_of : Parts → ℕ → Making
-making_of self file = file_made_at self.files.files self.files.newest (file - 1)
+making_of self file = world_file_made_at self.files.files self.files.newest (file - 1)
 
 -- as that of a file which is there
 made_there : (self : Parts) (file : ℕ) → 1 ≤ file → file ≤ length self.files.files
@@ -32,11 +32,11 @@ made_there self file first last = ap (λ o. made_by o (Some self.files.newest))
 -- the update is refused by this code
 refused : {T E : Type 0} {r : Result T E} {before : List Item} {row file : ℕ} (code : ℕ)
     {self : Parts} {files : FilesValue} {controller : ControllerValue} {journal : List Item}
-    → BeginsStep before row (Update file) self → files ≡ self.files → controller ≡ self.controller
+    → WorldBeginsStep before row (Update file) self → files ≡ self.files → controller ≡ self.controller
     → piece (world_setting_in self) before row (Update file)
     ≡ item.Row row (Update file) ∷ item.Refused file code ∷ []
     → OnOk r (journal ≡ self.log.journal ++ item.Refused file code ∷ [])
-    → OnErr r (journal ≡ self.log.journal) → Goes r before row (Update file) self (record self {
+    → OnErr r (journal ≡ self.log.journal) → WorldStepGoes r before row (Update file) self (record self {
       files = files;
       log = record self.log { journal = journal };
       controller = controller;
@@ -59,11 +59,11 @@ returns-in-Refused c = λ before row begins. let self = c.args.self.now in
     let file = c.args.file in
     let code = c.in-Refused.code in
     let ready = begins.ready in
-    let cause = subst (IsFileMade self.files.net (making_of self file)) c.in-Refused.is
+    let cause = subst (IsWorldFileMade self.files.net (making_of self file)) c.in-Refused.is
     c.in_ok-code.ensures.compiled in
     let own = newest_refines ready.refines row (Update file) self.files.newest ready.newest in
     let there = made_there self file ready.may.0 ready.may.1 in
-    let coded : update_code (world_setting_in self) (before ++ item.Row row (Update file) ∷ []) file
+    let coded : machine_update_code (world_setting_in self) (before ++ item.Row row (Update file) ∷ []) file
     ≡ Some code = elim cause [
       | inl why ↦ unapplied_next self.files.net self.files.files _ file self.files.newest why.0
           ready.may.0 own.1 (there ∙ why.1) ∙ ap Some why.2
@@ -79,7 +79,7 @@ returns-in-Refused c = λ before row begins. let self = c.args.self.now in
 -- the network and the files stay
 changed_net : (self new : Parts) (files : FilesValue) (rows : List Row)
     → new.files ≡ record files { newest = rows } → files ≡ self.files → new.ports ≡ self.ports
-    → PartsKeepNet self new
+    → WorldPartsKeepNet self new
 changed_net self new files rows changed same ports = record {
   same_net = ap (λ (f : FilesValue). f.net) changed ∙ ap (λ (f : FilesValue). f.net) same;
   same_files = ap (λ (f : FilesValue). f.files) changed ∙ ap (λ (f : FilesValue). f.files) same;
@@ -87,14 +87,14 @@ changed_net self new files rows changed same ports = record {
 }
 
 -- the plan is that of the next version
-planned : (c : In-Planned) (before : List Item) (row : ℕ) → BeginsStep before row
-    (Update c.args.file) c.args.self.now → IsPlanOfNext (world_setting_in c.args.self.now) before
+planned : (c : In-Planned) (before : List Item) (row : ℕ) → WorldBeginsStep before row
+    (Update c.args.file) c.args.self.now → IsNextPlanRefined (world_setting_in c.args.self.now) before
     c.args.file c.in-Planned.plan c.in-Planned.touched
 planned c before row begins =
     let self = c.args.self.now in
     let file = c.args.file in
     let ready = begins.ready in
-    let made = subst (IsFileMade self.files.net (making_of self file)) c.in-Planned.is
+    let made = subst (IsWorldFileMade self.files.net (making_of self file)) c.in-Planned.is
     c.in_ok-code.ensures.compiled in
     let own = newest_refines ready.refines row (Update file) self.files.newest ready.newest in
     planned_next self.files.net self.files.files before file self.files.newest c.in-Planned.plan

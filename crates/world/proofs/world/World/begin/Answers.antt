@@ -1,6 +1,6 @@
 use Rattle.std.proofs.Common.{◌∙◌, ◌≡◌, Ok, Some, ap, sym}
-use Rattle.controller.specs.Exports.{PlanValue, newest_policy}
-use Rattle.partition.specs.Plan.{plan_of}
+use Rattle.controller.specs.Exports.{PlanValue, controller_newest_policy}
+use Rattle.partition.specs.Plan.{partition_plan_of}
 use Rattle.world.specs.Exports.{FilesValue, first_policy}
 use Rattle.world.proofs.BegunWorld.{as_begun, plan_copied, net_begun, owners_begun}
 use Rattle.world.proofs.WorldKeptFiles.{first_whole}
@@ -13,7 +13,7 @@ first_is : (c : In_ok-plan) → first_policy c.args.files.items ≡ Some c.in_ok
 first_is c = cc (c.deref.ensures.value, c.first_policy.ensures, c.in_ok-plan.ensures.policy)
 
 planned : (c : In_ok-plan)
-    → plan_of c.in_ok-plan.plan.policy c.args.net.now ≡ Ok c.in_ok-plan.plan.hosted
+    → partition_plan_of c.in_ok-plan.plan.policy c.args.net.now ≡ Ok c.in_ok-plan.plan.hosted
 planned c = cc (c.in_ok-plan.ensures.policy, c.in_ok-plan.ensures.plan)
 
 pub new-requires-clause-first : goal.new-requires-clause-first
@@ -52,5 +52,5 @@ invariant_of-result c =
           (first_whole given plan.policy (first_is at)) c.requires.sound c.requires.ports
           (planned at) (c.in_ok-switches.ensures plan c.in_ok-controller.ensures.first)
           c.in_ok-controller.ensures.first c.link_masks-near.ensures);
-      newest = λ able. ap newest_policy c.in_ok-controller.ensures.first ∙ ap Some (sym of_plan);
+      newest = λ able. ap controller_newest_policy c.in_ok-controller.ensures.first ∙ ap Some (sym of_plan);
     }

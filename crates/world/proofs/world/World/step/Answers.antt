@@ -1,7 +1,7 @@
 use Rattle.std.proofs.Common.{◌∙◌, ◌≡◌, ◌≤◌, List, ap, arith, length, subst, sym}
-use Rattle.update_machine.specs.Exports.{HasRoom, IsFull, Item, next_packet}
+use Rattle.update_machine.specs.Exports.{HasRoom, IsJournalFull, Item, journal_next_packet}
 use Rattle.steps.specs.Exports.{IsStep}
-use Rattle.world.specs.Exports.{PartsKeepNet, WorldValue, world_setting_at, world_setting_in, world_value}
+use Rattle.world.specs.Exports.{WorldPartsKeepNet, WorldValue, world_setting_at, world_setting_in, world_value}
 use Rattle.world.proofs.WorldJournalRoom.{has_room, is_full, not_full}
 use Rattle.world.proofs.WorldSoFar.{part_so_far, so_far_in, step_so_far}
 use Rattle.world.specs.declared.parts.Parts.{Parts}
@@ -10,7 +10,7 @@ use Rattle.world.proofs.world.World.step.Goals as goal
 use Rattle.world.proofs.world.World.step.Goals.{After-play}
 
 -- the network and the files stay
-setting_kept : (old new : Parts) → PartsKeepNet old new → world_setting_in new ≡ world_setting_in old
+setting_kept : (old new : Parts) → WorldPartsKeepNet old new → world_setting_in new ≡ world_setting_in old
 setting_kept old new keeps = cc (keeps.same_net, keeps.same_files)
 
 pub returns-in_err-play-clause-setting : goal.returns-in_err-play-clause-setting
@@ -32,13 +32,13 @@ play-requires c =
       newest = c.self.invariant.newest c.if-self.false;
       may = subst (λ (w : WorldValue). IsStep w.net (length w.files) c.args.step.now)
           (sym c.self.view_is) (c.requires.may room);
-      few = subst (λ (w : WorldValue). next_packet w.journal ≤ 4_000_000_000) (sym c.self.view_is)
+      few = subst (λ (w : WorldValue). journal_next_packet w.journal ≤ 4_000_000_000) (sym c.self.view_is)
           c.requires.few;
       room = omega (arith, c.sent.ensures, c.if-sent-ge-FULL_AT.false);
     }
 
 pub returns-then-sent-ge-FULL_AT-clause-full : goal.returns-then-sent-ge-FULL_AT-clause-full
-returns-then-sent-ge-FULL_AT-clause-full c = λ is. subst (λ (w : WorldValue). IsFull w.journal)
+returns-then-sent-ge-FULL_AT-clause-full c = λ is. subst (λ (w : WorldValue). IsJournalFull w.journal)
     c.self.view_is (is_full (c.self.invariant.refines c.if-self.false)
     (omega (arith, c.sent.ensures, c.if-sent-ge-FULL_AT.true)))
 

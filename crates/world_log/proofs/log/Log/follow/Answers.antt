@@ -3,8 +3,8 @@ use Rattle.std.proofs.Common.{[], ◌+◌, ◌∙◌, ◌≡◌, None, Option, R
 use Rattle.base.proofs.Exports.{on_ok_weaker, slice_get_within}
 use Rattle.journal.specs.declared.item.Item.TheVariants as item
 use Rattle.update_machine.specs.Exports.{Ports}
-use Rattle.switch_core.specs.Exports.{IsAtAuthority, PacketStandsAt, SwitchValue, around, move_answer}
-use Rattle.travelling.specs.Travelling.{Flight, Standing, flight_placed_at, standing_at, standing_kept}
+use Rattle.switch_core.specs.Exports.{IsAtAuthoritySwitch, PacketStandsAtSwitch, SwitchValue, around, switch_move_answer}
+use Rattle.travelling.specs.Travelling.{Flight, Standing, flight_placed_at, standing_at, traveller_standing_kept}
 use Rattle.tunnel.specs.Exports.{next}
 use Rattle.world_log.specs.Exports.{LogAfter, log_ended_flight, log_ended_items, log_ended_posts, log_ended_switch, log_followed, log_followed_flight, log_followed_items, log_followed_posts}
 use Rattle.world_log.specs.declared.log.Log.{Log}
@@ -15,21 +15,21 @@ use Rattle.world_log.proofs.log.Log.follow.Goals as goal
 -- by the next switch of its route
 module _ {T E : Type 0} (r : Result T E) (number : ℕ) (s : SwitchValue) (near : ℕ) (ports : Ports)
     (t : Flight) (packet : ℕ) (old new : Log) where
-  by_next : (onward : Option ℕ) → next t.tunnel ≡ onward → (let m = move_answer t.tunnel onward in
+  by_next : (onward : Option ℕ) → next t.tunnel ≡ onward → (let m = switch_move_answer t.tunnel onward in
       LogAfter r (log_ended_items number s near ports (record t { tunnel = m.tunnel }) m.end)
       (log_ended_posts s near ports (record t { tunnel = m.tunnel }) m.end) packet
       (log_ended_flight s near ports (record t { tunnel = m.tunnel }) m.end) old new)
       → LogAfter r (log_followed_items number s near ports t) (log_followed_posts s near ports t) packet
       (log_followed_flight s near ports t) old new
-  by_next onward is log = subst (λ o. let m = move_answer t.tunnel o in
+  by_next onward is log = subst (λ o. let m = switch_move_answer t.tunnel o in
       LogAfter r (log_ended_items number s near ports (record t { tunnel = m.tunnel }) m.end)
       (log_ended_posts s near ports (record t { tunnel = m.tunnel }) m.end) packet
       (log_ended_flight s near ports (record t { tunnel = m.tunnel }) m.end) old new) (sym is) log
 
 -- the switch was asked so often
 asked : (s : SwitchValue) (t : Flight) (onward : Option ℕ) → next t.tunnel ≡ onward
-    → log_ended_switch s (move_answer t.tunnel onward).end ≡ log_ended_switch s (log_followed t).end
-asked s t onward is = ap (λ o. log_ended_switch s (move_answer t.tunnel o).end) (sym is)
+    → log_ended_switch s (switch_move_answer t.tunnel onward).end ≡ log_ended_switch s (log_followed t).end
+asked s t onward is = ap (λ o. log_ended_switch s (switch_move_answer t.tunnel o).end) (sym is)
 
 -- ---- it moves on
 
@@ -63,7 +63,7 @@ returns-in_ok-put-in-Some-clause-asked c = on_ok_weaker c.push.result (λ _. ask
 
 pub receive-forwarding-requires-clause-here : goal.receive-forwarding-requires-clause-here
 receive-forwarding-requires-clause-here c = let t = c.args.kept.tunnel in
-    placed (PacketStandsAt c.args.switch.now) c.route.result.now c.place-place.result t
+    placed (PacketStandsAtSwitch c.args.switch.now) c.route.result.now c.place-place.result t
     c.route.ensures c.place-place.ensures.place
     (c.requires.last (sym c.next.ensures ∙ c.in-None.is)).0
 
@@ -77,9 +77,9 @@ pub receive-forwarding-requires-clause-authority : goal.receive-forwarding-requi
 receive-forwarding-requires-clause-authority c =
     let s = c.args.switch.now in
     let at = c.in_ok-at-in-None.at in
-    subst (λ h. IsAtAuthority s h c.leg-leg.result)
+    subst (λ h. IsAtAuthoritySwitch s h c.leg-leg.result)
     (sym (ap (λ (a : Standing). a.header) c.in_ok-at-in-None.ensures.at))
-    (subst (IsAtAuthority s c.args.kept.tunnel.header) (sym c.leg-leg.ensures)
+    (subst (IsAtAuthoritySwitch s c.args.kept.tunnel.header) (sym c.leg-leg.ensures)
     (c.requires.last (sym c.next.ensures ∙ c.in-None.is)).1)
 
 pub returns-in_err-at-in-None-clause-log : goal.returns-in_err-at-in-None-clause-log
@@ -99,10 +99,10 @@ returns-in_ok-at-in-None-clause-log c =
     let stands = says.at ∙ ap (λ n. standing_at n t) c.number.ensures.number in
     by_next c.settle.result n s near ports t t.tunnel.packet self c.settle.new.self None
     (sym c.next.ensures ∙ c.in-None.is)
-    (arrival_log c.settle.result n s near ports t (standing_kept at) at.version at.rule
+    (arrival_log c.settle.result n s near ports t (traveller_standing_kept at) at.version at.rule
     c.leg-leg.result t.tunnel.packet _ self c.settle.new.self stands says.version says.rule
     c.leg-leg.ensures (ap (λ (a : Standing). a.packet) stands)
-    (c.receive-forwarding.ensures.answer (around near ports) at.packet (standing_kept at).down)
+    (c.receive-forwarding.ensures.answer (around near ports) at.packet (traveller_standing_kept at).down)
     c.settle.ensures.log)
 
 pub returns-in_ok-at-in-None-clause-asked : goal.returns-in_ok-at-in-None-clause-asked

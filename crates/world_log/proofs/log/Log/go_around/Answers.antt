@@ -3,13 +3,13 @@ use Rattle.std.proofs.Common.{[], ◌++◌, ◌+◌, ◌∙◌, ◌∷◌, ◌�
 use Rattle.base.proofs.Exports.{both_written, on_ok_failed, on_ok_weaker}
 use Rattle.base.specs.Exports.{IfRefused}
 use Rattle.failover.specs.Exports.{no_links, route_of}
-use Rattle.switch_core.specs.Exports.{IsAtAuthority, PacketStandsAt, SwitchValue, cause_of}
+use Rattle.switch_core.specs.Exports.{IsAtAuthoritySwitch, PacketStandsAtSwitch, SwitchValue, switch_stuck_cause}
 use Rattle.update_machine.specs.Exports.{Item, Leg}
 use Rattle.journal.specs.declared.item.Item.TheVariants as item
-use Rattle.travelling.specs.Travelling.{Flight, Standing, flight_begun_at, flight_marked_at, standing_kept, travels_by}
+use Rattle.travelling.specs.Travelling.{Flight, Standing, flight_begun_at, flight_marked_at, traveller_standing_kept, travels_by}
 use Rattle.travelling.specs.declared.standing.Standing as packet
 use Rattle.tunnel.specs.Exports.{next}
-use Rattle.world_log.specs.Exports.{LogHasHopped, LogAfter, MeetsDownLink, log_ended_switch, log_followed, log_followed_flight, log_followed_items, log_followed_posts}
+use Rattle.world_log.specs.Exports.{LogHasHopped, LogAfter, LogMeetsDownLink, log_ended_switch, log_followed, log_followed_flight, log_followed_items, log_followed_posts}
 use Rattle.world_log.specs.declared.log.Log.{Log}
 use Rattle.world_log.proofs.LogDetours.{last_here, stuck_log, stuck_switch, turned_log, turned_switch}
 use Rattle.world_log.proofs.LogCalls.{log_failed, log_unwritten}
@@ -21,7 +21,7 @@ use Rattle.world_log.proofs.log.Log.go_around.Goals.{After-push, In_ok-mark_down
 fails : (c : After-push) {T E : Type 0} (r : Result T E) (now : Log) (switch : SwitchValue)
     → IsErr r → now.journal ≡ c.args.self.now.journal ++ item.FoundDown c.args.at.packet
     c.args.at.switch c.args.other ∷ [] → (before : SwitchValue) (t : Flight)
-    → MeetsDownLink (standing_kept c.args.at) c.args.at.version c.args.at.rule c.args.leg
+    → LogMeetsDownLink (traveller_standing_kept c.args.at) c.args.at.version c.args.at.rule c.args.leg
     c.args.targets c.args.other before c.args.switch.now c.args.site.near t → LogHasHopped r
     c.args.at.packet before c.args.site.near c.args.site.ports.now c.args.self.now switch now t
 fails c r now switch failed grown before t met = record {
@@ -36,7 +36,7 @@ fails c r now switch failed grown before t met = record {
 out_of_memory : (c : After-push) {T E : Type 0} {e : E} (now : Log) (switch : SwitchValue)
     → now.journal ≡ c.args.self.now.journal ++ item.FoundDown c.args.at.packet c.args.at.switch
     c.args.other ∷ [] → (before : SwitchValue) (t : Flight)
-    → MeetsDownLink (standing_kept c.args.at) c.args.at.version c.args.at.rule c.args.leg
+    → LogMeetsDownLink (traveller_standing_kept c.args.at) c.args.at.version c.args.at.rule c.args.leg
     c.args.targets c.args.other before c.args.switch.now c.args.site.near t
     → LogHasHopped {T = T} (Err e) c.args.at.packet before c.args.site.near c.args.site.ports.now
     c.args.self.now switch now t
@@ -61,7 +61,7 @@ returns-in-Err-NoMemory c = out_of_memory (goal.at.returns-in-Err-NoMemory c).Af
 -- ---- there is no other route
 
 pub returns-in-Err-Refused : goal.returns-in-Err-Refused
-returns-in-Err-Refused c = λ before t met. let at = standing_kept c.args.at in
+returns-in-Err-Refused c = λ before t met. let at = traveller_standing_kept c.args.at in
     let s = c.args.switch.now in
     let near = c.args.site.near in
     let links : List ℕ = unwrap_or (option_copied c.links.result) no_links in
@@ -70,7 +70,7 @@ returns-in-Err-Refused c = λ before t met. let at = standing_kept c.args.at in
     let cause = c.in-Err-Refused.cause in
     let both =
     subst (IfRefused (λ cause. (route_of s.database s.number c.args.targets near links ≡ None)
-    × (cause ≡ cause_of s near links c.args.leg c.args.targets))) c.in-Err-Refused.field-0-is
+    × (cause ≡ switch_stuck_cause s near links c.args.leg c.args.targets))) c.in-Err-Refused.field-0-is
     c.in-Err-Refused.ensures.refused in
     let mid : Log = record c.args.self.now { journal = c.push.new.self } in
     let log = stuck_log at c.args.at.version c.args.at.rule c.args.leg c.args.targets c.args.other
@@ -89,19 +89,19 @@ returns-in-Err-Refused c = λ before t met. let at = standing_kept c.args.at in
 
 -- what is kept of it is the packet at the beginning of that route
 kept_is : (c : In_ok-mark_down) (leg : Leg) (targets route : List ℕ) (kept : Flight)
-    → kept ≡ travels_by (flight_begun_at (standing_kept c.mark_down.new.self) leg targets route)
+    → kept ≡ travels_by (flight_begun_at (traveller_standing_kept c.mark_down.new.self) leg targets route)
     c.mark_down.new.self.version c.mark_down.new.self.rule
-    → kept ≡ travels_by (flight_begun_at (flight_marked_at (standing_kept c.args.at) c.args.other) leg targets route)
+    → kept ≡ travels_by (flight_begun_at (flight_marked_at (traveller_standing_kept c.args.at) c.args.other) leg targets route)
     c.args.at.version c.args.at.rule
 kept_is c leg targets route kept is =
     is ∙ ap (λ (a : Standing). travels_by (flight_begun_at a leg targets route)
     c.mark_down.new.self.version c.mark_down.new.self.rule) c.in_ok-mark_down.ensures.marked
-    ∙ ap (λ (a : packet.Standing). travels_by (flight_begun_at (flight_marked_at (standing_kept c.args.at)
+    ∙ ap (λ (a : packet.Standing). travels_by (flight_begun_at (flight_marked_at (traveller_standing_kept c.args.at)
     c.args.other) leg targets route) a.version a.rule) c.mark_down.ensures.rest
 
 pub follow-requires-clause-last : goal.follow-requires-clause-last
 follow-requires-clause-last c =
-    let at = standing_kept c.args.at in
+    let at = traveller_standing_kept c.args.at in
     let s = c.args.switch.now in
     let near = c.args.site.near in
     let t = c.requires.met.1.0 in
@@ -115,13 +115,13 @@ follow-requires-clause-last c =
     let its = kept_is (goal.at.follow-requires-clause-last c).In_ok-mark_down c.args.leg
     c.args.targets route c.begin-kept.result c.begin-kept.ensures in
     let Q : SwitchValue → Flight → Type 0 = λ w k. next k.tunnel ≡ None
-    → PacketStandsAt w k.tunnel.route k.tunnel.place × IsAtAuthority w k.tunnel.header k.tunnel.leg in
+    → PacketStandsAtSwitch w k.tunnel.route k.tunnel.place × IsAtAuthoritySwitch w k.tunnel.header k.tunnel.leg in
     subst (λ w. Q w c.begin-kept.result) (sym c.shared_route.ensures.same)
     (subst (Q s) (sym its) (last_here at c.args.at.version c.args.at.rule c.args.leg c.args.targets
     c.args.other c.requires.met.0 s near t met links links_are route some))
 
 pub returns-in_ok-push-in-Ok : goal.returns-in_ok-push-in-Ok
-returns-in_ok-push-in-Ok c = λ before t met. let at = standing_kept c.args.at in
+returns-in_ok-push-in-Ok c = λ before t met. let at = traveller_standing_kept c.args.at in
     let s = c.args.switch.now in
     let near = c.args.site.near in
     let ports = c.args.site.ports.now in

@@ -1,12 +1,12 @@
 -- A packet goes on as it is kept.
 use Rattle.std.proofs.Common.{◌+◌, ◌<◌, ◌∙◌, ◌≡◌, IsErr, IsSomeAnd, None, Option, Result, Some, ap, get_or, length, option_copied, refl, set, slice_get, slice_index, subst, sym, ℕ}
 use Rattle.base.proofs.Exports.{on_ok_failed, slice_get-get_or, slice_get_within}
-use Rattle.switch_core.specs.Exports.{IsAtAuthority, Moved, PacketStandsAt, SwitchValue, around, call_counted, onward_by_switch}
+use Rattle.switch_core.specs.Exports.{IsAtAuthoritySwitch, Moved, PacketStandsAtSwitch, SwitchValue, around, switch_call_counted, onward_by_switch}
 use Rattle.switch_core.specs.declared.packet.Onward.{Onward}
 use Rattle.switch_core.proofs.SwitchOnwardHops.{ends, goes, is_down}
-use Rattle.travelling.specs.Travelling.{Flight, FlightHasPlace, Standing, standing_at, standing_kept, flight}
+use Rattle.travelling.specs.Travelling.{Flight, FlightHasPlace, Standing, standing_at, traveller_standing_kept, flight}
 use Rattle.tunnel.specs.Exports.{here, next}
-use Rattle.world_log.specs.Exports.{LogHasHopped, Hops, MayGoOn, MeetsDownLink}
+use Rattle.world_log.specs.Exports.{LogHasHopped, Hops, MayLoggedPacketGoOn, LogMeetsDownLink}
 use Rattle.world_log.specs.declared.log.Log.{Log}
 use Rattle.world_log.proofs.LogPacketMoves.{authority_counted}
 use Rattle.world_log.proofs.LogHops.{arrival_log, free_hop, move_hop, passed_by, passed_hop, placed}
@@ -48,12 +48,12 @@ module _ (c : After-place-place) where
       (subst (λ n. n < length c.args.switches.now) (sym c.here-here.ensures.here)
       (c.requires.there kept (sym its))))
 
-  may : MayGoOn c.args.packet asked links kept
-  may = subst (λ n. MayGoOn c.args.packet asked (slice_index c.args.near.now n) kept)
+  may : MayLoggedPacketGoOn c.args.packet asked links kept
+  may = subst (λ n. MayLoggedPacketGoOn c.args.packet asked (slice_index c.args.near.now n) kept)
       (sym c.here-here.ensures.here) (c.requires.may kept asked (sym its) own)
 
-  stands : PacketStandsAt asked c.route-route.result.now c.place-place.result
-  stands = placed (PacketStandsAt asked) c.route-route.result.now c.place-place.result kept.tunnel
+  stands : PacketStandsAtSwitch asked c.route-route.result.now c.place-place.result
+  stands = placed (PacketStandsAtSwitch asked) c.route-route.result.now c.place-place.result kept.tunnel
       c.route-route.ensures c.place-place.ensures.place may.here
 
   passed : (answer : Onward)
@@ -133,9 +133,9 @@ receive-forwarding-requires c =
       stamped = (may before).stamped;
       here = stands before;
       last = (ends (links before) _ (sym c.pass.ensures.onward ∙ c.in-AtEnd.is)).0;
-      authority = subst (λ h. IsAtAuthority (call_counted s) h c.leg-leg.result)
+      authority = subst (λ h. IsAtAuthoritySwitch (switch_call_counted s) h c.leg-leg.result)
           (sym (ap (λ (a : Standing). a.header) c.in_ok-at-in-AtEnd.ensures.at))
-          (subst (IsAtAuthority (call_counted s) k.tunnel.header) (sym c.leg-leg.ensures)
+          (subst (IsAtAuthoritySwitch (switch_call_counted s) k.tunnel.header) (sym c.leg-leg.ensures)
           (authority_counted s k.tunnel.header k.tunnel.leg ((may before).authority (ap
           (λ (m : Moved). m.end) (free_hop s (links before) c.args.ports.now k None on.1 on.0)))));
     })
@@ -164,21 +164,21 @@ returns-in_ok-at-in-AtEnd c =
     let here = c.number.ensures.number ∙ ap (λ (w : SwitchValue). w.number) c.pass.ensures.after in
     hops before c.settle.result c.settle.new.switch c.settle.new.self (passed_hop s near ports k
     c.settle.result c.args.packet None self c.settle.new.self c.settle.new.switch on.1 on.0
-    (arrival_log c.settle.result (length self.bag + 1) (call_counted s) near ports k
-    (standing_kept at) at.version at.rule c.leg-leg.result c.args.packet _ self c.settle.new.self
+    (arrival_log c.settle.result (length self.bag + 1) (switch_call_counted s) near ports k
+    (traveller_standing_kept at) at.version at.rule c.leg-leg.result c.args.packet _ self c.settle.new.self
     (says.at ∙ ap (λ n. standing_at n k) here) says.version says.rule c.leg-leg.ensures
     (ap (λ (a : Standing). a.packet) says.at ∙ (may before).known) (rw c.pass.ensures.after at
-    (c.receive-forwarding.ensures.answer (around near ports) at.packet (standing_kept at).down))
+    (c.receive-forwarding.ensures.answer (around near ports) at.packet (traveller_standing_kept at).down))
     c.settle.ensures.log) (c.settle.ensures.same ∙ c.receive-forwarding.ensures.after
-    ∙ ap call_counted c.pass.ensures.after))
+    ∙ ap switch_call_counted c.pass.ensures.after))
 
 -- ---- the link to the next switch is down
 
 met : (before : After-place-place) (c : In_ok-at-in-LinkDown)
-    → MayGoOn c.args.packet (asked before) (links before) c.in-Some.kept.now
+    → MayLoggedPacketGoOn c.args.packet (asked before) (links before) c.in-Some.kept.now
     → c.pass.result ≡ onward_by_switch (links before) (next c.in-Some.kept.now.tunnel)
-    → c.pass.new.self ≡ call_counted (asked before)
-    → MeetsDownLink (standing_kept c.in_ok-at-in-LinkDown.at) c.in_ok-at-in-LinkDown.at.version
+    → c.pass.new.self ≡ switch_call_counted (asked before)
+    → LogMeetsDownLink (traveller_standing_kept c.in_ok-at-in-LinkDown.at) c.in_ok-at-in-LinkDown.at.version
     c.in_ok-at-in-LinkDown.at.rule c.leg-leg-in-LinkDown.result c.targets-targets.result.now
     c.in-LinkDown.other (asked before) c.pass.new.self (links before) c.in-Some.kept.now
 met before c may passed after =

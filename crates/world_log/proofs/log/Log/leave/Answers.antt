@@ -3,7 +3,7 @@ use Rattle.std.proofs.Common.{[], ◌∙◌, ◌∷◌, List, Result, eq-eqb, fa
 use Rattle.update_machine.specs.Exports.{Cause, Drop, Exit as ExitLeg, Out as OutBy}
 use Rattle.switch_core.specs.Exports.{next_of, set_out, switch_site_of}
 use Rattle.switch_core.specs.declared.deciding.Decision.{Decision}
-use Rattle.travelling.specs.Travelling.{standing_kept}
+use Rattle.travelling.specs.Travelling.{traveller_standing_kept}
 use Rattle.tunnel.specs.Exports.{TunnelValue}
 use Rattle.world_log.specs.Exports.{LogAfter, log_packet_standing, log_set_flight, log_set_item}
 use Rattle.world_log.proofs.LogForwarding.{by_action, exits, owned, unowned}
@@ -11,18 +11,18 @@ use Rattle.world_log.proofs.log.Log.leave.Goals as goal
 
 pub returns-in-Drop-clause-log : goal.returns-in-Drop-clause-log
 unfolding next_of
-returns-in-Drop-clause-log c = by_action c.end.result (standing_kept c.args.at) c.args.at.packet
+returns-in-Drop-clause-log c = by_action c.end.result (traveller_standing_kept c.args.at) c.args.at.packet
     c.args.self.now c.end.new.self c.args.switch.now (switch_site_of c.args.site) c.args.decision Drop
     c.in-Drop.is c.end.ensures
 
 pub returns-in-None-clause-log : goal.returns-in-None-clause-log
-returns-in-None-clause-log c = unowned c.stuck.result (standing_kept c.args.at) c.args.at.packet
+returns-in-None-clause-log c = unowned c.stuck.result (traveller_standing_kept c.args.at) c.args.at.packet
     c.args.self.now c.stuck.new.self c.args.switch.now (switch_site_of c.args.site) c.args.decision
     c.in-Out.port c.in-Out.is (sym c.owner.ensures ∙ c.in-None.is) c.stuck.ensures
 
 pub returns-then-owner-number-clause-log : goal.returns-then-owner-number-clause-log
 returns-then-owner-number-clause-log c = owned c.end-then-owner-number.result
-    (standing_kept c.args.at) c.args.at.packet c.args.self.now c.end-then-owner-number.new.self
+    (traveller_standing_kept c.args.at) c.args.at.packet c.args.self.now c.end-then-owner-number.new.self
     c.args.switch.now (switch_site_of c.args.site) c.args.decision c.in-Out.port c.in-Some.owner true
     c.in-Out.is (sym c.owner.ensures ∙ c.in-Some.is) (eq-eqb c.in-Some.owner
     c.args.switch.now.number (c.if-owner-number.true ∙ c.number.ensures.number))
@@ -30,7 +30,7 @@ returns-then-owner-number-clause-log c = owned c.end-then-owner-number.result
 
 pub returns-else-owner-number-clause-log : goal.returns-else-owner-number-clause-log
 returns-else-owner-number-clause-log c =
-    let at = standing_kept c.args.at in
+    let at = traveller_standing_kept c.args.at in
     let s = c.args.switch.now in
     let site = switch_site_of c.args.site in
     let leg = ExitLeg c.in-Out.port in

@@ -3,9 +3,9 @@ use Rattle.std.proofs.Common.{[], ◌∙◌, ◌∷◌, ◌≡◌, List, None, R
 use Rattle.base.specs.Exports.{IfRefused}
 use Rattle.failover.specs.Exports.{no_links, route_of}
 use Rattle.update_machine.specs.Exports.{Cause, takes_route}
-use Rattle.switch_core.specs.Exports.{cause_of}
+use Rattle.switch_core.specs.Exports.{switch_stuck_cause}
 use Rattle.world_log.specs.declared.log.Log.{Log}
-use Rattle.travelling.specs.Travelling.{Flight, flight_begun_at, standing_kept, travels_by}
+use Rattle.travelling.specs.Travelling.{Flight, flight_begun_at, traveller_standing_kept, travels_by}
 use Rattle.tunnel.specs.Exports.{TunnelValue}
 use Rattle.world_log.specs.Exports.{LogAfter, log_packet_standing, log_set_flight, log_set_item}
 use Rattle.world_log.proofs.LogForwarding.{none_known, route_known}
@@ -14,13 +14,13 @@ use Rattle.world_log.proofs.log.Log.set_out.Goals as goal
 
 pub returns-in-Err-Refused-clause-log : goal.returns-in-Err-Refused-clause-log
 returns-in-Err-Refused-clause-log c =
-    let at = standing_kept c.args.at in
+    let at = traveller_standing_kept c.args.at in
     let s = c.args.switch.now in
     let links : List ℕ = unwrap_or (option_copied c.links.result) no_links in
     let cause = c.in-Err-Refused.cause in
     let both = subst
     (IfRefused (λ cause. (route_of s.database s.number c.args.targets c.args.near links ≡ None)
-    × (cause ≡ cause_of s c.args.near links c.args.leg c.args.targets))) c.in-Err-Refused.field-0-is
+    × (cause ≡ switch_stuck_cause s c.args.near links c.args.leg c.args.targets))) c.in-Err-Refused.field-0-is
     c.in-Err-Refused.ensures.refused in
     let Q : Result TunnelValue Cause → Type 0 = λ found.
     LogAfter c.stuck.result (log_set_item at c.args.leg found ∷ []) [] c.args.at.packet
@@ -30,7 +30,7 @@ returns-in-Err-Refused-clause-log c =
 
 pub returns-in_ok-put-in-Ok-clause-log : goal.returns-in_ok-put-in-Ok-clause-log
 returns-in_ok-put-in-Ok-clause-log c =
-    let at = standing_kept c.args.at in
+    let at = traveller_standing_kept c.args.at in
     let s = c.args.switch.now in
     let links : List ℕ = unwrap_or (option_copied c.links.result) no_links in
     let route : List ℕ = c.in-Ok.route in

@@ -1,13 +1,13 @@
 -- What was written of a packet is its switch's answer.
 use Rattle.std.proofs.Common.{[], ◌+◌, ◌∙◌, ◌∷◌, List, length, map, subst, sym}
 use Rattle.base.proofs.Exports.{both_written}
-use Rattle.update_machine.specs.Exports.{Item, sent_from}
+use Rattle.update_machine.specs.Exports.{Item, machine_sent_items_from}
 use Rattle.journal.specs.declared.item.Item.TheVariants as item
 use Rattle.message_bag.specs.Exports.{Post, new_post}
-use Rattle.switch_core.specs.Exports.{answer_of, rule_cached_by, set_out, switch_site_of}
+use Rattle.switch_core.specs.Exports.{answer_of, switch_rule_cached_by, set_out, switch_site_of}
 use Rattle.switch_core.specs.declared.forwarding.Forwarding.{Forwarding}
-use Rattle.travelling.specs.Travelling.{standing_kept}
-use Rattle.world_log.specs.Exports.{LogAfter, log_arrived_flight, log_arrived_items, log_arrived_posts, cache_message, log_message_list, log_packet_standing}
+use Rattle.travelling.specs.Travelling.{traveller_standing_kept}
+use Rattle.world_log.specs.Exports.{LogAfter, log_arrived_flight, log_arrived_items, log_arrived_posts, log_cache_message, log_message_list, log_packet_standing}
 use Rattle.world_log.proofs.LogForwarding.{sought}
 use Rattle.world_log.proofs.LogCalls.{log_ends, log_failed, log_unwritten}
 use Rattle.world_log.proofs.LogStepWrites.{part_first}
@@ -15,7 +15,7 @@ use Rattle.world_log.proofs.log.Log.settle.Goals as goal
 
 pub returns-in-Out-clause-log : goal.returns-in-Out-clause-log
 returns-in-Out-clause-log c =
-    let at = standing_kept c.args.at in
+    let at = traveller_standing_kept c.args.at in
     let P : Forwarding → Type 0 = λ forwarding.
     let what = answer_of c.args.switch.now (switch_site_of c.args.site) (log_packet_standing at) forwarding in
     LogAfter c.end.result
@@ -31,7 +31,7 @@ returns-in_err-push-in-Decided-clause-log c =
 
 pub returns-in_err-send_rule-in-Decided-clause-log : goal.returns-in_err-send_rule-in-Decided-clause-log
 returns-in_err-send_rule-in-Decided-clause-log c =
-    let at = standing_kept c.args.at in
+    let at = traveller_standing_kept c.args.at in
     let P : Forwarding → Type 0 = λ forwarding.
     let what = answer_of c.args.switch.now (switch_site_of c.args.site) (log_packet_standing at) forwarding in
     LogAfter c.from_residual-in_err-send_rule-in-Decided.result
@@ -46,12 +46,12 @@ returns-in_err-send_rule-in-Decided-clause-log c =
 
 pub returns-in_ok-send_rule-in-Decided-clause-log : goal.returns-in_ok-send_rule-in-Decided-clause-log
 returns-in_ok-send_rule-in-Decided-clause-log c =
-    let at = standing_kept c.args.at in
+    let at = traveller_standing_kept c.args.at in
     let decision = c.in-Decided.decision in
-    let message = cache_message at.ingress (rule_cached_by decision c.in-Decided.word) in
+    let message = log_cache_message at.ingress (switch_rule_cached_by decision c.in-Decided.word) in
     let decided : Item = item.Decided at.packet decision.version decision.rule decision.action
     decision.how in
-    let sends : List Item = sent_from (length c.args.self.now.bag + 1) (log_message_list message) in
+    let sends : List Item = machine_sent_items_from (length c.args.self.now.bag + 1) (log_message_list message) in
     let posts : List Post = map new_post (log_message_list message) in
     let P : Forwarding → Type 0 = λ forwarding.
     let what = answer_of c.args.switch.now (switch_site_of c.args.site) (log_packet_standing at) forwarding in
@@ -69,7 +69,7 @@ returns-in_ok-send_rule-in-Decided-clause-log c =
 
 pub returns-in-Seek-clause-log : goal.returns-in-Seek-clause-log
 returns-in-Seek-clause-log c =
-    let at = standing_kept c.args.at in
+    let at = traveller_standing_kept c.args.at in
     let site = switch_site_of c.args.site in
     let s = c.args.switch.now in
     let leg = c.in-Seek.leg in

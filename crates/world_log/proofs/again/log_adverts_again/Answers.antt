@@ -1,6 +1,6 @@
 use Rattle.std.proofs.Common.{◌∙◌, ◌≡◌, arith, sym}
 use Rattle.world_log.proofs.LogRelinking.{again_all, again_none}
-use Rattle.world_log.proofs.again.adverts_again.Goals as goal
+use Rattle.world_log.proofs.again.log_adverts_again.Goals as goal
 
 pub returns-then-not-is_up : goal.returns-then-not-is_up
 returns-then-not-is_up c = c.new-messages.ensures.items ∙ again_none c.args.s c.args.count

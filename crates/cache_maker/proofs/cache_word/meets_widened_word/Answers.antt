@@ -1,6 +1,6 @@
 use Rattle.std.proofs.Common.{◌∙◌, ne_eqb, sym}
 use Rattle.cache_maker.proofs.CacheWordDifferences.{lower_tells, upper_tells}
-use Rattle.cache_maker.proofs.cache_word.is_met.Goals as goal
+use Rattle.cache_maker.proofs.cache_word.meets_widened_word.Goals as goal
 
 pub returns-else-upper-upper_word_half-eq0 : goal.returns-else-upper-upper_word_half-eq0
 returns-else-upper-upper_word_half-eq0 c = let other = c.if-upper-upper_word_half-eq0.false in

@@ -5,7 +5,7 @@ use Rattle.std.proofs.lemmas.Nat.{pow_below, or_lt}
 use Rattle.std.proofs.lemmas.Nat.Bits.{bit_at_and, bit_at_or, bit_at-lt, bit_at-zero, bit_at-pow_same, bit_at-pow_other, bit_at_above, same_from_bits, same_from_bits_below, bit_at-trailing_zeros, bit_at_xor}
 use Rattle.std.proofs.lemmas.List.FromFn.{get_or-range_with_len}
 use Rattle.std.proofs.Math.Bool.{or-false}
-use Rattle.base.specs.Exports.{MaskLaws, has, least_in, mask_of, mask_where, only_if, switches}
+use Rattle.base.specs.Exports.{MaskLaws, has, least_in, small_number_mask, number_set_where, only_if, switches}
 
 -- ---- one switch of a mask
 
@@ -68,15 +68,15 @@ has_only_other test k j apart = search (rules, has-pow_other, has-zero)
 -- ---- masks of the places that pass
 
 pub mask_where_below : {X : Type 0} (test : X → Bool) (k : ℕ) (xs : List X) (z : ℕ) → z < k →
-    has (mask_where test k xs) z ≡ false
-unfolding mask_where
+    has (number_set_where test k xs) z ≡ false
+unfolding number_set_where
 mask_where_below test k [] z below = has-zero z
 mask_where_below test k (x ∷ xs) z below = let apart : z ≢ k = omega arith in
     rw (has-or, has_only_other _ _ _ apart, mask_where_below test (k + 1) xs z (omega arith)) refl
 
 pub mask_where_at : {X : Type 0} (test : X → Bool) (k : ℕ) (xs : List X) (d : X) (z j : ℕ)
-    → z ≡ k + j → j < length xs → has (mask_where test k xs) z ≡ test (get_or xs j d)
-unfolding mask_where
+    → z ≡ k + j → j < length xs → has (number_set_where test k xs) z ≡ test (get_or xs j d)
+unfolding number_set_where
 mask_where_at test k [] d z j e below = absurd (omega arith)
 mask_where_at test k (x ∷ xs) d z zero e below = let same : z ≡ k = omega arith in
     rw (has-or, mask_where_below test (k + 1) xs z (omega arith), same, has_only_same) (or-false _)
@@ -87,8 +87,8 @@ pub only_if_lt : (test : Bool) (k n : ℕ) → k < n → only_if test k < 2 ^ n
 only_if_lt test k n below = search (rules, pow_below)
 
 pub mask_where_lt : {X : Type 0} (test : X → Bool) (k : ℕ) (xs : List X) (n : ℕ) → k + length xs ≤ n
-    → mask_where test k xs < 2 ^ n
-unfolding mask_where
+    → number_set_where test k xs < 2 ^ n
+unfolding number_set_where
 mask_where_lt test k [] n fits = pow_pos n
 mask_where_lt test k (x ∷ xs) n fits = or_lt n _ _ (only_if_lt (test x) k n (omega arith))
     (mask_where_lt test (k + 1) xs n (omega arith))
@@ -127,20 +127,20 @@ pub get_or-switches : (k : ℕ) → k < 64 → get_or switches k 0 ≡ k
 unfolding switches
 get_or-switches k below = get_or-range_with_len 0 64 k 0 below ∙ omega arith
 
-pub has_mask : (test : ℕ → Bool) (k : ℕ) → k < 64 → has (mask_of test) k ≡ test k
-unfolding mask_of
+pub has_mask : (test : ℕ → Bool) (k : ℕ) → k < 64 → has (small_number_mask test) k ≡ test k
+unfolding small_number_mask
 has_mask test k below = mask_where_at test 0 switches 0 k k (omega arith)
     (omega (arith, length-switches)) ∙ ap test (get_or-switches k below)
 
-pub mask_of_lt : (test : ℕ → Bool) → mask_of test < 2 ^ 64
-unfolding mask_of
+pub mask_of_lt : (test : ℕ → Bool) → small_number_mask test < 2 ^ 64
+unfolding small_number_mask
 mask_of_lt test = mask_where_lt test 0 switches 64 (omega (arith, length-switches))
 
-pub has_mask_past : (test : ℕ → Bool) (k : ℕ) → 64 ≤ k → has (mask_of test) k ≡ false
-has_mask_past test k past = has_above (mask_of test) k (mask_of_lt test) past
+pub has_mask_past : (test : ℕ → Bool) (k : ℕ) → 64 ≤ k → has (small_number_mask test) k ≡ false
+has_mask_past test k past = has_above (small_number_mask test) k (mask_of_lt test) past
 
 pub mask_of_is : (mask : ℕ) (test : ℕ → Bool) → mask < 2 ^ 64
-    → ((k : ℕ) → k < 64 → has mask k ≡ test k) → mask ≡ mask_of test
+    → ((k : ℕ) → k < 64 → has mask k ≡ test k) → mask ≡ small_number_mask test
 mask_of_is mask test fits same = search (rules, same_masks, mask_of_lt, has_mask)
 
 pub laws : MaskLaws

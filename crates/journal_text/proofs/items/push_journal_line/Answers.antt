@@ -1,10 +1,10 @@
 use Rattle.std.proofs.Common.{[], ◌++◌, ◌∙◌, ◌∷◌, List, ap, arith, ℕ}
-use Rattle.lines.proofs.CallerLemmas.{pushed_append}
+use Rattle.lines.proofs.LinesCallerLemmas.{pushed_append}
 use Rattle.lines.specs.Pushes.{line_with}
 use Rattle.journal_text.specs.Lines.{item_line}
 use Rattle.journal_text.proofs.JournalLineGains.{held_whole}
 use Rattle.journal_text.proofs.JournalLineLengths.{line_within}
-use Rattle.journal_text.proofs.items.push_line.Goals as goal
+use Rattle.journal_text.proofs.items.push_journal_line.Goals as goal
 
 pub returns-clause-text : goal.returns-clause-text
 returns-clause-text c =

@@ -1,6 +1,6 @@
 use Rattle.std.proofs.Common.{◌∙◌, sym}
 use Rattle.switch_core.proofs.SwitchNeighbourBodies.{told_all, told_none}
-use Rattle.switch_core.proofs.hearing.flood.Goals as goal
+use Rattle.switch_core.proofs.hearing.switch_flood.Goals as goal
 
 pub loop-other-init : goal.loop-other-init
 loop-other-init c = c.in_ok-messages.ensures.items ∙ sym (told_none _ _ c.ranges.near.fits)

@@ -1,6 +1,6 @@
 use Rattle.std.proofs.Common.{◌+◌, ◌≡◌, append_assoc, arith}
 use Rattle.lines.proofs.LineShortNumbers.{decimal_pair, decimal_pairs}
-use Rattle.lines.proofs.digits.put_short_number.Goals as goal
+use Rattle.lines.proofs.digits.put_short_line_number.Goals as goal
 
 pub returns-then-n-lt10000-clause-held : goal.returns-then-n-lt10000-clause-held
 returns-then-n-lt10000-clause-held c = rw (

@@ -2,7 +2,7 @@ use Rattle.std.proofs.Common.{◌∷◌, ◌≡◌}
 use Rattle.update_machine.specs.Exports.{Hello}
 use Rattle.ctrl_msg.specs.Exports.{to_controller}
 use Rattle.world_log.proofs.LogRelinking.{again_below}
-use Rattle.world_log.proofs.again.adverts_again.Given as goal
+use Rattle.world_log.proofs.again.log_adverts_again.Given as goal
 
 -- the hello, and what the neighbours so far are told
 abbrev pub invariant-loop-other : goal.invariant-loop-other

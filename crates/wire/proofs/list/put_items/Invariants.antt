@@ -1,7 +1,0 @@
-use Rattle.std.proofs.Common.{take}
-use Rattle.wire.specs.Exports.{AppendsItems}
-use Rattle.wire.proofs.list.put_items.Given as goal
-
-abbrev pub invariant-loop-item : goal.invariant-loop-item
-invariant-loop-item g l =
-    AppendsItems g.T.Part.format (take l.item-index l.items) l.fn.out.items l.out.items
